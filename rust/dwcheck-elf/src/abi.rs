@@ -1,4 +1,4 @@
-//! Calling conventions, by architecture.
+//! What the calling convention of each supported architecture says of registers.
 
 use crate::target::AddressSize;
 use object::elf;
@@ -14,12 +14,12 @@ pub struct Abi {
     pub address_size: AddressSize,
     /// The callee-saved registers, ascending. The stack pointer isn't among them.
     ///
-    /// If calls leave the return address in a register, that register is among them, because a leaf
-    /// function doesn't change it.
+    /// If calls leave the return address in a register, that register is in this list too, because
+    /// a leaf function doesn't change it.
     pub kept: &'static [u16],
     /// The stack pointer. Its value in the caller is the CFA.
     pub stack_pointer: u16,
-    /// The number of the instruction pointer.
+    /// The instruction pointer.
     pub program_counter: u16,
 }
 
@@ -50,7 +50,7 @@ const AARCH64: Abi = Abi {
     program_counter: 32,
 };
 
-/// The calling convention of a machine, if it is known.
+/// The calling convention of a machine (`e_machine`). `None` for a machine that isn't supported.
 pub fn abi(machine: u16, address_size: AddressSize) -> Option<&'static Abi> {
     const KNOWN: [&Abi; 3] = [&X86_64, &I386, &AARCH64];
     KNOWN.into_iter().find(|abi| abi.machine == machine && abi.address_size == address_size)

@@ -1,4 +1,5 @@
-//! Checks the records of a refused section one by one.
+//! Checks the CIEs and FDEs of a frame section one by one, after `dwcheck` has refused the section
+//! as a whole.
 
 use crate::bridge::RecordKind;
 use crate::debug_frame::{records, Kind, Record};
@@ -7,11 +8,13 @@ use crate::target::Target;
 use dwcheck::{Fault, FaultKind, Section};
 use std::collections::{BTreeMap, HashMap, HashSet};
 
-/// Every fault of a refused section. Each CIE is checked alone, and each FDE alone with its CIE;
-/// then FDEs that share addresses are looked for. The faults' offsets are relative to
+/// The first fault of each record of a refused section, and every overlap of FDEs. Each CIE is
+/// checked as a section of its own. Each FDE is checked as a section that has only its CIE and
+/// itself. Then FDEs that share addresses are found. The faults' offsets are relative to
 /// [`Frames::bytes`].
 ///
-/// An FDE whose CIE is refused isn't checked. `first` is the fault of the whole section.
+/// An FDE whose CIE is refused isn't checked. `first` is the fault that the check of the whole
+/// section gave. It is part of the result even if no record alone has that fault.
 pub fn every_fault(frames: &Frames<'_>, first: Fault) -> Vec<Fault> {
     let records = records(frames.bytes(), frames.target());
     let judge = Alone { bytes: frames.bytes(), target: frames.target() };
@@ -37,17 +40,19 @@ pub fn every_fault(frames: &Frames<'_>, first: Fault) -> Vec<Fault> {
     faults
 }
 
-/// A section without its refused records.
+/// A section from which the refused records have been left out.
 #[derive(Clone, Debug)]
 pub struct AcceptedPart {
-    /// The section's bytes. In place of each refused record there is a CIE that no FDE uses.
+    /// The section's bytes up to the end of its last readable record. Each record that is left out
+    /// is overwritten with a CIE that no FDE uses, so the other records keep their offsets.
     pub bytes: Vec<u8>,
-    /// How many records are left out: those with faults, and FDEs whose CIE has one.
+    /// The number of records that are left out: those with a fault, and the FDEs whose CIE has a
+    /// fault.
     pub left_out: usize,
 }
 
-/// Makes a section without the refused records, for walks: the remaining FDEs unwind like those of
-/// an accepted section. `first` is the fault of the whole section.
+/// Leaves the refused records out of a section, so that the other FDEs can still be used to unwind
+/// a stack. `first` is the fault that the check of the whole section gave.
 pub fn accepted_part(frames: &Frames<'_>, first: Fault) -> AcceptedPart {
     let all = records(frames.bytes(), frames.target());
     let mut refused: HashSet<usize> = HashSet::new();
@@ -68,7 +73,8 @@ pub fn accepted_part(frames: &Frames<'_>, first: Fault) -> AcceptedPart {
     let mut left_out = 0;
     for record in all.iter().filter(is_left_out) {
         left_out += 1;
-        // The id, version 1, no augmentation, factors 1, return address register 0; then nops.
+        // The record becomes a CIE: its id, version 1, an empty augmentation string, alignment
+        // factors 1, return address register 0; then nops.
         let id = usize::from(record.offset_size());
         let body = bytes.get_mut(record.body..record.end).unwrap_or(&mut []);
         body.iter_mut().enumerate().for_each(|(place, byte)| {
@@ -82,7 +88,7 @@ pub fn accepted_part(frames: &Frames<'_>, first: Fault) -> AcceptedPart {
     AcceptedPart { bytes, left_out }
 }
 
-/// Checks records one by one.
+/// A frame section whose records are checked one by one.
 struct Alone<'a> {
     bytes: &'a [u8],
     target: Target,
@@ -101,7 +107,7 @@ impl Alone<'_> {
         self.fault(self.part(cie)).map(|fault| moved(fault, 0, cie.offset))
     }
 
-    /// The fault of a section of only this CIE and this FDE.
+    /// The first fault of a section that has only this CIE and this FDE.
     fn fde(&self, cie: &Record, fde: &Record) -> Option<Fault> {
         let mut section = self.part(cie).to_vec();
         let start = section.len();
@@ -111,18 +117,19 @@ impl Alone<'_> {
         self.fault(&section).map(|fault| moved(fault, start, fde.offset))
     }
 
-    /// The fault of an FDE alone, if its CIE pointer leads to no CIE.
+    /// The fault of an FDE whose CIE pointer leads to no CIE. The FDE is checked as a section of
+    /// its own.
     fn orphan(&self, fde: &Record) -> Option<Fault> {
         self.fault(self.part(fde)).map(|fault| moved(fault, 0, fde.offset))
     }
 }
 
-/// Moves a fault's offset from a section that has the record at `from` to one that has it at `to`.
+/// Adjusts the offset of a fault in a record that is moved from offset `from` to offset `to`.
 fn moved(fault: Fault, from: usize, to: usize) -> Fault {
     Fault { offset: (fault.offset as usize).saturating_sub(from).saturating_add(to) as u32, ..fault }
 }
 
-/// Each FDE that shares an address with one before it.
+/// The fault Overlap for each FDE that shares an address with an earlier FDE of the section.
 fn overlaps(frames: &Frames<'_>) -> Vec<Fault> {
     let mut taken: BTreeMap<u64, u64> = BTreeMap::new();
     let mut found = Vec::new();
@@ -141,7 +148,9 @@ fn overlaps(frames: &Frames<'_>) -> Vec<Fault> {
     found
 }
 
-/// Adds a range to ranges that share no address, and merges it with those that it touches.
+/// Adds a range of addresses to `taken`, which maps the start of each range to its end. No two
+/// ranges in `taken` share an address: the new range is merged with those that it overlaps or
+/// touches.
 fn insert(taken: &mut BTreeMap<u64, u64>, mut begin: u64, mut end: u64) {
     while let Some((start, stop)) = taken.range(..=end).next_back().map(|(start, stop)| (*start, *stop)) {
         if stop < begin {

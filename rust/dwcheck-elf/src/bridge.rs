@@ -1,18 +1,19 @@
 //! Rewrites `.eh_frame` as `.debug_frame`.
 //!
-//! The two formats differ in their headers, in augmentation data and in how addresses are written. The call frame
-//! instructions are the same bytes, but for these:
+//! The two formats differ in their headers, in augmentation data and in how addresses are written.
+//! The call frame instructions are the same bytes, except for these:
 //!
 //! - `DW_CFA_GNU_args_size` says nothing about registers. It is dropped.
 //! - `DW_CFA_set_loc` has an encoded address. It is decoded.
-//! - `DW_CFA_def_cfa_register` before any other rule for the CFA becomes `DW_CFA_def_cfa` with the
-//!   offset 0, unless [`Options::strict`] is set. GNU as opens CIEs for alpha, mips and riscv with
-//!   this instruction.
+//! - `DW_CFA_def_cfa_register` becomes `DW_CFA_def_cfa` with the offset 0 where the CFA has no rule
+//!   yet, unless [`Options::strict`] is set. GNU as begins CIEs for alpha, mips and riscv with this
+//!   instruction.
 //!
-//! An unknown instruction is copied, with all that follows it in its record, and left to `dwcheck`
-//! to refuse.
+//! An instruction that is unknown or cut off is copied, together with the rest of its record.
+//! `dwcheck` then refuses it.
 //!
-//! [`crate::validate`] compares the original section with the result.
+//! [`crate::validate`] compares the rows of the original section with those of the rewritten
+//! section.
 
 mod error;
 pub(crate) mod instructions;
@@ -37,37 +38,40 @@ pub struct EhFrame<'a> {
     pub address: u64,
     /// The byte order and the address size.
     pub target: Target,
-    /// The address of the text section, for `DW_EH_PE_textrel`.
+    /// The address of the text section, which pointers with `DW_EH_PE_textrel` are relative to.
     pub text: Option<u64>,
-    /// The address of the global offset table, for `DW_EH_PE_datarel`.
+    /// The address of the global offset table, which pointers with `DW_EH_PE_datarel` are relative
+    /// to.
     pub data: Option<u64>,
-    /// Offsets, in ascending order, of fields that hold an unknown address: their relocation names a
-    /// symbol that the object doesn't define. See [`crate::program::Section::unresolved`].
+    /// The offsets in the section, ascending, of the fields whose address isn't known: the field's
+    /// relocation names a symbol that the object doesn't define. See
+    /// [`crate::program::Section::unresolved`].
     pub unresolved: &'a [u64],
 }
 
 /// How to rewrite a section.
 #[derive(Clone, Copy, Debug, Default)]
 pub struct Options {
-    /// Copies `DW_CFA_def_cfa_register` unchanged where the CFA has no rule yet. `dwcheck` refuses
-    /// such a section.
+    /// Whether to copy `DW_CFA_def_cfa_register` unchanged where the CFA has no rule yet. `dwcheck`
+    /// refuses a section with such an instruction.
     pub strict: bool,
 }
 
-/// What was read, dropped and changed.
+/// How many records and instructions were read, dropped or changed.
 #[derive(Clone, Copy, Debug, Default, PartialEq, Eq)]
 pub struct Counts {
     /// Common information entries.
     pub cies: usize,
     /// Frame description entries.
     pub fdes: usize,
-    /// Records with the length 0. They mark the end, but a linker can leave one in the middle.
+    /// Records of length 0. They mark the end of a section, but a linker can leave one in the
+    /// middle.
     pub terminators: usize,
     /// CIEs whose augmentation was dropped.
     pub augmentations: usize,
     /// CIEs whose personality routine was dropped.
     pub personalities: usize,
-    /// CIEs whose FDEs had a language-specific data area that was dropped.
+    /// CIEs whose FDEs had a pointer to language-specific data that was dropped.
     pub data_areas: usize,
     /// FDEs of signal frames.
     pub signal_frames: usize,
@@ -77,7 +81,7 @@ pub struct Counts {
     pub set_locs: usize,
 }
 
-/// A `.debug_frame` section that has the rows of the section that it was made from.
+/// The result of rewriting a section: a `.debug_frame` section with the same rows.
 #[derive(Clone, Debug)]
 pub struct Bridged {
     bytes: Vec<u8>,
@@ -86,9 +90,9 @@ pub struct Bridged {
     mended: Vec<u64>,
 }
 
-/// Rewrites a section. The error is for the first record that has no counterpart in `.debug_frame`.
+/// Rewrites a section. An error names the first record that has no counterpart in `.debug_frame`.
 ///
-/// The result has at most a few times the bytes of the section.
+/// The rewritten section is at most a few times as long as the original.
 pub fn bridge(section: &EhFrame<'_>, options: Options) -> Result<Bridged, BridgeError> {
     records::Bridge::new(*section, options).run()
 }
@@ -99,7 +103,7 @@ impl Bridged {
         &self.bytes
     }
 
-    /// What was read, dropped and changed.
+    /// How many records and instructions were read, dropped or changed.
     pub fn counts(&self) -> &Counts {
         &self.counts
     }
@@ -109,12 +113,13 @@ impl Bridged {
         &self.mended
     }
 
-    /// All records, in their order, which is the same in both sections.
+    /// All records, in the order of the rewritten section. The original section has the same order.
     pub fn records(&self) -> &[Record] {
         &self.places.records
     }
 
-    /// Where an offset of the bridged bytes comes from in the original section.
+    /// Where an offset of the rewritten section comes from in the original section. `None` if the
+    /// offset belongs to no record.
     ///
     /// An offset can be both the end of one record and the beginning of the next. `edge` says which
     /// of these records is meant.

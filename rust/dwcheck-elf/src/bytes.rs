@@ -1,4 +1,4 @@
-//! Reads numbers from bytes.
+//! Reads the numbers of a section one after another: numbers of fixed size, and LEB128 numbers.
 
 use crate::target::Target;
 
@@ -7,11 +7,11 @@ use crate::target::Target;
 pub(crate) enum ReadError {
     /// The bytes end before the number does.
     Truncated,
-    /// A LEB128 number doesn't fit 64 bits.
+    /// A LEB128 number doesn't fit in 64 bits.
     LebRange,
 }
 
-/// An offset in a section, at which numbers are read.
+/// A section, and the offset in it of the next byte to read.
 #[derive(Clone, Debug)]
 pub(crate) struct Cursor<'a> {
     bytes: &'a [u8],
@@ -40,7 +40,7 @@ impl<'a> Cursor<'a> {
         self.at >= self.bytes.len()
     }
 
-    /// The bytes that aren't read yet.
+    /// The bytes that haven't been read yet.
     pub fn rest(&self) -> &'a [u8] {
         self.bytes.get(self.at..).unwrap_or(&[])
     }
@@ -84,13 +84,14 @@ impl<'a> Cursor<'a> {
         Ok(byte)
     }
 
-    /// The next number of `size` bytes, at most 8.
+    /// Reads the next `size` bytes as an unsigned number. `size` is at most 8.
     pub fn number(&mut self, size: u8) -> Result<u64, ReadError> {
         let bytes = self.take(u64::from(size))?;
         Ok(self.target.number(bytes))
     }
 
-    /// The next number of `size` bytes, at most 8, with its sign extended to 64 bits.
+    /// Reads the next `size` bytes as a signed number, and extends its sign to 64 bits. `size` is
+    /// at most 8.
     pub fn signed(&mut self, size: u8) -> Result<u64, ReadError> {
         let number = self.number(size)?;
         let unused = 64 - 8 * u32::from(size.clamp(1, 8));
@@ -114,7 +115,7 @@ impl<'a> Cursor<'a> {
         }
     }
 
-    /// The next signed LEB128 number, as 64 bits.
+    /// The next signed LEB128 number, with its sign extended to 64 bits.
     pub fn sleb(&mut self) -> Result<u64, ReadError> {
         let (mut value, mut shift) = (0u64, 0u32);
         loop {

@@ -34,7 +34,8 @@ pub struct CoreFile<'data> {
     segments: Vec<CoreSegment<'data>>,
 }
 
-/// A part of the process's memory, with the bytes of it that the core has.
+/// A segment of a core file (`PT_LOAD`): a part of the process's memory, with those of its bytes
+/// that the file has.
 #[derive(Clone, Copy, Debug)]
 struct CoreSegment<'data> {
     address: u64,
@@ -43,18 +44,18 @@ struct CoreSegment<'data> {
     size: u64,
     /// Whether the process could execute the part.
     is_executable: bool,
-    /// Whether the core's headers give the part more bytes than the file has.
+    /// Whether the file ends before all the bytes that it should have of the part.
     is_cut: bool,
 }
 
 /// Why a core file can't be read.
 #[derive(Clone, Debug, PartialEq, Eq)]
 pub enum CoreError {
-    /// It isn't an ELF file, or its headers are wrong.
+    /// The file isn't an ELF file, or its headers are wrong.
     Elf(String),
-    /// It is an ELF file of another type (`e_type`).
+    /// The file is an ELF file of this type (`e_type`), which isn't that of core files.
     NotCore(u16),
-    /// The register layout of this machine (`e_machine`) isn't known.
+    /// The order of the registers in core files of this machine (`e_machine`) isn't known.
     Machine(u16),
     /// A note of this type is too short.
     Note(u32),
@@ -112,7 +113,8 @@ impl<'data> CoreFile<'data> {
         self.abi
     }
 
-    /// The threads. The first is the one that the signal ended.
+    /// The threads, in the order of the core. The first one is that which got the signal that ended
+    /// the process.
     pub fn threads(&self) -> &[Thread] {
         &self.threads
     }
@@ -122,7 +124,7 @@ impl<'data> CoreFile<'data> {
         self.signal
     }
 
-    /// Where files are mapped, in the order of the core.
+    /// The parts of files that the process had mapped, in the order of the core.
     pub fn mappings(&self) -> &[Mapping<'data>] {
         &self.mappings
     }
@@ -132,14 +134,16 @@ impl<'data> CoreFile<'data> {
         self.segments.iter().any(|segment| segment.is_cut)
     }
 
-    /// Whether the process could execute code at an address. True if the core doesn't say.
+    /// Whether the process could execute code at an address. True if no segment of the core has the
+    /// address.
     fn may_execute(&self, address: u64) -> bool {
         let holds =
             |segment: &&CoreSegment<'_>| address.checked_sub(segment.address).map_or(false, |past| past < segment.size);
         self.segments.iter().find(holds).map_or(true, |segment| segment.is_executable)
     }
 
-    /// The bytes that the core has from an address on, to the end of a segment.
+    /// The bytes that the core has from an address to the end of a segment. `None` if it has no
+    /// byte there.
     fn bytes_from(&self, address: u64) -> Option<&'data [u8]> {
         self.segments.iter().find_map(|segment| {
             let past = usize::try_from(address.checked_sub(segment.address)?).ok()?;

@@ -1,7 +1,7 @@
-//! The records of a `.debug_frame` section.
+//! Finds the records of a `.debug_frame` section, and their instructions.
 //!
-//! `dwcheck` checks the records. This module only finds where records, programs and instructions
-//! begin, so that `dwcheck`'s answers can be shown.
+//! `dwcheck` checks the records. This module only finds where records and instructions begin, so
+//! that `dwcheck`'s answers can be shown.
 
 use crate::bridge::instructions::{name_of, operands, skip};
 use crate::bytes::Cursor;
@@ -30,7 +30,7 @@ pub struct Record {
     pub end: usize,
     /// Whether it is a CIE or an FDE, and some of its fields.
     pub kind: Kind,
-    /// Where its instructions are, if its header can be read.
+    /// The range of offsets of its instructions, if its header can be read.
     pub program: Option<Range<usize>>,
 }
 
@@ -54,7 +54,8 @@ pub enum Kind {
 }
 
 impl Record {
-    /// The size of the record's offsets: 4 or 8 bytes.
+    /// The size of the record's CIE id or CIE pointer: 4 bytes in the 32-bit format, 8 in the
+    /// 64-bit format.
     pub fn offset_size(&self) -> u8 {
         if self.body - self.offset == 4 {
             4
@@ -64,8 +65,8 @@ impl Record {
     }
 }
 
-/// All records before the first one whose length can't be read or whose body isn't all there. This
-/// takes time in proportion to the section.
+/// The records of a section, in order, that come before the first one whose length can't be read or
+/// whose end is past the end of the section. This takes time in proportion to the section's length.
 pub fn records(section: &[u8], target: Target) -> Vec<Record> {
     let mut cursor = Cursor::new(section, target);
     let mut all = Vec::new();
@@ -103,7 +104,8 @@ fn record(cursor: &mut Cursor<'_>) -> Option<Record> {
     Some(Record { offset, body, end, kind, program })
 }
 
-/// Reads a CIE from its version to its return address register.
+/// Reads a CIE from its version to its return address register, and returns the number of that
+/// register.
 fn return_register(record: &mut Cursor<'_>) -> Option<u64> {
     let version = record.byte().ok()?;
     while record.byte().ok()? != 0 {}
@@ -119,20 +121,20 @@ fn return_register(record: &mut Cursor<'_>) -> Option<u64> {
     }
 }
 
-/// Reads an FDE's first address and number of addresses.
+/// Reads the first address that an FDE covers, and the number of addresses.
 fn range(record: &mut Cursor<'_>, target: Target) -> Option<(u64, u64)> {
     let size = target.address_size.bytes();
     Some((record.number(size).ok()?, record.number(size).ok()?))
 }
 
-/// An instruction of a program.
+/// A call frame instruction.
 #[derive(Clone, Copy, Debug, PartialEq, Eq)]
 pub struct Instruction {
     /// The offset of its first byte in the section.
     pub offset: usize,
-    /// Its code.
+    /// Its first byte, which has the opcode.
     pub code: u8,
-    /// The offset and the length of the expression that it ends with, if there is one.
+    /// The offset in the section and the length of its last operand, if that is an expression.
     pub expression: Option<(usize, usize)>,
 }
 
@@ -144,7 +146,8 @@ impl Instruction {
     }
 }
 
-/// The instructions of a program. If one can't be read, it is the last of the list.
+/// The instructions between two offsets of a section. If an instruction can't be read, it is the
+/// last one of the result.
 pub fn instructions(section: &[u8], program: Range<usize>, target: Target) -> Vec<Instruction> {
     let mut cursor = Cursor::new(section.get(..program.end).unwrap_or(section), target);
     let mut all = Vec::new();

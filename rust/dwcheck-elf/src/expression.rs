@@ -6,7 +6,7 @@
 use crate::bytes::{Cursor, ReadError};
 use crate::target::Target;
 
-/// The count of operations of an accepted expression, and the greatest height of its stack.
+/// The number of operations of an accepted expression, and the greatest height of its stack.
 ///
 /// ```
 /// use dwcheck_elf::expression::Measure;
@@ -36,7 +36,8 @@ impl Measure {
     /// Measures an expression that `dwcheck` has accepted. `height` is the number of entries that
     /// its stack begins with.
     ///
-    /// Branches go forward, and paths that meet agree in height, so one pass is enough.
+    /// In an accepted expression branches go forward, and paths that meet have the same height, so
+    /// one pass is enough.
     pub fn of(expression: &[u8], height: u64, target: Target) -> Self {
         let mut measure = Measure { operations: 0, depth: height };
         let mut cursor = Cursor::new(expression, target);
@@ -77,7 +78,8 @@ pub struct Operation {
     pub code: u8,
 }
 
-/// The operations of an expression. If one can't be read, it is the last of the list.
+/// The operations of an expression, in order. If an operation can't be read, it is the last one of
+/// the result.
 pub fn operations(expression: &[u8], target: Target) -> Vec<Operation> {
     let mut cursor = Cursor::new(expression, target);
     let mut all = Vec::new();
@@ -95,8 +97,8 @@ pub fn operations(expression: &[u8], target: Target) -> Vec<Operation> {
 const BRA: u8 = 0x28;
 const SKIP: u8 = 0x2f;
 
-/// Moves past the operands of an operation. Returns the distance if the operation is a branch, else
-/// 0.
+/// Moves past the operands of an operation. Returns the distance in bytes that a branch goes, and 0
+/// for any other operation.
 fn skip(cursor: &mut Cursor<'_>, code: u8) -> Result<u64, ReadError> {
     let size = cursor.target().address_size.bytes();
     match code {
@@ -128,7 +130,8 @@ fn change(code: u8) -> Change {
     }
 }
 
-/// The names of opcodes below 0x97 that aren't in one of the ranges lit, reg and breg.
+/// The opcodes below 0x97 with their names. The opcodes of lit, reg and breg operations aren't
+/// here.
 const NAMES: [(u8, &str); 49] = [
     (0x03, "addr"),
     (0x06, "deref"),
@@ -181,7 +184,7 @@ const NAMES: [(u8, &str); 49] = [
     (0x96, "nop"),
 ];
 
-/// The names of the opcodes from 0x97 on.
+/// The names of the opcodes from 0x97 on, in ascending order without a gap.
 const LATER: [&str; 19] = [
     "push_object_address",
     "call2",
@@ -204,8 +207,8 @@ const LATER: [&str; 19] = [
     "reinterpret",
 ];
 
-/// The name of an operation by its opcode, with `DW_OP_`, as in DWARF 5, section 7.7.1; or
-/// `operation 0xe0` if the opcode has none there.
+/// The name of the operation with this opcode, with `DW_OP_`, as in DWARF 5, section 7.7.1; or a
+/// text such as `operation 0xe0` if the opcode has no name there.
 pub fn name_of(code: u8) -> String {
     match code {
         0x30..=0x4f => format!("DW_OP_lit{}", code - 0x30),

@@ -1,4 +1,5 @@
-//! Describes faults in terms of the file that has them.
+//! Describes the faults that `dwcheck` finds in terms of the ELF file: its sections, records,
+//! instructions and functions.
 
 use crate::bridge::{BridgeError, Edge, RecordKind};
 use crate::debug_frame::{self, Instruction, Record};
@@ -24,21 +25,23 @@ pub struct Defect {
     /// The offset of the fault in the file's section, decompressed.
     pub offset: u64,
     /// In a frame section, the offset of the record with the fault, as readelf shows it. In
-    /// location lists, or if there is no such record, the offset of the fault.
+    /// location lists, or if no record has the fault, the offset of the fault.
     pub at: u64,
     /// The fault's name, such as `CfaNotRegister`.
     pub fault: &'static str,
-    /// What is at the fault, such as an instruction, an operation or a field.
+    /// What is at the fault, in words: the name of an instruction, an operation or a field, for
+    /// example.
     pub what: String,
-    /// The record with the fault; in location lists, the table.
+    /// The record with the fault. In location lists, the table with the fault.
     pub record: Option<Within>,
-    /// The function at the FDE's first address, if the record is an FDE.
+    /// The function at the FDE's first address, if the record is an FDE and the file has a name for
+    /// the function.
     pub function: Option<String>,
-    /// The rule that the fault breaks.
+    /// The rule that the fault breaks, in words.
     pub rule: String,
 }
 
-/// Which record a fault is in.
+/// The record or the table that has a fault.
 #[derive(Clone, Debug, PartialEq, Eq)]
 pub enum Within {
     /// A CIE, by its offset in the section.
@@ -49,11 +52,11 @@ pub enum Within {
     Record(u64),
 }
 
-/// What is needed to describe the faults of a frame section.
+/// A frame section, with what is needed to describe its faults.
 pub struct Terms<'a> {
     frames: &'a Frames<'a>,
     functions: &'a Functions<'a>,
-    /// The records of the bytes that `dwcheck` takes.
+    /// The records of [`Frames::bytes`], in order.
     records: Vec<Record>,
 }
 
@@ -63,12 +66,12 @@ impl<'a> Terms<'a> {
         Terms { frames, functions, records: debug_frame::records(frames.bytes(), frames.target()) }
     }
 
-    /// The records of the bytes that `dwcheck` takes, in order.
+    /// The records of [`Frames::bytes`], in order.
     pub fn records(&self) -> &[Record] {
         &self.records
     }
 
-    /// Describes a fault that `dwcheck` found. Its offset is relative to [`Frames::bytes`].
+    /// Describes a fault that `dwcheck` found. The fault's offset is relative to [`Frames::bytes`].
     pub fn defect(&self, fault: Fault) -> Defect {
         let offset = fault.offset as usize;
         let edge = if fault.kind == FaultKind::Overlap { Edge::Begin } else { Edge::End };
@@ -113,7 +116,7 @@ impl Defect {
         }
     }
 
-    /// Describes a fault of location lists.
+    /// Describes a fault that `dwcheck` found in `lists`, the bytes of `.debug_loclists`.
     pub fn of_lists(lists: &[u8], fault: Fault, target: Target) -> Self {
         let code = lists.get(fault.offset as usize).copied();
         let what = match (fault.number(), code) {
@@ -138,7 +141,8 @@ impl Defect {
 }
 
 impl Within {
-    /// The function at an FDE's first address.
+    /// The function at an FDE's first address. `None` if the file has no name for it, and for any
+    /// other record.
     fn function(&self, functions: &Functions<'_>) -> Option<String> {
         match self {
             Within::Fde(range) => Spot::at(functions, range.start).map(|spot| spot.to_string()),
@@ -147,7 +151,8 @@ impl Within {
     }
 }
 
-/// What is at a fault: an instruction, an operation, a field or an end.
+/// Says in words what is at a fault: an instruction, an operation, a field, or the end of a
+/// program.
 fn what(frames: &Frames<'_>, fault: &Fault, record: &Record) -> String {
     let field = match fault.kind {
         FaultKind::Version => "version",
@@ -164,7 +169,8 @@ fn what(frames: &Frames<'_>, fault: &Fault, record: &Record) -> String {
     field.to_string()
 }
 
-/// The instruction or operation at the fault's offset.
+/// Names the instruction or operation at a fault's offset. If the offset isn't among the record's
+/// instructions, this is `a field` or `the end of the program`.
 fn in_program(frames: &Frames<'_>, fault: &Fault, record: &Record) -> String {
     let offset = fault.offset as usize;
     // `EndsEmpty` is reported where the expression ends, which is where the next instruction
@@ -203,7 +209,7 @@ fn named(frames: &Frames<'_>, instruction: &Instruction, offset: usize) -> Strin
     }
 }
 
-/// Names the first FDE before a record that shares an address with it.
+/// Names the first FDE in the section that shares an address with `record`, and its addresses.
 fn overlap(frames: &Frames<'_>, record: &Record) -> String {
     let range = |kind| match kind {
         RecordKind::Fde { begin, size, .. } => begin..begin.saturating_add(size),

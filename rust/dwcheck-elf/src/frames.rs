@@ -6,16 +6,17 @@ use crate::target::Target;
 use dwcheck::{Error, Process};
 use std::fmt;
 
-/// The rows of a section may take this many times its bytes. Compilers' rows take some 1.5 times.
+/// The rows of a section may take this many times as many bytes as the section has. The rows that
+/// compilers write take about 1.5 times as many.
 const ROOM_TIMES: usize = 64;
 
-/// The rows of any section may take at least this many bytes, however short it is.
+/// The rows of a section may always take this many bytes, however short the section is.
 const LEAST_ROOM: usize = 64 << 20;
 
 /// A section that can be checked.
 #[derive(Clone, Copy, Debug, PartialEq, Eq, PartialOrd, Ord)]
 pub enum Name {
-    /// `.debug_frame`, which `dwcheck` takes as it is, except for records of length 0.
+    /// `.debug_frame`, which `dwcheck` takes as it is, but without the records of length 0.
     DebugFrame,
     /// `.eh_frame`, which is rewritten as `.debug_frame`.
     EhFrame,
@@ -72,7 +73,8 @@ impl<'data> Frames<'data> {
             .filter_map(move |name| Frames::read(program, name, options).transpose())
     }
 
-    /// Reads one section, and rewrites it for `dwcheck`.
+    /// Reads one section, and rewrites it for `dwcheck`. `None` if the program doesn't have it, or
+    /// if it is empty.
     fn read(program: &Program<'data>, name: Name, options: Options) -> Result<Option<Self>, FramesError> {
         let target = program.target();
         let read = if name == Name::EhFrame { program.eh_frame() } else { program.debug_frame() };
@@ -89,7 +91,7 @@ impl<'data> Frames<'data> {
         Ok(Some(Frames { name, target, machine: program.machine(), source, text, data, bridged }))
     }
 
-    /// Which section it is.
+    /// The name of the section.
     pub fn name(&self) -> Name {
         self.name
     }
@@ -109,7 +111,8 @@ impl<'data> Frames<'data> {
         &self.source
     }
 
-    /// The section and its base addresses, as [`bridge`] takes them.
+    /// The section, and the addresses that its pointers may be relative to, as [`bridge`] takes
+    /// them.
     pub fn eh_frame(&self) -> EhFrame<'_> {
         EhFrame {
             bytes: &self.source.bytes,
@@ -121,12 +124,12 @@ impl<'data> Frames<'data> {
         }
     }
 
-    /// The rewritten section: its records, and what was dropped or changed.
+    /// The rewritten section, with its records and the counts of what was dropped or changed.
     pub fn bridged(&self) -> &Bridged {
         &self.bridged
     }
 
-    /// The bytes that `dwcheck` takes.
+    /// The bytes of the rewritten section, which `dwcheck` takes.
     pub fn bytes(&self) -> &[u8] {
         self.bridged.bytes()
     }
@@ -136,12 +139,13 @@ impl<'data> Frames<'data> {
         self.name == Name::EhFrame || self.bridged.counts().terminators > 0
     }
 
-    /// Where an offset of [`bytes`](Self::bytes) comes from in the file's section.
+    /// Where an offset of [`bytes`](Self::bytes) comes from in the file's section. See
+    /// [`Bridged::place`].
     pub fn place(&self, offset: u64, edge: Edge) -> Option<Place> {
         self.bridged.place(offset, edge)
     }
 
-    /// Makes a process that has this section as its only module, loaded at `load`. Checks the
+    /// Makes a process with this section as its only module, loaded at `load`. This checks the
     /// section, and compiles all its rows.
     ///
     /// # Errors

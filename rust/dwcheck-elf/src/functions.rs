@@ -1,4 +1,4 @@
-//! The functions of a file: names by address, addresses by name.
+//! Looks up the functions of an ELF file, by address or by name.
 
 use crate::layout::Layout;
 use crate::names::is_shown_as;
@@ -18,9 +18,10 @@ pub struct Function<'data> {
     pub begin: u64,
     /// The number of bytes, 0 if it isn't known.
     pub size: u64,
-    /// The end of its section if that has code, else the end of the function.
+    /// The end address of its section if that section has code, else the end address of the
+    /// function.
     limit: u64,
-    /// Which of several symbols to prefer: the one with the highest rank.
+    /// Of several symbols with the same name, those with the highest rank are used.
     rank: u8,
 }
 
@@ -31,7 +32,7 @@ pub enum NameError {
     Unknown(String),
     /// Several functions have the name. These are their addresses.
     Ambiguous(String, Vec<u64>),
-    /// What follows the plus sign isn't a number.
+    /// The text after the plus sign isn't a number, or the sum is above the highest address.
     Offset(String),
 }
 
@@ -39,19 +40,19 @@ pub enum NameError {
 #[derive(Clone, Debug, Default)]
 pub struct Functions<'data> {
     functions: Vec<Function<'data>>,
-    /// For each function, the highest end of it and the functions before it.
+    /// For each function, the highest end address of that function and all functions before it.
     ends: Vec<u64>,
 }
 
 impl<'data> Function<'data> {
-    /// The address after the last one. A function of unknown size ends where it begins.
+    /// The address after the function's last byte. A function of unknown size ends where it begins.
     fn end(&self) -> u64 {
         self.begin.saturating_add(self.size)
     }
 }
 
 impl<'data> Functions<'data> {
-    /// Reads both symbol tables. Leaves out symbols whose names aren't UTF-8.
+    /// Reads the functions in `.symtab` and `.dynsym`. Leaves out symbols whose names aren't UTF-8.
     pub(crate) fn read(file: &object::File<'data>, layout: &Layout, machine: u16, target: Target) -> Self {
         let code = code_sections(file, layout);
         let mut functions: Vec<_> = file
@@ -69,15 +70,15 @@ impl<'data> Functions<'data> {
         Functions { functions, ends }
     }
 
-    /// All functions, by address.
+    /// All functions, in ascending order of address.
     pub fn all(&self) -> &[Function<'data>] {
         &self.functions
     }
 
-    /// The function that contains an address, and the address's offset in it.
+    /// The function that contains an address, and the distance from the function's first address.
     ///
-    /// If no function covers the address, the answer is the last symbol at or before it, but only
-    /// if that symbol has size 0 and is in the same section.
+    /// If no function contains the address, the answer is the last symbol at or before the address,
+    /// but only if that symbol has size 0 and is in the same section. Otherwise it is `None`.
     pub fn at(&self, address: u64) -> Option<(&Function<'data>, u64)> {
         let count = self.functions.partition_point(|function| function.begin <= address);
         let before = self.functions.get(..count)?.iter().zip(&self.ends).rev();
@@ -90,9 +91,10 @@ impl<'data> Functions<'data> {
         Some((found, address - found.begin))
     }
 
-    /// The address of a function by its exact name: as it is in the file, or else demangled, as
-    /// [`Spot`](crate::names::Spot) shows it. If several symbols have the name, functions are
-    /// preferred to labels, then global symbols to weak ones and those to local ones.
+    /// The address of the function with exactly this name: the name in the file, or else the
+    /// demangled name, as [`Spot`](crate::names::Spot) shows it. If several symbols have the name,
+    /// functions are preferred to labels; after that, global symbols to weak ones, and weak ones to
+    /// local ones. It is an error if the preferred symbols have different addresses.
     pub fn address_of(&self, name: &str) -> Result<u64, NameError> {
         match self.address_of_symbol(name) {
             Err(NameError::Unknown(_)) => self.only(name, |symbol| is_shown_as(symbol, name)),
@@ -100,12 +102,14 @@ impl<'data> Functions<'data> {
         }
     }
 
-    /// The address of a function by its name as it is in the file.
+    /// The address of the function with this name in the file. Demangled names aren't compared.
     fn address_of_symbol(&self, name: &str) -> Result<u64, NameError> {
         self.only(name, |symbol| symbol == name)
     }
 
-    /// The one address of the functions whose symbols have a name. `has_name` says which these are.
+    /// The address of the functions whose names in the file satisfy `has_name`. Of these, only
+    /// those with the highest rank are used, and all have to have the same address. `name` is for
+    /// the error.
     fn only(&self, name: &str, has_name: impl Fn(&str) -> bool) -> Result<u64, NameError> {
         let named: Vec<_> = self.functions.iter().filter(|function| has_name(function.name)).collect();
         let best = named.iter().map(|function| function.rank).max();
@@ -119,9 +123,9 @@ impl<'data> Functions<'data> {
         }
     }
 
-    /// The address that a text means: a function's name, or a name, a plus sign and a number, such
-    /// as `main+4`, `main+0x4` or `twice(int)+4`. The number follows the last plus sign. If no
-    /// number follows it, it is part of the name, as in `operator+(A, A)`.
+    /// The address that a text stands for: a function's name, or a name, a plus sign and a number,
+    /// such as `main+4`, `main+0x4` or `twice(int)+4`. The number follows the last plus sign. If no
+    /// number follows that sign, the sign is part of the name, as in `operator+(A, A)`.
     pub fn parse(&self, text: &str) -> Result<u64, NameError> {
         // A symbol's own name may end with a plus sign and a number.
         match self.address_of_symbol(text) {
@@ -137,15 +141,15 @@ impl<'data> Functions<'data> {
         }
     }
 
-    /// Whether a function has the name that comes before a text's last plus sign.
+    /// Whether some function's name is the part of the text before its last plus sign.
     fn names_before_plus(&self, text: &str) -> bool {
         let before = text.rsplit_once('+').map(|(name, _)| name.trim_end());
         before.map_or(false, |name| !matches!(self.address_of(name), Err(NameError::Unknown(_))))
     }
 }
 
-/// The name and the offset of a text. If no number follows the last plus sign, the name is the whole
-/// text, and the offset 0.
+/// Splits a text such as `main+4` into the name and the offset. If no number follows the last plus
+/// sign, the name is the whole text, and the offset is 0.
 fn split_offset(text: &str) -> (&str, u64) {
     let split = text.rsplit_once('+').and_then(|(name, offset)| Some((name.trim_end(), number(offset.trim_start())?)));
     split.unwrap_or((text, 0))
@@ -160,7 +164,7 @@ fn number(text: &str) -> Option<u64> {
     u64::from_str_radix(digits, radix).ok().filter(|_| plain)
 }
 
-/// The end address of each section that has code, by section index.
+/// Maps the index of each section that has code to the section's end address.
 fn code_sections(file: &object::File<'_>, layout: &Layout) -> HashMap<usize, u64> {
     let is_code = |flags| match flags {
         SectionFlags::Elf { sh_flags } => sh_flags & u64::from(elf::SHF_EXECINSTR) != 0,
@@ -170,7 +174,7 @@ fn code_sections(file: &object::File<'_>, layout: &Layout) -> HashMap<usize, u64
     code.map(|section| (section.index().0, layout.address(section.index()).saturating_add(section.size()))).collect()
 }
 
-/// The function or label of a symbol, if it has one.
+/// The function or the label in code that a symbol stands for. `None` for any other symbol.
 fn function<'data>(
     symbol: &object::Symbol<'data, '_>,
     layout: &Layout,
@@ -193,7 +197,8 @@ fn function<'data>(
     };
     let code_end = code.get(&section.0).copied();
     let name = symbol.name().ok().filter(|name| !name.is_empty())?;
-    // Labels that begin with a dollar sign only mark code and data, on arm, aarch64 and riscv.
+    // On arm, aarch64 and riscv, labels that begin with a dollar sign only mark where code or data
+    // begins.
     if is_label && (code_end.is_none() || name.starts_with('$')) {
         return None;
     }

@@ -1,4 +1,4 @@
-//! Checks all sections of a program.
+//! Checks the frame sections and the location lists of a program.
 
 use crate::alone::every_fault;
 use crate::bridge::{BridgeError, Edge, Options, RecordKind};
@@ -12,7 +12,7 @@ use crate::validate::{validate, validate_rows, Agreement, Difference, DwcheckRow
 use dwcheck::{Error, Process};
 use std::fmt;
 
-/// How to check.
+/// How to check a program.
 ///
 /// ```
 /// use dwcheck_elf::inspect::Check;
@@ -32,13 +32,15 @@ pub struct Check {
 /// The result of checking a section.
 #[derive(Debug)]
 pub struct Inspected<'data> {
-    /// The section.
+    /// The name of the section.
     pub name: Name,
-    /// Its number of bytes in the file, decompressed. 0 if it couldn't be rewritten.
+    /// The number of bytes of the section in the file, decompressed. 0 if it is a frame section
+    /// that couldn't be rewritten.
     pub bytes: usize,
-    /// The frame section, if it is one and could be rewritten.
+    /// The frame section. `None` for location lists, and for a frame section that couldn't be
+    /// rewritten.
     pub frames: Option<Frames<'data>>,
-    /// Whether it was accepted.
+    /// Whether the section was accepted.
     pub verdict: Verdict,
 }
 
@@ -57,9 +59,9 @@ pub enum Verdict {
 /// Why a section can't be checked.
 #[derive(Clone, Debug, PartialEq, Eq)]
 pub enum InspectError {
-    /// It can't be read from the file.
+    /// The section can't be read from the file.
     Program(ProgramError),
-    /// The rewritten section differs from the original in a row or a record.
+    /// A row or a record of the rewritten section differs from its counterpart in the original.
     Difference(Difference),
     /// `dwcheck` neither accepted nor refused the section, for example because memory ran out.
     Dwcheck(Name, Error),
@@ -68,13 +70,14 @@ pub enum InspectError {
 /// Checks the sections of a program that have bytes: `.debug_frame`, `.eh_frame`,
 /// `.debug_loclists`.
 ///
-/// Memory is in proportion to the sections, and so is time for sections of compilers. A hostile
-/// file can take longer, because gimli runs a CIE's instructions again for each of its FDEs.
+/// The memory that this takes is in proportion to the length of the sections. So is the time, for
+/// sections that compilers write. A hostile file can take longer, because gimli runs a CIE's
+/// instructions again for each of its FDEs.
 ///
 /// # Errors
 ///
-/// The first section that can't be checked. A refused section isn't an error: its [`Verdict`] has
-/// the fault.
+/// Why a section can't be checked, for the first such section. A refused section isn't an error:
+/// its [`Verdict`] has the fault.
 pub fn inspect<'data>(program: &Program<'data>, check: Check) -> Result<Vec<Inspected<'data>>, InspectError> {
     let mut all = inspect_frame_sections(program, check)?;
     if let Some(lists) = program.debug_loclists().map_err(InspectError::Program)? {
@@ -100,7 +103,8 @@ pub fn inspect_frame_sections<'data>(
     sections.collect()
 }
 
-/// A section that can't be rewritten is refused; one that can't be read is an error.
+/// The result for a frame section that [`Frames::all`] couldn't give: a section that can't be
+/// rewritten is refused, and a section that can't be read is an error.
 fn unread_frames<'data>(error: FramesError) -> Result<Inspected<'data>, InspectError> {
     let (name, defect) = match error {
         FramesError::Program(_, error) => return Err(InspectError::Program(error)),
@@ -136,8 +140,9 @@ fn inspect_frames<'data>(
     Ok(Inspected { name: frames.name(), bytes: frames.source().bytes.len(), frames: Some(frames), verdict })
 }
 
-/// Makes sure that the bridge didn't cause a fault: gimli's rows of the original and of the
-/// rewritten section have to be equal, up to a record of the original that gimli can't read.
+/// Makes sure that a fault isn't due to the rewriting of `.eh_frame`. gimli's rows of the original
+/// and of the rewritten section have to be equal, as far as gimli can read the records of the
+/// original.
 fn compared_by_gimli(frames: &Frames<'_>) -> Result<(), InspectError> {
     if frames.name() != Name::EhFrame {
         return Ok(());
@@ -175,7 +180,8 @@ fn inspect_lists(lists: &[u8], target: Target) -> Result<Verdict, InspectError> 
     }
 }
 
-/// Where a record begins in the file's section. `record` is its offset in [`Frames::bytes`].
+/// Where a record, or anything in it, begins in the file's section. `record` is the offset in
+/// [`Frames::bytes`].
 pub fn source_offset(frames: &Frames<'_>, record: u64) -> u64 {
     frames.place(record, Edge::Begin).map_or(record, |place| place.offset)
 }

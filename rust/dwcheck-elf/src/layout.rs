@@ -1,4 +1,4 @@
-//! Where the sections of a file are in memory.
+//! The address of each section of a file in memory.
 
 use crate::target::Target;
 use object::elf::{ET_REL, SHF_ALLOC, SHF_EXECINSTR};
@@ -6,11 +6,11 @@ use object::read::{Object, ObjectSection, SectionIndex};
 use object::SectionFlags;
 use std::collections::HashMap;
 
-/// The address of each section.
+/// The address of each section of a file.
 ///
-/// A linked file has these addresses. In an unlinked object, each section gets an address here:
-/// first the code, from address 0 on, then the data that the file has, then the data that starts as
-/// zeros.
+/// In a linked file, these are the addresses in its section headers. In an unlinked object, each
+/// section that would be loaded gets an address here: first code, from address 0 on, then data
+/// whose bytes the file has, then data that starts as zeros.
 #[derive(Clone, Debug, Default)]
 pub(crate) struct Layout {
     addresses: HashMap<usize, u64>,
@@ -36,7 +36,8 @@ impl Layout {
         for section in sections {
             let alignment = section.align().max(16);
             let address = aligned(next, alignment).ok_or(TooLarge)?;
-            // One byte between two sections, so that the end of one isn't the start of the next.
+            // Leave one byte free between two sections, so that the end of one isn't the start of
+            // the next.
             next = address.checked_add(section.size()).and_then(|end| end.checked_add(1)).ok_or(TooLarge)?;
             if next > target.address_size.highest() {
                 return Err(TooLarge);
@@ -68,12 +69,13 @@ fn elf_flags(flags: SectionFlags) -> u64 {
     }
 }
 
-/// Whether a section with these flags is in memory.
+/// Whether a section with these flags is loaded into memory.
 pub(crate) fn is_loaded(flags: SectionFlags) -> bool {
     elf_flags(flags) & u64::from(SHF_ALLOC) != 0
 }
 
-/// The order of sections: code first, data that starts as zeros last.
+/// The rank of a section in the order of addresses: 0 for code, 1 for data whose bytes the file
+/// has, 2 for data that starts as zeros.
 fn rank(flags: SectionFlags, has_bytes: bool) -> u8 {
     match (elf_flags(flags) & u64::from(SHF_EXECINSTR) != 0, has_bytes) {
         (true, _) => 0,

@@ -1,11 +1,14 @@
-//! Reads ELF files and core files for `dwcheck`.
+//! Reads ELF files and core files, so that `dwcheck` can check their unwind tables and unwind
+//! stacks with them.
 //!
-//! - [`program`] opens an ELF file and gives its frame sections, functions and segments.
+//! - [`program`] opens an ELF file and gives its frame sections, location lists, functions and
+//!   segments.
 //! - [`bridge`] rewrites an `.eh_frame` section as a `.debug_frame` section.
-//! - [`validate`] compares the rows of both, as gimli reads them.
+//! - [`validate`] compares the unwind rows of an `.eh_frame` section with those of the rewritten
+//!   section.
 //! - [`core_file`] opens a core file and gives its threads, memory and modules.
 //!
-//! Nothing here trusts its input: a file that is wrong gives an error.
+//! No function here trusts its input: a malformed file gives an error.
 
 #![forbid(unsafe_code)]
 #![warn(missing_docs)]

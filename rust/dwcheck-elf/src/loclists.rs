@@ -1,6 +1,7 @@
-//! The tables, lists and expressions of a `.debug_loclists` section.
+//! Counts the tables, lists and expressions of a `.debug_loclists` section.
 //!
-//! `dwcheck` checks the section. This module only counts what an accepted section has.
+//! `dwcheck` checks the section. This module only counts what an accepted section has, and finds
+//! the table with a fault.
 
 use crate::bytes::{Cursor, ReadError};
 use crate::target::Target;
@@ -12,13 +13,13 @@ pub struct Contents {
     pub tables: usize,
     /// The number of lists.
     pub lists: usize,
-    /// The offset and the length of each expression.
+    /// The offset in the section and the length of each expression, in order.
     pub expressions: Vec<(usize, usize)>,
 }
 
 impl Contents {
     /// Counts the contents of a section that `dwcheck` has accepted. In any other section, counting
-    /// ends where the section can't be read.
+    /// stops where the section can't be read.
     pub fn of(section: &[u8], target: Target) -> Self {
         let mut contents = Contents::default();
         let mut cursor = Cursor::new(section, target);
@@ -42,7 +43,7 @@ impl Contents {
         Ok(())
     }
 
-    /// Reads an entry. Returns whether the entry ends its list.
+    /// Reads an entry of a list. Returns whether it is the end of the list.
     fn entry(&mut self, table: &mut Cursor<'_>) -> Result<bool, ReadError> {
         let address = u64::from(table.target().address_size.bytes());
         let code = table.byte()?;
@@ -72,8 +73,8 @@ fn initial_length(cursor: &mut Cursor<'_>) -> Result<(u64, u64), ReadError> {
     }
 }
 
-/// The offset of the table that has `offset` in it or at its end. A table that can't be read is
-/// taken to reach to the section's end.
+/// The offset of the table that contains `offset` or ends there. A table that can't be read is
+/// taken to reach to the section's end. `None` if no table does.
 pub fn table_of(section: &[u8], target: Target, offset: usize) -> Option<u64> {
     let mut cursor = Cursor::new(section, target);
     while !cursor.is_at_end() {

@@ -1,12 +1,12 @@
-//! Names of functions as people write them.
+//! Shows names of functions as they are in the source code: demangles those of C++ and Rust.
 
 use crate::functions::Functions;
 use cpp_demangle::{DemangleOptions, ParseOptions, Symbol};
 use std::borrow::Cow;
 use std::fmt::{self, Write};
 
-/// The most bytes of a name that is demangled, and of the result. A short mangled name can stand
-/// for a huge one, which then stays mangled.
+/// A name of more bytes isn't demangled. Neither is a name whose demangled form would have more
+/// bytes, because a short mangled name can stand for a huge one.
 const LONGEST: usize = 4096;
 
 /// How deep the parts of a C++ name may be nested.
@@ -43,12 +43,13 @@ fn cpp(name: &str, text: &mut Bounded) -> bool {
     parsed.map_or(false, |symbol| symbol.structured_demangle(text, &options).is_ok())
 }
 
-/// The characters of a demangled name that are shown. A line feed in a name would begin a new line.
+/// The characters of a demangled name that are shown. Control characters are left out, because a
+/// line feed in a name would begin a new line.
 fn shown(demangled: &str) -> impl Iterator<Item = char> + '_ {
     demangled.chars().filter(|c| !c.is_control())
 }
 
-/// Whether the function with the name `symbol` in the file is shown as `name`.
+/// Whether the function that has the name `symbol` in the file is shown as `name`.
 pub(crate) fn is_shown_as(symbol: &str, name: &str) -> bool {
     shown(&demangled(symbol)).eq(name.chars())
 }
@@ -66,7 +67,7 @@ impl Write for Bounded {
     }
 }
 
-/// An address, as a function and an offset from its first address.
+/// An address, as a function and the offset from the function's first address.
 ///
 /// Its text is `main+0x4`, or `main` if the offset is 0.
 #[derive(Clone, Copy, Debug, PartialEq, Eq)]
@@ -78,13 +79,13 @@ pub struct Spot<'a> {
 }
 
 impl<'a> Spot<'a> {
-    /// The function and offset of an address, if the file has a name for it.
+    /// The function and offset of an address. `None` if the file has no name for the address.
     pub fn at(functions: &Functions<'a>, address: u64) -> Option<Self> {
         functions.at(address).map(|(function, offset)| Spot { name: function.name, offset })
     }
 
-    /// The function and offset of a return address. The function is the one that has the call, even
-    /// if the call is its last instruction.
+    /// The function and offset of a return address. The function is the one that contains the call,
+    /// even if the call is its last instruction.
     pub fn after_call(functions: &Functions<'a>, address: u64) -> Option<Self> {
         let Spot { name, offset } = Spot::at(functions, address.wrapping_sub(1))?;
         Some(Spot { name, offset: offset.saturating_add(1) })

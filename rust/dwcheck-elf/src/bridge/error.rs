@@ -1,4 +1,4 @@
-//! Why a record can't be rewritten.
+//! Why a record of `.eh_frame` can't be rewritten as a record of `.debug_frame`.
 
 use crate::bytes::ReadError;
 use std::fmt;
@@ -8,7 +8,7 @@ use std::fmt;
 pub struct BridgeError {
     /// The offset of the record in `.eh_frame`.
     pub record: u64,
-    /// The offset of the field in `.eh_frame`.
+    /// The offset in `.eh_frame` of the field that can't be rewritten.
     pub field: u64,
     /// What is wrong with the field.
     pub reason: Reason,
@@ -19,21 +19,23 @@ pub struct BridgeError {
 pub enum Reason {
     /// The section or the record ends before the field does.
     Truncated,
-    /// A LEB128 number doesn't fit 64 bits.
+    /// A LEB128 number doesn't fit in 64 bits.
     LebRange,
     /// An initial length between 0xfffffff0 and 0xfffffffe.
     ReservedLength,
-    /// The record's CIE pointer leads to no CIE before it.
+    /// The CIE pointer of an FDE doesn't lead to a CIE that comes before the FDE.
     NoSuchCie,
-    /// The CIE has a version other than 1 and 3.
+    /// The CIE has this version, which is neither 1 nor 3.
     Version(u8),
     /// The CIE's augmentation string has a letter with no known meaning.
     Augmentation(String),
-    /// A pointer encoding (`DW_EH_PE`) that isn't known, or that is indirect or omitted.
+    /// A pointer encoding (`DW_EH_PE`) that isn't known, is indirect, or says that there is no
+    /// pointer.
     Encoding(u8),
-    /// A pointer is relative to an address that isn't known: of the text, the data or the function.
+    /// A pointer with this encoding is relative to the address of the text section, of the global
+    /// offset table or of the function, and that address isn't known.
     NoBase(u8),
-    /// A signed range is negative.
+    /// The number of bytes that an FDE covers is negative.
     NegativeRange,
     /// The field's relocation names a symbol that the object doesn't define.
     Unresolved,
@@ -51,7 +53,8 @@ impl From<ReadError> for Reason {
 }
 
 impl Reason {
-    /// The reason's name. If `dwcheck` has a fault for the reason, it is that fault's name.
+    /// The reason's name. If `dwcheck` has a fault for the same reason, the fault has the same
+    /// name.
     pub fn name(&self) -> &'static str {
         match self {
             Reason::Truncated => "Truncated",
@@ -67,7 +70,8 @@ impl Reason {
         }
     }
 
-    /// The error for this reason, at a field of a record.
+    /// The error for this reason. `record` and `field` are the offsets in `.eh_frame` of a record
+    /// and of the field that can't be rewritten.
     pub(crate) fn at(self, record: usize, field: usize) -> BridgeError {
         BridgeError { record: record as u64, field: field as u64, reason: self }
     }

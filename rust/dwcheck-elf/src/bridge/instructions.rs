@@ -1,4 +1,4 @@
-//! Copies call frame instructions, and changes the few that differ in `.debug_frame`.
+//! Copies call frame instructions, and changes the few that are different in `.debug_frame`.
 
 use super::pointer;
 use super::records::{Bridge, CieParts};
@@ -7,7 +7,7 @@ use crate::bytes::{Cursor, ReadError};
 use crate::target::Target;
 use object::elf::EM_AARCH64;
 
-/// The operands of an instruction, by their kinds of size.
+/// The operands of an instruction, as far as is needed to find where they end.
 #[derive(Clone, Copy, Debug, PartialEq, Eq)]
 pub(crate) enum Operands {
     None,
@@ -30,7 +30,7 @@ const DEF_CFA_SF: u8 = 0x12;
 const DEF_CFA_OFFSET_SF: u8 = 0x13;
 const GNU_ARGS_SIZE: u8 = 0x2e;
 
-/// The operands of an instruction by its code. `None` if the code isn't known.
+/// The operands of the instruction with this code. `None` if the code isn't known.
 pub(crate) fn operands(code: u8) -> Option<Operands> {
     Some(match code {
         0x40..=0x7f | 0xc0..=0xff => Operands::None,
@@ -44,7 +44,8 @@ pub(crate) fn operands(code: u8) -> Option<Operands> {
         0x05 | 0x09 | DEF_CFA | 0x11 | DEF_CFA_SF | 0x14 | 0x15 => Operands::TwoLebs,
         DEF_CFA_EXPRESSION => Operands::Block,
         0x10 | 0x16 => Operands::LebAndBlock,
-        // DW_CFA_MIPS_advance_loc8; and DW_CFA_GNU_window_save, AARCH64_negate_ra_state on aarch64.
+        // 0x1d is DW_CFA_MIPS_advance_loc8. 0x2d is DW_CFA_GNU_window_save, and on aarch64
+        // DW_CFA_AARCH64_negate_ra_state.
         0x1d => Operands::Bytes(8),
         0x2d => Operands::None,
         GNU_ARGS_SIZE => Operands::Leb,
@@ -54,8 +55,8 @@ pub(crate) fn operands(code: u8) -> Option<Operands> {
     })
 }
 
-/// Moves past operands. Returns the length of the block, if there is one. An address is taken to
-/// have the size that it has in `.debug_frame`.
+/// Moves past the operands of an instruction. Returns the length of the block that they end with,
+/// or `None` if they have no block. An address has the target's address size, as in `.debug_frame`.
 pub(crate) fn skip(cursor: &mut Cursor<'_>, operands: Operands, target: Target) -> Result<Option<usize>, ReadError> {
     match operands {
         Operands::None => {}
@@ -74,8 +75,9 @@ fn block(cursor: &mut Cursor<'_>) -> Result<usize, ReadError> {
     cursor.take(length).map(<[u8]>::len)
 }
 
-/// The name of an instruction by its code, without `DW_CFA_`: that of DWARF 5, section 7.24, or a
-/// vendor's.
+/// The name of the instruction with this code, without `DW_CFA_`. It is the name in DWARF 5,
+/// section 7.24, or a vendor's. `machine` (`e_machine`) decides where vendors share a code. `None`
+/// if the code has no name.
 pub(crate) fn name_of(code: u8, machine: u16) -> Option<&'static str> {
     Some(match code {
         0x40..=0x7f => "advance_loc",
@@ -113,7 +115,8 @@ pub(crate) fn name_of(code: u8, machine: u16) -> Option<&'static str> {
     })
 }
 
-/// Whether the CFA has a rule, now and in the states that are remembered.
+/// Whether the CFA has a rule: after the instructions so far, and in each state that
+/// `DW_CFA_remember_state` has remembered.
 #[derive(Clone, Debug, Default)]
 pub(super) struct CfaKnown {
     now: bool,
@@ -142,7 +145,8 @@ impl CfaKnown {
 }
 
 impl Bridge<'_> {
-    /// Copies a program. `function` is the FDE's first address, or `None` in a CIE.
+    /// Copies the instructions of a CIE or an FDE. `function` is the FDE's first address, or `None`
+    /// in a CIE. An error has the offset of the field that can't be rewritten.
     pub(super) fn instructions(
         &mut self,
         cursor: &mut Cursor<'_>,
@@ -156,7 +160,7 @@ impl Bridge<'_> {
             let whole = cursor.clone();
             let code = cursor.byte().unwrap_or(0);
             let read = match operands(code) {
-                // `set_loc` reads the address, below.
+                // The function `set_loc`, which is called below, reads the address.
                 Some(Operands::Address) => Some(Ok(None)),
                 operands => operands.map(|operands| skip(cursor, operands, self.section.target)),
             };
@@ -181,7 +185,7 @@ impl Bridge<'_> {
         Ok(())
     }
 
-    /// Decodes the address of `DW_CFA_set_loc`.
+    /// Writes a `DW_CFA_set_loc` with its address decoded.
     fn set_loc(&mut self, cursor: &mut Cursor<'_>, cie: &CieParts, function: Option<u64>) -> Result<(), Reason> {
         let operand = cursor.at();
         let address = pointer::address(cursor, cie.encoding, &self.section, function)?;
@@ -193,7 +197,8 @@ impl Bridge<'_> {
         Ok(())
     }
 
-    /// Writes `DW_CFA_def_cfa` with the same register and the offset 0.
+    /// Writes a `DW_CFA_def_cfa` with the offset 0 in place of the `DW_CFA_def_cfa_register` at
+    /// `start`.
     fn mend(&mut self, cursor: &Cursor<'_>, start: usize) {
         self.bytes.push(DEF_CFA);
         self.bytes.extend_from_slice(cursor.since(start + 1));

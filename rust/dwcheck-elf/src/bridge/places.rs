@@ -1,19 +1,19 @@
-//! Where the bridged bytes come from in the original section.
+//! Finds where an offset of the rewritten section comes from in the original section.
 
 use std::ops::Range;
 
-/// A record of the bridged bytes, and where it comes from.
+/// A record of the rewritten section, and the record that it was made from.
 #[derive(Clone, Debug, PartialEq, Eq)]
 pub struct Record {
-    /// The offset of the record in the bridged bytes.
+    /// The offset of the record in the rewritten section.
     pub bridged: u64,
-    /// The offset of the record in the original section.
+    /// The offset of the original record in the original section.
     pub source: u64,
-    /// What the record is.
+    /// Whether the record is a CIE or an FDE.
     pub kind: RecordKind,
 }
 
-/// What a record is.
+/// Whether a record is a CIE or an FDE, and which addresses an FDE covers.
 #[derive(Clone, Copy, Debug, PartialEq, Eq)]
 pub enum RecordKind {
     /// A common information entry.
@@ -35,29 +35,32 @@ pub enum RecordKind {
 pub struct Place {
     /// The offset in the original section.
     pub offset: u64,
-    /// The offset of its record in the original section.
+    /// The offset in the original section of the record that contains the place.
     pub record: u64,
-    /// What the record is.
+    /// Whether the record is a CIE or an FDE.
     pub kind: RecordKind,
 }
 
-/// Which record an offset belongs to, if one record ends there and the next one begins.
+/// Which record an offset belongs to, if one record ends there and the next one begins there.
 #[derive(Clone, Copy, Debug, PartialEq, Eq)]
 pub enum Edge {
-    /// The record that begins there, as for the fault Overlap.
+    /// The record that begins there: for the fault Overlap, which is reported where an FDE begins.
     Begin,
-    /// The record that ends there, as for the faults Unrestored and NoCfa.
+    /// The record that ends there: for faults such as Unrestored, which are reported where a record
+    /// ends.
     End,
 }
 
-/// The bridged bytes from `bridged` on come from the original section's bytes from `source` on.
+/// The bytes of the rewritten section from offset `bridged` up to the next pair's come from the
+/// bytes of the original section from offset `source` on.
 #[derive(Clone, Copy, Debug)]
 pub(super) struct Pair {
     pub bridged: u32,
     pub source: u32,
 }
 
-/// All records, and where the parts that they are made of come from.
+/// All records, and where each part of the rewritten section comes from. Both lists are in
+/// ascending order of offset.
 #[derive(Clone, Debug, Default)]
 pub(super) struct Places {
     pub records: Vec<Record>,
@@ -65,7 +68,8 @@ pub(super) struct Places {
 }
 
 impl Places {
-    /// Where an offset of the bridged bytes comes from.
+    /// Where an offset of the rewritten section comes from. `None` if it belongs to no record. The
+    /// offset is at most the length of the rewritten section.
     pub fn find(&self, offset: u64, edge: Edge) -> Option<Place> {
         let next = self.records.partition_point(|record| match edge {
             Edge::Begin => record.bridged <= offset,
@@ -84,7 +88,7 @@ impl Places {
 }
 
 impl RecordKind {
-    /// The addresses that an FDE covers. A CIE covers none.
+    /// The addresses that an FDE covers. `None` for a CIE.
     pub fn range(self) -> Option<Range<u64>> {
         match self {
             RecordKind::Cie => None,

@@ -11,8 +11,8 @@ const NOWHERE: u64 = 0xffff_fffe;
 
 /// Copies a `.debug_frame` section for `dwcheck`, without the records of length 0.
 ///
-/// Some linkers leave such records, which DWARF doesn't have. If there are none, the result has the
-/// section's bytes. What follows the last record that can be read is copied unchanged.
+/// Some linkers leave such records, which DWARF doesn't have. If the section has none, its bytes
+/// are copied unchanged. Bytes after the last record that can be read are always copied unchanged.
 ///
 /// `None` if the section has 2^32 bytes or more.
 pub fn without_empty_records(section: &[u8], target: Target) -> Option<Bridged> {
@@ -42,7 +42,8 @@ pub fn without_empty_records(section: &[u8], target: Target) -> Option<Bridged> 
     Some(Bridged { bytes: copy.bytes, places, counts: copy.counts, mended: Vec::new() })
 }
 
-/// The offset of each record in the copy, by its offset in the section.
+/// Maps the offset of each record in the section to its offset in the copy. Records of length 0
+/// aren't in the map.
 fn new_starts(records: &[debug_frame::Record]) -> HashMap<u64, u64> {
     let mut dropped = 0;
     let mut starts = HashMap::new();
@@ -62,13 +63,13 @@ struct Copy<'a> {
     bytes: Vec<u8>,
     counts: Counts,
     target: Target,
-    /// Whether no record is left out.
+    /// Whether the section has no records of length 0, so that no record is left out.
     is_whole: bool,
 }
 
 impl Copy<'_> {
-    /// Copies a record. Its CIE pointer is changed to the new offset of its CIE. A pointer that
-    /// leads to no record leads to none in the copy, either.
+    /// Copies a record. The CIE pointer of an FDE is changed to the offset of its CIE in the copy.
+    /// A pointer that leads to no record in the section leads to no record in the copy either.
     fn record(&mut self, record: &debug_frame::Record, starts: &HashMap<u64, u64>) -> RecordKind {
         let part = |from, to| self.section.get(from..to).unwrap_or(&[]);
         match record.kind {

@@ -1,15 +1,15 @@
-//! Encoded pointers of `.eh_frame` (`DW_EH_PE`, Linux Standard Base Core, section 10.5).
+//! Reads the encoded pointers of `.eh_frame` (`DW_EH_PE`, Linux Standard Base Core, section 10.5).
 
 use super::{EhFrame, Reason};
 use crate::bytes::Cursor;
 
-/// The encoding of a pointer that isn't there.
+/// The encoding that says that there is no pointer.
 pub(super) const OMIT: u8 = 0xff;
-/// The bit that says that the pointer leads to memory that holds the address.
+/// The bit of an encoding that says that the pointer leads to memory that holds the address.
 const INDIRECT: u8 = 0x80;
-/// The bits that say how the number is written.
+/// The bits of an encoding that say how the number is written.
 const FORMAT: u8 = 0x0f;
-/// The bits that say what the number is relative to.
+/// The bits of an encoding that say what the number is relative to.
 const BASE: u8 = 0x70;
 const PC_RELATIVE: u8 = 0x10;
 const TEXT_RELATIVE: u8 = 0x20;
@@ -17,7 +17,8 @@ const DATA_RELATIVE: u8 = 0x30;
 const FUNCTION_RELATIVE: u8 = 0x40;
 const ALIGNED: u8 = 0x50;
 
-/// The number of a pointer, before its base is added, extended to 64 bits.
+/// Reads the number that a pointer holds, to which an address may still be added. Signed numbers
+/// are sign-extended to 64 bits.
 fn number(cursor: &mut Cursor<'_>, encoding: u8, address_size: u8) -> Result<u64, Reason> {
     Ok(match encoding & FORMAT {
         0x00 => cursor.number(address_size)?,
@@ -34,7 +35,8 @@ fn number(cursor: &mut Cursor<'_>, encoding: u8, address_size: u8) -> Result<u64
     })
 }
 
-/// Reads an address. `function` is the FDE's first address, if that is known already.
+/// Reads a pointer, and returns the address that it stands for. `function` is the FDE's first
+/// address, if that is known already.
 pub(super) fn address(
     cursor: &mut Cursor<'_>,
     encoding: u8,
@@ -62,8 +64,8 @@ pub(super) fn address(
     Ok(section.target.wrap(base.wrapping_add(number)))
 }
 
-/// Reads the number of bytes that an FDE covers. Its format is that of the addresses, but it has no
-/// base.
+/// Reads the number of bytes that an FDE covers. It is written as the FDE's addresses are, but
+/// isn't relative to anything.
 pub(super) fn range(cursor: &mut Cursor<'_>, encoding: u8, section: &EhFrame<'_>) -> Result<u64, Reason> {
     let range = number(cursor, encoding, section.target.address_size.bytes())?;
     let narrow = matches!(encoding & FORMAT, 0x0a | 0x0b) && encoding & FORMAT != widest(section);
@@ -92,7 +94,8 @@ pub(super) fn skip(cursor: &mut Cursor<'_>, encoding: u8, section: &EhFrame<'_>)
     Ok(())
 }
 
-/// Moves to where an aligned pointer begins: at a multiple of the address size.
+/// For the aligned encoding, moves to the next address that is a multiple of the address size,
+/// where the pointer begins. Does nothing for any other encoding.
 fn align(cursor: &mut Cursor<'_>, encoding: u8, section: &EhFrame<'_>) -> Result<(), Reason> {
     if encoding & BASE == ALIGNED {
         let size = u64::from(section.target.address_size.bytes());

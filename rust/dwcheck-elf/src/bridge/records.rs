@@ -8,14 +8,14 @@ use crate::bytes::Cursor;
 /// The id of a CIE in `.debug_frame`.
 const CIE_ID: u64 = 0xffff_ffff;
 
-/// What is stored of a CIE, to rewrite its FDEs.
+/// What has to be known of a CIE to rewrite its FDEs.
 #[derive(Clone, Debug)]
 pub(super) struct CieParts {
     /// Its offset in `.eh_frame`.
     source: usize,
-    /// Its offset in the bridged bytes.
+    /// Its offset in the rewritten section.
     bridged: u64,
-    /// The pointer encoding of its FDEs' addresses.
+    /// The pointer encoding (`DW_EH_PE`) of its FDEs' addresses.
     pub encoding: u8,
     /// Whether its FDEs have augmentation data.
     has_data: bool,
@@ -36,7 +36,8 @@ pub(super) struct Bridge<'a> {
     cies: Vec<CieParts>,
 }
 
-/// The offset of a field and what is wrong with it. The caller adds the offset of the record.
+/// The offset of a field in `.eh_frame`, and why it can't be rewritten. The caller makes a
+/// [`BridgeError`] of it, which also has the offset of the record.
 type AtField = (usize, Reason);
 
 impl<'a> Bridge<'a> {
@@ -69,7 +70,7 @@ impl<'a> Bridge<'a> {
         Ok(Bridged { bytes, places, counts, mended })
     }
 
-    /// Notes that the bytes written next come from `source`.
+    /// Stores that the bytes that are written next come from the offset `source` of `.eh_frame`.
     pub fn pair(&mut self, source: usize) {
         let pair = Pair { bridged: self.bytes.len() as u32, source: source as u32 };
         self.places.pairs.push(pair);
@@ -91,7 +92,7 @@ impl<'a> Bridge<'a> {
         }
         let body = cursor.at();
         let mut record = cursor.split(length).map_err(|error| (body, error.into()))?;
-        // The Linux Standard Base gives the id 4 bytes in both formats.
+        // The id has 4 bytes in the 32-bit format and in the 64-bit format (Linux Standard Base).
         let id = record.number(4).map_err(|error| (body, error.into()))?;
         let bridged = self.bytes.len();
         self.pair(start);
@@ -108,7 +109,8 @@ impl<'a> Bridge<'a> {
         self.finish(bridged).ok_or((start, Reason::TooLong))
     }
 
-    /// Writes the length of the record that was just written.
+    /// Fills in the length of the record that was just written, at the offset `bridged`. `None` if
+    /// the length doesn't fit in the 32-bit format.
     fn finish(&mut self, bridged: usize) -> Option<()> {
         let length = self.bytes.len().checked_sub(bridged + 4)?;
         u32::try_from(length).ok().filter(|length| *length < 0xffff_fff0)?;
@@ -118,8 +120,8 @@ impl<'a> Bridge<'a> {
         Some(())
     }
 
-    /// The CIE that an FDE's pointer leads to. The pointer is the distance back from `place`, its
-    /// own offset.
+    /// The CIE that an FDE's CIE pointer leads to, or `None`. `place` is the offset of the pointer,
+    /// and `pointer` is the distance from the CIE to that offset.
     fn cie_of(&self, place: usize, pointer: u64) -> Option<CieParts> {
         let source = place.checked_sub(usize::try_from(pointer).ok()?)?;
         let found = self.cies.binary_search_by_key(&source, |cie| cie.source).ok()?;
@@ -165,8 +167,9 @@ impl<'a> Bridge<'a> {
         Ok(())
     }
 
-    /// Reads the augmentation data of a CIE. Stores in `cie` that there are data, the pointer
-    /// encoding, and whether the FDEs are signal frames; drops the rest.
+    /// Reads the augmentation data of a CIE, whose augmentation string is `letters`. Stores in
+    /// `cie` whether its FDEs have augmentation data, their pointer encoding, and whether they are
+    /// signal frames. Drops the rest.
     fn augmentation_data(&mut self, record: &mut Cursor<'a>, letters: &[u8], cie: &mut CieParts) -> Result<(), Reason> {
         let unknown = || Reason::Augmentation(String::from_utf8_lossy(letters).into_owned());
         let rest = match letters.split_first() {
@@ -223,7 +226,7 @@ impl<'a> Bridge<'a> {
     }
 }
 
-/// Reads an initial length.
+/// Reads an initial length, in the 32-bit or the 64-bit format.
 fn length(cursor: &mut Cursor<'_>) -> Result<u64, Reason> {
     match cursor.number(4)? {
         0xffff_ffff => Ok(cursor.number(8)?),
@@ -232,7 +235,7 @@ fn length(cursor: &mut Cursor<'_>) -> Result<u64, Reason> {
     }
 }
 
-/// Reads an augmentation string, without its NUL.
+/// Reads an augmentation string and the NUL that ends it. The NUL isn't part of the result.
 fn augmentation<'a>(record: &mut Cursor<'a>) -> Result<&'a [u8], Reason> {
     let start = record.at();
     while record.byte()? != 0 {}

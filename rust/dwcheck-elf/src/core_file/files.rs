@@ -1,4 +1,4 @@
-//! The files that a process had mapped.
+//! Reads the files that a process had mapped into memory when it died.
 
 use super::CoreFile;
 use std::collections::HashMap;
@@ -9,21 +9,22 @@ use std::io::Read;
 use std::os::unix::ffi::OsStrExt;
 use std::path::{Component, Path, PathBuf};
 
-/// A mapped file with more bytes isn't read.
+/// The most bytes that a mapped file may have. A larger file isn't read.
 pub const FILE_LIMIT: u64 = 1 << 30;
 
-/// A file isn't read if all files together would then have more than this many bytes.
+/// The most bytes that all mapped files together may have. A file that would exceed this isn't
+/// read.
 pub const FILES_LIMIT: u64 = 4 << 30;
 
 /// How many of a file's first bytes are compared with the core's memory.
 const COMPARED: usize = 4096;
 
-/// A file that was mapped.
+/// A file that the process had mapped.
 #[derive(Debug)]
 pub struct MappedFile {
     /// Its name in the core.
     pub path: PathBuf,
-    /// Its bytes now, or why they can't be used.
+    /// The bytes that the file has now, or why they can't be used.
     pub bytes: Result<Vec<u8>, FileError>,
 }
 
@@ -34,7 +35,7 @@ pub enum FileError {
     Name,
     /// It can't be read.
     Read(std::io::Error),
-    /// It isn't a regular file, or its size is 0, which files in `/proc` have.
+    /// It isn't a regular file, or its size is 0, like that of files in `/proc`.
     NotRegular,
     /// It has this many bytes: more than [`FILE_LIMIT`], or too many to stay within
     /// [`FILES_LIMIT`].
@@ -73,12 +74,13 @@ impl Files {
         Files { files, places }
     }
 
-    /// All files, in the order in which the core names them first.
+    /// All files, in the order in which the core first names them.
     pub fn all(&self) -> &[MappedFile] {
         &self.files
     }
 
-    /// The index of a file in [`all`](Self::all), and its bytes.
+    /// The index of a file in [`all`](Self::all), and its bytes. `None` if the core doesn't name
+    /// the file, or if its bytes can't be used.
     pub(super) fn find(&self, path: &[u8]) -> Option<(usize, &[u8])> {
         let place = *self.places.get(path)?;
         let bytes = self.files.get(place)?.bytes.as_deref().ok()?;
@@ -86,7 +88,8 @@ impl Files {
     }
 }
 
-/// The path in the folder `root` that an absolute path stands for.
+/// Where a file that a core names is on this machine: the absolute path `/a/b` is `a/b` in the
+/// folder `root`.
 fn below(root: &Path, path: &Path) -> Result<PathBuf, FileError> {
     let inner = path.strip_prefix("/").map_err(|_| FileError::Name)?;
     let goes_down = inner.components().all(|part| matches!(part, Component::Normal(_)));
@@ -97,7 +100,8 @@ fn below(root: &Path, path: &Path) -> Result<PathBuf, FileError> {
     }
 }
 
-/// Reads a regular file. Other files, such as devices and pipes, aren't opened.
+/// Reads a regular file of at most `left` bytes. Other files, such as devices and pipes, aren't
+/// opened.
 fn content(path: &Path, left: u64) -> Result<Vec<u8>, FileError> {
     if !path.metadata().map_err(FileError::Read)?.is_file() {
         return Err(FileError::NotRegular);
@@ -115,7 +119,8 @@ fn content(path: &Path, left: u64) -> Result<Vec<u8>, FileError> {
     Ok(bytes)
 }
 
-/// Compares the beginning of an ELF file with what the core has of it. Other files aren't compared.
+/// Returns the bytes of a file if it is still the one that was mapped: if the core has the
+/// beginning of an ELF file where it was mapped, the file has to begin with the same bytes.
 fn same(core: &CoreFile<'_>, path: &[u8], bytes: Vec<u8>) -> Result<Vec<u8>, FileError> {
     let starts = core.mappings().iter().filter(|mapping| mapping.path == path && mapping.offset == 0);
     for mapping in starts {

@@ -20,7 +20,7 @@ pub struct Block<'a> {
     pub address: u64,
     /// The bytes.
     pub bytes: &'a [u8],
-    /// Where they come from.
+    /// Where the bytes come from.
     pub origin: Origin,
 }
 
@@ -36,7 +36,8 @@ impl<'a> Block<'a> {
         self.address.saturating_add(self.bytes.len() as u64)
     }
 
-    /// The part of the block from `begin` up to, not including, `end`.
+    /// The part of the block from `begin` up to, not including, `end`. `None` if the block doesn't
+    /// have all these addresses.
     fn part(&self, begin: u64, end: u64) -> Option<Block<'a>> {
         let from = usize::try_from(begin.checked_sub(self.address)?).ok()?;
         let to = usize::try_from(end.checked_sub(self.address)?).ok()?;
@@ -45,7 +46,8 @@ impl<'a> Block<'a> {
 }
 
 impl<'data> CoreFile<'data> {
-    /// The memory: the bytes that the core has, and those of mapped files that it left out.
+    /// The memory of the process: the bytes that the core has, and the bytes of mapped files that
+    /// the core left out.
     pub fn memory<'a>(&self, files: &'a Files) -> Memory<'a>
     where
         'data: 'a,
@@ -88,20 +90,20 @@ impl<'a> Memory<'a> {
         }
     }
 
-    /// All blocks, by address.
+    /// All blocks, in ascending order of address.
     pub fn blocks(&self) -> impl Iterator<Item = &Block<'a>> {
         self.blocks.values()
     }
 
-    /// The bytes from an address to the end of its block.
+    /// The bytes from an address to the end of its block. `None` if no block has the address.
     pub fn from(&self, address: u64) -> Option<&'a [u8]> {
         let (_, block) = self.blocks.range(..=address).next_back()?;
         let past = usize::try_from(address.checked_sub(block.address)?).ok()?;
         block.bytes.get(past..).filter(|bytes| !bytes.is_empty())
     }
 
-    /// Copies the bytes from an address on, across blocks. Returns false if one of them isn't
-    /// known.
+    /// Copies the bytes from an address on into `bytes`, from one block or several. Returns false
+    /// if one of them isn't known.
     pub fn read(&self, address: u64, bytes: &mut [u8]) -> bool {
         let mut done = 0;
         while let Some(rest) = bytes.get_mut(done..).filter(|rest| !rest.is_empty()) {

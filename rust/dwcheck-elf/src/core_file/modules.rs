@@ -12,7 +12,7 @@ use std::path::{Path, PathBuf};
 pub enum Image<'a> {
     /// A mapped file, by its index in [`Files::all`], and its bytes.
     File(usize, &'a [u8]),
-    /// The bytes of the program that the caller passed. Used if the core doesn't list its mapped
+    /// The bytes of a program that the caller passed, for a core that doesn't list its mapped
     /// files.
     Program(&'a [u8]),
     /// The bytes of the kernel's vDSO, which are in the core's memory.
@@ -22,9 +22,10 @@ pub enum Image<'a> {
 /// A program or library that was loaded.
 #[derive(Clone, Debug, PartialEq, Eq)]
 pub struct Module<'a> {
-    /// Its name.
+    /// The path of its file, or `[vdso]`.
     pub path: PathBuf,
-    /// What is added to an address of the file to get an address of the process, modulo 2^w.
+    /// What is added to an address in the file to get the address in the process, modulo 2^32 or
+    /// 2^64.
     pub bias: u64,
     /// The first address of its mappings.
     pub begin: u64,
@@ -35,7 +36,7 @@ pub struct Module<'a> {
 }
 
 impl<'a> Image<'a> {
-    /// The bytes of the ELF file.
+    /// The bytes of the module's ELF file.
     pub fn bytes(&self) -> &'a [u8] {
         match self {
             Image::File(_, bytes) | Image::Program(bytes) | Image::Vdso(bytes) => bytes,
@@ -43,14 +44,15 @@ impl<'a> Image<'a> {
     }
 }
 
-/// A possible module, with what its mappings so far have shown.
+/// An ELF file that is mapped with some bias, with what is known from the mappings that were looked
+/// at so far. It is a module if `has_code` is true. `place` is the file's index in [`Files::all`].
 struct Candidate<'a> {
     place: usize,
     has_code: bool,
     module: Module<'a>,
 }
 
-/// Finds modules among mappings.
+/// Finds the modules among the mappings of a core.
 struct Finder<'a> {
     core: &'a CoreFile<'a>,
     files: &'a Files,
@@ -60,7 +62,7 @@ struct Finder<'a> {
 }
 
 impl CoreFile<'_> {
-    /// The modules, in the order of their mappings, and the vDSO last.
+    /// The modules, in the order of their first mappings. The vDSO comes last.
     ///
     /// A mapped ELF file is a module if one of its executable segments is mapped. A file that is
     /// loaded twice, at different addresses, is two modules.
@@ -71,8 +73,10 @@ impl CoreFile<'_> {
         loaded.map(|candidate| candidate.module).chain(self.vdso_module()).collect()
     }
 
-    /// The program as a module, for a core that doesn't list its mapped files, such as qemu's. The
-    /// bias comes from the address of the program's first instruction, which the core has.
+    /// Makes a module of the program, for a core that doesn't list its mapped files, such as
+    /// qemu's. The bias comes from the address of the program's first instruction, which the core
+    /// has. `None` if the core doesn't have that address, or if the program isn't for the core's
+    /// byte order and address size.
     pub fn program_module<'a>(&self, path: &Path, bytes: &'a [u8]) -> Option<Module<'a>> {
         let program = Program::read(bytes).ok().filter(|program| program.target() == self.target())?;
         let bias = self.target().wrap(self.entry?.wrapping_sub(program.entry()));
@@ -82,7 +86,7 @@ impl CoreFile<'_> {
         Some(Module { path: path.to_path_buf(), bias, begin, end, image: Image::Program(bytes) })
     }
 
-    /// The vDSO. The core's memory has its whole ELF file.
+    /// The vDSO as a module, if the core has it. The core's memory has its whole ELF file.
     fn vdso_module(&self) -> Option<Module<'_>> {
         let begin = self.vdso?;
         let bytes = self.bytes_from(begin)?;
@@ -95,7 +99,8 @@ impl CoreFile<'_> {
 }
 
 impl<'a> Finder<'a> {
-    /// Adds a mapping to its module, if it belongs to one.
+    /// Adds a mapping to the module that it belongs to. Begins a new module if that one isn't known
+    /// yet, and does nothing if the mapping has no part of an ELF file that can be read.
     fn add(&mut self, mapping: &Mapping<'_>) {
         let (place, bytes) = match self.files.find(mapping.path) {
             Some(found) => found,
@@ -128,11 +133,12 @@ impl<'a> Finder<'a> {
     }
 }
 
-/// Whether a mapping has a byte of a segment.
+/// Whether a mapping has at least one byte of a segment.
 ///
-/// If one segment ends in the same page of the file in which the next one begins, that page is
-/// mapped for both. So a mapping can have bytes of a segment that it wasn't made for. If one of the
-/// segments gives a bias that is known already, that segment is the right one.
+/// If one segment ends in the page of the file in which the next one begins, that page is mapped
+/// for both segments. So a mapping can have bytes of a segment that it wasn't made for. Each
+/// segment gives a bias. If one of these biases is known already from another mapping, that one is
+/// right.
 fn is_shown(mapping: &Mapping<'_>, segment: &Segment) -> bool {
     let mapped_end = mapping.offset.saturating_add(mapping.end.saturating_sub(mapping.begin));
     let segment_end = segment.offset.saturating_add(segment.file_size);

@@ -1,4 +1,4 @@
-//! The notes of a core file.
+//! Reads the notes of a core file.
 
 use super::registers::{thread, Thread};
 use super::CoreError;
@@ -7,10 +7,11 @@ use crate::bytes::{Cursor, ReadError};
 use crate::target::{AddressSize, Target};
 use object::elf::{NT_AUXV, NT_FILE, NT_PRSTATUS, NT_SIGINFO};
 
-/// The address of the program's first instruction, in the auxiliary vector.
+/// The type of the entry of the auxiliary vector that has the address of the program's first
+/// instruction.
 const AT_ENTRY: u64 = 9;
 
-/// The address of the vDSO, in the auxiliary vector.
+/// The type of the entry of the auxiliary vector that has the address of the vDSO.
 const AT_SYSINFO_EHDR: u64 = 33;
 
 /// A part of a file that is mapped into memory.
@@ -33,12 +34,12 @@ pub struct Signal {
     pub number: u32,
     /// Its cause (`si_code`).
     pub code: u32,
-    /// For SIGSEGV, SIGBUS, SIGILL and SIGFPE: the address of the fault. For others it has no
-    /// meaning.
+    /// For SIGSEGV, SIGBUS, SIGILL and SIGFPE: the address of the fault. For any other signal, this
+    /// has no meaning.
     pub address: u64,
 }
 
-/// The contents of the notes.
+/// What the notes that were read so far say.
 #[derive(Clone, Debug)]
 pub(super) struct Notes<'data> {
     target: Target,
@@ -55,7 +56,7 @@ impl<'data> Notes<'data> {
         Notes { target, abi, threads: Vec::new(), signal: None, mappings: Vec::new(), vdso: None, entry: None }
     }
 
-    /// Reads a note. Ignores it if it isn't needed.
+    /// Reads a note. Does nothing for a note that isn't needed.
     pub fn add(&mut self, owner: &[u8], kind: u32, bytes: &'data [u8]) -> Result<(), CoreError> {
         if owner != b"CORE" {
             return Ok(());
@@ -74,8 +75,8 @@ impl<'data> Notes<'data> {
         read.map_err(|_| CoreError::Note(kind))
     }
 
-    /// Reads an `NT_FILE` note: the number of mappings, the page size, the mappings, and their
-    /// names.
+    /// Reads an `NT_FILE` note. It has the number of mappings, the page size, the mappings, and
+    /// then their names, in the same order.
     fn files(&mut self, bytes: &'data [u8]) -> Result<(), ReadError> {
         let word = self.target.address_size.bytes();
         let mut numbers = Cursor::new(bytes, self.target);
@@ -96,7 +97,7 @@ impl<'data> Notes<'data> {
     }
 }
 
-/// Reads a `siginfo_t`.
+/// Reads an `NT_SIGINFO` note, which is a `siginfo_t`.
 fn signal(bytes: &[u8], target: Target) -> Result<Signal, ReadError> {
     let mut cursor = Cursor::new(bytes, target);
     let number = cursor.number(4)? as u32;
@@ -109,7 +110,8 @@ fn signal(bytes: &[u8], target: Target) -> Result<Signal, ReadError> {
     Ok(Signal { number, code, address })
 }
 
-/// Finds a value in the auxiliary vector, which is pairs of a type and a value.
+/// Finds the value of the type `wanted` in the auxiliary vector, which is pairs of a type and a
+/// value.
 fn auxiliary(bytes: &[u8], target: Target, wanted: u64) -> Option<u64> {
     let word = target.address_size.bytes();
     let mut cursor = Cursor::new(bytes, target);

@@ -1,4 +1,4 @@
-//! The registers of a thread (`struct elf_prstatus` of Linux).
+//! Reads the id, the signal and the registers of a thread (`struct elf_prstatus` of Linux).
 
 use crate::abi::Abi;
 use crate::bytes::{Cursor, ReadError};
@@ -17,25 +17,27 @@ pub struct Thread {
 }
 
 impl Thread {
-    /// The value of a register.
+    /// The value of a register, by its DWARF number. `None` if the core doesn't have the register.
     pub fn register(&self, number: u16) -> Option<u64> {
         let found = self.registers.binary_search_by_key(&number, |(number, _)| *number).ok()?;
         self.registers.get(found).map(|(_, value)| *value)
     }
 }
 
-/// A register that has no DWARF number here.
+/// The entry in the tables below for a register that isn't read, because it has no DWARF number.
 const NO: u16 = u16::MAX;
 
-/// r15 to r12, rbp, rbx, r11 to r8, rax, rcx, rdx, rsi, rdi, orig_rax, rip, cs, eflags, rsp, ss, fs_base, gs_base, ds, es,
-/// fs, gs.
+/// The DWARF numbers of the registers of x86-64, in the order in which a core file has them: r15 to
+/// r12, rbp, rbx, r11 to r8, rax, rcx, rdx, rsi, rdi, orig_rax, rip, cs, eflags, rsp, ss, fs_base,
+/// gs_base, ds, es, fs, gs.
 const X86_64: [u16; 27] =
     [15, 14, 13, 12, 6, 3, 11, 10, 9, 8, 0, 2, 1, 4, 5, NO, 16, 51, 49, 7, 52, 58, 59, 53, 50, 54, 55];
 
-/// ebx, ecx, edx, esi, edi, ebp, eax, ds, es, fs, gs, orig_eax, eip, cs, eflags, esp, ss.
+/// The same for i386: ebx, ecx, edx, esi, edi, ebp, eax, ds, es, fs, gs, orig_eax, eip, cs, eflags,
+/// esp, ss.
 const I386: [u16; 17] = [3, 1, 2, 6, 7, 5, 0, 43, 40, 44, 45, NO, 8, 41, 9, 4, 42];
 
-/// x0 to x30, sp, pc, pstate.
+/// The same for aarch64: x0 to x30, sp, pc, pstate.
 const AARCH64: [u16; 34] = [
     0, 1, 2, 3, 4, 5, 6, 7, 8, 9, 10, 11, 12, 13, 14, 15, 16, 17, 18, 19, 20, 21, 22, 23, 24, 25, 26, 27, 28, 29, 30,
     31, 32, NO,
@@ -53,8 +55,9 @@ fn numbers(abi: &Abi) -> &'static [u16] {
 /// Reads a note of type `NT_PRSTATUS`.
 pub(super) fn thread(bytes: &[u8], target: Target, abi: &Abi) -> Result<Thread, ReadError> {
     let word = target.address_size.bytes();
-    // Before the registers: three numbers of 4 bytes, the signal, two masks of a word, four ids of
-    // 4 bytes, four times of two words.
+    // The note begins with three numbers of 4 bytes, the signal in 2 bytes, 2 bytes of padding, two
+    // signal masks of one word, four ids of 4 bytes, and four times (`struct timeval`) of two
+    // words. The first id is the thread's. The registers come next.
     let (id, registers) = match target.address_size {
         AddressSize::Four => (24, 72),
         AddressSize::Eight => (32, 112),
