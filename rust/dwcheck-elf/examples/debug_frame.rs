@@ -1,4 +1,5 @@
-//! Writes the `.eh_frame` section of a program, rewritten as `.debug_frame`, to a file for `dwcheck`.
+//! Rewrites the `.eh_frame` section of a program as a `.debug_frame` section, and writes the result
+//! to a file for `dwcheck`.
 //!
 //!     debug_frame PROGRAM OUT
 

@@ -1,7 +1,7 @@
 //! Reads all rows of the frame sections of ELF files with gimli, on all processors, and counts
-//! them. The time of a survey is compared with the time of this.
+//! them. The time that this takes is compared with the time of `dwcheck-elf survey`.
 //!
-//!     gimli_rows [JOBS]       names of files from standard input, one a line
+//!     gimli_rows [JOBS]       reads the names of the files from standard input, one on each line
 
 use gimli::{BaseAddresses, CieOrFde, EndianSlice, RunTimeEndian, UnwindContext, UnwindSection};
 use object::{Object, ObjectSection};

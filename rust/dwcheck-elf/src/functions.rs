@@ -32,7 +32,7 @@ pub enum NameError {
     Unknown(String),
     /// Several functions have the name. These are their addresses.
     Ambiguous(String, Vec<u64>),
-    /// The text after the plus sign isn't a number, or the sum is above the highest address.
+    /// The text after the plus sign isn't a number, or the sum doesn't fit in 64 bits.
     Offset(String),
 }
 

@@ -17,7 +17,7 @@ pub const DECOMPRESSED_LIMIT: u64 = 1 << 30;
 /// Deflate makes at most this many bytes from one compressed byte.
 const DEFLATE_RATIO: u64 = 1032;
 
-/// What an ELF file is.
+/// What an ELF file is, by its `e_type`.
 #[derive(Clone, Copy, Debug, PartialEq, Eq)]
 pub enum Kind {
     /// A program that is loaded at its addresses (`ET_EXEC`).
@@ -48,8 +48,8 @@ pub struct Section<'data> {
     pub bytes: Cow<'data, [u8]>,
     /// The address of the first byte, 0 for a section that isn't loaded.
     pub address: u64,
-    /// Offsets of fields, ascending, whose relocation in an unlinked object names a symbol that the
-    /// object doesn't define.
+    /// In an unlinked object, the offsets in the section of the fields whose relocation names a
+    /// symbol that the object doesn't define, ascending.
     pub unresolved: Vec<u64>,
 }
 
@@ -73,7 +73,7 @@ pub struct Segment {
 pub enum ProgramError {
     /// The file isn't an ELF file, or its headers are wrong.
     Elf(String),
-    /// The sections of an unlinked object need addresses above the highest one.
+    /// The sections of an unlinked object don't fit below the highest address.
     Layout,
     /// Two sections with bytes have the same name.
     Repeated(&'static str),
@@ -82,7 +82,7 @@ pub enum ProgramError {
     /// A compressed section claims more decompressed bytes than [`DECOMPRESSED_LIMIT`], or more
     /// than its compressed bytes can make.
     TooLarge(&'static str, u64),
-    /// The relocation at this offset of this section can't be applied.
+    /// The relocation of the field at this offset of this section can't be applied.
     Relocation(&'static str, u64, RelocationError),
 }
 
@@ -116,12 +116,12 @@ impl<'data> Program<'data> {
         self.machine
     }
 
-    /// What the file is.
+    /// What the file is, by its `e_type`.
     pub fn kind(&self) -> Kind {
         self.kind
     }
 
-    /// The address of its first instruction, 0 if it has none.
+    /// The address of the program's first instruction (`e_entry`), 0 if the file has none.
     pub fn entry(&self) -> u64 {
         self.file.entry()
     }
@@ -141,7 +141,8 @@ impl<'data> Program<'data> {
         self.section(".eh_frame")
     }
 
-    /// The program's section `.eh_frame`, with the addresses that [`crate::bridge::bridge`] needs.
+    /// A section of this program, with the addresses that its pointers may be relative to, as
+    /// [`crate::bridge::bridge`] takes them.
     pub fn eh_frame_of<'a>(&self, section: &'a Section<'_>) -> EhFrame<'a> {
         let address = |name| {
             let section = self.file.section_by_name(name)?;
@@ -178,8 +179,9 @@ impl<'data> Program<'data> {
     fn section(&self, name: &'static str) -> Result<Option<Section<'data>>, ProgramError> {
         let compressed = name.strip_prefix('.').unwrap_or(name);
         let is_named = |found: &str| found == name || found.strip_prefix(".z") == Some(compressed);
-        // In a separate file of debug information, the other sections have no bytes. An object can
-        // have an empty section and another section with the same name.
+        // Sections without bytes don't count. In a separate file of debug information, the sections
+        // that it leaves out are listed without bytes. An object can have an empty section and
+        // another section with the same name.
         let has_bytes = |section: &object::Section<'data, '_>| section.file_range().map_or(false, |(_, size)| size > 0);
         let named = self.file.sections().filter(|section| section.name().map_or(false, is_named));
         let mut named = named.filter(has_bytes);

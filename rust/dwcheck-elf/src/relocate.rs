@@ -12,7 +12,7 @@ use std::fmt;
 pub enum RelocationError {
     /// The relocation's type isn't known.
     Type(String),
-    /// The field isn't in the section.
+    /// The field isn't inside the section.
     Place,
     /// The relocation names a symbol that the file doesn't have.
     Symbol,
@@ -32,7 +32,7 @@ enum Action {
     Subtract,
 }
 
-/// An action, and the size of its field in bits.
+/// What a relocation does to its field, and the size of the field in bits.
 #[derive(Clone, Copy, Debug)]
 struct Step {
     action: Action,
@@ -49,8 +49,9 @@ pub(crate) struct Object<'file, 'data> {
 }
 
 impl Object<'_, '_> {
-    /// Applies all relocations of a section. Returns the offsets, ascending, of those whose symbol
-    /// the object doesn't define; their fields stay unchanged.
+    /// Applies all relocations of a section to its bytes. If a relocation names a symbol that the
+    /// object doesn't define, its field stays unchanged. Returns the offsets of these fields,
+    /// ascending. An error has the offset of the field whose relocation can't be applied.
     pub fn relocate(
         &self,
         section: &object::Section<'_, '_>,
@@ -91,7 +92,8 @@ impl Object<'_, '_> {
         })
     }
 
-    /// Changes the field at `address` as a relocation says.
+    /// Changes the field at `address` as a relocation says. `symbol` is the address of the
+    /// relocation's symbol.
     fn apply(&self, field: &mut [u8], address: u64, symbol: u64, step: Step, relocation: &Relocation) {
         let held = self.target.number(field);
         let implicit = if relocation.has_implicit_addend() { sign_extended(held, step.bits) } else { 0 };
@@ -110,7 +112,7 @@ impl Object<'_, '_> {
     }
 }
 
-/// The bytes of a field, at most 8.
+/// The bytes of the field at an offset, at most 8. `None` if they aren't all in the section.
 fn field(bytes: &mut [u8], offset: u64, bits: u8) -> Option<&mut [u8]> {
     let size = usize::from(bits.min(64).checked_add(7)? / 8);
     let begin = usize::try_from(offset).ok()?;
@@ -135,10 +137,11 @@ fn step_of(machine: u16, relocation: &Relocation) -> Result<Step, RelocationErro
     }
 }
 
-/// `R_MIPS_PC32`, which `object` doesn't name.
+/// The type `R_MIPS_PC32`, for which the crate `object` has no name.
 const MIPS_PC32: u32 = 248;
 
-/// The types of relocations that `object` doesn't decode.
+/// What a relocation does, for the types that the crate `object` doesn't decode. `None` if the type
+/// isn't known.
 fn machine_step(machine: u16, code: u32) -> Option<Step> {
     let (action, bits) = match (machine, code) {
         (elf::EM_X86_64, elf::R_X86_64_PC64) => (Action::Relative, 64),
@@ -158,8 +161,9 @@ fn machine_step(machine: u16, code: u32) -> Option<Step> {
     Some(Step { action, bits })
 }
 
-/// A RISC-V assembler leaves the difference of two addresses to the linker: one relocation sets or
-/// adds the first address, another one subtracts the second.
+/// What a RISC-V relocation does, and the size of its field in bits. A RISC-V assembler leaves the
+/// difference of two addresses to the linker: one relocation sets or adds the first address, and
+/// another one subtracts the second.
 fn riscv(code: u32) -> Option<(Action, u8)> {
     Some(match code {
         elf::R_RISCV_ADD8 => (Action::Add, 8),

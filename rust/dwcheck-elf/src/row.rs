@@ -1,8 +1,8 @@
-//! Unwind rows.
+//! The rows of an unwind table, and how they are written.
 
 use std::fmt;
 
-/// The rules at a range of addresses.
+/// A row of an unwind table: the rules for a range of addresses.
 #[derive(Clone, Debug, PartialEq, Eq)]
 pub struct Row<'a> {
     /// The first address.
@@ -11,7 +11,7 @@ pub struct Row<'a> {
     pub end: u64,
     /// How the CFA is computed.
     pub cfa: Cfa<'a>,
-    /// The rule of each register that has one, by ascending number.
+    /// The rule of each register that has a rule, with the register's DWARF number, ascending.
     pub rules: Vec<(u16, Rule<'a>)>,
 }
 
@@ -32,19 +32,19 @@ pub enum Cfa<'a> {
 /// Where the caller's value of a register is (DWARF 5, section 6.4.1).
 #[derive(Clone, Copy, Debug, PartialEq, Eq)]
 pub enum Rule<'a> {
-    /// Nowhere.
+    /// Nowhere: the value can't be recovered.
     Undefined,
     /// In the register itself.
     SameValue,
     /// In memory, at the CFA plus an offset.
     Offset(i64),
-    /// The value is the CFA plus an offset.
+    /// The value isn't stored: it is the CFA plus an offset.
     ValOffset(i64),
     /// In another register.
     Register(u16),
     /// In memory, at the address that an expression gives.
     Expression(&'a [u8]),
-    /// The value is what an expression gives.
+    /// The value isn't stored: it is what an expression gives.
     ValExpression(&'a [u8]),
     /// The augmentation defines the rule.
     Architectural,
@@ -96,8 +96,8 @@ impl fmt::Display for Rule<'_> {
     }
 }
 
-/// Like a row that the program `dwcheck` writes, but without the word `row`, and with addresses
-/// that aren't padded with zeros.
+/// The text of a row is `START..END cfa=RULE rN=RULE`, where `rN=RULE` is repeated for each
+/// register that has a rule. Addresses aren't padded with zeros.
 impl fmt::Display for Row<'_> {
     fn fmt(&self, f: &mut fmt::Formatter<'_>) -> fmt::Result {
         write!(f, "{:#x}..{:#x} cfa={}", self.begin, self.end, self.cfa)?;

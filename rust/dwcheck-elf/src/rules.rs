@@ -1,9 +1,11 @@
-//! The rule that each fault breaks, in plain words, with its section of DWARF 5.
+//! For each kind of fault, the rule that it breaks, in plain words, and the section of DWARF 5 with
+//! the rule.
 
 use dwcheck::FaultKind;
 
-/// The rule that a fault breaks, in one sentence. In parentheses is its section of DWARF 5, or
-/// `profile` if the standard leaves the point open and `dwcheck` decides it.
+/// The rule that a kind of fault breaks, in one sentence. In parentheses is the section of DWARF 5
+/// with the rule, or `profile` if the standard leaves the point open and `dwcheck` decides it
+/// (docs/PROFILE.md).
 ///
 /// ```
 /// use dwcheck::FaultKind;

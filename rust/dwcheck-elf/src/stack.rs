@@ -1,4 +1,4 @@
-//! The stacks of the threads of a core file.
+//! Unwinds the stacks of the threads of a core file.
 
 use crate::alone::{accepted_part, AcceptedPart};
 use crate::bridge::{Options, RecordKind};
@@ -13,10 +13,11 @@ use std::fmt;
 use std::ops::Range;
 use std::path::{Path, PathBuf};
 
-/// A limit for [`Stacks::walk`]. A stack with more frames is most likely a loop, or corrupt.
+/// A sensible limit for [`Stacks::walk`]. A stack with more frames is most likely corrupt, or in a
+/// loop.
 pub const MOST_FRAMES: usize = 10_000;
 
-/// A module of a process that died, with its unwind tables and the names of its functions.
+/// A module of a process that died, with the names of its functions.
 #[derive(Debug)]
 struct Loaded<'a> {
     module: Module<'a>,
@@ -43,7 +44,7 @@ pub struct Stacks<'a> {
     memory: Memory<'a>,
     process: Process,
     loaded: Vec<Loaded<'a>>,
-    /// The ranges, as loaded, of the FDEs of signal frames.
+    /// The address ranges in the process of the FDEs of signal frames.
     signals: Vec<Range<u64>>,
     missing: Vec<(PathBuf, String)>,
 }
@@ -65,22 +66,22 @@ impl Frame {
     }
 }
 
-/// The frames of a thread. The text has a line for the thread, a line for each frame, and a line
-/// that says why there are no more.
+/// The frames of a thread. Its text has a line for the thread, a line for each frame, and a line
+/// that says why there are no more frames.
 #[derive(Debug)]
 pub struct Stack<'s, 'a> {
     stacks: &'s Stacks<'a>,
-    /// The thread's number.
+    /// The thread's id.
     pub thread: u64,
     /// Its frames, the innermost first.
     pub frames: Vec<Frame>,
-    /// Why there are no more.
+    /// Why there are no more frames.
     pub stop: Stop,
 }
 
 impl<'a> Stacks<'a> {
-    /// Reads the modules of a core file. Refused records and files that can't be read are left out;
-    /// [`missing`](Self::missing) says for which files, and why.
+    /// Reads the modules of a core file. Records that `dwcheck` refuses and files that can't be
+    /// read are left out; [`missing`](Self::missing) says of which files, and why.
     pub fn of(core: &'a CoreFile<'a>, files: &'a Files) -> Self {
         let memory = core.memory(files);
         let mut stacks = Stacks {
@@ -127,7 +128,7 @@ impl<'a> Stacks<'a> {
         self.loaded.push(Loaded { functions: program.functions(), module });
     }
 
-    /// The files whose unwind tables aren't used, or only in part, and why.
+    /// The files whose unwind tables aren't used or are used only in part, each with the reason.
     pub fn missing(&self) -> &[(PathBuf, String)] {
         &self.missing
     }
@@ -137,11 +138,11 @@ impl<'a> Stacks<'a> {
         self.loaded.iter().any(|loaded| loaded.module.path == path)
     }
 
-    /// The frames of a thread, `limit` at most.
+    /// The frames of a thread, at most `limit` of them.
     ///
-    /// A frame is looked up at the byte before its address, where the call is. The first frame and
-    /// the caller of a signal frame are looked up at their addresses, because these don't follow a
-    /// call.
+    /// The row for a frame is looked up at the byte before the frame's address, where the call is.
+    /// For the first frame and for the caller of a signal frame, it is looked up at the address
+    /// itself, because that address doesn't follow a call.
     ///
     /// # Errors
     ///
@@ -178,8 +179,8 @@ impl<'a> Stacks<'a> {
         Ok(Stack { stacks: self, thread: u64::from(thread.id), frames, stop })
     }
 
-    /// Writes a frame's address with its function and file. If the address follows a call, these
-    /// are the function and file of the call.
+    /// Writes a frame's address, with the function and the file that contain it. If the address
+    /// follows a call, these are the function and the file that contain the call.
     fn write_place(&self, f: &mut fmt::Formatter<'_>, frame: &Frame) -> fmt::Result {
         let Frame { address, is_after_call } = *frame;
         let inside = frame.looked_up();
@@ -213,7 +214,7 @@ fn add_section(process: &mut Process, frames: &Frames<'_>, bias: u64) -> Result<
     }
 }
 
-/// The ranges, as loaded, of the FDEs of signal frames.
+/// The address ranges in the process of the FDEs of signal frames.
 fn signal_frames<'f>(frames: &'f Frames<'_>, bias: u64) -> impl Iterator<Item = Range<u64>> + 'f {
     let loaded = move |address: u64| frames.target().wrap(address.wrapping_add(bias));
     frames.bridged().records().iter().filter_map(move |record| match record.kind {
@@ -227,7 +228,7 @@ fn signal_frames<'f>(frames: &'f Frames<'_>, bias: u64) -> impl Iterator<Item = 
 pub enum StackError {
     /// Its registers have no instruction pointer.
     NoInstructionPointer,
-    /// `dwcheck` gave an error.
+    /// `dwcheck` returned an error.
     Dwcheck(dwcheck::Error),
 }
 

@@ -1,7 +1,8 @@
-//! State files: the registers and memory of a stopped thread, one item a line.
+//! Reads state files, which have the registers and the memory of a stopped thread, one item on each
+//! line.
 //!
 //! The program `dwcheck` reads the same files. Their lines are `reg N 0xV`, `mem 0xA HEX`, `cfa
-//! 0xV`, `frame 0xV`, `object 0xV`, `keep N` and `sp N`.
+//! 0xV`, `frame 0xV`, `object 0xV`, `keep N` and `sp N`. docs/OUTPUT.md says what each line means.
 
 use crate::target::Target;
 use dwcheck::{Abi, Block, Context, Registers, State};
@@ -23,16 +24,16 @@ const MOST_KEPT: usize = 127;
 /// ```
 #[derive(Clone, Debug, Default)]
 pub struct StateFile {
-    /// The registers with their contents, by DWARF register number.
+    /// The values of the registers, by DWARF register number.
     pub registers: Registers,
-    /// Bytes of memory, each part with its first address. If two parts have an address, the first
-    /// part's byte counts.
+    /// Parts of memory, each with its first address and its bytes. If two parts have the same
+    /// address, the byte of the earlier part counts.
     pub memory: Vec<(u64, Vec<u8>)>,
-    /// The CFA, the frame base and the object's address.
+    /// The CFA, the frame base and the object's address, each if the file has it.
     pub context: Context,
-    /// The callee-saved registers.
+    /// The callee-saved registers, by DWARF register number.
     pub kept: Vec<u16>,
-    /// The stack pointer.
+    /// The DWARF register number of the stack pointer, if the file has it.
     pub stack_pointer: Option<u16>,
 }
 
@@ -127,13 +128,14 @@ fn first(held: &mut Option<u64>, value: u64) {
     *held = held.or(Some(value));
 }
 
-/// 1 to 5 decimal digits, at most 65535.
+/// Reads a number of 1 to 5 decimal digits, at most 65535. `None` if the text isn't such a number.
 pub fn short(text: &str) -> Option<u16> {
     let plain = (1..=5).contains(&text.len()) && text.bytes().all(|byte| byte.is_ascii_digit());
     text.parse().ok().filter(|_| plain)
 }
 
-/// `0x` and 1 to 16 hexadecimal digits, at most the highest address.
+/// Reads an address: `0x` and 1 to 16 hexadecimal digits, at most the target's highest address.
+/// `None` if the text isn't such an address.
 pub fn address(text: &str, target: Target) -> Option<u64> {
     let digits = text.strip_prefix("0x").filter(|digits| (1..=16).contains(&digits.len()))?;
     let plain = digits.bytes().all(|byte| byte.is_ascii_hexdigit());

@@ -60,7 +60,7 @@ impl Target {
         }
     }
 
-    /// The number that up to 8 bytes hold.
+    /// The unsigned number that up to 8 bytes hold.
     pub(crate) fn number(self, bytes: &[u8]) -> u64 {
         let add = |number: u64, byte: &u8| number << 8 | u64::from(*byte);
         match self.order {
@@ -69,7 +69,7 @@ impl Target {
         }
     }
 
-    /// The byte order as gimli has it.
+    /// The byte order, as gimli takes it.
     pub(crate) fn gimli_order(self) -> gimli::RunTimeEndian {
         match self.order {
             Order::Little => gimli::RunTimeEndian::Little,

@@ -1,7 +1,8 @@
-//! Text as the program `dwcheck` writes it.
+//! Writes addresses, rows and results in the form in which the program `dwcheck` writes them.
 //!
-//! Each type's text is whole lines, or the part of a line that the type is named for. Addresses
-//! have 8 or 16 digits, by the address size; offsets have 8.
+//! The text of [`Outcomes`] is one line or several, each with a line feed. The text of any other
+//! type here is a line or a part of a line, without a line feed. Addresses have 8 or 16 hexadecimal
+//! digits, by the address size; offsets have 8.
 
 use crate::row::Row;
 use crate::target::{AddressSize, Target};
@@ -33,10 +34,10 @@ pub struct RowLine<'a>(pub Target, pub &'a Row<'a>);
 #[derive(Clone, Copy, Debug)]
 pub struct Known(pub Target, pub Answer);
 
-/// The result of an expression, with a line feed after each line.
+/// The result of an expression, in one line or several. A line feed ends each line.
 #[derive(Clone, Copy, Debug)]
 pub struct Outcomes<'a> {
-    /// The target of the expression.
+    /// The byte order and the address size of the expression.
     pub target: Target,
     /// The result.
     pub evaluation: &'a Evaluation,

@@ -1,9 +1,10 @@
-//! Compares a section of a file with the bytes that it was rewritten as.
+//! Compares a frame section of a file, the original, with the section that it was rewritten as.
 //!
-//! [`validate_rows`] compares gimli's rows of the section with `dwcheck`'s rows of the bytes.
-//! [`validate`] compares gimli's rows of both, which also works if `dwcheck` refuses the bytes.
-//! Both find the section's records by their lengths alone, and use nothing of the bridge except the
-//! bytes. So they notice every record that the bridge lost, added or changed.
+//! [`validate_rows`] compares gimli's rows of the original with `dwcheck`'s rows of the rewritten
+//! section. [`validate`] compares gimli's rows of both sections, which also works if `dwcheck`
+//! refuses the rewritten section. Both functions find the records of the original by their lengths
+//! alone, and of the bridge's result they use only the bytes. So they notice every record that the
+//! bridge lost, added or changed.
 
 mod dwcheck_rows;
 mod gimli_rows;
@@ -19,7 +20,7 @@ use std::fmt;
 pub use dwcheck_rows::{validate_rows, DwcheckRows};
 pub use gimli_rows::GimliRows;
 
-/// How much was compared.
+/// How much was compared and found to be equal.
 #[derive(Clone, Copy, Debug, Default, PartialEq, Eq)]
 pub struct Agreement {
     /// Common information entries.
@@ -28,50 +29,51 @@ pub struct Agreement {
     pub fdes: usize,
     /// Rows that are equal. Rows that cover no address aren't counted.
     pub rows: usize,
-    /// FDEs that gimli refuses in both sections for the same reason, after equal rows.
+    /// FDEs for which gimli gives equal rows of both sections, and then the same error.
     pub refused: usize,
 }
 
-/// The first difference between a section and the bytes that it was rewritten as.
+/// The first difference between a section and the section that it was rewritten as.
 #[derive(Clone, Debug, PartialEq, Eq)]
 pub struct Difference {
-    /// The section.
+    /// The name of the original section.
     pub section: Name,
-    /// The offset of the record in the section.
+    /// The offset of the record in the original section.
     pub record: u64,
     /// What differs.
     pub what: What,
 }
 
-/// What differs between a record and its counterpart.
+/// What differs between a record of the original section and its counterpart in the rewritten
+/// section.
 #[derive(Clone, Debug, PartialEq, Eq)]
 pub enum What {
-    /// gimli can't read the record in the section.
+    /// gimli can't read the record in the original section.
     Unreadable(String),
-    /// gimli can't read the record's counterpart in the bridged bytes.
+    /// gimli can't read the record's counterpart in the rewritten section.
     UnreadableBridged(String),
-    /// The bridged bytes have no counterpart of the record.
+    /// The rewritten section has no counterpart of the record.
     Missing,
-    /// The bridged bytes have a record that the section doesn't have.
+    /// The rewritten section has a record that the original doesn't have.
     Surplus,
-    /// One is a CIE and the other an FDE.
+    /// One of the two records is a CIE, and the other one is an FDE.
     Kind,
     /// The CIEs differ in an alignment factor or in the return address register.
     Numbers,
     /// The FDEs cover different addresses.
     Range {
-        /// First address and number of bytes in the section.
+        /// The first address and the number of bytes in the original section.
         section: (u64, u64),
-        /// First address and number of bytes in the bridged bytes.
+        /// The first address and the number of bytes in the rewritten section.
         bridged: (u64, u64),
     },
     /// A row of the FDE differs.
     Row {
-        /// The row's number in the FDE, from 0.
+        /// The row's number in the FDE, counted from 0.
         number: usize,
-        /// The row in the section, the end of the rows, or an error.
+        /// The row in the original section, or that there are no more rows, or an error.
         section: String,
-        /// The row in the bridged bytes, the end of the rows, or an error.
+        /// The row in the rewritten section, or that there are no more rows, or an error.
         bridged: String,
     },
 }
@@ -87,8 +89,8 @@ pub trait RowSource<'a> {
     fn next_row(&mut self, row: &mut Row<'a>) -> Result<bool, String>;
 }
 
-/// Compares rows one by one. Returns the number of equal rows, and whether both sources ended with
-/// the same error. `rows` is a buffer for one row of each source.
+/// Compares the rows of two sources one by one. Returns the number of equal rows, and whether both
+/// sources ended with the same error. `rows` is a buffer for one row of each source.
 pub fn compare_rows<'a, 'b>(
     section: &mut impl RowSource<'a>,
     bridged: &mut impl RowSource<'b>,
@@ -119,7 +121,8 @@ fn shown(outcome: &Result<bool, String>, row: &Row<'_>) -> String {
     }
 }
 
-/// Compares each record of the section with its counterpart.
+/// Compares each record of `.eh_frame` with its counterpart in the rewritten section, as gimli
+/// reads both.
 pub fn validate(section: &EhFrame<'_>, bridged: &Bridged) -> Result<Agreement, Difference> {
     let mut original = Original::new(section);
     let mut other = BridgedSection::new(section.target, bridged.bytes());
@@ -156,7 +159,8 @@ pub fn validate(section: &EhFrame<'_>, bridged: &Bridged) -> Result<Agreement, D
     }
 }
 
-/// The offset of the next record whose length isn't 0.
+/// Moves past the next record whose length isn't 0, and returns its offset. `None` if there is no
+/// such record, or if a length can't be read.
 fn next_record(cursor: &mut Cursor<'_>) -> Option<usize> {
     while !cursor.is_at_end() {
         let record = cursor.at();

@@ -15,11 +15,11 @@ use std::ops::Range;
 
 /// `dwcheck`'s rows of an FDE. Each row is looked up at the address where the row before it ends.
 ///
-/// [`new`](Self::new) leaves out rules that say a register is undefined, as gimli does;
-/// [`whole`](Self::whole) has all rules.
+/// [`new`](Self::new) leaves out the rules that say that a register is undefined, because gimli
+/// does so too. [`whole`](Self::whole) keeps them.
 pub struct DwcheckRows<'a> {
     rows: Rows<'a>,
-    /// The section that was added to the process, which has the expressions' bytes.
+    /// The bytes of the section that was added to the process. The expressions are in them.
     bytes: &'a [u8],
     next: u64,
     end: u64,
@@ -28,13 +28,14 @@ pub struct DwcheckRows<'a> {
 }
 
 impl<'a> DwcheckRows<'a> {
-    /// The rows from `begin` up to, not including, `end`. The section has to cover all these
-    /// addresses.
+    /// The rows from `begin` up to, not including, `end`. The section's FDEs have to cover all
+    /// these addresses.
     pub fn new(process: &'a Process, bytes: &'a [u8], begin: u64, end: u64) -> Self {
         DwcheckRows { rows: process.rows(), bytes, next: begin, end, return_register: None, has_undefined: false }
     }
 
-    /// The rows of [`new`](Self::new), with the rules for undefined registers.
+    /// The rows from `begin` up to, not including, `end`, with the rules for undefined registers.
+    /// The section's FDEs have to cover all these addresses.
     pub fn whole(process: &'a Process, bytes: &'a [u8], begin: u64, end: u64) -> Self {
         DwcheckRows { has_undefined: true, ..DwcheckRows::new(process, bytes, begin, end) }
     }
@@ -44,7 +45,7 @@ impl<'a> DwcheckRows<'a> {
         self.return_register
     }
 
-    /// Continues with the rows of other addresses.
+    /// Continues with the rows from `begin` up to, not including, `end`.
     pub fn restart(&mut self, begin: u64, end: u64) {
         self.next = begin;
         self.end = end;
@@ -52,7 +53,7 @@ impl<'a> DwcheckRows<'a> {
     }
 }
 
-/// The bytes of an expression of a section.
+/// The bytes of an expression, from the bytes of its section.
 fn expression(bytes: &[u8], span: Span) -> Result<&[u8], String> {
     span.of(bytes).ok_or_else(|| "an expression isn't in the section".to_string())
 }
@@ -103,15 +104,16 @@ impl<'a> RowSource<'a> for DwcheckRows<'a> {
     }
 }
 
-/// Compares gimli's rows of a section in the file with `dwcheck`'s rows of the rewritten bytes, for
-/// each FDE.
+/// Compares gimli's rows of a section in the file with `dwcheck`'s rows of the rewritten section,
+/// for each FDE.
 ///
-/// `process` has to be [`Frames::process`] for the load address 0. If `dwcheck` refuses the
-/// section, there is no process; [`validate`](super::validate) then compares by gimli alone.
+/// `process` has to be the result of [`Frames::process`] for the load address 0. If `dwcheck`
+/// refuses the section, there is no such process, and only [`validate`](super::validate) can
+/// compare.
 ///
 /// # Errors
 ///
-/// The first difference. A row that gimli refuses is one, too.
+/// The first difference. A row that gimli refuses is a difference, too.
 pub fn validate_rows(frames: &Frames<'_>, process: &Process) -> Result<Agreement, Difference> {
     let source = frames.eh_frame();
     let (order, address_size) = (source.target.gimli_order(), source.target.address_size.bytes());
@@ -129,7 +131,7 @@ pub fn validate_rows(frames: &Frames<'_>, process: &Process) -> Result<Agreement
     }
 }
 
-/// Buffers that are used again for each FDE.
+/// Buffers that are used for one FDE after another.
 struct Room<'a> {
     context: Box<UnwindContext<Bytes<'a>, Bounded>>,
     found: Rows<'a>,
@@ -137,7 +139,7 @@ struct Room<'a> {
     rows: (Row<'a>, Row<'a>),
 }
 
-/// A section, and the process of what it was rewritten as.
+/// A section in the file, as gimli reads it, and the process that has the rewritten section.
 struct Comparison<'a, S> {
     frames: &'a Frames<'a>,
     process: &'a Process,
@@ -200,7 +202,8 @@ where
         if let Some(count) = self.count_equal(table, begin..end, register, found) {
             return Ok(count);
         }
-        // The rows differ, or gimli refuses one. Comparing again is slower, but finds which row.
+        // The rows differ, or gimli refuses a row. Comparing again is slower, but shows which row
+        // it is.
         let table = fde.rows(&self.section, &self.bases, context).map_err(unreadable)?;
         ours.restart(begin, end);
         let (count, _) = compare_rows(&mut GimliRows { table, target }, ours, rows)?;
@@ -210,8 +213,8 @@ where
         }
     }
 
-    /// The number of an FDE's rows. `None` unless all of gimli's rows and `dwcheck`'s are equal,
-    /// and `register` is the return address register of each.
+    /// The number of an FDE's rows. `None` unless gimli's rows are equal to `dwcheck`'s, and
+    /// `register` is the return address register of each.
     fn count_equal(
         &self,
         mut table: UnwindTable<'_, '_, Bytes<'a>, Bounded>,
@@ -237,7 +240,8 @@ where
     }
 }
 
-/// Whether two rows have the same rules. gimli has no rule for an undefined register.
+/// Whether two rows have the same rules. gimli doesn't store a rule for an undefined register, so
+/// such rules aren't counted.
 fn same_rules(ours: &dwcheck::Row, theirs: &UnwindTableRow<Bytes<'_>, Bounded>, bytes: &[u8]) -> bool {
     let same_cfa = match (&ours.cfa, theirs.cfa()) {
         (

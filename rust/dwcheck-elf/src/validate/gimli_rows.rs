@@ -1,4 +1,4 @@
-//! gimli's rows, and their comparison with each other.
+//! gimli's rows of a section before and after it is rewritten, and their comparison.
 
 use super::{compare_rows, RowSource, What};
 use crate::bridge::EhFrame;
@@ -14,8 +14,8 @@ type Context<'a> = Box<UnwindContext<Bytes<'a>, Bounded>>;
 type Cie<'a> = CommonInformationEntry<Bytes<'a>>;
 type Fde<'a> = FrameDescriptionEntry<Bytes<'a>>;
 
-/// gimli's storage for rules and remembered rows: more than `dwcheck` accepts. gimli's default
-/// storage for remembered rows has no bound.
+/// gimli's storage for rules and remembered rows. It has room for more of both than `dwcheck`
+/// accepts, but for a fixed number: gimli's default storage for remembered rows has no bound.
 pub(super) struct Bounded;
 
 impl<R: Reader> UnwindContextStorage<R> for Bounded {
@@ -38,13 +38,13 @@ pub(super) struct Original<'a> {
     context: Context<'a>,
 }
 
-/// A record of the section.
+/// A record of the original section.
 pub(super) enum OriginalEntry<'a> {
     Cie(Cie<'a>),
     Fde(Fde<'a>),
 }
 
-/// The bridged bytes.
+/// The rewritten section.
 pub(super) struct BridgedSection<'a> {
     pub section: DebugFrame<Bytes<'a>>,
     bases: BaseAddresses,
@@ -52,7 +52,7 @@ pub(super) struct BridgedSection<'a> {
 }
 
 impl EhFrame<'_> {
-    /// The addresses that pointers are relative to, as gimli takes them.
+    /// The addresses that the section's pointers are relative to, as gimli takes them.
     pub(super) fn bases(&self) -> BaseAddresses {
         let mut bases = BaseAddresses::default().set_eh_frame(self.address);
         if let Some(address) = self.text {
@@ -74,7 +74,8 @@ impl<'a> Original<'a> {
         Original { section: read, bytes: section.bytes, target: section.target, bases, context }
     }
 
-    /// The record at an offset. The id after the length tells whether it is a CIE or an FDE.
+    /// The record at an offset. The id after the length tells whether the record is a CIE or an
+    /// FDE.
     pub fn entry(&self, record: usize) -> gimli::Result<OriginalEntry<'a>> {
         let is_long = self.bytes.get(record..).map_or(false, |bytes| bytes.starts_with(&[0xff; 4]));
         let id = record.saturating_add(if is_long { 12 } else { 4 });
@@ -87,7 +88,8 @@ impl<'a> Original<'a> {
         }
     }
 
-    /// Compares an FDE with its counterpart.
+    /// Compares an FDE with its counterpart. Returns the number of equal rows, and whether gimli
+    /// then refuses both with the same error.
     pub fn compare<'b>(
         &mut self,
         fde: &Fde<'a>,
@@ -123,7 +125,7 @@ impl<'a> BridgedSection<'a> {
     }
 }
 
-/// Compares what two CIEs give their FDEs, except for the instructions.
+/// Compares the alignment factors and the return address registers of two CIEs.
 pub(super) fn compared_cies(one: &Cie<'_>, other: &Cie<'_>) -> Result<(), What> {
     let same = one.code_alignment_factor() == other.code_alignment_factor()
         && one.data_alignment_factor() == other.data_alignment_factor()

@@ -1,4 +1,4 @@
-//! The words of the command line.
+//! The arguments of the command line.
 
 use clap::{Args, Parser, Subcommand};
 use dwcheck_elf::bridge::Options;
@@ -61,7 +61,7 @@ impl Reading {
         Options { strict: self.strict }
     }
 
-    /// The options for a check, which finds every fault if `all`, else the first.
+    /// The options for a check. If `all`, the check reports every fault, not only the first.
     pub fn check(self, all: bool) -> Check {
         Check { bridge: self.options(), all }
     }

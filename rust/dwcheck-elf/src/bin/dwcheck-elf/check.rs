@@ -1,4 +1,4 @@
-//! `check`: checks the sections of programs.
+//! The command `check`: checks the frame sections and the location lists of programs.
 
 use crate::arguments::CheckWords;
 use crate::end::{Done, Failure};
@@ -16,7 +16,8 @@ use dwcheck_elf::validate::Agreement;
 use std::io::{self, Write};
 use std::path::Path;
 
-/// Checks each program in turn.
+/// Checks each program in turn. If there are several, a program that can't be read doesn't end the
+/// run.
 pub fn check(words: &CheckWords, out: &mut impl Write) -> Result<Done, Failure> {
     let mut done = Done::Accepted;
     for path in &words.programs {
@@ -61,7 +62,7 @@ fn check_one(words: &CheckWords, path: &Path, out: &mut impl Write) -> Result<Do
     Ok(done)
 }
 
-/// Writes how much an accepted section holds, and a line for each of its expressions.
+/// Writes the counts of what an accepted section has, and a line for each of its expressions.
 fn write_accepted(out: &mut impl Write, program: &Program<'_>, section: &Inspected<'_>) -> io::Result<()> {
     match (&section.verdict, &section.frames) {
         (Verdict::Frames(agreement), Some(frames)) => write_frames(out, agreement, frames),
@@ -75,13 +76,14 @@ fn write_accepted(out: &mut impl Write, program: &Program<'_>, section: &Inspect
 
 /// An expression of a frame section.
 struct Located {
-    /// Its offset in the bytes that `dwcheck` takes.
+    /// Its offset in [`Frames::bytes`].
     begin: usize,
     length: usize,
     is_cfa: bool,
 }
 
-/// The expressions of a frame section, those of CIEs first.
+/// The expressions of a frame section: first those of CIEs, then those of FDEs, each in the order
+/// of the section.
 fn expressions(frames: &Frames<'_>) -> Vec<Located> {
     let target = frames.target();
     let mut all = records(frames.bytes(), target);
@@ -121,7 +123,8 @@ fn write_lists(out: &mut impl Write, contents: &Contents, lists: &[u8], target: 
     Ok(())
 }
 
-/// Writes what was dropped or changed, a line for each kind of change.
+/// Writes what was dropped or changed when a section was rewritten, with a line for each kind of
+/// change.
 pub fn write_notes(out: &mut impl Write, name: Name, bridged: &Bridged) -> io::Result<()> {
     let Counts { terminators, augmentations, personalities, data_areas, signal_frames, args_sizes, set_locs, .. } =
         *bridged.counts();

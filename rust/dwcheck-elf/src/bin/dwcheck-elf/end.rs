@@ -1,4 +1,4 @@
-//! How a run ends.
+//! How a run of the program ends, and its exit status.
 
 use dwcheck_elf::inspect::InspectError;
 use std::fmt;
@@ -8,7 +8,7 @@ use std::path::Path;
 /// The result of a run that reached its end.
 #[derive(Clone, Copy, Debug, PartialEq, Eq, PartialOrd, Ord)]
 pub enum Done {
-    /// All was accepted, or an answer was given.
+    /// Everything was accepted, or an answer was given.
     Accepted,
     /// Something was refused.
     Refused,

@@ -1,4 +1,4 @@
-//! `locs`: looks up an address in a location list.
+//! The command `locs`: looks up an address in a location list.
 
 use crate::arguments::LocsWords;
 use crate::end::{Done, Failure};
@@ -12,7 +12,7 @@ use dwcheck_elf::target::Target;
 use dwcheck_elf::text::{Offset, Outcomes};
 use std::io::Write;
 
-/// Shows each expression that holds, and its result.
+/// Shows each expression that the list has for the address, and the result of the expression.
 pub fn locs(words: &LocsWords, out: &mut impl Write) -> Result<Done, Failure> {
     let data = read(&words.program)?;
     let program = program(&words.program, &data)?;

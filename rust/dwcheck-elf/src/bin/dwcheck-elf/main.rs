@@ -1,4 +1,5 @@
-//! Checks the unwind tables of ELF programs, shows their rows, unwinds by them, and prints the stacks of core files.
+//! Checks the unwind tables of ELF programs, shows their rows, unwinds by them, and prints the
+//! stacks of core files.
 
 mod arguments;
 mod check;
@@ -20,7 +21,8 @@ fn main() -> ExitCode {
     let words = match Words::try_parse() {
         Ok(words) => words,
         Err(error) => {
-            // If standard error is closed, nobody can read the message, so errors don't matter.
+            // If standard error is closed, nobody can read the message, so it doesn't matter that
+            // this fails.
             let _ = error.print();
             return ExitCode::from(if error.use_stderr() { 2 } else { 0 });
         }

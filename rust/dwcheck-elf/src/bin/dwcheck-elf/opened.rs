@@ -1,4 +1,5 @@
-//! What the commands share: reading programs, addresses and names.
+//! What the commands share: they read files and addresses, choose frame sections, and write faults
+//! and names.
 
 use crate::end::Failure;
 use dwcheck::{Error, Process};
@@ -30,9 +31,10 @@ pub fn program<'data>(path: &Path, data: &'data [u8]) -> Result<Program<'data>, 
     Program::read(data).map_err(|error| Failure::File(format!("{}: {}", path.display(), error)))
 }
 
-/// The frame sections of a program if all are accepted. If `.debug_frame` is refused and `.eh_frame`
-/// is accepted, only `.eh_frame`, and a note on standard error says so. Else the fault of the first
-/// one that is refused. The rows of rewritten sections are compared with gimli's.
+/// The frame sections of a program that are used. If all are accepted, these are all of them. If
+/// `.debug_frame` is refused and `.eh_frame` is accepted, it is only `.eh_frame`, and a note on
+/// standard error says so. Otherwise the inner error is the fault of the first section that is
+/// refused. The rows of rewritten sections are compared with gimli's.
 pub fn accepted_frames<'data>(
     path: &Path,
     program: &Program<'data>,
@@ -61,11 +63,12 @@ pub fn accepted_frames<'data>(
 /// Says, on standard error, that `.debug_frame` is refused and `.eh_frame` is used.
 fn note_eh_frame(path: &Path, defect: &Defect) {
     let note = format!(".debug_frame is refused, so .eh_frame is used: {}", defect);
-    // If standard error is closed, nobody can read the note, so errors don't matter.
+    // If standard error is closed, nobody can read the note, so it doesn't matter that this fails.
     let _ = writeln!(io::stderr(), "dwcheck-elf: {}: {}", path.display(), note);
 }
 
-/// Writes a fault in two lines: its record, and its offset with the rule that it breaks.
+/// Writes a fault in two lines: first its record and its name, then its offset and the rule that it
+/// breaks.
 pub fn write_defect(out: &mut impl Write, path: &Path, defect: &Defect) -> io::Result<()> {
     writeln!(out, "{}: {}", path.display(), defect)?;
     writeln!(out, "    at {:#x}: {}", defect.offset, defect.rule)
@@ -77,18 +80,20 @@ pub fn add(process: &mut Process, path: &Path, frames: &[Frames<'_>], load: u64)
     frames.iter().try_for_each(|one| one.add_to(process, load).map_err(|error| failed(one.name(), error)))
 }
 
-/// The name of the function that contains an address, in parentheses after a space; or empty.
+/// The name of the function that contains an address, in parentheses after a space. Empty if there
+/// is none.
 pub fn named(functions: &Functions<'_>, address: u64) -> String {
     Spot::at(functions, address).map_or_else(String::new, |spot| format!(" ({})", spot))
 }
 
-/// A number that is an argument.
+/// Reads an argument that is a number, such as `0x1130`.
 pub fn number_argument(text: &str, target: Target) -> Result<u64, Failure> {
     number(text, target).ok_or_else(|| Failure::Argument(format!("bad argument: {} isn't an address as 0x1130", text)))
 }
 
-/// An address as loaded, from a number, or from a function of the program with or without an
-/// offset.
+/// Reads an argument that is an address in the process: a number, or a function of the program with
+/// or without an offset, such as `main+4`. `load` is where the program is loaded. It is added to
+/// the address of a function, but not to a number.
 pub fn address(text: &str, target: Target, functions: &Functions<'_>, load: u64) -> Result<u64, Failure> {
     if let Some(number) = number(text, target) {
         return Ok(number);

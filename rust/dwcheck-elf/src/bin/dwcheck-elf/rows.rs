@@ -1,4 +1,4 @@
-//! `rows` and `row`: show unwind rows.
+//! The commands `rows` and `row`: show the rows of unwind tables.
 
 use crate::arguments::{RowWords, RowsWords};
 use crate::check::write_notes;
@@ -78,7 +78,7 @@ fn write_rows(out: &mut impl Write, frames: &Frames<'_>, mut rows: DwcheckRows<'
     Ok(())
 }
 
-/// Shows the row of an address, from the first section that has one.
+/// Shows the row of an address, from the first section that has such a row.
 pub fn row(words: &RowWords, out: &mut impl Write) -> Result<Done, Failure> {
     let data = read(&words.program)?;
     let program = program(&words.program, &data)?;

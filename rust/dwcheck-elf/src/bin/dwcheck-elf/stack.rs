@@ -1,4 +1,4 @@
-//! `stack`: prints the stack of each thread of a core file.
+//! The command `stack`: prints the stack of each thread of a core file.
 
 use crate::arguments::StackWords;
 use crate::end::{Done, Failure};
@@ -7,7 +7,7 @@ use dwcheck_elf::core_file::{CoreFile, Files};
 use dwcheck_elf::stack::Stacks;
 use std::io::{self, Write};
 
-/// Prints the stacks.
+/// Prints the stacks on `out`, and warnings on standard error.
 pub fn stack(words: &StackWords, out: &mut impl Write) -> Result<Done, Failure> {
     let failed = |text: String| Failure::File(text);
     let bytes = read(&words.core)?;

@@ -1,4 +1,4 @@
-//! `survey`: checks all ELF files in folders.
+//! The command `survey`: checks all ELF files in folders.
 
 mod files;
 mod json;
@@ -21,7 +21,7 @@ use std::io::{self, Write};
 use std::path::PathBuf;
 use totals::Totals;
 
-/// The stack of each thread: more than gimli and `dwcheck` need.
+/// The number of bytes of each thread's stack: more than gimli and `dwcheck` need.
 const STACK: usize = 8 << 20;
 
 /// The result of checking a file.
@@ -36,9 +36,9 @@ pub struct Surveyed {
 pub struct Section {
     name: Name,
     bytes: usize,
-    /// How much it holds, if it was accepted.
+    /// How much the section holds, if it was accepted.
     held: Held,
-    /// Its faults, if it was refused.
+    /// The section's faults. Empty if it was accepted.
     defects: Vec<Defect>,
     counts: Counts,
     mended: usize,
@@ -86,15 +86,16 @@ pub fn survey(words: &SurveyWords, out: &mut impl Write) -> Result<Done, Failure
     Ok(totals.done())
 }
 
-/// A progress bar on standard error, if that is a terminal.
+/// A progress bar on standard error. It is shown only if standard error is a terminal.
 fn progress(count: u64) -> ProgressBar {
     let bar = ProgressBar::new(count);
     let style = ProgressStyle::with_template("{wide_bar} {pos}/{len} {eta}");
     style.map_or(bar.clone(), |style| bar.with_style(style))
 }
 
-/// Checks a file. Reads only its frame sections if these are accepted, and else the whole file, whose
-/// symbols name the functions of refused FDEs.
+/// Checks a file. Without location lists, only the frame sections are read first. If they are
+/// accepted, that is enough. Otherwise the whole file is read, because its symbols name the
+/// functions of refused FDEs.
 fn inspected(path: PathBuf, check: Check, has_lists: bool) -> Surveyed {
     if !has_lists {
         if let Ok(Some(data)) = sparse::frame_content(&path) {
@@ -145,8 +146,8 @@ impl Section {
     }
 }
 
-/// Writes two lines for each fault; and, on standard error, a line for each file that can't be read
-/// or checked.
+/// Writes two lines for each fault. Also writes, on standard error, a line for each file that can't
+/// be read or checked.
 fn write_refused(out: &mut impl Write, files: &Files, surveyed: &[Surveyed]) -> io::Result<()> {
     for (path, error) in &files.unread {
         let _ = writeln!(io::stderr(), "dwcheck-elf: cannot read {}: {}", path.display(), error);

@@ -1,4 +1,5 @@
-//! `unwind` and `backtrace`: find callers, with the registers and memory of a state file.
+//! The commands `unwind` and `backtrace`: find the callers of frames, from the registers and the
+//! memory in a state file.
 
 use crate::arguments::{BacktraceWords, UnwindWords};
 use crate::end::{Done, Failure};
@@ -16,14 +17,14 @@ use std::io::Write;
 use std::os::unix::ffi::OsStrExt;
 use std::path::{Path, PathBuf};
 
-/// A module of the command line: its file and where it is loaded.
+/// A module that the command line names: its file, and where it is loaded.
 struct Given {
     path: PathBuf,
     load: u64,
     data: Vec<u8>,
 }
 
-/// A program and further modules, in one process.
+/// A process that has the program and the further modules that the command line names.
 struct Loaded<'a> {
     process: Process,
     target: Target,
@@ -32,8 +33,10 @@ struct Loaded<'a> {
 }
 
 impl<'a> Loaded<'a> {
-    /// The name of the function that contains an address as loaded, in parentheses after a space;
-    /// or empty. It comes from the first module that has a name for the address.
+    /// The name of the function that contains an address in the process, in parentheses after a
+    /// space. It comes from the first module that has a name for the address. Empty if no module
+    /// has one. If `is_after_call`, the name is that of the function with the call before the
+    /// address.
     fn named(&self, address: u64, is_after_call: bool) -> String {
         let find = if is_after_call { Spot::after_call } else { Spot::at };
         let spot =
@@ -61,8 +64,8 @@ fn given(words: &UnwindWords, target: Target, data: Vec<u8>) -> Result<Vec<Given
     Ok(all)
 }
 
-/// Checks all modules and puts them into a process. The inner error is the first fault, and its
-/// file.
+/// Checks all modules and puts them into a process. The inner error is the first fault of a module,
+/// with the module's file.
 fn loaded<'a>(
     words: &UnwindWords,
     given: &'a [Given],
@@ -84,7 +87,7 @@ fn loaded<'a>(
     Ok(Ok(all))
 }
 
-/// What both commands share: reads all files, and calls `ask` for the answer.
+/// What both commands share: reads and checks all files, and calls `ask`, which writes the answer.
 fn run<W: Write>(
     words: &UnwindWords,
     out: &mut W,
@@ -156,8 +159,8 @@ pub fn backtrace(words: &BacktraceWords, out: &mut impl Write) -> Result<Done, F
     })
 }
 
-/// Writes a frame. If its address follows a call, the name is that of the function that has the
-/// call.
+/// Writes a frame. If the frame's address follows a call, the name is that of the function that
+/// contains the call.
 fn write_frame(out: &mut impl Write, loaded: &Loaded<'_>, number: usize, frame: &Frame) -> Result<(), Failure> {
     let target = loaded.target;
     let name = loaded.named(frame.address(), number > 0);

@@ -1,4 +1,4 @@
-//! The ELF files in folders, once each.
+//! Finds the ELF files in folders, each once.
 
 use rayon::prelude::*;
 use std::collections::hash_map::RandomState;
@@ -9,7 +9,8 @@ use std::io::{self, Read};
 use std::os::unix::fs::MetadataExt;
 use std::path::{Path, PathBuf};
 
-/// A larger file isn't read: some system files stand for all of memory.
+/// The most bytes that a file may have. A larger file isn't read, because some system files stand
+/// for all of memory.
 pub const LARGEST: u64 = 4 << 30;
 
 /// What an ELF file begins with.
@@ -20,7 +21,7 @@ const MAGIC: &[u8; 4] = b"\x7fELF";
 pub struct Files {
     /// Their paths, in order.
     pub paths: Vec<PathBuf>,
-    /// The number of further files with the same bytes as one of these.
+    /// The number of further ELF files that have the same bytes as one of these.
     pub repeated: usize,
     /// Files and folders that can't be read, and why.
     pub unread: Vec<(PathBuf, String)>,
@@ -43,8 +44,8 @@ struct Walk {
 }
 
 impl Files {
-    /// The ELF files among `paths` and in folders below them. Of several files with the same bytes,
-    /// only the first is listed.
+    /// The ELF files among `paths`, and those in the folders among `paths` and below. Of several
+    /// files with the same bytes, only the first one is listed.
     pub fn once_each(paths: &[PathBuf]) -> Self {
         let mut walk = Walk::default();
         paths.iter().for_each(|path| walk.start(path));
@@ -69,7 +70,7 @@ impl Files {
 }
 
 impl Walk {
-    /// Adds a file or a folder that was named by the user. Follows it if it is a symbolic link.
+    /// Adds a file or a folder that the user named. Follows it if it is a symbolic link.
     fn start(&mut self, path: &Path) {
         match path.metadata() {
             Ok(metadata) => self.add(path.to_path_buf(), &metadata),
@@ -113,15 +114,15 @@ fn is_elf(path: &Path) -> io::Result<bool> {
     Ok(start == MAGIC)
 }
 
-/// A 128-bit hash of each file, if another file has the same size. Two files with different bytes
-/// have the same hash with a probability of 2^-128.
+/// For each file, a 128-bit hash of its bytes, or `None` if no other file has the same size. Two
+/// files with different bytes have the same hash with a probability of about 2^-128.
 fn marks(files: &[Candidate]) -> Vec<Option<u128>> {
     let mut sizes: HashMap<u64, usize> = HashMap::new();
     files.iter().for_each(|file| *sizes.entry(file.size).or_insert(0) += 1);
     let keys = (RandomState::new(), RandomState::new());
     let mark = |file: &Candidate| {
         let repeats = sizes.get(&file.size).map_or(false, |count| *count > 1);
-        // If the file can't be read, checking it reports that later.
+        // If the file can't be read, that is reported later, when it is checked.
         if repeats {
             mark(&file.path, &keys).ok()
         } else {
@@ -146,7 +147,7 @@ fn mark(path: &Path, keys: &(RandomState, RandomState)) -> io::Result<u128> {
     }
 }
 
-/// Reads a file.
+/// Reads a file of at most [`LARGEST`] bytes.
 pub fn content(path: &Path) -> io::Result<Vec<u8>> {
     let file = File::open(path)?;
     let size = file.metadata()?.len();

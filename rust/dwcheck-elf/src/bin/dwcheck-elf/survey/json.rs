@@ -1,4 +1,4 @@
-//! A survey as lines of JSON.
+//! Writes the results of a survey as lines of JSON.
 
 use super::files::Files;
 use super::totals::Totals;
@@ -7,7 +7,7 @@ use dwcheck_elf::fault::{Defect, Within};
 use std::fmt::Write as _;
 use std::io::{self, Write};
 
-/// Writes an object a line: one for each file, and one for the totals.
+/// Writes one JSON object on each line: first one for each file, then one for the totals.
 pub fn write(out: &mut impl Write, files: &Files, surveyed: &[Surveyed], totals: &Totals) -> io::Result<()> {
     for (path, error) in &files.unread {
         writeln!(out, "{{\"file\":{},\"error\":{}}}", text(&path.to_string_lossy()), text(error))?;
@@ -59,7 +59,7 @@ fn fault(defect: &Defect) -> String {
     shown
 }
 
-/// A string with quotes.
+/// A string in JSON, with its quotes.
 fn text(plain: &str) -> String {
     let mut quoted = String::with_capacity(plain.len() + 2);
     quoted.push('"');

@@ -1,6 +1,7 @@
-//! Reads the parts of an ELF file that a check of its frame sections needs, and no others.
+//! Reads only those parts of an ELF file that a check of its frame sections needs.
 //!
-//! Frame sections are a few percent of a program's bytes, so a survey reads and stores far less.
+//! Frame sections are a few percent of a program's bytes, so a survey reads and stores far less
+//! than all bytes.
 
 use super::files::LARGEST;
 use object::elf::ET_REL;
@@ -10,12 +11,12 @@ use std::io;
 use std::os::unix::fs::FileExt;
 use std::path::Path;
 
-/// The longest ELF header.
+/// The number of bytes of the longest ELF header, that of a 64-bit file.
 const HEADER: usize = 64;
 
-/// The bytes of a file, each at its offset. Bytes that a check of frame sections doesn't need are 0,
-/// and take no memory. `None` if the check needs the whole file: for an unlinked object, whose
-/// relocations name symbols, or if the header doesn't say where the sections are.
+/// The bytes of a file, each at its offset. Bytes that a check of frame sections doesn't need are 0
+/// here, and take no memory. `None` if the check needs the whole file: if it is an unlinked object,
+/// whose relocations name symbols, or if the header doesn't say where the sections are.
 pub fn frame_content(path: &Path) -> io::Result<Option<Vec<u8>>> {
     let file = File::open(path)?;
     let size = file.metadata()?.len();
@@ -41,8 +42,8 @@ pub fn frame_content(path: &Path) -> io::Result<Option<Vec<u8>>> {
     Ok(Some(bytes))
 }
 
-/// Reads a range of the file, an offset and a length, into its place. Does nothing if the range
-/// isn't in the file.
+/// Reads a range of the file, given by its offset and its length, into the same place in `bytes`.
+/// Does nothing if the file doesn't have the whole range.
 fn fill(file: &File, bytes: &mut [u8], (offset, length): (u64, u64)) -> io::Result<()> {
     let end = offset.checked_add(length).filter(|end| *end <= bytes.len() as u64);
     match end {
@@ -51,7 +52,7 @@ fn fill(file: &File, bytes: &mut [u8], (offset, length): (u64, u64)) -> io::Resu
     }
 }
 
-/// Where the frame sections are.
+/// The offset and the length of each frame section.
 fn frame_ranges(bytes: &[u8]) -> Vec<(u64, u64)> {
     let file = match object::File::parse(bytes) {
         Ok(file) => file,
@@ -70,15 +71,16 @@ struct Header {
     segments: (u64, u64),
     /// The offset and the length of the table of sections.
     sections: (u64, u64),
-    /// The length of an entry of the table of sections.
+    /// The length of one entry of the table of sections.
     section_size: u64,
-    /// The index of the section with the names of sections.
+    /// The index of the section that has the names of all sections.
     names: u64,
 }
 
 impl Header {
-    /// Reads the header. `None` if it doesn't have the number of sections or the index of their
-    /// names: with 65,280 sections or more, these are in the table of sections.
+    /// Reads the header. `None` if the header doesn't say how many sections there are, or which
+    /// section has their names. In a file with 65,280 sections or more, the table of sections says
+    /// so instead.
     fn of(bytes: &[u8]) -> Option<Header> {
         let (is_64, is_little) = (bytes[4] == 2, bytes[5] == 1);
         let number = |at: usize, size: usize| number(bytes, is_little, at, size);
@@ -97,7 +99,7 @@ impl Header {
         Some(header).filter(|header| header.sections.1 > 0 && header.names < count(3))
     }
 
-    /// Where the names of sections are.
+    /// The offset and the length of the section that has the names of all sections.
     fn names(&self, bytes: &[u8]) -> Option<(u64, u64)> {
         let (offset, size, word) = if self.is_64 { (24, 32, 8) } else { (16, 20, 4) };
         let entry = self.sections.0.checked_add(self.names * self.section_size)?;
@@ -108,7 +110,7 @@ impl Header {
     }
 }
 
-/// A number of `size` bytes at an offset that is inside `bytes`.
+/// The number of `size` bytes at the offset `at`. All of them have to be in `bytes`.
 fn number(bytes: &[u8], is_little: bool, at: usize, size: usize) -> u64 {
     let digits = &bytes[at..at + size];
     let add = |sum: u64, byte: &u8| sum << 8 | u64::from(*byte);

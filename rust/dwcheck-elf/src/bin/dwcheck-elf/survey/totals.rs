@@ -10,7 +10,7 @@ use std::io::{self, Write};
 pub struct Totals {
     /// ELF files, no two of which have the same bytes.
     pub files: usize,
-    /// Further files with the same bytes as one of these.
+    /// Further ELF files that have the same bytes as one of these files.
     pub repeated: usize,
     /// Files and folders that couldn't be read, and files that couldn't be checked.
     pub unread: usize,
@@ -20,22 +20,23 @@ pub struct Totals {
     pub accepted: usize,
     /// Sections that were refused.
     pub refused: usize,
-    /// Bytes of the sections that were checked, except those that couldn't be rewritten.
+    /// Bytes of all sections that were checked. A section that couldn't be rewritten counts as 0.
     pub bytes: usize,
-    /// CIEs, FDEs and rows of accepted frame sections.
+    /// CIEs, FDEs and rows of accepted frame sections, in this field and the two that follow.
     pub cies: usize,
     pub fdes: usize,
     pub rows: usize,
-    /// Lists and expressions of accepted location lists.
+    /// Lists and expressions of accepted location lists, in this field and the next.
     pub lists: usize,
     pub expressions: usize,
-    /// What was dropped or changed in `.eh_frame`; see `Counts` of the library.
+    /// What was dropped or changed when `.eh_frame` was rewritten, in this field and the four that
+    /// follow. See `Counts` in the library's module `bridge`.
     pub augmentations: usize,
     pub signal_frames: usize,
     pub args_sizes: usize,
     pub set_locs: usize,
     pub mended: usize,
-    /// Records of length 0.
+    /// Records of length 0, which were left out.
     pub empty_records: usize,
 }
 
@@ -74,7 +75,7 @@ impl Totals {
         self.mended += section.mended;
     }
 
-    /// The result of the survey, for its exit status.
+    /// How the survey ended, for the exit status.
     pub fn done(&self) -> Done {
         match (self.unread, self.refused) {
             (0, 0) => Done::Accepted,
@@ -83,7 +84,7 @@ impl Totals {
         }
     }
 
-    /// Each count with its name.
+    /// Each count with its name, in the order in which they are written.
     pub fn named(&self) -> [(&'static str, usize); 18] {
         [
             ("files", self.files),
@@ -107,8 +108,8 @@ impl Totals {
         ]
     }
 
-    /// Writes the totals: a line for files, one for sections, one for what the sections hold; and,
-    /// if `has_notes`, one for what was changed.
+    /// Writes the totals: a line for files, a line for sections, and a line for what the sections
+    /// hold. If `has_notes`, also a line for what was dropped or changed.
     pub fn write(&self, out: &mut impl Write, has_notes: bool) -> io::Result<()> {
         let named = self.named();
         let (files, rest) = named.split_at(3);
