@@ -1,4 +1,5 @@
-//! Compares rewritten sections, and the sections that they were made from, with readelf.
+//! Rewrites `.eh_frame` sections, and compares the originals and the results with what readelf
+//! shows.
 
 mod common;
 #[path = "common/frames.rs"]
@@ -8,7 +9,7 @@ use common::{has, Folder, C, CXX, MACHINES};
 use dwcheck_elf::bridge::{Edge, RecordKind};
 use frames::{compared, records, Shown};
 
-/// Counts and rows of a linked file.
+/// Rewrites the section of a linked file, and compares its counts, rows and places with readelf's.
 fn counted(folder: &Folder, file: &str) {
     let (bridged, agreement) = compared(folder, file, "objcopy");
     let shown = records(folder, file, ".eh_frame");
@@ -38,8 +39,8 @@ fn is_signal(shown: &[Shown], cie: u64) -> bool {
     shown.iter().any(|record| record.offset == cie && record.augmentation.contains('S'))
 }
 
-/// Each record leads back to where readelf shows it, and each byte of its instructions to the same
-/// byte in the original.
+/// Checks that the place of each rewritten record is where readelf shows the original record, and
+/// that the place of each byte of an FDE's instructions has the same byte.
 fn placed(folder: &Folder, file: &str, shown: &[Shown], bridged: &dwcheck_elf::bridge::Bridged) {
     let source = folder.section(file, ".eh_frame");
     assert_eq!(bridged.records().len(), shown.len());
@@ -84,7 +85,8 @@ fn cxx_program_with_exceptions() {
     counted(&folder, "linked");
 }
 
-/// The C library has signal frames and CFAs that are expressions.
+/// A statically linked program has the C library's signal frames, and its CFAs that are
+/// expressions.
 #[test]
 fn static_program() {
     let folder = Folder::new("static");
@@ -125,8 +127,8 @@ fn other_machines() {
     }
 }
 
-/// A CIE and an FDE, for an encoding of addresses. The two texts are the address and the range of
-/// `f`.
+/// Assembly of a CIE and of an FDE for the function `f`, with a given encoding of addresses.
+/// `address` and `range` are the directives for the FDE's first address and its number of bytes.
 fn by_hand(encoding: u8, address: &str, range: &str) -> String {
     format!(
         "
@@ -185,8 +187,8 @@ fn encodings() {
         let text = if encoding == 0x0a { "0x7000" } else { "0x400020" };
         folder.run(&format!("as a.s -o a.o; ld -Ttext={} a.o -o linked", text));
         let f = common::hex(folder.run("nm linked | grep -w f").split(' ').next().unwrap());
-        // readelf 2.40 reads LEB128 addresses as numbers of 4 bytes, so only gimli's rows are
-        // compared.
+        // readelf 2.40 reads LEB128 addresses as numbers of 4 bytes, so for them only gimli's rows
+        // are compared.
         let is_leb = encoding & 0xf == 1 || encoding & 0xf == 9;
         let bridged = if is_leb { validated(&folder).0 } else { compared(&folder, "linked", "objcopy").0 };
         let kind = bridged.records().last().map(|record| record.kind);
@@ -210,7 +212,8 @@ fn encodings_with_other_bases() {
     }
 }
 
-/// Rewrites the section of the file `linked`, and compares only gimli's rows.
+/// Rewrites the `.eh_frame` section of the file `linked`, and compares gimli's rows of both
+/// sections.
 fn validated(folder: &Folder) -> (dwcheck_elf::bridge::Bridged, dwcheck_elf::validate::Agreement) {
     let bytes = folder.bytes("linked");
     let program = dwcheck_elf::program::Program::read(&bytes).unwrap();

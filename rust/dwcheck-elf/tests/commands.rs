@@ -1,12 +1,14 @@
-//! The commands on programs. Except for the names, they write what `dwcheck` writes of the
-//! programs' sections.
+//! Runs the commands on a program, and compares what they write with what `dwcheck` writes for the
+//! program's sections. Only `dwcheck-elf` writes names of functions and sections, so these are
+//! removed first.
 
 mod common;
 
 use common::run::{by_dwcheck, dwcheck_elf, dwcheck_elf_words};
 use common::{hex, Folder, C, CXX};
 
-/// A program with `.debug_frame`, `.debug_loclists`, and a rule that is an expression, linked at fixed addresses.
+/// Makes a program, linked at fixed addresses, that has `.debug_frame`, `.debug_loclists`, and a
+/// row with a CFA that is an expression.
 fn program(folder: &Folder) {
     folder.write("a.c", C);
     folder.write(
@@ -24,8 +26,8 @@ fn program(folder: &Folder) {
     folder.run("objcopy -R .eh_frame program program");
 }
 
-/// The lines without `section` lines, and without names of functions, which are in parentheses
-/// after a space at the end.
+/// A text without its `section` lines, and without the names of functions, which are in parentheses
+/// after a space at the end of a line.
 fn nameless(text: &str) -> String {
     let cut = |line: &str| match line.rfind(" (") {
         Some(at) if line.ends_with(')') => line[..at].to_string(),
@@ -71,7 +73,8 @@ fn a_row_by_number_and_by_symbol() {
     }
 }
 
-/// The name that is shown leads back to the same row. `Loud` has two destructors with one name.
+/// A name that `row` shows can be given to `row` again, and finds the same row. `Loud` has two
+/// destructors that are shown with the same name, so that name is refused.
 #[test]
 fn a_row_by_the_name_that_is_shown() {
     let folder = Folder::new("command-demangled");
@@ -115,7 +118,7 @@ fn check_counts_what_dwcheck_counts() {
     }
 }
 
-/// gcc writes view numbers into the location lists, which are refused.
+/// gcc writes view numbers into the location lists, so that these are refused.
 #[test]
 fn check_without_location_lists() {
     let folder = Folder::new("command-no-lists");
@@ -153,7 +156,7 @@ fn walks_are_those_of_dwcheck() {
     assert_eq!((bad.status, bad.error.as_str()), (2, "dwcheck-elf: state line 3\n"));
 }
 
-/// A word of a little-endian machine, as a state file has it.
+/// The 8 bytes of a little-endian number, in the hexadecimal digits of a state file.
 fn le(value: u64) -> String {
     value.to_le_bytes().iter().map(|byte| format!("{:02x}", byte)).collect()
 }

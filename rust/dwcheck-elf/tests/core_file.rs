@@ -1,4 +1,4 @@
-//! Core files, compared with gdb and elfutils.
+//! Reads core files, and compares what is read with what gdb and elfutils show.
 
 mod common;
 
@@ -47,7 +47,8 @@ fn cores(folder: &Folder) -> Vec<&'static str> {
     cores
 }
 
-/// Runs a program that dies, and moves the kernel's core file into the folder, if there is one.
+/// Runs a program that dies, and moves the core file that the kernel writes into the folder.
+/// Returns false if the kernel writes no core file.
 fn kernel_core(folder: &Folder, program: &str, name: &str) -> bool {
     folder.run(&format!("(ulimit -c unlimited; {} >/dev/null 2>&1) || true", program));
     let found = folder.run("ls -d core core.* 2>/dev/null || true");
@@ -68,7 +69,7 @@ fn gdb(folder: &Folder, program: &str, core: &str, commands: &[&str]) -> String 
     folder.run(&format!("gdb --batch -ex 'set pagination off' {} {} {}", commands.join(" "), program, core))
 }
 
-/// The ids of the threads that gdb shows, each with the lines that follow it.
+/// The id of each thread that gdb shows, with the words of the lines that follow it.
 fn by_thread(shown: &str) -> Vec<(u32, Vec<Vec<&str>>)> {
     let mut threads: Vec<(u32, Vec<Vec<&str>>)> = Vec::new();
     for line in shown.lines() {
@@ -118,7 +119,7 @@ fn shown_bytes(shown: &str) -> Vec<(u64, Vec<u8>)> {
     read.collect()
 }
 
-/// Compares memory with gdb's. Returns where the bytes come from.
+/// Compares memory with the bytes that gdb shows. Returns where the bytes of each line come from.
 fn compare_memory(memory: &Memory<'_>, shown: &str) -> Vec<Origin> {
     let lines = shown_bytes(shown);
     assert!(!lines.is_empty(), "{}", shown);
@@ -189,7 +190,8 @@ fn modules() {
         let mut begins: Vec<_> = modules.iter().map(|module| module.begin).collect();
         begins.sort_unstable();
         let shown = folder.run(&format!("eu-unstrip -n --core {}", core));
-        // elfutils also finds the file that the program only reads, without running it.
+        // elfutils also lists the program's file where the program only reads it and doesn't run
+        // it.
         let main = address_by_gdb(&folder, core, "main");
         let mut expected = Vec::new();
         for line in shown.lines() {
@@ -237,8 +239,8 @@ fn fixed_program() {
     assert_eq!((module.bias, module.begin), (0, 0x400000));
 }
 
-/// Files below another root folder: one that was changed, one that doesn't exist, and one that
-/// isn't regular.
+/// Reads mapped files from another root folder, in which one file has changed, one isn't a regular
+/// file, and the others don't exist.
 #[test]
 fn files_that_cannot_be_used() {
     let folder = Folder::new("core-files");
@@ -271,7 +273,7 @@ fn files_that_cannot_be_used() {
     assert!(memory.blocks().all(|block| block.origin == Origin::Core));
 }
 
-/// Paths that would lead out of the root folder, or to a file whose bytes never end.
+/// Core files with paths that would lead out of the root folder, or to a file without an end.
 #[test]
 fn names_that_are_wrong() {
     let folder = Folder::new("core-names");
@@ -300,7 +302,7 @@ fn names_that_are_wrong() {
     assert_eq!(error_of("/proc/kmsg"), "NotRegular");
 }
 
-/// A core file that is cut off keeps its threads, and the memory that is there.
+/// A core file whose end is missing still has its threads, and a part of its memory.
 #[test]
 fn core_that_was_cut() {
     let folder = Folder::new("core-cut");
@@ -326,7 +328,7 @@ fn core_that_was_cut() {
     assert_eq!(CoreFile::read(&program).unwrap_err(), CoreError::NotCore(3));
 }
 
-/// A 32-bit program that dies below a frame.
+/// A 32-bit program that dies in a function that another one called.
 const I386_CRASH: &str = ".globl _start
 _start: .cfi_startproc
  movl $0x12345678, %ebx
@@ -345,7 +347,7 @@ f: .cfi_startproc
  .cfi_endproc
 ";
 
-/// A 32-bit program, if the kernel can run it.
+/// The core file of a 32-bit program. Skipped if the kernel can't run such a program.
 #[test]
 fn i386_program() {
     let folder = Folder::new("core-i386");
@@ -384,8 +386,8 @@ begin: .fill 12, 1, 0
  .fill 76, 1, 0
 ";
 
-/// No aarch64 kernel writes core files here. So elfutils reads the same bytes: a note made by hand,
-/// in a file with the type of core files.
+/// There is no aarch64 kernel here to write a core file. So the test makes a note by hand, in a
+/// file with the type of core files, and compares with what elfutils reads in that file.
 #[test]
 fn aarch64_registers() {
     let folder = Folder::new("core-aarch64");

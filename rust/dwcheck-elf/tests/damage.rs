@@ -1,5 +1,5 @@
-//! Files with bytes that were changed at random. Reading them gives answers or errors, and never
-//! ends the process.
+//! Reads files with bytes that were changed at random. That has to give answers or errors, and must
+//! never end the process.
 
 mod common;
 
@@ -39,8 +39,9 @@ impl Numbers {
     }
 }
 
-/// Rewrites a section, if possible. The only allowed difference is a record that gimli can't read
-/// because of its augmentation data, which the bridge leaves out.
+/// Rewrites a section. Returns false if it can't be rewritten. The only allowed difference is a
+/// record that gimli can't read because of its augmentation data, which the rewritten section
+/// doesn't have.
 fn frames(section: &EhFrame<'_>) -> bool {
     let bridged = match bridge(section, Options::default()) {
         Ok(bridged) => bridged,
@@ -85,7 +86,7 @@ fn program(bytes: &[u8]) {
     }
 }
 
-/// Each fault has a place in the original section.
+/// Checks that each fault is inside the original section.
 fn told(section: &Inspected<'_>) {
     if let (Verdict::Refused(defects), Some(frames)) = (&section.verdict, &section.frames) {
         let end = frames.source().bytes.len() as u64;
@@ -94,7 +95,7 @@ fn told(section: &Inspected<'_>) {
     }
 }
 
-/// Reads everything that a core file has.
+/// Reads everything that a core file has. Returns false if it can't be read.
 fn core(bytes: &[u8]) -> bool {
     let core = match CoreFile::read(bytes) {
         Ok(core) => core,
@@ -115,7 +116,7 @@ fn core(bytes: &[u8]) -> bool {
     true
 }
 
-/// Changes only the section.
+/// Changes only bytes of the `.eh_frame` section.
 #[test]
 fn sections() {
     let folder = Folder::new("damage-sections");

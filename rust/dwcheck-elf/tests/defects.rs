@@ -1,4 +1,5 @@
-//! Sections with defects: some are mended, some are left to `dwcheck`, and some can't be rewritten.
+//! Rewrites sections with defects. Some defects are repaired, some are left for `dwcheck` to
+//! refuse, and some make rewriting impossible.
 
 mod common;
 
@@ -9,7 +10,8 @@ use dwcheck_elf::program::Program;
 use dwcheck_elf::target::{AddressSize, Order, Target};
 use dwcheck_elf::validate::{validate, validate_rows, Agreement, What};
 
-/// A function with these directives between its instructions, linked.
+/// Links a function with these directives between its instructions. Returns the bytes of
+/// `.eh_frame`.
 fn function(folder: &Folder, directives: &str) -> Vec<u8> {
     let text = format!(
         ".globl _start\n_start: .cfi_startproc\n nop\n{}\n nop\n .cfi_endproc\n\
@@ -31,8 +33,8 @@ fn bridged(folder: &Folder, options: Options) -> (Bridged, Agreement) {
     (bridged, agreement)
 }
 
-/// gimli refuses the instruction in both sections, and the instruction's place in the original
-/// section is found.
+/// gimli refuses the instruction in the original and in the rewritten section. Its place in the
+/// original section is found.
 #[test]
 fn def_cfa_register_after_an_expression() {
     let folder = Folder::new("expression");
@@ -48,7 +50,8 @@ fn def_cfa_register_after_an_expression() {
     assert_eq!(place.kind, RecordKind::Fde { begin, size: 3, signal: false });
 }
 
-/// The fault Unrestored is at the end of the FDE, where the next record begins.
+/// `dwcheck` reports Unrestored at the end of an FDE, which is also the start of the next record.
+/// `Edge` says which of the two records is meant.
 #[test]
 fn remember_without_restore() {
     let folder = Folder::new("remember");
@@ -64,7 +67,7 @@ fn remember_without_restore() {
     assert_eq!((begun.record, begun.offset), (offsets[1], offsets[1]));
 }
 
-/// Instructions that aren't known, or whose operands are cut off, are copied with all that follows.
+/// An instruction that isn't known or is cut off is copied, with everything that follows it.
 #[test]
 fn instructions_that_are_wrong() {
     for (directive, bytes) in [
@@ -82,7 +85,8 @@ fn instructions_that_are_wrong() {
     }
 }
 
-/// After a dropped instruction, offsets lead back to the right place in the original section.
+/// After an instruction that is dropped, the places of later offsets in the original section are
+/// right.
 #[test]
 fn args_size_is_dropped() {
     let folder = Folder::new("args");
@@ -103,7 +107,8 @@ fn section(bytes: &[u8]) -> EhFrame<'_> {
     EhFrame { bytes, address: 0x1000, target: TARGET, text: None, data: None, unresolved: &[] }
 }
 
-/// A CIE of version 1 with an augmentation string, its data and instructions.
+/// A CIE of version 1 with this augmentation string, which includes its NUL. `instructions` may
+/// begin with augmentation data.
 fn cie(augmentation: &[u8], instructions: &[u8]) -> Vec<u8> {
     let body = [&[0, 0, 0, 0, 1], augmentation, &[1, 0x78, 16], instructions].concat();
     [&(body.len() as u32).to_le_bytes(), body.as_slice()].concat()
@@ -123,7 +128,7 @@ fn error(record: u64, field: u64, reason: Reason) -> BridgeError {
     BridgeError { record, field, reason }
 }
 
-/// For some machines GNU as begins CIEs with def_cfa_register alone.
+/// For some machines GNU as begins CIEs with def_cfa_register, when the CFA has no rule yet.
 #[test]
 fn def_cfa_register_without_a_rule() {
     let cie = cie(b"\0", &[0x0d, 7]);
@@ -143,7 +148,8 @@ fn def_cfa_register_without_a_rule() {
 #[test]
 fn set_loc() {
     let cie = cie(b"zR\0", &[]);
-    // The augmentation data come after the numbers: one byte, for the encoding pcrel and sdata4.
+    // The augmentation data come after the return address register. They are one byte, for the
+    // encoding pcrel and sdata4.
     let mut cie = [cie, vec![1, 0x1b, 0x0c, 7, 8]].concat();
     cie[0] += 5;
     let at = cie.len();
@@ -160,10 +166,10 @@ fn set_loc() {
     assert_eq!(bridged.place(operand + 8, Edge::End).unwrap().offset, at as u64 + 22);
 }
 
-/// A personality routine at the next multiple of the address size. gimli doesn't read that encoding.
+/// A pointer to a personality routine with the aligned encoding. gimli doesn't read that encoding.
 #[test]
 fn aligned_personality() {
-    // The encoding is at 17. The pointer begins at 24, after six bytes that aren't used.
+    // The encoding is at offset 17. The pointer begins at 24, after six bytes of padding.
     let data = [&[16, 0x50][..], &[0xee; 6], &0x1234u64.to_le_bytes(), &[0x1b, 0x0c, 7, 8]].concat();
     let cie = cie(b"zPR\0", &data);
     let at = cie.len();
@@ -237,8 +243,8 @@ fn records_that_cannot_be_bridged() {
     assert_eq!(refused(&bytes), error(at as u64, at as u64 + 12, Reason::NegativeRange));
 }
 
-/// The comparison notices changed ranges, rows and CIE fields, a record that was lost, and one too
-/// many.
+/// The comparison notices a changed range, a changed row, a changed field of a CIE, a record that
+/// is missing, and a record too many.
 #[test]
 fn changes_are_seen() {
     let folder = Folder::new("changes");
@@ -275,8 +281,8 @@ fn changes_are_seen() {
     assert_eq!(lost.counts().fdes, fdes - 1);
 }
 
-/// If `dwcheck` has rows of other bytes than the section's, that is a difference, which shows both
-/// rows.
+/// If the process has rows of other bytes than the rewritten section's, that is a difference, and
+/// both rows are shown.
 #[test]
 fn a_wrong_row_of_dwcheck_is_a_difference() {
     let folder = Folder::new("difference");

@@ -1,4 +1,5 @@
-//! Unlinked objects: their relocations, compared with readelf and nm.
+//! Applies the relocations of unlinked objects, and compares the results with readelf, objcopy and
+//! the linker.
 
 mod common;
 
@@ -8,8 +9,8 @@ use dwcheck_elf::program::{Program, ProgramError, Section};
 use dwcheck_elf::validate::validate;
 use std::collections::HashMap;
 
-/// The section and offset that each relocation of an initial location names, in the order of the
-/// FDEs, from readelf.
+/// For each relocation of an FDE's initial location, the section and the offset that it refers to,
+/// as readelf shows them, in the order of the FDEs.
 fn functions_of_relocations(folder: &Folder, file: &str, section: &str) -> Vec<(String, u64)> {
     let shown = folder.run(&format!("readelf -rW {}", file));
     let title = format!("'.rela{}'", section);
@@ -24,7 +25,7 @@ fn functions_of_relocations(folder: &Folder, file: &str, section: &str) -> Vec<(
     code.collect()
 }
 
-/// The name and size of each function, by its section and its offset there, from readelf.
+/// Maps the section and the offset of each function to its name and size, as readelf shows them.
 fn functions_of_symbols(folder: &Folder, file: &str) -> HashMap<(String, u64), (String, u64)> {
     let mut sections = HashMap::new();
     for line in folder.run(&format!("readelf -SW {} | sed 's/^ *\\[ *//; s/\\]//'", file)).lines() {
@@ -47,7 +48,8 @@ fn functions_of_symbols(folder: &Folder, file: &str) -> HashMap<(String, u64), (
     functions.collect()
 }
 
-/// Each FDE covers the function that its relocation names, and no two FDEs share an address.
+/// Checks that each FDE covers the function that its relocation refers to, and that no two FDEs
+/// share an address. `ranges` has the first address and the number of bytes of each FDE.
 fn functions_of_frames(folder: &Folder, file: &str, section: &str, ranges: &[(u64, u64)]) {
     let named = functions_of_relocations(folder, file, section);
     let known = functions_of_symbols(folder, file);
@@ -139,7 +141,8 @@ fn debug_loclists_of_c() {
     let bytes = folder.bytes("a.o");
     let lists = Program::read(&bytes).unwrap().debug_loclists().unwrap().unwrap();
     let functions = Program::read(&bytes).unwrap().functions();
-    // .text comes first, at 0, where readelf has it too; .text.startup comes after.
+    // `main` is in .text.startup, which gets an address after .text. So the relocations that refer
+    // to `main` change bytes.
     let begin = functions.address_of("main").unwrap();
     assert!(begin > 0);
     assert_ne!(lists.bytes.as_ref(), folder.section("a.o", ".debug_loclists"), "readelf sees no relocation applied");
@@ -148,8 +151,8 @@ fn debug_loclists_of_c() {
     assert_eq!(lists.bytes, again.bytes);
 }
 
-/// Objects for other machines, which have their own types of relocations. The ranges have to be
-/// those that the linker makes.
+/// Objects for other machines, which have their own types of relocations. The FDEs have to cover
+/// the same addresses as in a linked file.
 #[test]
 fn other_machines() {
     let folder = Folder::new("objects-machines");
@@ -167,7 +170,7 @@ g: .cfi_startproc
  .cfi_endproc
 ";
     folder.write("a.s", text);
-    // hppa's distances count from two instructions later, which isn't supported.
+    // On hppa a relative distance counts from two instructions later, which isn't supported.
     for machine in MACHINES.into_iter().filter(|machine| !machine.starts_with("hppa")) {
         if has(&format!("{}-as", machine)) {
             folder.run(&format!("{0}-as a.s -o a.o; {0}-ld -e 0 -Ttext=0 a.o -o linked", machine));
@@ -230,8 +233,8 @@ fn sections_that_repeat() {
     assert_eq!(Program::read(&bytes).unwrap().eh_frame(), Err(ProgramError::Repeated(".eh_frame")));
 }
 
-/// A relocation of a type that no frame section has, and relocations with a field or a symbol that
-/// isn't there.
+/// A relocation of a type that isn't known, one whose field isn't in the section, and one whose
+/// symbol isn't in the file.
 #[test]
 fn relocations_that_are_wrong() {
     let folder = Folder::new("objects-wrong");

@@ -1,4 +1,4 @@
-//! Programs, compared with nm, readelf and objcopy.
+//! Reads ELF files, and compares what is read with what nm, readelf and objcopy show.
 
 mod common;
 
@@ -41,7 +41,7 @@ fn headers() {
     }
 }
 
-/// Each symbol that nm calls a function, by name and by address.
+/// Looks up each symbol that nm calls a function, by its name and by its addresses.
 #[test]
 fn functions() {
     let folder = Folder::new("functions");
@@ -73,7 +73,8 @@ fn functions() {
     assert_eq!(functions.at(0), None);
 }
 
-/// Local functions with the same name, from two files.
+/// Local symbols with the same name, from several files: a function is preferred to a label, and
+/// two functions are an error.
 #[test]
 fn names_that_repeat() {
     let folder = Folder::new("names");
@@ -93,8 +94,8 @@ fn names_that_repeat() {
     assert_eq!(three.address_of("same"), Err(NameError::Ambiguous("same".into(), both)));
 }
 
-/// Functions of C++ by the names that nm and this library show. A deleting destructor has the name
-/// of the other one.
+/// Looks up functions of C++ by the demangled names that nm and this library show. A class with a
+/// virtual destructor has two destructors that are shown with the same name.
 #[test]
 fn names_that_are_demangled() {
     let folder = Folder::new("demangled");
@@ -132,8 +133,8 @@ int main(int argc, char **) { return thrice(argc); }
     assert_eq!(functions.parse("A::~A()+4"), Err(NameError::Ambiguous("A::~A()".into(), both)));
 }
 
-/// Functions of Rust, in both kinds of mangled names. The shown names have no hash, so they may
-/// repeat.
+/// Functions of Rust, with both kinds of mangled names. Shown names have no hash, so two functions
+/// may have the same one.
 #[test]
 fn names_of_rust_that_are_demangled() {
     let folder = Folder::new("rust-names");
@@ -193,7 +194,8 @@ fn compressed_sections() {
     let folder = Folder::new("compressed");
     folder.write("a.c", C);
     for (form, header) in [("none", ".debug_frame"), ("zlib", ".debug_frame"), ("zlib-gnu", ".zdebug_frame")] {
-        // Only the linker compresses, so that all files have the same section.
+        // Only the linker compresses, so that all files have the same section once it is
+        // decompressed.
         folder.run(&format!("gcc {} -Wl,--compress-debug-sections={} a.c -o {}", DEBUG_FRAME, form, form));
         let shown = folder.run(&format!("readelf -SW {} | grep -w 'z\\?debug_frame'", form));
         assert!(shown.contains(header), "{}", shown);
@@ -213,7 +215,8 @@ fn compressed_sections() {
     assert_eq!(eh_frame.bytes.as_ref(), folder.section("none", ".eh_frame"));
 }
 
-/// For a compressed section that claims more bytes than it can have, no memory is allocated.
+/// A compressed section that claims to have more bytes than is possible is an error, and no memory
+/// is allocated for it.
 #[test]
 fn sizes_that_lie() {
     let folder = Folder::new("lies");

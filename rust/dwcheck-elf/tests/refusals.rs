@@ -1,12 +1,12 @@
-//! Programs with defects, and what is written of each.
+//! Runs `dwcheck-elf` on programs whose frame sections have defects, and checks what it writes.
 
 mod common;
 
 use common::run::dwcheck_elf;
 use common::{has, Folder, MACHINES};
 
-/// A function with a defect: its name, the directives between its instructions, the fault, and what
-/// is at the fault.
+/// Functions with a defect. Each has its name, the directives between its instructions, the name of
+/// the fault, and what is written to be at the fault.
 const DEFECTS: [(&str, &str, &str, &str); 13] = [
     (
         "after_expression",
@@ -47,7 +47,8 @@ fn all_defects(folder: &Folder) {
     folder.run("as a.s -o a.o && ld --no-ld-generated-unwind-info a.o -o linked 2> ld.log");
 }
 
-/// The ranges are those that readelf shows.
+/// `check --all` lists each defect with the FDE's offset and addresses that readelf shows. `check`
+/// and `rows` write only the first defect.
 #[test]
 fn each_defect_is_listed_in_the_terms_of_the_file() {
     let folder = Folder::new("all-defects");
@@ -75,7 +76,7 @@ fn each_defect_is_listed_in_the_terms_of_the_file() {
     assert_eq!((rows.status, rows.lines()), (1, lines[..2].to_vec()));
 }
 
-/// An FDE that covers the addresses of another FDE, which linkers leave for functions that they
+/// An FDE that covers addresses of another FDE. Linkers leave such FDEs for functions that they
 /// dropped.
 #[test]
 fn fdes_that_share_addresses() {
@@ -119,12 +120,13 @@ fn empty_records_of_debug_frame_are_left_out() {
     assert!(rows.lines()[3].starts_with("fde 0x0000003c cie 0x0000002c "), "{}", rows.out);
 }
 
-/// The commands that show rows and callers, with what follows the program.
+/// The commands that show rows and callers, each with the arguments that follow the program's name.
 const COMMANDS: [(&str, &str); 4] =
     [("rows", ""), ("row", " _start+1"), ("unwind", " _start+1 state"), ("backtrace", " _start+1 state 9")];
 
-/// Links programs with refused sections. The `.debug_frame` is refused of `debug`, the `.eh_frame`
-/// of `eh`, and both of `both`. `debug_alone` and `eh_alone` each have one section of `debug`.
+/// Links programs with refused sections. In `debug` it is `.debug_frame` that is refused, in `eh`
+/// it is `.eh_frame`, and in `both` it is both. `debug_alone` has only the `.debug_frame` of
+/// `debug`, and `eh_alone` only its `.eh_frame`.
 fn refused_sections(folder: &Folder) {
     let (good, unknown, remember) = (".cfi_def_cfa_offset 16", ".cfi_escape 0x3f", "0x0a");
     for (name, directive, program) in [("debug", good, remember), ("eh", unknown, "0"), ("both", unknown, remember)] {
@@ -163,7 +165,7 @@ fn eh_frame_is_used_if_debug_frame_is_refused() {
     }
 }
 
-/// An accepted `.debug_frame` isn't used alone if `.eh_frame` is refused.
+/// If `.eh_frame` is refused, its fault is the answer, even if `.debug_frame` is accepted.
 #[test]
 fn a_refused_eh_frame_is_the_answer() {
     let folder = Folder::new("refused-eh-frame");
@@ -176,7 +178,7 @@ fn a_refused_eh_frame_is_the_answer() {
     }
 }
 
-/// The sections of each module of a walk are chosen alone.
+/// Which section of a module is used doesn't depend on the other modules.
 #[test]
 fn the_sections_of_a_module() {
     let folder = Folder::new("sections-of-modules");
@@ -190,8 +192,8 @@ fn the_sections_of_a_module() {
     assert!(ran.status == 1 && ran.out.starts_with("both: .debug_frame+0x10: "), "{}", ran.out);
 }
 
-/// GNU as begins CIEs for these machines with DW_CFA_def_cfa_register, before the CFA has a rule.
-/// Most readers accept that.
+/// For these machines GNU as begins CIEs with DW_CFA_def_cfa_register, when the CFA has no rule
+/// yet. Most readers accept that.
 #[test]
 fn strict_refuses_a_register_without_an_offset() {
     let folder = Folder::new("strict");
@@ -210,7 +212,8 @@ fn strict_refuses_a_register_without_an_offset() {
     }
 }
 
-/// aarch64's instruction for signed return addresses.
+/// The name of a vendor's instruction depends on the machine: this one is aarch64's, for signed
+/// return addresses.
 #[test]
 fn a_code_of_a_machine_has_its_name() {
     let folder = Folder::new("signed");

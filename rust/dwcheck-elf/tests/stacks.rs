@@ -1,4 +1,4 @@
-//! Stacks of core files, compared with those of elfutils.
+//! Prints the stacks of core files, and compares the frames with those that elfutils finds.
 
 mod common;
 
@@ -43,7 +43,8 @@ __attribute__((noinline)) int middle(int n) { Loud loud{n}; thrower(n); return l
 int main(int argc, char **) { try { return middle(argc + 3); } catch (const std::exception &) { return 1; } }
 ";
 
-/// Threads and the addresses of their frames, a line each.
+/// The threads and the addresses of their frames, from the output of `dwcheck-elf stack` or of
+/// eu-stack.
 fn addresses(shown: &str) -> Vec<String> {
     let lines = shown.lines().filter_map(|line| {
         let words: Vec<_> = line.split_whitespace().collect();
@@ -58,7 +59,8 @@ fn addresses(shown: &str) -> Vec<String> {
     lines.collect()
 }
 
-/// Compares the stacks of a program that a signal ends. Returns the text of ours.
+/// Compares the stacks of a program that a signal ends with eu-stack's. Returns what `dwcheck-elf`
+/// wrote, or an empty text if a tool isn't installed.
 fn compared(name: &str, compiler: &str, source: &str) -> String {
     let folder = Folder::new(name);
     if !["gdb", "eu-stack"].iter().all(|tool| has(tool)) {
@@ -96,7 +98,7 @@ fn an_exception_in_flight() {
     assert!(shown.is_empty() || shown.contains("Loud::~Loud()") && shown.contains(" middle(int)"), "{}", shown);
 }
 
-/// Six functions of glibc 2.36 for i386 are refused; the others are used.
+/// In glibc 2.36 for i386, the FDEs of six functions are refused. The other FDEs are used.
 #[test]
 fn a_program_of_32_bits() {
     let folder = Folder::new("stack-m32");
@@ -122,8 +124,8 @@ fn a_program_of_another_machine() {
     let ours = dwcheck_elf(&folder, "stack program core");
     assert_eq!((ours.status, ours.error.as_str()), (0, ""), "{}", ours.out);
     assert!(ours.out.matches(" deep+").count() == 21 && ours.out.contains(" main+"), "{}", ours.out);
-    // elfutils finds no program for the core, so it uses frame pointers. It shows these frames, and
-    // others between them.
+    // eu-stack finds no program for this core file, so it uses frame pointers. It shows the frames
+    // that `dwcheck-elf` finds, and others between them.
     let theirs = addresses(&folder.run("eu-stack --core core -e program 2> /dev/null || true"));
     let mut left = theirs.iter();
     assert!(addresses(&ours.out).iter().all(|address| left.any(|other| other == address)), "{}{:?}", ours.out, theirs);

@@ -1,4 +1,4 @@
-//! Surveys: which files are checked, and what is written.
+//! Runs `dwcheck-elf survey`, and checks which files it takes and what it writes.
 
 mod common;
 

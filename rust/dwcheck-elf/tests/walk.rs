@@ -1,8 +1,8 @@
-//! Compares the frames of a core file's threads with gdb's. The program `dwcheck` finds them, from
-//! what this library reads.
+//! Compares the frames of a core file's threads with those that gdb finds. The program `dwcheck`
+//! finds the frames, from the modules, registers and memory that this library reads.
 //!
-//! This needs a built `dwcheck`, whose path is in the variable DWCHECK. Otherwise the tests are
-//! skipped.
+//! This needs the path of a built `dwcheck` in the environment variable DWCHECK. If it isn't set,
+//! the tests are skipped.
 
 mod common;
 
@@ -14,7 +14,8 @@ use std::collections::HashMap;
 use std::fmt::Write;
 use std::path::Path;
 
-/// Two threads with a callback from the C library, and a signal handler between the frames.
+/// A program with two threads. In one, the C library has called back a function of the program. In
+/// the other, a signal handler is between the frames.
 const CRASH: &str = "
 #include <pthread.h>
 #include <signal.h>
@@ -51,8 +52,8 @@ for thread in gdb.selected_inferior().threads():
 end
 ";
 
-/// Writes the rewritten `.eh_frame` of a module to a file. Returns the module as an argument of
-/// `dwcheck`.
+/// Writes the rewritten `.eh_frame` of a module to a file. Returns the module as `LOAD=FILE`, as
+/// `dwcheck` takes it. `None` if the module has no such section.
 fn module_word(folder: &Folder, number: usize, module: &Module<'_>) -> Option<String> {
     let program = Program::read(module.image.bytes()).ok()?;
     let section = program.eh_frame().unwrap()?;
@@ -62,8 +63,8 @@ fn module_word(folder: &Folder, number: usize, module: &Module<'_>) -> Option<St
     Some(format!("{:#x}={}", module.bias, name))
 }
 
-/// The state file of a thread: the callee-saved registers, its registers, and its stack from a
-/// little below the stack pointer on.
+/// The state file of a thread: which registers are callee-saved, the values of the registers, and
+/// the stack from 128 bytes below the stack pointer on.
 fn state(core: &CoreFile<'_>, memory: &Memory<'_>, thread: &Thread) -> String {
     let abi = core.abi();
     let mut state = String::new();
@@ -82,8 +83,8 @@ fn state(core: &CoreFile<'_>, memory: &Memory<'_>, thread: &Thread) -> String {
     state
 }
 
-/// gdb's frames of each thread, without frames that only debug information shows: inlined functions
-/// and tail calls.
+/// The addresses of gdb's frames for each thread, by the thread's id. Frames that only debug
+/// information shows aren't included: inlined functions and tail calls.
 fn frames_by_gdb(folder: &Folder, program: &str) -> HashMap<u32, Vec<u64>> {
     folder.write("frames.gdb", FRAMES);
     let shown = folder.run(&format!("gdb --batch -x frames.gdb {} core | grep ^walk", program));
@@ -94,7 +95,7 @@ fn frames_by_gdb(folder: &Folder, program: &str) -> HashMap<u32, Vec<u64>> {
     threads.collect()
 }
 
-/// The path of the built `dwcheck`, if there is one to compare with gdb.
+/// The path of the built `dwcheck`. `None` if DWCHECK isn't set, or if gdb isn't installed.
 fn dwcheck() -> Option<String> {
     let dwcheck = std::env::var("DWCHECK").ok().filter(|_| has("gdb"));
     if dwcheck.is_none() {
@@ -103,7 +104,8 @@ fn dwcheck() -> Option<String> {
     dwcheck
 }
 
-/// Compares the frames of all threads of the core file of `program`. Returns the number of modules.
+/// Compares the frames of all threads in the file `core`, which is a core file of `program`, with
+/// gdb's. Returns the number of modules with an `.eh_frame`.
 fn compare_walks(folder: &Folder, dwcheck: &str, program: &str) -> usize {
     let bytes = folder.bytes("core");
     let core = CoreFile::read(&bytes).unwrap();

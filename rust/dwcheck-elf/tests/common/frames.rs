@@ -1,4 +1,4 @@
-//! What readelf shows of frame sections.
+//! Reads what readelf shows of frame sections, and compares it with rewritten sections.
 
 use crate::common::{hex, Folder};
 use dwcheck_elf::bridge::{bridge, Bridged, Options};
@@ -9,14 +9,15 @@ use dwcheck_elf::validate::{validate, Agreement};
 #[derive(Debug)]
 pub struct Shown {
     pub offset: u64,
-    /// If it is an FDE: the offset of its CIE, and the two ends of its range.
+    /// If the record is an FDE: the offset of its CIE, its first address, and the address after its
+    /// last one.
     pub fde: Option<(u64, u64, u64)>,
-    /// If it is a CIE: the augmentation string.
+    /// If the record is a CIE: its augmentation string. Otherwise empty.
     pub augmentation: String,
     pub lines: Vec<String>,
 }
 
-/// The records of one section, without records of length 0.
+/// The records of one section as readelf shows them, without records of length 0.
 pub fn records(folder: &Folder, file: &str, section: &str) -> Vec<Shown> {
     let mut shown: Vec<Shown> = Vec::new();
     for line in part(&folder.run(&format!("readelf --debug-dump=frames {}", file)), section) {
@@ -47,7 +48,8 @@ fn part<'a>(shown: &'a str, section: &str) -> impl Iterator<Item = &'a str> {
     lines.take_while(|line| !line.starts_with("Contents of"))
 }
 
-/// The rows that readelf finds in a section, without the offsets of records and the augmentations.
+/// The lines in which readelf shows the rows of a section, without the offsets of records and the
+/// augmentation strings, which differ after rewriting.
 fn rows(shown: &str, section: &str) -> Vec<String> {
     let kept = |line: &'_ str| {
         let start = ["pc=", "cf="].iter().find_map(|word| line.find(word)).unwrap_or(0);

@@ -1,4 +1,4 @@
-//! What the tests share: folders, tools, and the tools' output.
+//! What the tests share: temporary folders, runs of other tools, and source code to compile.
 #![allow(dead_code)]
 
 pub mod run;
@@ -6,7 +6,7 @@ pub mod run;
 use std::path::{Path, PathBuf};
 use std::process::Command;
 
-/// A folder for one test, which is removed at the end.
+/// A temporary folder for one test, which is removed when the test ends.
 pub struct Folder(PathBuf);
 
 impl Folder {
@@ -42,7 +42,7 @@ impl Folder {
         String::from_utf8_lossy(&output.stdout).into_owned()
     }
 
-    /// The bytes of a section, decompressed, from objcopy.
+    /// The bytes of a section of a file, decompressed, as objcopy writes them.
     pub fn section(&self, file: &str, section: &str) -> Vec<u8> {
         self.run(&format!("objcopy --decompress-debug-sections --dump-section {}=taken {} /dev/null", section, file));
         self.bytes("taken")
@@ -69,7 +69,7 @@ pub fn hex(text: &str) -> u64 {
     u64::from_str_radix(text.trim_start_matches("0x"), 16).unwrap_or_else(|_| panic!("no number: {}", text))
 }
 
-/// The offset of some bytes in others, which have to contain them exactly once.
+/// The offset of `part` in `bytes`, which have to contain it exactly once.
 pub fn place_of(bytes: &[u8], part: &[u8]) -> usize {
     let places: Vec<_> = (0..bytes.len()).filter(|place| bytes[*place..].starts_with(part)).collect();
     assert_eq!(places.len(), 1, "{:x?} is at {:?}", part, places);
@@ -96,7 +96,7 @@ int main(int argc, char **argv) {
 }
 ";
 
-/// A program in C++ that throws, with objects to destroy on the way.
+/// A program in C++ that throws an exception through functions whose objects have to be destroyed.
 pub const CXX: &str = "
 #include <string>
 #include <vector>

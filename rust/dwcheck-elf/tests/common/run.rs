@@ -1,9 +1,9 @@
-//! Runs the program.
+//! Runs the program `dwcheck-elf`, and the program `dwcheck` to compare with it.
 
 use crate::common::Folder;
 use std::process::Command;
 
-/// The result of a run of the program.
+/// The result of a run of `dwcheck-elf`.
 #[derive(Debug)]
 pub struct Ran {
     pub status: i32,
@@ -18,12 +18,12 @@ impl Ran {
     }
 }
 
-/// Runs the program in a folder. The words of its command line are separated by single spaces.
+/// Runs `dwcheck-elf` in a folder. The arguments in `words` are separated by single spaces.
 pub fn dwcheck_elf(folder: &Folder, words: &str) -> Ran {
     dwcheck_elf_words(folder, &words.split(' ').collect::<Vec<_>>())
 }
 
-/// Runs the program in a folder with words that may contain spaces.
+/// Runs `dwcheck-elf` in a folder with arguments that may contain spaces.
 pub fn dwcheck_elf_words(folder: &Folder, words: &[&str]) -> Ran {
     let mut command = Command::new(env!("CARGO_BIN_EXE_dwcheck-elf"));
     let output = command.args(words).current_dir(folder.path()).output().unwrap();
@@ -36,7 +36,8 @@ pub fn dwcheck_elf_words(folder: &Folder, words: &[&str]) -> Ran {
     ran
 }
 
-/// What the program `dwcheck` writes. `None` if the variable DWCHECK doesn't name it.
+/// What the program `dwcheck` writes for these arguments. `None` if the environment variable
+/// DWCHECK isn't set to the path of that program.
 pub fn by_dwcheck(folder: &Folder, words: &str) -> Option<String> {
     let program = match std::env::var("DWCHECK") {
         Ok(program) => program,

@@ -16,8 +16,8 @@ use dwcheck_elf::validate::Agreement;
 use std::io::{self, Write};
 use std::path::Path;
 
-/// Checks each program in turn. If there are several, a program that can't be read doesn't end the
-/// run.
+/// Checks each program in turn. If there are several programs, one that can't be read or checked
+/// doesn't end the run.
 pub fn check(words: &CheckWords, out: &mut impl Write) -> Result<Done, Failure> {
     let mut done = Done::Accepted;
     for path in &words.programs {
