@@ -69,7 +69,7 @@ pub struct Counts {
     pub terminators: usize,
     /// CIEs whose augmentation was dropped.
     pub augmentations: usize,
-    /// CIEs whose personality routine was dropped.
+    /// CIEs whose pointer to a personality routine was dropped.
     pub personalities: usize,
     /// CIEs whose FDEs had a pointer to language-specific data that was dropped.
     pub data_areas: usize,

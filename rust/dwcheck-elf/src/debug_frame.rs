@@ -139,8 +139,8 @@ pub struct Instruction {
 }
 
 impl Instruction {
-    /// Its name, such as `def_cfa_register`; or `instruction 0x3f` if the code has none. The name
-    /// of a vendor's code can depend on the machine.
+    /// The instruction's name, such as `def_cfa_register`, or a text such as `instruction 0x3f` if
+    /// its code has no name. `machine` (`e_machine`) decides where vendors share a code.
     pub fn name(&self, machine: u16) -> String {
         name_of(self.code, machine).map_or_else(|| format!("instruction {:#04x}", self.code), str::to_string)
     }

@@ -69,7 +69,7 @@ impl Measure {
     }
 }
 
-/// An operation and where it is.
+/// An operation of an expression: its opcode, and where it is.
 #[derive(Clone, Copy, Debug, PartialEq, Eq)]
 pub struct Operation {
     /// The offset of its first byte in the expression.

@@ -61,7 +61,7 @@ pub struct Terms<'a> {
 }
 
 impl<'a> Terms<'a> {
-    /// Reads the records of a section.
+    /// Reads the records of a section, whose faults can then be described.
     pub fn of(frames: &'a Frames<'a>, functions: &'a Functions<'a>) -> Self {
         Terms { frames, functions, records: debug_frame::records(frames.bytes(), frames.target()) }
     }

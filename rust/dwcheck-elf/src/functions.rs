@@ -127,7 +127,8 @@ impl<'data> Functions<'data> {
     /// such as `main+4`, `main+0x4` or `twice(int)+4`. The number follows the last plus sign. If no
     /// number follows that sign, the sign is part of the name, as in `operator+(A, A)`.
     pub fn parse(&self, text: &str) -> Result<u64, NameError> {
-        // A symbol's own name may end with a plus sign and a number.
+        // A name in the file may itself end with a plus sign and a number, so the whole text is
+        // looked up first.
         match self.address_of_symbol(text) {
             Err(NameError::Unknown(_)) => {}
             found => return found,

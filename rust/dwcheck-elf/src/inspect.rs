@@ -52,7 +52,8 @@ pub enum Verdict {
     Frames(Agreement),
     /// Well-formed location lists.
     Lists(Contents),
-    /// What is wrong: the first fault, or all of them. Never empty.
+    /// The section is refused. These are its first fault, or all faults if [`Check::all`] is set.
+    /// Never empty.
     Refused(Vec<Defect>),
 }
 

@@ -18,7 +18,7 @@ pub(crate) struct Layout {
     is_object: bool,
 }
 
-/// The sections of an unlinked object need addresses above the highest one.
+/// The error that the sections of an unlinked object don't fit below the highest address.
 #[derive(Clone, Copy, Debug, PartialEq, Eq)]
 pub(crate) struct TooLarge;
 

@@ -6,7 +6,7 @@
 use crate::bytes::{Cursor, ReadError};
 use crate::target::Target;
 
-/// The contents of an accepted section.
+/// What an accepted section has: how many tables and lists, and which expressions.
 #[derive(Clone, Debug, Default, PartialEq, Eq)]
 pub struct Contents {
     /// The number of tables.

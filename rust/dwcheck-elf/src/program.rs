@@ -20,7 +20,7 @@ const DEFLATE_RATIO: u64 = 1032;
 /// What an ELF file is, by its `e_type`.
 #[derive(Clone, Copy, Debug, PartialEq, Eq)]
 pub enum Kind {
-    /// A program that is loaded at its addresses (`ET_EXEC`).
+    /// A program that is always loaded at the addresses in its headers (`ET_EXEC`).
     Executable,
     /// A shared library, or a program that can be loaded anywhere (`ET_DYN`).
     Shared,

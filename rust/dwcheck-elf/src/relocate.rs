@@ -18,7 +18,8 @@ pub enum RelocationError {
     Symbol,
 }
 
-/// What a relocation does to its field.
+/// What a relocation does to its field. Here, the symbol's address includes the addend of the
+/// relocation.
 #[derive(Clone, Copy, Debug)]
 enum Action {
     Nothing,

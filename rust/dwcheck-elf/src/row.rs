@@ -46,7 +46,7 @@ pub enum Rule<'a> {
     Expression(&'a [u8]),
     /// The value isn't stored: it is what an expression gives.
     ValExpression(&'a [u8]),
-    /// The augmentation defines the rule.
+    /// The CIE's augmentation defines the rule.
     Architectural,
 }
 

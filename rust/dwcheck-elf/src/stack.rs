@@ -226,7 +226,7 @@ fn signal_frames<'f>(frames: &'f Frames<'_>, bias: u64) -> impl Iterator<Item = 
 /// Why a thread has no stack.
 #[derive(Clone, Copy, Debug, PartialEq, Eq)]
 pub enum StackError {
-    /// Its registers have no instruction pointer.
+    /// The thread's registers have no instruction pointer.
     NoInstructionPointer,
     /// `dwcheck` returned an error.
     Dwcheck(dwcheck::Error),

@@ -34,7 +34,7 @@ fn counted(folder: &Folder, file: &str) {
     placed(folder, file, &shown, &bridged);
 }
 
-/// Whether the FDEs of a CIE are signal frames.
+/// Whether the FDEs of the CIE at this offset are signal frames.
 fn is_signal(shown: &[Shown], cie: u64) -> bool {
     shown.iter().any(|record| record.offset == cie && record.augmentation.contains('S'))
 }

@@ -22,7 +22,7 @@ fn program(folder: &Folder) {
     folder.run(&format!("gcc {} {} a.c aligned.s -o program", flags, plain));
     let dump = "--dump-section .debug_frame=frame --dump-section .debug_loclists=lists";
     folder.run(&format!("objcopy {} program /dev/null", dump));
-    // The C library's objects add `.eh_frame` to the program.
+    // The C library's objects add an `.eh_frame` section to the program, which isn't wanted here.
     folder.run("objcopy -R .eh_frame program program");
 }
 

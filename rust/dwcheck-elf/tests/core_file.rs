@@ -31,8 +31,9 @@ __attribute__((noinline)) int deep(int n) {
 int main(void) { pthread_t t; pthread_create(&t, 0, idle, 0); return deep(5); }
 ";
 
-/// Makes the program `crash` and two core files of it: one by gdb, and one by the kernel, if the
-/// kernel writes core files here.
+/// Makes the program `crash` and up to two core files of it: one by the kernel, if the kernel
+/// writes core files here, and one by gdb, if gdb is installed. Returns the names of the core
+/// files.
 fn cores(folder: &Folder) -> Vec<&'static str> {
     folder.write("crash.c", CRASH);
     folder.run("gcc -O1 -g crash.c -o crash -lpthread");
@@ -94,7 +95,7 @@ fn compare_registers(folder: &Folder, program: &str, core: &str, names: &str) {
     let shown = gdb(folder, program, core, &["thread apply all info registers"]);
     let mut threads = by_thread(&shown);
     if threads.is_empty() {
-        // gdb doesn't number the only thread.
+        // gdb writes no line `Thread` if there is only one thread.
         let lines = shown.lines().map(|line| line.split_whitespace().collect()).collect();
         threads.push((read.threads()[0].id, lines));
     }
@@ -108,7 +109,7 @@ fn compare_registers(folder: &Folder, program: &str, core: &str, names: &str) {
     }
 }
 
-/// The bytes that gdb shows with the command `x`, by address.
+/// The bytes that gdb shows with the command `x`: for each line, the address and the bytes.
 fn shown_bytes(shown: &str) -> Vec<(u64, Vec<u8>)> {
     let lines = shown.lines().filter(|line| line.starts_with("0x") && line.contains(":\t"));
     let read = lines.map(|line| {
@@ -174,7 +175,7 @@ fn memory() {
     }
 }
 
-/// Compares the modules with those that elfutils finds by build ids, and functions' addresses with
+/// Compares the modules with those that eu-unstrip lists, and the addresses of functions with
 /// gdb's.
 #[test]
 fn modules() {
@@ -374,7 +375,7 @@ fn i386_program() {
     assert!(matches!(modules.last().unwrap().image, Image::Vdso(_)));
 }
 
-/// The beginning of a note with the registers of an aarch64 thread.
+/// Assembly of the beginning of a note with the registers of an aarch64 thread.
 const AARCH64_NOTE: &str = ".section .note, \"a\", @note
  .long 5, end - begin, 1
  .asciz \"CORE\"

@@ -22,7 +22,8 @@ impl Numbers {
         (self.0 % below as u64) as usize
     }
 
-    /// Changes some bytes of a range, and sometimes cuts the bytes off within it.
+    /// Changes 1 to 4 bytes between two offsets, and sometimes cuts all bytes off from an offset
+    /// between them.
     fn damage(&mut self, bytes: &mut Vec<u8>, begin: usize, end: usize) {
         const BYTES: [u8; 8] = [0, 1, 0x7f, 0x80, 0xff, 0xfe, 0x10, 0x9b];
         for _ in 0..1 + self.next(4) {

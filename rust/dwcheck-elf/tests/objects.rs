@@ -92,8 +92,8 @@ fn eh_frame_of_c() {
     functions_of_frames(&folder, "a.o", ".eh_frame", &ranges_of_eh_frame(&folder, "a.o"));
 }
 
-/// C++ has inline functions in groups, each with its own sections, and a personality that the
-/// object doesn't define.
+/// An object from C++ has section groups with inline functions, and refers to a personality routine
+/// that it doesn't define.
 #[test]
 fn eh_frame_of_cxx() {
     let folder = Folder::new("objects-cxx");

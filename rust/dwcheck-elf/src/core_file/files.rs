@@ -22,7 +22,7 @@ const COMPARED: usize = 4096;
 /// A file that the process had mapped.
 #[derive(Debug)]
 pub struct MappedFile {
-    /// Its name in the core.
+    /// The file's name in the core.
     pub path: PathBuf,
     /// The bytes that the file has now, or why they can't be used.
     pub bytes: Result<Vec<u8>, FileError>,
@@ -31,20 +31,20 @@ pub struct MappedFile {
 /// Why a mapped file can't be used.
 #[derive(Debug)]
 pub enum FileError {
-    /// Its name isn't an absolute path, or contains `..`. The kernel gives no such name.
+    /// The file's name isn't an absolute path, or contains `..`. The kernel gives no such name.
     Name,
-    /// It can't be read.
+    /// The file can't be read.
     Read(std::io::Error),
-    /// It isn't a regular file, or its size is 0, like that of files in `/proc`.
+    /// The file isn't a regular file, or its size is 0, like that of files in `/proc`.
     NotRegular,
-    /// It has this many bytes: more than [`FILE_LIMIT`], or too many to stay within
+    /// The file has this many bytes: more than [`FILE_LIMIT`], or too many to stay within
     /// [`FILES_LIMIT`].
     TooLarge(u64),
-    /// It isn't the file that was mapped: its first bytes differ from those in the core.
+    /// The file isn't the one that was mapped: its first bytes differ from those in the core.
     Changed,
 }
 
-/// All files that were mapped, each once.
+/// The files that a process had mapped, each once.
 #[derive(Debug, Default)]
 pub struct Files {
     files: Vec<MappedFile>,
@@ -53,8 +53,8 @@ pub struct Files {
 }
 
 impl Files {
-    /// Reads the files that a core names, from below the folder `root`: `/` for this machine's
-    /// files.
+    /// Reads the files that a core names. Their paths are looked up in the folder `root`, which is
+    /// `/` for this machine's own files.
     pub fn read(core: &CoreFile<'_>, root: &Path) -> Self {
         let mut places = HashMap::new();
         let mut left = FILES_LIMIT;

@@ -6,7 +6,7 @@ use std::collections::BTreeMap;
 /// Where the bytes of a block come from.
 #[derive(Clone, Copy, Debug, PartialEq, Eq)]
 pub enum Origin {
-    /// The core.
+    /// The core file.
     Core,
     /// A mapped file, by its index in [`Files::all`]. The core left these bytes out, because the
     /// file has them.

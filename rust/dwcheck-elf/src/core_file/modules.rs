@@ -19,7 +19,7 @@ pub enum Image<'a> {
     Vdso(&'a [u8]),
 }
 
-/// A program or library that was loaded.
+/// A program or library that the process had loaded.
 #[derive(Clone, Debug, PartialEq, Eq)]
 pub struct Module<'a> {
     /// The path of its file, or `[vdso]`.

@@ -10,7 +10,7 @@ use object::elf;
 pub struct Thread {
     /// Its id.
     pub id: u32,
-    /// The signal that it received, 0 for none.
+    /// The signal that the thread received, 0 if it received none.
     pub signal: u16,
     /// Its registers by their DWARF numbers, ascending.
     pub registers: Vec<(u16, u64)>,

@@ -13,7 +13,8 @@ use gimli::{
 };
 use std::ops::Range;
 
-/// `dwcheck`'s rows of an FDE. Each row is looked up at the address where the row before it ends.
+/// `dwcheck`'s rows of an FDE. The first row is looked up at the FDE's first address, and each
+/// other row at the address where the row before it ends.
 ///
 /// [`new`](Self::new) leaves out the rules that say that a register is undefined, because gimli
 /// does so too. [`whole`](Self::whole) keeps them.
@@ -189,7 +190,7 @@ where
         self.section.cie_from_offset(&self.bases, offset.into()).is_ok()
     }
 
-    /// Compares the rows of an FDE, and counts them.
+    /// Compares gimli's rows of the FDE at an offset with `dwcheck`'s. Returns the number of rows.
     fn compare(&self, offset: usize, room: &mut Room<'a>) -> Result<usize, What> {
         let unreadable = |error: gimli::Error| What::Unreadable(error.to_string());
         let fde = self.section.fde_from_offset(&self.bases, offset.into(), S::cie_from_offset).map_err(unreadable)?;

@@ -151,7 +151,7 @@ impl<'data> RowSource<'data> for GimliRows<'data, '_, '_> {
     }
 }
 
-/// Copies the rules of a row.
+/// Copies the rules of a row that gimli has read.
 fn fill<'a>(row: &mut Row<'a>, read: &UnwindTableRow<Bytes<'a>, Bounded>) {
     row.cfa = match read.cfa() {
         CfaRule::RegisterAndOffset { register, offset } => {

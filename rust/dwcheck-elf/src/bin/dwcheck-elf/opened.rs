@@ -16,7 +16,7 @@ use std::fs::File;
 use std::io::{self, Read, Write};
 use std::path::Path;
 
-/// Reads a file to its end, also if it is a pipe or another file that isn't regular.
+/// Reads a file to its end, even if it is a pipe or another file that isn't regular.
 pub fn read(path: &Path) -> Result<Vec<u8>, Failure> {
     let content = || -> io::Result<Vec<u8>> {
         let mut bytes = Vec::new();

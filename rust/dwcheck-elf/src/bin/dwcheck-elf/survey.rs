@@ -56,7 +56,7 @@ pub enum Held {
         lists: usize,
         expressions: usize,
     },
-    /// The section was refused.
+    /// Not known, because the section was refused.
     Unknown,
 }
 

@@ -45,7 +45,8 @@ impl<'a> Loaded<'a> {
     }
 }
 
-/// Reads the program and the modules.
+/// Makes a list of the program, whose bytes are `data`, and the modules that the command line
+/// names, which are read.
 fn given(words: &UnwindWords, target: Target, data: Vec<u8>) -> Result<Vec<Given>, Failure> {
     let load = number_argument(&words.modules.load, target)?;
     let mut all = vec![Given { path: words.program.clone(), load, data }];

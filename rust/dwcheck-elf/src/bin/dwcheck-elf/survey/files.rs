@@ -19,7 +19,7 @@ const MAGIC: &[u8; 4] = b"\x7fELF";
 /// ELF files. No two have the same bytes.
 #[derive(Debug, Default)]
 pub struct Files {
-    /// Their paths, in order.
+    /// The paths of the files, in the order in which they were found.
     pub paths: Vec<PathBuf>,
     /// The number of further ELF files that have the same bytes as one of these.
     pub repeated: usize,
@@ -27,7 +27,7 @@ pub struct Files {
     pub unread: Vec<(PathBuf, String)>,
 }
 
-/// A regular file.
+/// A regular file with bytes, which may be an ELF file.
 struct Candidate {
     path: PathBuf,
     size: u64,
