@@ -44,7 +44,7 @@ struct CoreSegment<'data> {
     size: u64,
     /// Whether the process could execute the part.
     is_executable: bool,
-    /// Whether the file ends before all the bytes that it should have of the part.
+    /// Whether the file is cut off: its headers give this part more bytes than the file has.
     is_cut: bool,
 }
 
@@ -113,8 +113,8 @@ impl<'data> CoreFile<'data> {
         self.abi
     }
 
-    /// The threads, in the order of the core. The first one is that which got the signal that ended
-    /// the process.
+    /// The threads, in the order of the core. The first thread received the signal that ended the
+    /// process.
     pub fn threads(&self) -> &[Thread] {
         &self.threads
     }

@@ -6,11 +6,12 @@ use crate::target::Target;
 use dwcheck::{Error, Process};
 use std::fmt;
 
-/// The rows of a section may take this many times as many bytes as the section has. The rows that
-/// compilers write take about 1.5 times as many.
+/// A section's compiled rows may take this many times the section's bytes in memory. For sections
+/// that compilers write, they take about 1.5 times the section's bytes.
 const ROOM_TIMES: usize = 64;
 
-/// The rows of a section may always take this many bytes, however short the section is.
+/// A section's compiled rows may always take this many bytes in memory, however short the section
+/// is.
 const LEAST_ROOM: usize = 64 << 20;
 
 /// A section that can be checked.

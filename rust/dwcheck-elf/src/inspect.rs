@@ -77,8 +77,8 @@ pub enum InspectError {
 ///
 /// # Errors
 ///
-/// Why a section can't be checked, for the first such section. A refused section isn't an error:
-/// its [`Verdict`] has the fault.
+/// The error for the first section that can't be checked. A refused section isn't an error: its
+/// [`Verdict`] has the fault.
 pub fn inspect<'data>(program: &Program<'data>, check: Check) -> Result<Vec<Inspected<'data>>, InspectError> {
     let mut all = inspect_frame_sections(program, check)?;
     if let Some(lists) = program.debug_loclists().map_err(InspectError::Program)? {

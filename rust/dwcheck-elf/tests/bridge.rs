@@ -85,7 +85,7 @@ fn cxx_program_with_exceptions() {
     counted(&folder, "linked");
 }
 
-/// A statically linked program has the C library's signal frames, and its CFAs that are
+/// A statically linked program contains the C library, which has signal frames, and CFAs that are
 /// expressions.
 #[test]
 fn static_program() {

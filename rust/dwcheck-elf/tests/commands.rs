@@ -118,7 +118,7 @@ fn check_counts_what_dwcheck_counts() {
     }
 }
 
-/// gcc writes view numbers into the location lists, so that these are refused.
+/// gcc writes view numbers into the location lists, so `dwcheck` refuses the lists.
 #[test]
 fn check_without_location_lists() {
     let folder = Folder::new("command-no-lists");

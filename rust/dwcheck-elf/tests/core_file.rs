@@ -191,8 +191,8 @@ fn modules() {
         let mut begins: Vec<_> = modules.iter().map(|module| module.begin).collect();
         begins.sort_unstable();
         let shown = folder.run(&format!("eu-unstrip -n --core {}", core));
-        // elfutils also lists the program's file where the program only reads it and doesn't run
-        // it.
+        // elfutils lists the program's file a second time, where the program has mapped it only to
+        // read it.
         let main = address_by_gdb(&folder, core, "main");
         let mut expected = Vec::new();
         for line in shown.lines() {

@@ -33,8 +33,8 @@ fn bridged(folder: &Folder, options: Options) -> (Bridged, Agreement) {
     (bridged, agreement)
 }
 
-/// gimli refuses the instruction in the original and in the rewritten section. Its place in the
-/// original section is found.
+/// gimli refuses the instruction in the original and in the rewritten section. The instruction's
+/// place in the original section is found.
 #[test]
 fn def_cfa_register_after_an_expression() {
     let folder = Folder::new("expression");
@@ -128,7 +128,7 @@ fn error(record: u64, field: u64, reason: Reason) -> BridgeError {
     BridgeError { record, field, reason }
 }
 
-/// For some machines GNU as begins CIEs with def_cfa_register, when the CFA has no rule yet.
+/// For some machines GNU as begins CIEs with def_cfa_register, where the CFA has no rule yet.
 #[test]
 fn def_cfa_register_without_a_rule() {
     let cie = cie(b"\0", &[0x0d, 7]);

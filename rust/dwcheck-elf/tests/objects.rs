@@ -152,7 +152,7 @@ fn debug_loclists_of_c() {
 }
 
 /// Objects for other machines, which have their own types of relocations. The FDEs have to cover
-/// the same addresses as in a linked file.
+/// the same addresses as after linking.
 #[test]
 fn other_machines() {
     let folder = Folder::new("objects-machines");

@@ -192,7 +192,7 @@ fn the_sections_of_a_module() {
     assert!(ran.status == 1 && ran.out.starts_with("both: .debug_frame+0x10: "), "{}", ran.out);
 }
 
-/// For these machines GNU as begins CIEs with DW_CFA_def_cfa_register, when the CFA has no rule
+/// For these machines GNU as begins CIEs with DW_CFA_def_cfa_register, where the CFA has no rule
 /// yet. Most readers accept that.
 #[test]
 fn strict_refuses_a_register_without_an_offset() {

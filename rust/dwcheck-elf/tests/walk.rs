@@ -64,7 +64,7 @@ fn module_word(folder: &Folder, number: usize, module: &Module<'_>) -> Option<St
 }
 
 /// The state file of a thread: which registers are callee-saved, the values of the registers, and
-/// the stack from 128 bytes below the stack pointer on.
+/// at most 65,536 bytes of the stack, from 128 bytes below the stack pointer on.
 fn state(core: &CoreFile<'_>, memory: &Memory<'_>, thread: &Thread) -> String {
     let abi = core.abi();
     let mut state = String::new();

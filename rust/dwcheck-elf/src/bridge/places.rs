@@ -51,8 +51,8 @@ pub enum Edge {
     End,
 }
 
-/// The bytes of the rewritten section from offset `bridged` up to the next pair's come from the
-/// bytes of the original section from offset `source` on.
+/// The bytes of the rewritten section from offset `bridged` up to the `bridged` of the next pair
+/// come from the bytes of the original section from offset `source` on.
 #[derive(Clone, Copy, Debug)]
 pub(super) struct Pair {
     pub bridged: u32,

@@ -119,8 +119,9 @@ fn content(path: &Path, left: u64) -> Result<Vec<u8>, FileError> {
     Ok(bytes)
 }
 
-/// Returns the bytes of a file if it is still the one that was mapped: if the core has the
-/// beginning of an ELF file where it was mapped, the file has to begin with the same bytes.
+/// Returns the bytes of a file if the file still seems to be the one that was mapped. If the core
+/// has the beginning of an ELF file at the address where the file was mapped, the file has to begin
+/// with the same bytes. Other files aren't compared.
 fn same(core: &CoreFile<'_>, path: &[u8], bytes: Vec<u8>) -> Result<Vec<u8>, FileError> {
     let starts = core.mappings().iter().filter(|mapping| mapping.path == path && mapping.offset == 0);
     for mapping in starts {

@@ -31,10 +31,11 @@ pub fn program<'data>(path: &Path, data: &'data [u8]) -> Result<Program<'data>, 
     Program::read(data).map_err(|error| Failure::File(format!("{}: {}", path.display(), error)))
 }
 
-/// The frame sections of a program that are used. If all are accepted, these are all of them. If
-/// `.debug_frame` is refused and `.eh_frame` is accepted, it is only `.eh_frame`, and a note on
-/// standard error says so. Otherwise the inner error is the fault of the first section that is
-/// refused. The rows of rewritten sections are compared with gimli's.
+/// Checks the frame sections of a program, and returns those that the commands use. If all are
+/// accepted, all are used. If `.debug_frame` is refused and `.eh_frame` is accepted, only
+/// `.eh_frame` is used, and a note on standard error says so. In any other case, the inner error is
+/// the fault of the first section that is refused. The rows of rewritten sections are also compared
+/// with gimli's.
 pub fn accepted_frames<'data>(
     path: &Path,
     program: &Program<'data>,

@@ -93,8 +93,8 @@ fn progress(count: u64) -> ProgressBar {
     style.map_or(bar.clone(), |style| bar.with_style(style))
 }
 
-/// Checks a file. Without location lists, only the frame sections are read first. If they are
-/// accepted, that is enough. Otherwise the whole file is read, because its symbols name the
+/// Checks a file. If only frame sections are to be checked, only these are read at first, and that
+/// is enough if they are accepted. Otherwise the whole file is read, because its symbols name the
 /// functions of refused FDEs.
 fn inspected(path: PathBuf, check: Check, has_lists: bool) -> Surveyed {
     if !has_lists {

@@ -45,8 +45,8 @@ impl<'a> Loaded<'a> {
     }
 }
 
-/// Makes a list of the program, whose bytes are `data`, and the modules that the command line
-/// names, which are read.
+/// Lists the program, whose bytes are `data`, and the further modules that the command line names.
+/// Reads the files of those modules.
 fn given(words: &UnwindWords, target: Target, data: Vec<u8>) -> Result<Vec<Given>, Failure> {
     let load = number_argument(&words.modules.load, target)?;
     let mut all = vec![Given { path: words.program.clone(), load, data }];

@@ -1,7 +1,7 @@
 //! Reads only those parts of an ELF file that a check of its frame sections needs.
 //!
 //! Frame sections are a few percent of a program's bytes, so a survey reads and stores far less
-//! than all bytes.
+//! than with whole files.
 
 use super::files::LARGEST;
 use object::elf::ET_REL;
