@@ -35,7 +35,7 @@ impl<'a> Cursor<'a> {
         self.target
     }
 
-    /// Whether all bytes were read.
+    /// Whether all bytes have been read.
     pub fn is_at_end(&self) -> bool {
         self.at >= self.bytes.len()
     }

@@ -163,7 +163,7 @@ impl<'data> Frames<'data> {
     ///
     /// # Errors
     ///
-    /// Those of [`process`](Self::process).
+    /// The same as for [`process`](Self::process).
     pub fn add_to(&self, process: &mut Process, load: u64) -> Result<(), Error> {
         let room = self.bytes().len().saturating_mul(ROOM_TIMES).max(LEAST_ROOM);
         process.add(self.bytes(), self.target.into(), load, room)

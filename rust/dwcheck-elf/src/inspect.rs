@@ -92,7 +92,7 @@ pub fn inspect<'data>(program: &Program<'data>, check: Check) -> Result<Vec<Insp
 ///
 /// # Errors
 ///
-/// Those of [`inspect`].
+/// The same as for [`inspect`].
 pub fn inspect_frame_sections<'data>(
     program: &Program<'data>,
     check: Check,

@@ -182,7 +182,7 @@ fn aligned_personality() {
     assert!(matches!(difference.what, What::Unreadable(_)));
 }
 
-/// Records of length 0 in the middle, and records in the 64-bit format.
+/// Records of length 0 in the middle of a section, and records in the 64-bit format.
 #[test]
 fn end_marks_and_long_records() {
     let cie = cie(b"\0", &[0x0c, 7, 8]);

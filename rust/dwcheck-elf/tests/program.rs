@@ -188,7 +188,8 @@ fn segments() {
     assert_eq!(found, expected);
 }
 
-/// Sections compared with objcopy's: uncompressed, and in both compressed formats.
+/// Reads sections that are uncompressed or in one of the two compressed formats, and compares their
+/// bytes with those that objcopy writes.
 #[test]
 fn compressed_sections() {
     let folder = Folder::new("compressed");

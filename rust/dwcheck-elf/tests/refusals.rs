@@ -226,7 +226,8 @@ fn a_code_of_a_machine_has_its_name() {
     assert!(ran.lines()[0].ends_with(": UnknownInstruction: AARCH64_negate_ra_state, FDE 0x0..0x8 (f)"), "{}", ran.out);
 }
 
-/// Unlinked objects of each machine: two sections of code, each with its own address.
+/// Checks unlinked objects for each machine. They have two sections of code, each of which gets its
+/// own address.
 #[test]
 fn objects_of_each_machine() {
     let folder = Folder::new("machines");

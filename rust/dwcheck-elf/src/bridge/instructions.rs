@@ -124,7 +124,8 @@ pub(super) struct CfaKnown {
 }
 
 impl CfaKnown {
-    /// The state at the beginning of a program. `now` says whether the CFA has a rule there.
+    /// The state before the first instruction of a CIE or an FDE. `now` says whether the CFA has a
+    /// rule there.
     pub fn new(now: bool) -> Self {
         CfaKnown { now, remembered: Vec::new() }
     }
@@ -165,7 +166,8 @@ impl Bridge<'_> {
                 operands => operands.map(|operands| skip(cursor, operands, self.section.target)),
             };
             if !matches!(read, Some(Ok(_))) {
-                // `dwcheck` refuses this instruction, so it and the rest are copied unchanged.
+                // `dwcheck` refuses this instruction, so the instruction and the rest of its record
+                // are copied unchanged.
                 self.bytes.extend_from_slice(whole.rest());
                 *cursor = whole;
                 cursor.take(cursor.rest().len() as u64).map_err(|error| (start, error.into()))?;

@@ -31,7 +31,7 @@ pub struct Module<'a> {
     pub begin: u64,
     /// The address after its last mapping.
     pub end: u64,
-    /// Its ELF file.
+    /// The module's ELF file.
     pub image: Image<'a>,
 }
 

@@ -110,8 +110,8 @@ fn signal(bytes: &[u8], target: Target) -> Result<Signal, ReadError> {
     Ok(Signal { number, code, address })
 }
 
-/// Finds the value of the type `wanted` in the auxiliary vector, which is pairs of a type and a
-/// value.
+/// Finds the value whose type is `wanted` in the auxiliary vector, which is pairs of a type and a
+/// value. `None` if there is no such pair.
 fn auxiliary(bytes: &[u8], target: Target, wanted: u64) -> Option<u64> {
     let word = target.address_size.bytes();
     let mut cursor = Cursor::new(bytes, target);
