@@ -1,5 +1,5 @@
-//! Describes the faults that `dwcheck` finds in terms of the ELF file: its sections, records,
-//! instructions and functions.
+//! Describes faults that `dwcheck` has found by what the ELF file has there: the section, the
+//! record, the instruction or operation, and the function.
 
 use crate::bridge::{BridgeError, Edge, RecordKind};
 use crate::debug_frame::{self, Instruction, Record};

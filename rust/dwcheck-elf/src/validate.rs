@@ -3,8 +3,8 @@
 //! [`validate_rows`] compares gimli's rows of the original with `dwcheck`'s rows of the rewritten
 //! section. [`validate`] compares gimli's rows of both sections, which also works if `dwcheck`
 //! refuses the rewritten section. Both functions find the records of the original by their lengths
-//! alone, and of the bridge's result they use only the bytes. So they notice every record that the
-//! bridge lost, added or changed.
+//! alone. Of what [`crate::bridge`] gives, they use only the bytes. So they notice every record
+//! that was lost, added or changed by mistake.
 
 mod dwcheck_rows;
 mod gimli_rows;
