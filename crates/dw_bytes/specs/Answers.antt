@@ -1,25 +1,26 @@
--- How the result of a check relates to the fault that a definition gives.
+-- How the result of a check must relate to the fault that a definition computes. The fault is None
+-- if nothing is wrong.
 use Rattle.std.specs.Prelude.{◌≡◌, ◌⊎◌, List, [], ◌∷◌, Option, Some, None, Result, Ok, Err}
 use Rattle.dw_bytes.specs.declared.fault.Fault.{Fault}
 use Rattle.dw_bytes.specs.declared.fault.FaultKind.TheVariants.{Memory}
 
--- A check passes if there is no fault, and returns the fault otherwise.
+-- The check passes only if there is no fault; otherwise it returns that fault.
 abbrev pub Judges : {X : Type 0} → Option Fault → Result X Fault → Type 0
 Judges fault (Ok _) = fault ≡ None
 Judges fault (Err f) = fault ≡ Some f
 
--- out of memory
+-- the fault of a failed allocation
 abbrev pub memory : Fault
 memory = record { kind = Memory; at = 0 }
 
--- The result of a check that allocates memory: as for Judges, but the check may also run out of
--- memory.
+-- The result of a check that allocates memory. The check passes only if there is no fault.
+-- Otherwise it returns that fault, or `memory`, whatever the fault is, even if there is none.
 abbrev pub Answers : {X : Type 0} → Option Fault → Result X Fault → Type 0
 Answers fault (Ok _) = fault ≡ None
 Answers fault (Err f) = (f ≡ memory) ⊎ (fault ≡ Some f)
 
--- values_in: of a list of results, the values before the first fault; fault_in: the first fault, if
--- any
+-- For a list of results: values_in gives the values before the first fault, and fault_in gives the
+-- first fault, or None if there is no fault.
 abbrev pub values_in : {X : Type 0} → List (Result X Fault) → List X
 values_in [] = []
 values_in (Ok x ∷ items) = x ∷ values_in items

@@ -16,12 +16,12 @@ abbrev pub number : Order → ℕ → List ℕ → ℕ
 number Little n bytes = little_number n bytes
 number Big n bytes = big_number n bytes
 
--- n bytes encode themselves
+-- n bytes, whose value is the list of these bytes itself
 pub record Bytes (n : ℕ) (bytes : List ℕ) (v : List ℕ) : Type 0 where
   pub count : length bytes ≡ n
   pub value : v ≡ bytes
 
--- n bytes encode the number v in this byte order
+-- n bytes encode the number v in the given byte order
 pub record Fixed (order : Order) (n : ℕ) (bytes : List ℕ) (v : ℕ) : Type 0 where
   pub count : length bytes ≡ n
   pub value : v ≡ number order n bytes
@@ -49,13 +49,14 @@ abbrev pub groups : List ℕ → ℕ
 groups [] = 0
 groups (b ∷ bs) = b % 128 + 128 * groups bs
 
--- one byte or more, of which all but the last have the high bit set
+-- At least one byte. All bytes but the last have the high bit set, and the last doesn't.
 abbrev pub IsChain : List ℕ → Type 0
 IsChain [] = ⊥
 IsChain (b ∷ []) = b < 128
 IsChain (b ∷ c ∷ bs) = (128 ≤ b) × IsChain (c ∷ bs)
 
--- A LEB128 number of at most ten bytes, padded or not: v is what the bytes mean, and it fits.
+-- The bytes are a LEB128 number of at most ten bytes, padded or not. Its value v is what `meaning`
+-- computes from the bytes, and v fits the result's type.
 pub record Leb {X : Type 0} (meaning : List ℕ → X) (Fits : X → Type 0) (bytes : List ℕ) (v : X) : Type 0 where
   pub chain : IsChain bytes
   pub short : length bytes ≤ 10
@@ -66,11 +67,11 @@ pub record Leb {X : Type 0} (meaning : List ℕ → X) (Fits : X → Type 0) (by
 abbrev pub Uleb : List ℕ → ℕ → Type 0
 Uleb bytes v = Leb groups (λ n. n < 2 ^ 64) bytes v
 
--- bit 6 of the last byte is set
+-- whether bit 6 of the last byte is set, which is the sign bit of a signed LEB128 number
 abbrev pub is_negative : List ℕ → Bool
 is_negative bytes = nat_le 64 (slice_index bytes (length bytes - 1) % 128)
 
--- the number that the groups make, as two's complement
+-- the number that the low seven bits of each byte make, as a two's complement number
 abbrev pub signed_groups : List ℕ → ℤ
 signed_groups bytes = if is_negative bytes then pos (groups bytes) -ℤ pos (128 ^ length bytes) else pos (groups bytes)
 
@@ -78,11 +79,12 @@ signed_groups bytes = if is_negative bytes then pos (groups bytes) -ℤ pos (128
 abbrev pub Sleb : List ℕ → ℤ → Type 0
 Sleb bytes v = Leb signed_groups (FitsSigned w64) bytes v
 
--- The initial length of a record: four bytes below 0xfffffff0, or 0xffffffff and then eight bytes.
+-- The initial length of a record or table: four bytes that make a number below 0xfffffff0, or four
+-- bytes that make 0xffffffff and then a length of eight bytes.
 abbrev pub Len : Order → List ℕ → Format → ℕ → Type 0
 Len order bytes Dwarf32 v = Fixed order 4 bytes v × (v < 0xfffffff0)
 Len order bytes Dwarf64 v = (mark rest : List ℕ) × (bytes ≡ mark ++ rest) × Fixed order 4 mark 0xffffffff × Fixed order 8 rest v
 
--- the initial length of a record, with the format and the length as one pair
+-- the initial length of a record or table, with the format and the length as one pair
 abbrev pub Length : Order → List ℕ → Format × ℕ → Type 0
 Length order bytes v = Len order bytes v.0 v.1

@@ -1,4 +1,4 @@
--- The names of faults.
+-- The name of each kind of fault.
 use Rattle.std.specs.Prelude.{ℕ, List, codes}
 use Rattle.dw_bytes.specs.declared.fault.FaultKind.{FaultKind}
 use Rattle.dw_bytes.specs.declared.fault.FaultKind.TheVariants.{Truncated, LebRange, ReservedLength, Version, Augmentation, AddressSize}

@@ -1,4 +1,4 @@
--- How numbers and faults are written.
+-- How numbers and faults are printed.
 use Rattle.std.specs.Prelude.{ℕ, zero, suc, ◌+◌, ◌/◌, ◌%◌, if◌then◌else◌, nat_lt, List, [], ◌∷◌, ◌++◌, codes, decimal}
 use Rattle.dw_bytes.specs.Faults.{number_of}
 use Rattle.dw_bytes.specs.Names.{name_of}
@@ -18,14 +18,14 @@ hex_digits (suc k) n = hex_digits k (n / 16) ++ digit (n % 16) ∷ []
 abbrev pub hex_number : ℕ → ℕ → List ℕ
 hex_number k n = codes "0x" ++ hex_digits k n
 
--- an offset in a section or in an expression
+-- how an offset in a section or in an expression is printed
 abbrev pub offset_text : ℕ → List ℕ
 offset_text n = hex_number 8 n
 
--- the number and the name of a kind of fault
+-- how a kind of fault is printed: its number, and then its name
 unfoldable pub kind_text : FaultKind → List ℕ
 kind_text kind = decimal (number_of kind) ++ codes " " ++ name_of kind
 
--- a fault: the number and name of its kind, and its offset
+-- how a fault is printed: the number and name of its kind, and its offset
 unfoldable pub fault_text : Fault → List ℕ
 fault_text fault = kind_text fault.kind ++ codes " at " ++ offset_text fault.at

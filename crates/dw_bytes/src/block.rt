@@ -1,15 +1,15 @@
-//! Blocks: bytes preceded by their count.
+//! `Block`: bytes with their count in front.
 
 ghost use Rattle.std.specs.Prelude.{◌<◌, ◌+◌, ◌^◌, length};
 
 use crate::target::Target;
 
-/// A block and where it lies: bytes preceded by their count, such as the expression in an
-/// instruction.
+/// A block, and where it lies. A block is a run of bytes with their count in front, such as the
+/// expression in a call frame instruction.
 #[derive(Clone, Copy, Debug)]
 pub struct Block<'a> {
-    /// The offset of the block's first byte, after the count: the `position` that the cursor had
-    /// there.
+    /// The offset of the first byte after the count. It counts from the first byte of the slice
+    /// that the cursor was made with.
     pub offset: u32,
     /// The byte order and address size for reading the block.
     pub target: Target,

@@ -1,4 +1,4 @@
-//! Bodies: bytes preceded by their length.
+//! The body of a record or table: the bytes that its initial length counts.
 
 ghost use Rattle.std.specs.Prelude.{◌≡◌, ◌<◌, ◌≤◌, ◌^◌, length, IfErr, IfOk, MatchResult, Ok, Err};
 ghost use Rattle.dw_bytes.specs.Reading.{section_from};
@@ -8,8 +8,8 @@ use crate::cursor::Cursor;
 use crate::fault::Fault;
 use crate::target::{Format, Target};
 
-/// Where the body of a record or table lies in its section, and which format the length before the
-/// body has (DWARF 5, section 7.4).
+/// Where the body of a record or table lies in its section, and whether the length before it is in
+/// the 32-bit or the 64-bit format (DWARF 5, section 7.4).
 #[derive(Clone, Copy, Debug, PartialEq, Eq)]
 pub struct Body {
     pub format: Format,
@@ -20,8 +20,8 @@ pub struct Body {
 }
 
 impl Body {
-    /// The body of the record or table that begins at offset `at` of the section. A length that
-    /// can't be read is refused at `at` (`Truncated` or `ReservedLength`). If the section has fewer
+    /// The body of the record or table that begins at offset `at` of the section. If the length
+    /// can't be read, `Truncated` or `ReservedLength` is reported at `at`. If the section has fewer
     /// bytes left than the length says, `Truncated` is reported at the body's first byte.
     #[tactic(auto, unfolding(crate::specs::Bodies::framed_at))]
     pub fn read(section: &[u8], target: Target, at: u32) -> Result<Self, Fault>

@@ -1,4 +1,4 @@
-//! The names of faults, and how faults are written.
+//! The names of faults, and how faults are printed.
 
 ghost use Rattle.std.specs.Prelude.{◌≡◌};
 ghost use Rattle.dw_bytes.specs.Names.{name_of};
@@ -8,7 +8,7 @@ use std::error::Error;
 use std::fmt;
 
 impl FaultKind {
-    /// The name that a refusal shows. Each kind has its own.
+    /// The name that is printed with the fault. No two kinds have the same name.
     pub fn name(self) -> &'static str
         ensures { result.now ≡ name_of self }
     {

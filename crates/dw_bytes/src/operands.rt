@@ -1,9 +1,10 @@
-//! Operands that must be in a range. All operands after a code are read before any range is
-//! checked. A field that can't be read is refused with `Truncated` or `LebRange` at its first byte;
-//! the count and the bytes of a block are a field each. An operand out of its range is refused at
-//! the code, whose offset the caller passes as `at`: `RegisterNumber` for a register above 65535,
-//! `PieceSize` for a size or offset of a piece above 2^32 - 1, `BadSize` for the size of a read. A
-//! refused read leaves the cursor where it was.
+//! Reads the operands of operations and call frame instructions, some of which must be in a range.
+//! All operands after a code are read before any range is checked. If a field can't be read,
+//! `Truncated` or `LebRange` is reported at its first byte. The count of a block is one such field,
+//! and its bytes are another. If an operand is out of range, the fault is reported at the code
+//! before the operands, whose offset the caller passes as `at`: `RegisterNumber` for a register
+//! above 65535, `PieceSize` for a size or offset of a piece above 2^32 - 1, `BadSize` for the size
+//! of a memory read. A read that fails leaves the cursor where it was.
 
 ghost use Rattle.std.specs.Prelude.{◌≡◌, ◌≤◌, [], ◌∷◌, MatchOption, Ok};
 ghost use Rattle.dw_bytes.specs.Reading.{MovesForward, ReadsBy};
@@ -61,7 +62,7 @@ fn read_size_in_range(size: u8, at: u32, target: Target) -> Result<u8, Fault>
 }
 
 /// A register number: unsigned LEB128, at most 65535. If it is above, `RegisterNumber` is reported
-/// at the code.
+/// at the code's offset `at`.
 #[inline(always)]
 pub fn register(cursor: &mut Cursor<'_>, at: u32) -> Result<u16, Fault>
     requires { at ≤ cursor.old.position }
@@ -147,7 +148,7 @@ pub fn register_and_block<'a>(cursor: &mut Cursor<'a>, at: u32) -> Result<(u16, 
 }
 
 /// A block: the count of its bytes as unsigned LEB128, then the bytes. A block has no range to
-/// check, so `at` has no effect.
+/// check, so `at` isn't used.
 pub fn block<'a>(cursor: &mut Cursor<'a>, at: u32) -> Result<Block<'a>, Fault>
     ensures exact { ReadsBy (λ v. one_value (block_of v))
         (operands_in_range_at at (block ∷ [])) cursor.old result cursor.new }
@@ -190,7 +191,7 @@ pub fn short_block<'a>(cursor: &mut Cursor<'a>) -> Option<Block<'a>>
 }
 
 /// The size of a piece: unsigned LEB128, at most 2^32 - 1. If it is above, `PieceSize` is reported
-/// at the code.
+/// at the code's offset `at`.
 pub fn piece_size(cursor: &mut Cursor<'_>, at: u32) -> Result<u32, Fault>
     requires { at ≤ cursor.old.position }
     ensures exact { ReadsBy one_value
@@ -205,8 +206,8 @@ pub fn piece_size(cursor: &mut Cursor<'_>, at: u32) -> Result<u32, Fault>
     Ok(size)
 }
 
-/// The size and the offset of a piece: two unsigned LEB128 numbers, each at most 2^32 - 1. If one
-/// is above, `PieceSize` is reported at the code.
+/// The size and the offset of a piece: two unsigned LEB128 numbers, each at most 2^32 - 1. If
+/// either is above, `PieceSize` is reported at the code's offset `at`.
 pub fn two_piece_sizes(cursor: &mut Cursor<'_>, at: u32) -> Result<(u32, u32), Fault>
     requires { at ≤ cursor.old.position }
     ensures exact { ReadsBy two_values
@@ -227,7 +228,7 @@ pub fn two_piece_sizes(cursor: &mut Cursor<'_>, at: u32) -> Result<(u32, u32), F
 }
 
 /// The size of a memory read, in one byte: 1, 2, 4 or 8, and at most the address size. If it is
-/// anything else, `BadSize` is reported at the code.
+/// anything else, `BadSize` is reported at the code's offset `at`.
 pub fn read_size(cursor: &mut Cursor<'_>, at: u32) -> Result<u8, Fault>
     requires { at ≤ cursor.old.position }
     ensures exact { ReadsBy one_value

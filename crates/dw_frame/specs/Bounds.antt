@@ -1,4 +1,4 @@
--- Where things are in their program or section.
+-- Where records lie in their section, and instructions in their program.
 use Rattle.std.specs.Prelude.{◌≤◌, ◌<◌, ◌+◌, ◌≡◌, ℕ, true, List, [], ◌∷◌, length, Result, Ok, Err}
 use Rattle.std.specs.List.{AllByRecursion}
 use Rattle.dw_bytes.specs.declared.target.Target.{Target}
@@ -28,7 +28,8 @@ EndsWithItsBlock target at end (Instruction.expression r b) = EndsWith target at
 EndsWithItsBlock target at end (Instruction.val_expression r b) = EndsWith target at end b
 EndsWithItsBlock target at end _ = Unit {0}
 
--- `after` is what is left of the section from an offset above `at` on.
+-- `after` is what is left to read of the section from its own position on, which is above `at` and
+-- at most the section's length.
 pub record IsBehind (target : Target) (section : List ℕ) (at : ℕ) (after : ReadPosition) : Type 0 where
   pub later : at < after.position
   pub inside : after.position ≤ length section
@@ -45,8 +46,8 @@ pub record IsSoundCie (target : Target) (size : ℕ) (c : Cie) : Type 0 where
   pub version : is_version c.version ≡ true
   pub return_address_register : c.return_address_register ≤ 65535
 
--- The CIE_pointer of an FDE lies between the FDE's offset and its program. The end of the FDE's
--- range is at most the target's highest address.
+-- The CIE_pointer field of an FDE lies between the FDE's offset and its program. The end of the
+-- FDE's range is at most the target's highest address.
 pub record IsSoundFde (target : Target) (size : ℕ) (f : Fde) : Type 0 where
   pub program : LiesIn target size f.offset f.program
   pub pointer_behind : f.offset < f.cie_pointer_offset
@@ -65,7 +66,7 @@ abbrev pub offset_of : Record → ℕ
 offset_of (cie_record c) = c.offset
 offset_of (fde_record f) = f.offset
 
--- Each item's number is below the numbers of all items after it.
+-- The items ascend: the number of each item is below the numbers of all items after it.
 abbrev pub Ascends : {X : Type 0} → (X → ℕ) → List X → Type 0
 Ascends at [] = Unit {0}
 Ascends at (x ∷ xs) = AllByRecursion (λ y. at x < at y) xs × Ascends at xs

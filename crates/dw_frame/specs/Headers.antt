@@ -1,4 +1,4 @@
--- What the code's types of headers stand for.
+-- What values of the code's types `CieHeader`, `FdeHeader` and `Header` stand for in Sections.antt.
 use Rattle.dw_frame.specs.declared.header.CieHeader.{CieHeader}
 use Rattle.dw_frame.specs.declared.header.FdeHeader.{FdeHeader}
 use Rattle.dw_frame.specs.declared.header.Header as declared

@@ -1,4 +1,6 @@
--- ---- Trusted: what DWARF 5 says. To check the headline against the standard, read these.
+-- ---- Trusted: what DWARF 5 says. To check the main promise (docs/HEADLINE.md) against DWARF 5,
+-- read these files.
+
 -- CIEs and FDEs (6.4.1)
 pub mod Records
 -- call frame instructions (6.4.2)
@@ -7,10 +9,11 @@ pub mod Instructions
 pub mod Codes
 -- which bytes encode which record (6.4.1, 7.24), and how a record is read
 pub mod Sections
--- where records and instructions lie
+-- where records lie in their section, and instructions in their program
 pub mod Bounds
--- ---- What the code's values mean, and what its calls return.
+-- ---- How the code's types correspond to these definitions.
+
 -- what the code's headers stand for
 pub mod Headers
--- what the code's records and instructions stand for
+-- what the code's programs, records and instructions stand for
 pub mod Views

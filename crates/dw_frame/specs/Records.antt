@@ -1,4 +1,5 @@
--- The records of a `.debug_frame` section as they are encoded (DWARF 5, section 6.4.1).
+-- The records of a `.debug_frame` section, CIEs and FDEs, with their fields (DWARF 5, section
+-- 6.4.1).
 use Rattle.std.specs.Prelude.{◌==◌, ◌||◌, ℕ, ℤ, Bool}
 use Rattle.dw_bytes.specs.declared.target.Format.{Format}
 use Rattle.dw_bytes.specs.Reading.{ReadPosition}

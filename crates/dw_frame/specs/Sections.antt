@@ -1,4 +1,5 @@
--- The records of a `.debug_frame` section (DWARF 5, sections 6.4.1 and 7.24): which bytes encode which record.
+-- How the records of a `.debug_frame` section are encoded (DWARF 5, sections 6.4.1 and 7.24), and
+-- how they are read.
 use Rattle.std.specs.Prelude.{◌≡◌, ◌+◌, ◌==◌, ℕ, ℤ, nat_le, if◌then◌else◌, Bool, List, [], ◌∷◌, ◌++◌, length, Option, Some, None, Result}
 use Rattle.std.specs.Prelude.{Ok, Err}
 use Rattle.dw_bytes.specs.declared.target.Target.{Target}
@@ -18,8 +19,8 @@ use Rattle.dw_frame.specs.Records.{is_version, Cie, Record, cie_record, fde_reco
 
 -- ---- headers
 
--- The fields between the length of a CIE and its program, without those that can have only one
--- value.
+-- The fields between the length of a CIE and its program, without those that must have one
+-- particular value.
 pub record CieHeader : Type 0 where
   pub version : ℕ
   pub code_alignment_factor : ℕ
@@ -36,7 +37,7 @@ pub data Header : Type 0 where
   cie_header : CieHeader → Header
   fde_header : FdeHeader → Header
 
--- the id that begins the body of a CIE: an offset whose bits are all ones
+-- the CIE_id, which begins the body of a CIE: an offset whose bits are all ones
 abbrev pub cie_id : Format → ℕ
 cie_id Dwarf32 = 0xffffffff
 cie_id Dwarf64 = 0xffffffffffffffff
@@ -54,13 +55,13 @@ is_register number = nat_le number 65535
 abbrev pub column_fault : ℕ → Option FaultKind
 column_fault number = unless (is_register number) RegisterNumber
 
--- The column of the return address is a byte in version 1, and LEB128 since version 3.
+-- The return address register is one byte in version 1, and LEB128 since version 3.
 abbrev pub return_column : ℕ → (ℕ → Fields Header) → Fields Header
 return_column version next =
     if version == 1 then field (fixed 1) column_fault next else field unsigned column_fault next
 
 -- In every version the header of a CIE ends with both alignment factors and the return address
--- column.
+-- register.
 abbrev pub factors : ℕ → Fields Header
 factors version =
     any unsigned (λ code_alignment_factor.
@@ -73,30 +74,32 @@ factors version =
       return_address_register = return_address_register;
     })))))
 
--- After the augmentation only version 4 has two sizes: the address size, which must be the
--- target's, and the segment selector size, which must be 0. Then come the factors.
+-- The fields of a CIE after the augmentation. Only version 4 has two sizes: the address size, which
+-- must be the target's, and the segment selector size, which must be 0. Then come the alignment
+-- factors and the return address register.
 abbrev pub behind_augmentation : Target → ℕ → Fields Header
 behind_augmentation target version =
     if version == 4
     then byte AddressSize (bytes_of_address target.address_size) (byte SegmentSize 0 (factors version))
     else factors version
 
--- After the id of a CIE: its version, which decides what fields follow (6.4.1, Appendix G), and the
--- augmentation, which must be empty.
+-- The fields of a CIE after the CIE_id: first the version, which decides what fields follow (6.4.1,
+-- Appendix G), and the augmentation, which must be empty.
 abbrev pub cie_fields : Target → Fields Header
 cie_fields target =
     field (fixed 1) (λ number. unless (is_version number) Version) (λ version.
     byte Augmentation 0 (behind_augmentation target version))
 
--- After the CIE_pointer of an FDE: its first address, and the number of its addresses. Their sum
--- must be at most the highest address.
+-- The fields of an FDE after the CIE_pointer: its first address, and the number of its addresses.
+-- Their sum must be at most the highest address.
 abbrev pub fde_fields : Target → ℕ → Fields Header
 fde_fields target cie_pointer =
     any address (λ initial_location.
     field address (λ range. unless (ends_by (top_of target) initial_location range) RangePastTop) (λ address_range.
     made (fde_header (record { cie_pointer = cie_pointer; initial_location = initial_location; address_range = address_range }))))
 
--- a CIE if the body begins with the CIE's id, else an FDE
+-- The fields of a record's header. The record is a CIE if its body begins with the CIE_id, and
+-- otherwise an FDE.
 abbrev pub header_fields : Target → Format → Fields Header
 header_fields target format =
     any (fixed (bytes_of_offset format)) (λ id.
@@ -133,7 +136,8 @@ record_from at format body (fde_header h) program =
       program = program;
     })
 
--- A record is a length, and a body of that many bytes. The body is a header, and what is left is the program.
+-- A record is a length, and a body of that many bytes. The body is a header, and the rest of the
+-- body is the program.
 pub record IsRecord (target : Target) (at : ℕ) (bytes : List ℕ) (r : Record) : Type 0 where
   pub format : Format
   pub header : Header
@@ -146,11 +150,11 @@ pub record IsRecord (target : Target) (at : ℕ) (bytes : List ℕ) (r : Record)
   pub record_is : r ≡ record_from at format (at + length front) header
       (record { target = target; position = at + length front + length fields; rest = program })
 
--- the records of a section, without gaps
+-- which bytes encode a list of records, one after another without gaps
 abbrev pub AreRecords : Target → ℕ → List ℕ → List Record → Type 0
 AreRecords target = Sequence (IsRecord target)
 
--- reading a record: its length and body, and then its header within the body
+-- reading a record: its length and its body, and then the header in that body
 unfoldable pub record_at : ReadPosition → Result (Record × ReadPosition) Fault
 record_at r = do
   framed ← framed_at r
@@ -165,8 +169,8 @@ entries_from target section at = sequence_of record_at (section_from target sect
 abbrev pub entries_of : Target → List ℕ → List (Result Record Fault)
 entries_of target section = entries_from target section 0
 
--- Goes through the records in order. Gives the first CIE at the offset, or the first fault before
--- that CIE, or None if there is neither.
+-- Searches the records in order for a CIE at the given offset. Gives that CIE, or the first fault
+-- before it. If there is no such CIE, gives the first fault, or None if there is no fault.
 abbrev pub cie_among : ℕ → List (Result Record Fault) → Result (Option Cie) Fault
 cie_among offset [] = Ok None
 cie_among offset (Ok (cie_record c) ∷ entries) = if c.offset == offset then Ok (Some c) else cie_among offset entries

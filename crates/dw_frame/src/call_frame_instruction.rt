@@ -1,28 +1,28 @@
-//! Call frame instructions.
+//! `CallFrameInstruction`: call frame instructions with their operands.
 
 ghost use Rattle.std.specs.Prelude.{◌+◌, ◌<◌, ◌^◌, length};
 ghost use Rattle.dw_ops.specs.Views.{bytes_of};
 
 use dw_ops::Expression;
 
-/// The expression of an instruction, and the expression's offset in the section.
+/// The expression in a call frame instruction, and where the expression lies in the section.
 #[derive(Clone, Copy, Debug)]
 pub struct UnwindExpression<'a> {
     /// The offset of the expression's first byte in the section. Offsets in the expression count
     /// from that byte.
     pub offset: u32,
-    /// The expression's bytes, and the target of the section.
+    /// The expression's bytes, and the byte order and address size of the section.
     pub expression: Expression<'a>,
     pub ghost inside: { offset + length (bytes_of expression) < 2 ^ 32 },
 }
 
 /// A call frame instruction with its operands as they are encoded (DWARF 5, sections 6.4.2 and
-/// 7.24). A `delta` isn't yet multiplied by the CIE's code alignment factor, nor a
-/// `factored_offset` by its data alignment factor. An `offset` is in bytes. A register number is
-/// that of a column in the table of rules.
+/// 7.24). A `delta` isn't yet multiplied by the CIE's code alignment factor, nor is a
+/// `factored_offset` by its data alignment factor. An `offset` is in bytes. Register numbers are
+/// those of the columns of the unwind table.
 #[derive(Clone, Copy, Debug)]
 pub enum CallFrameInstruction<'a> {
-    /// `DW_CFA_advance_loc`: the location moves on by a delta of six bits.
+    /// `DW_CFA_advance_loc`: the location advances by a delta of six bits.
     AdvanceLoc {
         delta: u8,
     },
@@ -31,8 +31,8 @@ pub enum CallFrameInstruction<'a> {
         register: u16,
         factored_offset: u64,
     },
-    /// `DW_CFA_restore`: a register, whose number has six bits, gets back the rule that the CIE
-    /// gave it.
+    /// `DW_CFA_restore`: a register, whose number has six bits, gets back the rule that the CIE's
+    /// initial instructions gave it.
     Restore {
         register: u16,
     },
@@ -42,15 +42,15 @@ pub enum CallFrameInstruction<'a> {
     SetLoc {
         address: u64,
     },
-    /// `DW_CFA_advance_loc1`: the location moves on by a delta of one byte.
+    /// `DW_CFA_advance_loc1`: the location advances by a delta of one byte.
     AdvanceLoc1 {
         delta: u8,
     },
-    /// `DW_CFA_advance_loc2`: the location moves on by a delta of two bytes.
+    /// `DW_CFA_advance_loc2`: the location advances by a delta of two bytes.
     AdvanceLoc2 {
         delta: u16,
     },
-    /// `DW_CFA_advance_loc4`: the location moves on by a delta of four bytes.
+    /// `DW_CFA_advance_loc4`: the location advances by a delta of four bytes.
     AdvanceLoc4 {
         delta: u32,
     },
@@ -59,7 +59,8 @@ pub enum CallFrameInstruction<'a> {
         register: u16,
         factored_offset: u64,
     },
-    /// `DW_CFA_restore_extended`: a register gets back the rule that the CIE gave it.
+    /// `DW_CFA_restore_extended`: a register gets back the rule that the CIE's initial instructions
+    /// gave it.
     RestoreExtended {
         register: u16,
     },
@@ -78,7 +79,8 @@ pub enum CallFrameInstruction<'a> {
     },
     /// `DW_CFA_remember_state`: pushes the rules onto a stack.
     RememberState,
-    /// `DW_CFA_restore_state`: pops the rules from the top of that stack.
+    /// `DW_CFA_restore_state`: pops the rules from the top of the stack that remember_state pushes
+    /// onto.
     RestoreState,
     /// `DW_CFA_def_cfa`: the CFA is a register plus an offset.
     DefCfa {

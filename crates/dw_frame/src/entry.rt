@@ -1,4 +1,4 @@
-//! The records of a section.
+//! `Entry`: the records of a `.debug_frame` section, CIEs and FDEs.
 
 ghost use Rattle.std.specs.Prelude.{◌≡◌, ◌+◌, ◌<◌, ◌^◌, true};
 ghost use Rattle.dw_frame.specs.Records.{is_version};
@@ -11,12 +11,12 @@ use dw_bytes::Format;
 pub struct CommonInformationEntry<'a> {
     /// The offset of the record's first byte in the section.
     pub offset: u32,
-    /// The format of the record's length.
+    /// Whether the record is in the 32-bit or the 64-bit DWARF format.
     pub format: Format,
     pub(crate) version: u8,
-    /// The factor for the delta of an advance instruction.
+    /// The factor that the delta of an advance_loc instruction is multiplied by.
     pub code_alignment_factor: u64,
-    /// The factor for a factored offset.
+    /// The factor that a factored offset is multiplied by.
     pub data_alignment_factor: i64,
     /// The register number (column in the table of rules) that stands for the return address.
     pub return_address_register: u16,
@@ -43,7 +43,7 @@ impl<'a> CommonInformationEntry<'a> {
 pub struct FrameDescriptionEntry<'a> {
     /// The offset of the record's first byte in the section.
     pub offset: u32,
-    /// The format of the record's length.
+    /// Whether the record is in the 32-bit or the 64-bit DWARF format.
     pub format: Format,
     /// The CIE_pointer field: the offset in the section where the FDE says that its CIE begins.
     pub cie_pointer: u64,
@@ -68,7 +68,7 @@ impl<'a> FrameDescriptionEntry<'a> {
     }
 }
 
-/// A record of a section.
+/// A record of a `.debug_frame` section.
 #[derive(Clone, Copy, Debug)]
 pub enum Entry<'a> {
     /// A common information entry.

@@ -1,4 +1,4 @@
-//! The headers of records.
+//! Reading the header of a record: the fields between its length and its program.
 
 ghost use Rattle.std.specs.Prelude.{◌≡◌, ◌+◌, ◌<◌, ◌^◌, true, IfOk};
 ghost use Rattle.dw_bytes.specs.declared.fault.FaultKind.TheVariants.{Version};
@@ -10,8 +10,8 @@ ghost use Rattle.dw_frame.specs.Records.{is_version};
 
 use dw_bytes::{Cursor, Fault, FaultKind, Format, Target};
 
-/// The fields between the length of a CIE and its program, without those that can have only one
-/// value.
+/// The fields between the length of a CIE and its program, without those that must have one
+/// particular value.
 #[derive(Clone, Copy)]
 pub struct CieHeader {
     pub version: u8,
@@ -61,7 +61,7 @@ impl CieHeader {
     ghost use Rattle.dw_frame.specs.Sections.{cie_fields, factors};
     ghost use Rattle.dw_frame.specs.Headers.{cie_head};
 
-    /// Reads the fields after the id of a CIE.
+    /// Reads the fields after the CIE_id.
     fn read(cursor: &mut Cursor<'_>, target: Target) -> Result<Self, Fault>
         ensures exact { ParsesBy cie_head
             (fields_at (cie_fields target)) cursor.old result cursor.new }
@@ -78,7 +78,7 @@ impl CieHeader {
     }
 
     /// Reads the last fields of a CIE's header: both alignment factors, and the return address
-    /// register, which is a byte in version 1 and LEB128 in later ones.
+    /// register, which is one byte in version 1 and LEB128 in versions 3 and 4.
     fn read_factors(cursor: &mut Cursor<'_>, version: u8) -> Result<Self, Fault>
         requires { is_version version ≡ true }
         ensures exact { ParsesBy cie_head
@@ -142,8 +142,8 @@ impl Header {
     ghost use Rattle.dw_frame.specs.Sections.{header_at};
     ghost use Rattle.dw_frame.specs.Headers.{head_of};
 
-    /// Reads the header of a record in `format`. The cursor must be at the first byte of the
-    /// record's body.
+    /// Reads the header of a record in this format. The cursor must be at the first byte of the
+    /// record's body. The record is a CIE if its first field is the CIE_id, and otherwise an FDE.
     #[tactic(auto, unfolding(crate::specs::Sections::header_at))]
     pub fn read(cursor: &mut Cursor<'_>, format: Format, target: Target) -> Result<Self, Fault>
         ensures exact { ParsesBy head_of (header_at target format) cursor.old result cursor.new }

@@ -42,8 +42,8 @@ pub fn instructions_come_in_order()
     ensures nothing { (r : ReadPosition) → length r.rest ≡ 0 → instructions_of r ≡ [] }
 {}
 
-/// Each instruction of a program begins inside the program. A fault is reported inside the program
-/// or at its end.
+/// If reading the instructions of a program gives an instruction, its first byte is inside the
+/// program. If reading gives a fault, the fault is reported inside the program or at its end.
 pub fn instructions_stand_in_their_program()
     ensures { (r : ReadPosition) (item : Result (ℕ × Instruction) Fault)
         → Contains (instructions_of r) item → StandsIn r item }
@@ -61,8 +61,8 @@ pub fn sections_are_records()
         → (entries_of target section ≡ map Ok records) ↔ AreRecords target 0 section records }
 {}
 
-/// The expression of an instruction comes after the instruction's first byte, and ends where the
-/// instruction ends.
+/// If an instruction has an expression, the expression begins after the instruction's first byte,
+/// and ends where the instruction ends.
 pub fn instructions_end_with_their_expressions()
     ensures { (target : Target) (at : ℕ) (bytes : List ℕ) (i : Instruction)
         → EncodesInstruction target at bytes i
@@ -82,8 +82,8 @@ pub fn records_come_in_order()
         → entries_from target section at ≡ [] }
 {}
 
-/// After a record is read, what is left is the section from a later offset on, which is at most the
-/// section's length.
+/// After a record is read, what is left to read is the section from a later offset on. That offset
+/// is at most the section's length.
 pub fn records_lie_behind_each_other()
     ensures { (target : Target) (section : List ℕ) (at : ℕ) (x : Record) (after : ReadPosition)
         → at ≤ length section → record_at (section_from target section at) ≡ Ok (x, after)
@@ -104,15 +104,15 @@ pub fn programs_lie_in_their_records()
         → (offset_of x ≡ at) × IsSoundRecord target (at + length bytes) x }
 {}
 
-/// The program of each record that a section gives lies inside the section. A CIE has version 1, 3
-/// or 4, and a return address register of at most 65535. The end of an FDE's range is at most the
-/// target's highest address. A fault is reported inside the section or at its end.
+/// The program of each record that is read from a section lies inside the section. A CIE has
+/// version 1, 3 or 4, and a return address register of at most 65535. The end of an FDE's range is
+/// at most the target's highest address. A fault is reported inside the section or at its end.
 pub fn records_are_sound()
     ensures { (target : Target) (section : List ℕ) (item : Result Record Fault)
         → Contains (entries_of target section) item → IsSound target (length section) item }
 {}
 
-/// If a search for a CIE finds one, that CIE is one of the records and begins at the offset. If it
+/// If `cie_among` finds a CIE, that CIE is one of the records and begins at the given offset. If it
 /// finds none, none of the records is a CIE that begins there. If it gives a fault, reading the
 /// records gives that fault.
 pub fn the_cie_at_an_offset()

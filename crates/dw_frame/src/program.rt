@@ -1,4 +1,4 @@
-//! The bytes of a call frame program.
+//! `Program`: the bytes of a call frame program.
 
 ghost use Rattle.std.specs.Prelude.{◌≡◌, ◌≤◌, ◌<◌, ◌+◌, ◌^◌, length};
 
@@ -9,7 +9,7 @@ use dw_bytes::{Cursor, Target};
 /// offsets in a program count from the first byte of the section.
 #[derive(Clone, Copy, Debug)]
 pub struct Program<'a> {
-    /// The section up to the program's end.
+    /// The section's bytes up to the program's end.
     section: &'a [u8],
     start: u32,
     target: Target,
@@ -62,7 +62,7 @@ impl<'a> Program<'a> {
         self.target
     }
 
-    /// The instructions of the program, in order.
+    /// An iterator over the instructions of the program, in order.
     pub fn instructions(&self) -> Instructions<'a>
         ensures { result ≡ instructions_of (reading_of self.now) }
     {

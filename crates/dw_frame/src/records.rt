@@ -1,4 +1,4 @@
-//! The records of a section, one after another.
+//! `Entries`: an iterator over the records of a section.
 
 ghost use Rattle.std.specs.Prelude.{◌≡◌, ◌<◌, ◌^◌, length};
 ghost use Rattle.std.specs.Iterator.{YieldsFirstBy, item_count};
@@ -12,7 +12,8 @@ use std::iter::FusedIterator;
 use std::marker::Model;
 
 /// The records of a section in order, up to the section's end or the first fault. Nothing comes
-/// after a fault. In contracts, an iterator stands for the list of items that it has still to give.
+/// after a fault. In contracts, the value of an iterator is the list of the items that it has yet
+/// to give.
 ///
 /// ```rust
 /// for entry in entries(section, target) {
@@ -50,7 +51,7 @@ impl<'a> Model for Entries<'a> {
 }
 
 impl<'a> Entries<'a> {
-    /// The records of a section of fewer than 2^32 bytes.
+    /// An iterator that begins at the first byte of a section of fewer than 2^32 bytes.
     pub(crate) fn new(section: &'a [u8], target: Target) -> Self
         requires { length section.now < 2 ^ 32 }
         ensures { result ≡ entries_of target section.now }

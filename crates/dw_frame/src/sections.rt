@@ -1,4 +1,4 @@
-//! Reading the records of a section.
+//! Reading the records of a `.debug_frame` section.
 
 ghost use Rattle.std.specs.Prelude.{◌≡◌, ◌≤◌, ◌<◌, ◌^◌, length, IfErr, IfOk, MatchResult, Ok, Err};
 ghost use Rattle.dw_bytes.specs.Readers.{ReadsFrom};
@@ -14,8 +14,8 @@ use crate::program::Program;
 use crate::records::Entries;
 use dw_bytes::{Body, Fault, Format, Target};
 
-/// The format and the body of the record at offset `at` of a section. The body is given as a
-/// `Program`, since the record's program is what remains of the body after the header.
+/// The format and the body of the record at offset `at` of a section. The body is returned as a
+/// `Program`, which the caller then cuts down to the bytes after the header.
 fn record_body<'a>(
     section: &'a [u8],
     target: Target,
@@ -39,8 +39,8 @@ fn record_body<'a>(
     ))
 }
 
-/// The record at offset `at`, made from its header and its program. `body` is the offset of the
-/// record's body.
+/// A record that begins at offset `at`, made from its header and its program. `body` is the offset
+/// of the record's body.
 fn entry_from<'a>(
     at: u32,
     format: Format,
@@ -112,8 +112,9 @@ pub fn entries<'a>(section: &'a [u8], target: Target) -> Entries<'a>
 }
 
 /// The CIE at offset `offset` of a section of fewer than 2^32 bytes, or `None` if no CIE begins
-/// there. The first fault in the records is returned instead, if it comes before that CIE. Reads
-/// the records in order up to the CIE: O(n) for n records. Allocates no memory.
+/// there. If a fault in the records comes before that CIE, or if there is no such CIE, the first
+/// fault is returned instead. Reads the records in order up to the CIE: O(n) for n records.
+/// Allocates no memory.
 #[tactic(auto, using(crate::proofs::RecordBounds::cie_laws))]
 pub fn cie_at<'a>(
     section: &'a [u8],

@@ -1,4 +1,4 @@
-//! An expression: bytes with their target.
+//! `Expression`: the bytes of a DWARF expression, with their byte order and address size.
 
 ghost use Rattle.std.specs.Prelude.{◌≡◌, ◌<◌, ◌^◌, length};
 

@@ -1,8 +1,8 @@
-//! The operations of expressions.
+//! `Operation`: the operations of DWARF expressions.
 
-/// An operation with its operands as they are encoded (DWARF 5, sections 2.5 and 7.7.1). There is
-/// one variant for each line of the standard's table that docs/PROFILE.md lists. The 32 opcodes of
-/// lit, reg or breg are one variant with a number.
+/// An operation with its operands as they are encoded (DWARF 5, sections 2.5 and 7.7.1). Each
+/// opcode of the standard's table that isn't excluded in docs/PROFILE.md has its own variant, but
+/// the 32 opcodes each of lit, reg and breg share one variant with a number.
 #[derive(Clone, Copy, Debug, PartialEq, Eq)]
 pub enum Operation<'a> {
     /// `DW_OP_addr`: pushes the address.
@@ -100,7 +100,8 @@ pub enum Operation<'a> {
     Fbreg { offset: i64 },
     /// `DW_OP_bregx`: pushes the register's value plus the offset.
     Bregx { register: u16, offset: i64 },
-    /// `DW_OP_piece`: the location before it is that of a piece of `size` bytes.
+    /// `DW_OP_piece`: the location described before this operation is that of a piece of `size`
+    /// bytes.
     Piece { size: u32 },
     /// `DW_OP_deref_size`: replaces the top, an address, by the `size` bytes at that address,
     /// zero-extended.
@@ -111,16 +112,16 @@ pub enum Operation<'a> {
     PushObjectAddress,
     /// `DW_OP_call_frame_cfa`: pushes the CFA.
     CallFrameCfa,
-    /// `DW_OP_bit_piece`: the location before it is that of a piece of `size` bits, which begins
-    /// `offset` bits into the location.
+    /// `DW_OP_bit_piece`: the location described before this operation is that of a piece of `size`
+    /// bits, which begins `offset` bits into the location.
     BitPiece { size: u32, offset: u32 },
-    /// `DW_OP_implicit_value`: the value is `bytes`.
+    /// `DW_OP_implicit_value`: the object isn't in memory; its value is `bytes`.
     ImplicitValue { bytes: &'a [u8] },
-    /// `DW_OP_stack_value`: the value is the top.
+    /// `DW_OP_stack_value`: the object isn't in memory; its value is the top.
     StackValue,
 }
 
-/// `Nop`, which fills the unused slots of a list.
+/// `Nop`, which fills the unused slots of the `SmallVec` that `operations` returns.
 impl Default for Operation<'_> {
     ghost use Rattle.std.specs.Prelude.{◌≡◌};
     ghost use Rattle.dw_ops.specs.declared.operation.Operation.TheVariants.{Nop};
