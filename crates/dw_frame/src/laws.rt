@@ -96,8 +96,9 @@ pub fn records_ascend()
         → AreRecords target at section records → Ascends offset_of records }
 {}
 
-/// The offset of a record is that of its first byte. The record's program lies after that byte, and
-/// inside the record's bytes. The fields of the record are in their ranges (see `IsSoundRecord`).
+/// The `offset` of a record is that of its first byte. The record's program lies after that byte,
+/// and inside the record's bytes. The fields of the record are in their ranges (see `IsSoundRecord`
+/// in Bounds.antt).
 pub fn programs_lie_in_their_records()
     ensures { (target : Target) (at : ℕ) (bytes : List ℕ) (x : Record)
         → IsRecord target at bytes x

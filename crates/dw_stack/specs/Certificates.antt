@@ -1,4 +1,4 @@
--- What certificates and checked expressions of the code mean to a caller.
+-- What values of the code's types `CheckedExpression` and `Certificate` stand for.
 use Rattle.std.specs.Prelude.{List}
 use Rattle.dw_stack.specs.declared.state.State.{State}
 use Rattle.dw_stack.specs.declared.checked.CheckedExpression.{CheckedExpression}

@@ -1,4 +1,5 @@
--- What a good expression, its states, its depth and its first fault are, given its bytes.
+-- When an expression is good, and what its states, its depth and its first fault are, all defined
+-- from its bytes.
 use Rattle.std.specs.Prelude.{◌≡◌, ℕ, ◌⊎◌, List, length, Option, Some, None}
 use Rattle.dw_bytes.specs.declared.target.Target.{Target}
 use Rattle.dw_bytes.specs.declared.fault.Fault.{Fault}
@@ -12,12 +13,12 @@ use Rattle.dw_stack.specs.Paths.{Placed, IsGood, AreStates, IsDepth}
 use Rattle.dw_stack.specs.Faults.{IsFirstFault}
 use Rattle.dw_stack.specs.Machine.{RunsWell}
 
--- the reading position at offset `at` of the bytes
+-- the position at offset `at` of the bytes, to read from there to their end
 abbrev pub reading_at : Target → List ℕ → ℕ → ReadPosition
 reading_at target bytes at = section_from target bytes at
 
--- the operations that bytes encode, up to the first that can't be read; below, that operation's
--- fault, if there is one
+-- operations_in gives the operations that the bytes encode, up to the first that can't be read.
+-- reading_fault gives the fault of that first one, or None if all can be read.
 abbrev pub operations_in : Target → List ℕ → List Placed
 operations_in target bytes = values_in (operations_of (record { target = target; position = 0; rest = bytes }))
 
@@ -43,13 +44,13 @@ IsDepthOf kind target bytes depth = IsDepth kind (operations_in target bytes) (l
 abbrev pub RunsWellWithin : Kind → Target → List ℕ → ℕ → Type 0
 RunsWellWithin kind target bytes depth = RunsWell kind (operations_in target bytes) (length bytes) depth
 
--- states are given, and their number isn't the number of operations
+-- states are passed to be checked (see `recheck`), and there are not as many as operations
 abbrev pub IsOtherCount : Target → List ℕ → Option (List State) → Type 0
 IsOtherCount target bytes None = ⊥
 IsOtherCount target bytes (Some given) = ¬ (length given ≡ length (operations_in target bytes))
 
--- The first fault of an expression. Faults of reading come first, then a wrong number of given
--- states, then the faults of each operation and of the end.
+-- f is the first fault of an expression. Faults of reading come first, then a wrong number of
+-- states in `given`, then the faults of each operation and of the end.
 abbrev pub IsFaultOf : Kind → Target → List ℕ → Option (List State) → Fault → Type 0
 IsFaultOf kind target bytes given f =
     (reading_fault target bytes ≡ Some f)
@@ -77,7 +78,7 @@ pub record IsOf (kind : Kind) (target : Target) (bytes : List ℕ) (c : Checked)
   pub target_is : c.target ≡ target
   pub bytes_are : c.bytes ≡ bytes
 
--- the given states, if there are any, are the states of the expression
+-- the states in `given`, if any are passed, are the states of the expression
 abbrev pub Knows : Kind → Target → List ℕ → Option (List State) → Type 0
 Knows kind target bytes None = Unit {0}
 Knows kind target bytes (Some given) = AreStatesOf kind target bytes given

@@ -1,5 +1,5 @@
--- What the checks of an expression's operations refuse, and the order of the checks. Each check is
--- named by its fault.
+-- The checks of an expression's operations: what each check refuses, and in which order the checks
+-- are made. A check is named by the kind of fault that it reports.
 use Rattle.std.specs.Prelude.{◌≡◌, ◌≢◌, ℕ, ℤ, ◌+◌, ◌==◌, nat_lt, nat_le, ◌||◌, ◌<◌, ◌⊎◌, Bool, true, false, not, is_some, List, [], ◌∷◌}
 use Rattle.std.specs.Prelude.{length, find, Option, Some, None, slice_get}
 use Rattle.std.specs.List.{list_any}
@@ -14,18 +14,19 @@ use Rattle.dw_stack.specs.Effects.{effect_of}
 use Rattle.dw_stack.specs.States.{stands_alone, height_after, HasResult, at_offset}
 use Rattle.dw_stack.specs.Paths.{Placed, place, branch_target, branch_target_of, Reaches, has_operation, is_piece, pieces_before}
 
--- if states are given, the one at index k is t
+-- if states are passed to be checked (see `recheck`), the one at index k is t
 abbrev pub Keeps : Option (List State) → ℕ → State → Type 0
 Keeps None k t = Unit {0}
 Keeps (Some given) k t = slice_get given k ≡ Some t
 
--- if states are given, the one for the operation numbered k is s with the operation's offset
+-- if states are passed to be checked, the one for the operation numbered k is s with the
+-- operation's offset
 abbrev pub Given : List Placed → ℕ → Option (List State) → ℕ → StackState → Type 0
 Given ops len given k s = Keeps given k (at_offset (place ops len k) s)
 
 -- ---- the checks of one operation
 
--- the checks of an operation that paths reach with one state, in order
+-- the checks of an operation, in order, if all paths reach it with the same state
 abbrev pub judgements : List FaultKind
 judgements = fault.NotInFrame ∷ fault.NotAlone ∷ fault.Underflow ∷ fault.TooDeep ∷ fault.TooManyPieces ∷ fault.Backward
     ∷ fault.TargetNotStart ∷ []
@@ -41,7 +42,7 @@ is_start ops len None = true
 is_start ops len (Some t) = (len == t) || list_any (λ (x : Placed). x.0 == t) ops
 
 -- whether an operation with effect e passes the check named by the fault, in state s, after this
--- number of pieces; the checks of branch targets aren't among these
+-- number of pieces; true for the checks of branch targets, which `passes` adds
 abbrev pub suits : Kind → ℕ → StackEffect → StackState → FaultKind → Bool
 suits kind pieces e s fault.NotInFrame = has_operation kind e
 suits kind pieces e s fault.NotAlone = stands_alone e.role s.mode s.height
@@ -50,14 +51,14 @@ suits kind pieces e s fault.TooDeep = nat_le (height_after e s) MAX_HEIGHT
 suits kind pieces e s fault.TooManyPieces = not (is_piece e.role) || nat_lt pieces MAX_PIECES
 suits kind pieces e s _ = true
 
--- whether the operation numbered k, with effect e, passes the check named by the fault; the checks
--- of branch targets are among these
+-- whether the operation numbered k, with effect e, passes the check named by the fault, which may
+-- be a check of its branch target
 abbrev pub passes : Kind → List Placed → ℕ → ℕ → ℕ → StackEffect → StackState → FaultKind → Bool
 passes kind ops len k pieces e s fault.Backward = is_ahead (place ops len (k + 1)) e.jump
 passes kind ops len k pieces e s fault.TargetNotStart = is_start ops len (branch_target_of ops len k e)
 passes kind ops len k pieces e s f = suits kind pieces e s f
 
--- the first check that fails, if there is one
+-- the first check that fails, or None if none fails
 abbrev pub first_failed : (FaultKind → Bool) → Option FaultKind
 first_failed passed = find (λ f. not (passed f)) judgements
 
@@ -82,7 +83,7 @@ Refuses kind ops len given f at =
     (k : ℕ) × (x : Placed) × (s : StackState) × (slice_get ops k ≡ Some x) × (x.0 ≡ at) × Reaches kind ops len at s
     × Objection kind ops len k (pieces_before ops k) x s f
 
--- the order of the checks at one offset
+-- the place of each check in the order of the checks at one offset
 abbrev pub rank : FaultKind → ℕ
 rank fault.Unreachable = 0
 rank fault.Mismatch = 1
@@ -100,11 +101,12 @@ rank _ = 11
 abbrev pub Precedes : ℕ → FaultKind → ℕ → FaultKind → Type 0
 Precedes a f b g = (a < b) ⊎ ((a ≡ b) × (rank f < rank g))
 
--- of all checks that refuse, f at offset `at` is the first
+-- The check f refuses at offset `at`, and no check refuses at a lower offset or comes before f at
+-- the same offset.
 pub record IsFirstFault (kind : Kind) (ops : List Placed) (len : ℕ) (given : Option (List State)) (f : FaultKind) (at : ℕ) : Type 0 where
   pub refuses : Refuses kind ops len given f at
   pub first : (g : FaultKind) (a : ℕ) → Precedes a g at f → ¬ Refuses kind ops len given g a
 
--- the given states, if there are any, are those that the paths have
+-- the states in `given`, if any are passed, are those that the paths have
 pub record KnowsOnly (kind : Kind) (ops : List Placed) (len : ℕ) (given : Option (List State)) : Type 0 where
   pub each : (k : ℕ) (x : Placed) (s : StackState) → slice_get ops k ≡ Some x → Reaches kind ops len x.0 s → Given ops len given k s

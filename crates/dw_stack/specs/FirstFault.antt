@@ -1,8 +1,8 @@
 -- The first fault of an expression as a function of its bytes. First the whole expression is read.
 -- Then the operations are checked in order of offset, and the end last. Each is checked by
--- yes-or-no questions in a fixed order; the first no is the fault. The questions ask what DWARF 5,
--- sections 2.5 and 2.6, and this checker's rules on paths require; their order is this checker's
--- own.
+-- yes-or-no questions in a fixed order, and the first question answered with no gives the fault.
+-- The questions ask what DWARF 5, sections 2.5 and 2.6, and this checker's rules on paths require.
+-- Their order is this checker's own.
 use Rattle.std.specs.Prelude.{ℕ, zero, suc, ◌+◌, ◌==◌, ◌&&◌, Bool, true, false, not, if◌then◌else◌, List, [], ◌∷◌, ◌++◌, length, map}
 use Rattle.std.specs.Prelude.{Option, Some, None, slice_get}
 use Rattle.std.specs.Option.{option_or}
@@ -68,7 +68,7 @@ abbrev pub same_state : StackState → StackState → Bool
 same_state s t =
     (s.height == t.height) && (number_of s.mode == number_of t.mode) && (if s.pieced then t.pieced else not t.pieced)
 
--- ---- the questions, each with the fault that a no gives
+-- ---- the questions, each with the fault if the answer is no
 
 abbrev pub Question : Type 0
 Question = Bool × Fault
@@ -83,8 +83,8 @@ first_no [] = None
 first_no ((true, f) ∷ asked) = first_no asked
 first_no ((false, f) ∷ asked) = Some f
 
--- the questions about an operation that paths reach with state s: it has the number k, this effect
--- and this offset
+-- the questions about the operation numbered k, with effect e and at offset `at`, which paths reach
+-- with state s
 abbrev pub asked_at : Kind → List Placed → ℕ → ℕ → StackEffect → StackState → ℕ → List Question
 asked_at kind ops len k e s at =
     map (λ f. else_fault (passes kind ops len k (pieces_before ops k) e s f) f at) judgements
@@ -109,11 +109,11 @@ asked_from kind ops len k [] = asked_last kind ops len (states_to kind ops len k
 asked_from kind ops len k (x ∷ left) =
     asked_of kind ops len k x (states_to kind ops len k) ++ asked_from kind ops len (k + 1) left
 
--- the first fault of operations that are laid out in order up to the length
+-- the first fault of operations that are laid out in order up to the length; None if there is none
 unfoldable pub first_fault : Kind → List Placed → ℕ → Option Fault
 first_fault kind ops len = first_no (asked_from kind ops len 0 ops)
 
--- The first fault of an expression: none exactly if the expression is good, and f exactly if the
+-- The first fault of an expression: None exactly if the expression is good, and f exactly if the
 -- relation `IsFaultOf` holds for f (law `the_fault_is_the_first`).
 unfoldable pub expression_fault : Kind → Target → List ℕ → Option Fault
 expression_fault kind target bytes =

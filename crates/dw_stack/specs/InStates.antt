@@ -1,5 +1,5 @@
--- The table of in-states, which has what is known of the state before each operation, and how one
--- step of the pass changes it.
+-- The table of `InState`, which holds what is known so far of the state before each operation, and
+-- how one step of the pass (src/step.rt) changes it.
 use Rattle.std.specs.Prelude.{◌≡◌, ◌≢◌, ℕ, ◌+◌, ◌⊎◌, Bool, true, false, List, Option, Some, None, Result, Ok, Err, slice_set}
 use Rattle.std.specs.Prelude.{slice_index_or}
 use Rattle.std.specs.Borrow.{Bor}
@@ -16,7 +16,7 @@ use Rattle.dw_stack.specs.Paths.{Placed}
 use Rattle.dw_stack.specs.Faults.{Given}
 use Rattle.dw_stack.specs.Judge.{Judged, Objects}
 
--- the given states of the code as a list, if there are any
+-- the states that the caller passes to be checked, as a list; None if no states are passed
 abbrev pub given_of : Option (Bor (List State)) → Option (List State)
 given_of None = None
 given_of (Some states) = Some states.now
@@ -39,7 +39,8 @@ abbrev pub ReceivesAt : Option ℕ → List InState → StackState → List InSt
 ReceivesAt None old s new = new ≡ old
 ReceivesAt (Some j) old s new = Receives old j s new
 
--- the state after the operation numbered i is passed on to the operations that may run next
+-- The table after the state behind the operation numbered i was passed on to the operations that
+-- may run next.
 pub record PassesOn (old : List InState) (i : ℕ) (out : OutState) (new : List InState) : Type 0 where
   pub mid : List InState
   pub next : ReceivesIf out.falls_through old (i + 1) out.state mid

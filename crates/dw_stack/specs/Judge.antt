@@ -1,4 +1,5 @@
--- The result of checking one operation in one state.
+-- What checking one operation in one state gives (src/judge.rt): whether the operation is allowed
+-- there, and what comes after it.
 use Rattle.std.specs.Prelude.{◌≡◌, ◌≢◌, ℕ, ℤ, ◌+◌, ◌<◌, ◌≤◌, true, List, length, Option, Some, None, slice_get}
 use Rattle.dw_bytes.specs.declared.fault.FaultKind.{FaultKind}
 use Rattle.dw_bytes.specs.declared.fault.FaultKind.TheVariants as fault
@@ -18,8 +19,8 @@ pub record IsEffectAt (ops : List Placed) (k : ℕ) (e : StackEffect) : Type 0 w
   pub stands : slice_get ops k ≡ Some placed
   pub is : e ≡ effect_of placed.1
 
--- an operation with effect e is allowed in state s, after this number of pieces, and the stack
--- height after it is `height`
+-- an operation with effect e is allowed in state s, if this number of pieces come before it, and
+-- `height` is the stack height after the operation
 pub record Suits (kind : Kind) (e : StackEffect) (pieces : ℕ) (s : StackState) (height : ℕ) : Type 0 where
   pub allowed : IsAllowed kind e
   pub alone : StandsAlone e.role s.mode s.height
@@ -28,8 +29,8 @@ pub record Suits (kind : Kind) (e : StackEffect) (pieces : ℕ) (s : StackState)
   pub few : is_piece e.role ≡ true → pieces < MAX_PIECES
   pub height_is : height ≡ height_after e s
 
--- the operation numbered k branches by z bytes to the operation numbered j; if j is the number of
--- all operations, to the end
+-- the operation numbered k branches by z bytes to the operation numbered j, or to the end if j is
+-- the number of all operations
 pub record TargetPlace (ops : List Placed) (len k : ℕ) (z : ℤ) (j : ℕ) : Type 0 where
   pub later : k < j
   pub within : j ≤ length ops
@@ -47,7 +48,8 @@ TargetIs ops len k (Some z) (Some j) = TargetPlace ops len k z j
 TargetIs ops len k None (Some j) = ⊥
 TargetIs ops len k (Some z) None = ⊥
 
--- the operation numbered k passes all checks in state s, and `out` is what it passes on
+-- the operation numbered k passes all checks in state s, and `out` is what follows for the
+-- operations that may run next
 pub record Judged (kind : Kind) (ops : List Placed) (len k pieces : ℕ) (s : StackState) (out : OutState) : Type 0 where
   pub placed : Placed
   pub stands : slice_get ops k ≡ Some placed

@@ -1,4 +1,6 @@
--- ---- Trusted: what DWARF 5 says. To check the headline against the standard, read these.
+-- ---- Trusted: what DWARF 5 says. To check the main promise (docs/HEADLINE.md) against DWARF 5,
+-- read these files.
+
 -- what each operation needs, takes and pushes, where it leads, and whether call frame information
 -- may have it (2.5, 2.6, 6.4.2)
 pub mod Effects
@@ -8,22 +10,26 @@ pub mod States
 pub mod Paths
 -- runs with actual values, whatever the registers and memory are (2.5, 2.6)
 pub mod Machine
--- whether an expression, given as bytes, is good, its states, its depth, its first fault
+-- when the bytes of an expression are good, and what their states, depth and first fault are
 pub mod Expressions
 -- an expression with its offset in a section
 pub mod Located
--- ---- The first fault, computed from the bytes. Laws tie it to the trusted definitions.
+-- ---- The first fault, computed from the bytes. A law (`the_fault_is_the_first`) relates this
+-- definition to the trusted ones.
+
 -- what each check refuses, and the order of the checks
 pub mod Faults
 -- the first fault, computed from the bytes
 pub mod FirstFault
--- ---- What the code's values mean, and what its calls return.
--- what certificates and checked expressions mean
+-- ---- What values of the code's types stand for.
+
+-- what certificates and checked expressions stand for
 pub mod Certificates
--- the code's operations, with their offsets
+-- what the code's lists of operations with their offsets stand for
 pub mod Views
--- ---- Internal: no contract of a public call uses these.
+-- ---- Used only inside this crate: no contract of a public call mentions these.
+
 -- the check of one operation in one state
 pub mod Judge
--- the table of in-states, by which one pass checks all paths
+-- the table of what is known of the state before each operation, by which one pass checks all paths
 pub mod InStates

@@ -1,4 +1,4 @@
--- Expressions with their offsets in a section.
+-- Expressions with their offsets in a section, and where their faults are in that section.
 use Rattle.std.specs.Prelude.{ℕ, ◌+◌, List, map, Option, Some, None}
 use Rattle.dw_bytes.specs.declared.target.Target.{Target}
 use Rattle.dw_bytes.specs.declared.fault.Fault.{Fault}
@@ -35,7 +35,8 @@ abbrev pub moved_by : ℕ → Option Fault → Option Fault
 moved_by from None = None
 moved_by from (Some f) = Some (record { kind = f.kind; at = from + f.at })
 
--- the first fault of an expression, with its offset in the section; none if there is no expression
+-- the first fault of an expression, with its offset in the section; None if there is no expression
+-- or no fault
 abbrev pub located_fault : Option LocatedExpression → Option Fault
 located_fault None = None
 located_fault (Some e) = moved_by e.offset (expression_fault e.kind e.target e.bytes)

@@ -35,13 +35,13 @@ pub record IsLaidOut (ops : List Placed) (len : ℕ) : Type 0 where
   pub each : (j : ℕ) → j < length ops → place ops len j < place ops len (j + 1)
 
 -- the offset that a branch leads to on a path: its operand counts from the next operation, at
--- `next`; none if the branch is backward
+-- `next`; None if the branch is backward
 abbrev pub branch_target : ℕ → ℤ → Option ℕ
 branch_target next (pos n) = Some (next + n)
 branch_target next (negsuc n) = None
 
--- the branch target of the operation numbered k; none if it isn't a branch, or if it branches
--- backward
+-- the branch target of an operation, whose next operation is at `next`, or of the operation
+-- numbered k; None if it isn't a branch, or if it branches backward
 abbrev pub jump_target : ℕ → Option ℤ → Option ℕ
 jump_target next None = None
 jump_target next (Some z) = branch_target next z
@@ -93,7 +93,7 @@ abbrev pub is_piece : Role → Bool
 is_piece role.Piece = true
 is_piece _ = false
 
--- how many of the first k operations name pieces
+-- how many of the first k operations are pieces
 abbrev pub pieces_before : List Placed → ℕ → ℕ
 pieces_before ops k = count_by (λ x. is_piece (effect_of x.1).role) (take k ops)
 

@@ -50,8 +50,8 @@ height_after e s = s.height - e.takes + e.adds
 abbrev pub state_after : StackEffect → StackState → StackState
 state_after e s = next_mode e.role (height_after e s) s.pieced
 
--- An expression that ends in this mode and at this height has a result. The flags tell whether it
--- has no operations, and whether it has pieces.
+-- An expression that ends in this mode and at this height has a result. The first flag tells
+-- whether the expression has no operations, and the second whether it has pieces.
 abbrev pub has_result : Kind → Mode → Bool → Bool → ℕ → Bool
 has_result Location mode.AfterPiece empty pieced h = true
 has_result Location mode.Stack empty pieced h = empty || (not pieced && nat_le 1 h)

@@ -1,4 +1,4 @@
--- What the code's lists of operations stand for.
+-- What a list of the code's operations with their offsets stands for.
 use Rattle.std.specs.Prelude.{ℕ, List, map}
 use Rattle.dw_ops.specs.declared.operation.Operation as coded
 use Rattle.dw_ops.specs.Views.{located_of}

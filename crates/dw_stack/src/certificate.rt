@@ -1,4 +1,4 @@
-//! The certificate of an expression.
+//! `Certificate`: a checked expression with the state before each of its operations.
 
 ghost use Rattle.dw_stack.specs.Expressions.{AreStatesOf};
 

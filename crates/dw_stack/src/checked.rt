@@ -1,4 +1,4 @@
-//! A checked expression.
+//! `CheckedExpression`: an expression that passed the check on all paths.
 
 ghost use Rattle.std.specs.Prelude.{◌<◌, ◌^◌, length};
 ghost use Rattle.dw_ops.specs.Views.{bytes_of, target_of};
@@ -47,9 +47,9 @@ impl<'a> CheckedExpression<'a> {
     ghost use Rattle.dw_stack.specs.Expressions.{IsGoodExpression, IsDepthOf, RunsWellWithin, operations_in};
     ghost use Rattle.dw_stack.specs.Certificates.{checked_of};
 
-    /// Makes a checked expression without checking it again. The caller, who stored `depth` and
-    /// `count`, proves that the expression passes the check as `kind` and that both numbers are
-    /// right.
+    /// Makes a checked expression without checking it again, for a caller who stored `depth` and
+    /// `count`. The caller must prove that the expression passes the check as `kind`, and that both
+    /// numbers are right.
     pub fn new(expression: Expression<'a>, kind: Kind, depth: u8, count: u32) -> Self
         requires { IsChecked (record {
           kind = kind;
@@ -75,7 +75,8 @@ impl<'a> CheckedExpression<'a> {
         }
     }
 
-    /// The expression that was checked. It passed on every path, under its kind.
+    /// The expression that was checked. It passed the check on every path, as an expression of its
+    /// kind.
     pub fn expression(&self) -> Expression<'a>
         ensures bytes { bytes_of result ≡ (checked_of self.now).bytes }
         ensures target { target_of result ≡ (checked_of self.now).target }
@@ -105,8 +106,8 @@ impl<'a> CheckedExpression<'a> {
         self.depth
     }
 
-    /// The number of operations in the expression. By the contract of `depth` (`runs`), no run
-    /// takes more steps.
+    /// The number of operations in the expression. No run takes more steps (see `runs` in the
+    /// contract of `depth`).
     pub fn operation_count(&self) -> u32
         ensures value { result ≡ (checked_of self.now).count }
         ensures count { result ≡ length

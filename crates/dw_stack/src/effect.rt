@@ -1,4 +1,4 @@
-//! What each operation needs on the stack and does to it.
+//! The effect of each operation: what it needs on the stack, and what it does to the stack.
 
 ghost use Rattle.std.specs.Prelude.{◌≡◌, ◌≤◌, true, false};
 ghost use Rattle.dw_ops.specs.Views.{operation_of};
@@ -6,22 +6,23 @@ ghost use Rattle.dw_stack.specs.Effects.{plain_effect, context_effect, naming_ef
 
 use dw_ops::Operation;
 
-/// What an operation names, if anything; this decides the mode after it.
+/// What an operation says of the object's location or value, if anything. The role decides the
+/// `Mode` after the operation.
 #[derive(Clone, Copy)]
 pub enum Role {
-    /// It names nothing: it works on the stack, branches, or does nothing.
+    /// Says nothing of the object: works on the stack, branches, or does nothing.
     Plain,
-    /// It names a register.
+    /// Names a register, where the object is (`DW_OP_reg0` to `DW_OP_reg31`, `DW_OP_regx`).
     Register,
-    /// It gives the object's bytes (`DW_OP_implicit_value`).
+    /// Gives the object's bytes (`DW_OP_implicit_value`).
     Bytes,
-    /// It makes the top of the stack the object's value (`DW_OP_stack_value`).
+    /// Makes the top of the stack the object's value (`DW_OP_stack_value`).
     Top,
-    /// It ends a piece (`DW_OP_piece`, `DW_OP_bit_piece`).
+    /// Ends a piece of the object (`DW_OP_piece`, `DW_OP_bit_piece`).
     Piece,
 }
 
-/// What an operation needs on the stack, what it does to it, and where it may lead.
+/// What an operation needs on the stack, what it does to the stack, and where it may lead.
 #[derive(Clone, Copy)]
 pub struct StackEffect {
     /// How many entries must be on the stack before the operation.
@@ -34,10 +35,11 @@ pub struct StackEffect {
     /// Whether an expression in call frame information may have the operation (DWARF 5, section
     /// 6.4.2).
     pub allowed_in_cfi: bool,
-    /// Whether the run may go on to the next operation.
+    /// Whether the next operation may run after this one. Only a `DW_OP_skip` never goes there by
+    /// itself.
     pub falls_through: bool,
-    /// The branch's operand: the target in bytes from the next operation's first byte. `None` if
-    /// the operation isn't a branch.
+    /// The operand of a branch: how many bytes the branch target is after the first byte of the
+    /// next operation. `None` if the operation isn't a branch.
     pub jump: Option<i16>,
 }
 

@@ -1,4 +1,4 @@
-//! The state that earlier operations pass on to each operation, and to the end.
+//! `InState`: what is known of the state before each operation, and at the end of the expression.
 
 ghost use Rattle.std.specs.Prelude.{◌≡◌, ◌+◌, ◌<◌, length, slice_index_or, IfSome};
 ghost use Rattle.dw_stack.specs.InStates.{Merges, Receives, PassesOn, known_state};
@@ -7,8 +7,9 @@ use crate::judge::OutState;
 use crate::state::StackState;
 use dw_bytes::FaultKind;
 
-/// What the operations checked so far say about the state before an operation: none of them leads
-/// to the operation, or all that do give the same state, or two give different states.
+/// What the operations checked so far say about the state before an operation: `Unreached` if none
+/// of them leads to the operation, `Known` if all that lead there give the same state, `Conflict`
+/// if two give different states.
 #[derive(Clone, Copy)]
 pub enum InState {
     Unreached,
@@ -16,7 +17,7 @@ pub enum InState {
     Conflict,
 }
 
-/// Fills the unused slots of a `SmallVec`.
+/// `Unreached`, which fills the unused slots of a `SmallVec`.
 impl Default for InState {
     fn default() -> Self
         ensures { result ≡ InState.Unreached }
@@ -65,8 +66,8 @@ pub fn pass_on(in_states: &mut [InState], i: usize, out: &OutState)
     }
 }
 
-/// The state before operation `i` on every path to it. `Unreachable` if there is no path,
-/// `Mismatch` if two paths come with different states.
+/// The state before operation `i` on every path to it. `Unreachable` if there is no path to it,
+/// `Mismatch` if two paths have different states there.
 #[inline(always)]
 pub fn in_state_at(in_states: &[InState], i: usize) -> Result<StackState, FaultKind>
     requires { i < length in_states.now }

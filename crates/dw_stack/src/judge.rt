@@ -1,4 +1,4 @@
-//! Checks one operation.
+//! Checking one operation in one state, and the state after it.
 
 ghost use Rattle.std.specs.Prelude.{◌≡◌, ◌<◌, ◌≤◌, length, Some, IfOk, IfErr};
 ghost use Rattle.dw_stack.specs.Paths.{IsLaidOut};
@@ -18,7 +18,7 @@ pub const MAX_HEIGHT: u16 = 128;
 /// The greatest number of piece operations that an expression may have.
 pub const MAX_PIECES: usize = 32;
 
-/// The result of checking an operation: what it passes on to the operations that may run next.
+/// What checking an operation gives for the operations that may run after it.
 #[derive(Clone, Copy)]
 pub struct OutState {
     /// The state after the operation.
@@ -27,10 +27,10 @@ pub struct OutState {
     pub height: u8,
     /// Whether the operation is a piece operation.
     pub piece: bool,
-    /// Whether the run may go on to the next operation.
+    /// Whether the next operation may run after this one: false for `DW_OP_skip`.
     pub falls_through: bool,
-    /// The index of the operation that this one may branch to, or the number of all operations if
-    /// it may branch to the end. `None` if it isn't a branch.
+    /// The index of the operation that this one may branch to. If this one may branch to the end,
+    /// the number of all operations. `None` if this one isn't a branch.
     pub target: Option<usize>,
 }
 
@@ -46,8 +46,9 @@ fn effect_at(operations: &[(u32, Operation<'_>)], i: usize) -> StackEffect
     effect(&operations[i].1)
 }
 
-/// Checks whether an operation with effect `effect` is allowed in state `state`, after `pieces`
-/// piece operations. Returns the stack height after the operation, before a piece clears the stack.
+/// Checks whether an operation with effect `effect` is allowed in state `state`, if `pieces` piece
+/// operations come before it. Returns the stack height after the operation, before a piece clears
+/// the stack.
 #[inline(always)]
 pub fn suits(
     kind: Kind,
@@ -80,8 +81,8 @@ pub fn suits(
     Ok(height as u8)
 }
 
-/// Checks operation `i` in state `state`, after `pieces` piece operations: whether it is allowed
-/// there, and whether it branches forward to the start of an operation, or to the end.
+/// Checks operation `i` in state `state`, if `pieces` piece operations come before it: whether it
+/// is allowed there, and whether it branches forward to the start of an operation, or to the end.
 #[inline(always)]
 pub fn judge(
     kind: Kind,

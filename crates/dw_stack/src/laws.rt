@@ -1,5 +1,6 @@
-//! Laws of expressions: functions that do nothing. The contract of each is a law. A good expression
-//! is one that `IsGoodExpression` defines as fine on all paths.
+//! Laws about expressions. The functions do nothing: the contract of each is a law. A good
+//! expression is one for which `IsGoodExpression` in Expressions.antt holds: nothing goes wrong on
+//! any path.
 
 ghost use Rattle.std.specs.Prelude.{◌≡◌, ◌+◌, ◌<◌, ◌≤◌, ◌⊎◌, ◌↔◌, ℕ, suc, ℤ, pos, List, length, slice_get, Option, Some, None, Ok};
 ghost use Rattle.dw_bytes.specs.declared.target.Target.{Target};
@@ -66,8 +67,8 @@ pub fn expression_limits()
     ensures pieces { MAX_PIECES ≡ 32 }
 {}
 
-/// A good expression has no fault. If states are given, there is still no fault as long as they are
-/// the states of the expression.
+/// A good expression has no fault. If states are passed to be checked with the expression, there is
+/// still no fault as long as they are the states of the expression.
 pub fn good_expressions_have_no_fault()
     ensures alone { (kind : Kind) (target : Target) (bytes : List ℕ) (f : Fault)
         → IsGoodExpression kind target bytes → ¬ IsFaultOf kind target bytes None f }
@@ -76,8 +77,8 @@ pub fn good_expressions_have_no_fault()
         → ¬ IsFaultOf kind target bytes given f }
 {}
 
-/// Every expression is good or has a first fault. If states are given, either the expression is
-/// good and they are its states, or there is a first fault.
+/// Every expression is good or has a first fault. If states are passed to be checked with the
+/// expression, either it is good and they are its states, or there is a first fault.
 pub fn every_expression_has_a_verdict()
     ensures alone { (kind : Kind) (target : Target) (bytes : List ℕ)
         → IsGoodExpression kind target bytes ⊎ ((f : Fault) × IsFaultOf kind target bytes None f) }
@@ -101,7 +102,8 @@ pub fn expression_faults_stand_inside()
         → expression_fault kind target bytes ≡ Some f → f.at ≤ length bytes }
 {}
 
-/// An expression has at most one first fault, with or without given states.
+/// An expression has at most one first fault, whether or not states are passed to be checked with
+/// it.
 pub fn first_faults_are_unique()
     ensures { (kind : Kind) (target : Target) (bytes : List ℕ) (given : Option (List State))
         (f g : Fault) → IsFaultOf kind target bytes given f → IsFaultOf kind target bytes given g
@@ -146,8 +148,8 @@ pub fn operations_stand_in_the_bytes()
         (x.1, reading_at target bytes (place (operations_in target bytes) (length bytes) (k + 1))) }
 {}
 
-/// If operations are laid out without gaps, each begins at a higher offset than the one before, and
-/// the end is above them all.
+/// If operations are laid out in order (`IsLaidOut` in Paths.antt), each begins at a higher offset
+/// than the one before, and the end is above them all.
 pub fn places_ascend()
     ensures begins { (ops : List Placed) (len k : ℕ) (x : Placed) → slice_get ops k ≡ Some x
         → place ops len k ≡ x.0 }
@@ -159,8 +161,8 @@ pub fn places_ascend()
     ensures few { (ops : List Placed) (len : ℕ) → IsLaidOut ops len → length ops ≤ len }
 {}
 
-/// Operations that are encoded one after another are laid out without gaps from the first byte to
-/// the end, and reading the bytes at an operation's offset gives that operation.
+/// Operations that are encoded one after another are laid out in order from the first byte to the
+/// end, and reading the bytes at an operation's offset gives that operation.
 pub fn encoded_operations_stand_in_the_bytes()
     ensures laid { (target : Target) (bytes : List ℕ) (ops : List Placed)
         → AreOperations target 0 bytes ops → IsLaidOut ops (length bytes) }
@@ -177,8 +179,8 @@ pub fn runs_go_on()
         → Run m ops len n c d → Step m ops len d e → Run m ops len (suc n) c e }
 {}
 
-/// If operations are laid out without gaps, a run of them has only one outcome, and a step can fail
-/// for only one reason. At the end, no operation can run.
+/// If operations are laid out in order (`IsLaidOut` in Paths.antt), a run of them has only one
+/// outcome, and a step can fail for only one reason. At the end, no operation can run.
 pub fn runs_over_operations_are_determined()
     ensures run { (m : Meaning) (ops : List Placed) (len : ℕ) → IsLaidOut ops len
         → (kind : Kind) (n k : ℕ) (c d e : Configuration) → Run m ops len n c d
@@ -190,21 +192,21 @@ pub fn runs_over_operations_are_determined()
         → (kind : Kind) (c : Configuration) → Ended kind ops len c → ¬ Meets ops c }
 {}
 
-/// A branch in operations that are good on all paths has an operand of 0 or more.
+/// In operations that are good on all paths, no branch has a negative operand.
 pub fn branches_lead_ahead()
     ensures { (kind : Kind) (ops : List Placed) (len : ℕ) → IsLaidOut ops len → IsGood kind ops len
         → (k : ℕ) (x : Placed) (z : ℤ) → slice_get ops k ≡ Some x
         → (effect_of x.1).jump ≡ Some z → (n : ℕ) × (z ≡ pos n) }
 {}
 
-/// If it is known only that a proof of `IsChecked` exists (`∥ .. ∥₁`), the proof itself can be had,
+/// If all that is known is that a proof of `IsChecked` exists (`∥ .. ∥₁`), then `IsChecked` holds,
 /// because the check can be repeated.
 pub fn checked_expressions_are_known()
     ensures { (c : Checked) → ∥ IsChecked c ∥₁ → IsChecked c }
 {}
 
-/// If a path reaches an operation of a good expression, a configuration that agrees with the state
-/// there has everything that the operation needs.
+/// If a path reaches an operation of a good expression with a state, a run that is there and agrees
+/// with that state has everything that the operation needs.
 pub fn needs_are_met()
     ensures { (kind : Kind) (target : Target) (bytes : List ℕ) → IsGoodExpression kind target bytes
         → (c : Configuration) (s : StackState)

@@ -1,4 +1,4 @@
-//! The pass over the operations.
+//! Checking all operations of an expression in one pass, which covers all paths.
 
 ghost use Rattle.std.specs.Prelude.{◌≡◌, ◌+◌, ◌<◌, ◌≤◌, ◌^◌, ◌⊎◌, length, slice_set, replicate, OnOk, IfOk, IfErr, IfSome};
 ghost use Rattle.dw_bytes.specs.Answers.{memory};
@@ -31,8 +31,8 @@ fn refusal(kind: FaultKind, at: u32) -> Fault
     Fault { kind, at }
 }
 
-/// The table of in-states before the pass: the start state in slot 0, and `Unreached` in the slots
-/// of all other operations and of the end.
+/// What is known of the states when the pass begins: the start state in slot 0, and `Unreached` in
+/// all others. Slot i is for the state before operation i, and the last slot is for the end.
 fn first_arrivals(
     alloc: Global,
     count: usize,
@@ -48,9 +48,9 @@ fn first_arrivals(
     Ok(in_states)
 }
 
-/// Checks all operations in one pass, in order. If states are given, each must be the one that the
-/// pass finds. Each branch finds its target by binary search, so n operations with b branches take
-/// O(n + b log n) time. Doesn't allocate for up to 16 operations.
+/// Checks all operations in one pass, in order. If `given` has states, each must equal the state
+/// that the pass finds. Each branch finds its target by binary search, so n operations with b
+/// branches take O(n + b log n) time. Doesn't allocate for up to 16 operations.
 #[tactic(auto, using(crate::proofs::Places::count_le))]
 pub fn pass(
     alloc: Global,

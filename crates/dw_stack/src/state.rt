@@ -20,16 +20,16 @@ pub enum Kind {
     Location,
 }
 
-/// What the operations of a path have named, if anything, since the last piece.
+/// What the operations of a path have named since the last piece as the object's location or value.
 #[derive(Clone, Copy, Debug, PartialEq, Eq)]
 pub enum Mode {
-    /// Nothing: there are only stack entries, if any.
+    /// Nothing: if there is anything, it is on the stack.
     Stack,
     /// A register.
     Register,
     /// A value (`DW_OP_stack_value` or `DW_OP_implicit_value`).
     Value,
-    /// Nothing: the operation just before is a piece, and the stack is empty.
+    /// Nothing, because the operation just before is a piece. The stack is empty.
     AfterPiece,
 }
 
@@ -46,7 +46,7 @@ pub struct State {
     pub pieced: bool,
 }
 
-/// Fills the unused slots of a `SmallVec`.
+/// The state that fills the unused slots of a `SmallVec`.
 impl Default for State {
     fn default() -> Self
         ensures { result ≡ at_offset 0 (start_of Kind.Location) }

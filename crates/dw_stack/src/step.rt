@@ -1,4 +1,4 @@
-//! One step of the pass over the operations.
+//! One step of the pass over the operations: checking one operation and passing on its state.
 
 ghost use Rattle.std.specs.Prelude.{◌≡◌, ◌+◌, ◌<◌, length, ◌↔◌, IsTrue, IfOk, IfErr, IfSome};
 ghost use Rattle.dw_stack.specs.Paths.{IsLaidOut};
@@ -13,8 +13,8 @@ use crate::target::place_of_operation;
 use dw_bytes::FaultKind;
 use dw_ops::Operation;
 
-/// What one step reports about its operation: the state before the operation, the height after it
-/// (before a piece clears the stack), and whether it is a piece operation.
+/// What one step reports about its operation: the state before the operation, the stack height
+/// after the operation (before a piece clears the stack), and whether the operation is a piece.
 #[derive(Clone, Copy)]
 pub struct Done {
     pub state: StackState,
@@ -22,7 +22,7 @@ pub struct Done {
     pub piece: bool,
 }
 
-/// Whether `state` is the given state at index `i`; true if no states are given.
+/// Whether `state` equals the state at index `i` of `given`; true if `given` is `None`.
 #[inline(always)]
 fn is_given(given: Option<&[State]>, i: usize, state: State) -> bool
     requires { IfSome given (λ states. i < length states.now) }
@@ -35,7 +35,7 @@ fn is_given(given: Option<&[State]>, i: usize, state: State) -> bool
 }
 
 /// Checks operation `i` and passes the state after it on to the operations that may run next. If
-/// states are given, the state before the operation must be the given one.
+/// `given` has states, the one at index `i` must equal the state before the operation.
 #[inline(always)]
 pub fn step_of_pass(
     kind: Kind,

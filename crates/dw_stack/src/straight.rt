@@ -29,8 +29,8 @@ struct Left {
     piece: bool,
 }
 
-/// Checks an operation in state `state`, after `pieces` piece operations. `None` if the operation
-/// is a branch or isn't allowed there.
+/// Checks an operation in state `state`, if `pieces` piece operations come before it. `None` if the
+/// operation is a branch or isn't allowed there.
 #[inline(always)]
 fn judge_straight(
     kind: Kind,
@@ -89,9 +89,9 @@ pub fn check_straight<'a>(expression: Expression<'a>, kind: Kind) -> Option<Chec
 }
 
 /// Certifies an expression without branches in one pass over its bytes. `None` if the expression
-/// has a branch or a fault, or if there is no memory for its states. For a few operations
-/// `check_with_states` spends most of its time making lists of operations and in-states; this makes
-/// only the list of states.
+/// has a branch or a fault, or if there is no memory for its states. This is faster than
+/// `check_with_states`, which for a few operations spends most of its time making lists of
+/// operations and of `InState`. Here only the list of states is made.
 pub fn certify_straight<'a>(
     alloc: Global,
     expression: Expression<'a>,

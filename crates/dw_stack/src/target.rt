@@ -1,4 +1,4 @@
-//! Offsets of operations, and branch targets.
+//! The offsets of operations, and the operations that branches lead to.
 
 ghost use Rattle.std.specs.Prelude.{◌≡◌, ◌≢◌, ◌+◌, ◌<◌, ◌≤◌, ℕ, length, IfOk, IfErr};
 ghost use Rattle.dw_bytes.specs.declared.fault.FaultKind.{FaultKind};
@@ -35,7 +35,7 @@ fn jump_target(next: u32, jump: i16) -> Option<u64>
 }
 
 /// The index of the operation after `from` that begins at offset `target`, or the number of all
-/// operations if `target` is `end`; otherwise `TargetNotStart`. Binary search.
+/// operations if `target` is `end`; otherwise `TargetNotStart`. Uses binary search.
 #[tactic(auto, using(crate::proofs::Lists::places))]
 fn place_at_target(
     operations: &[(u32, Operation<'_>)],

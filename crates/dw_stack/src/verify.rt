@@ -1,4 +1,4 @@
-//! Checks and certifies expressions.
+//! `check_expression`, `certify` and `recheck`: checking an expression on all paths.
 
 ghost use Rattle.std.specs.Prelude.{◌≡◌, ◌⊎◌, ◌≤◌, ◌↔◌, IsTrue, IfSome, length, OnOk, IfOk, IfErr, None, Some};
 ghost use Rattle.dw_bytes.specs.Answers.{memory, Answers};
@@ -17,10 +17,10 @@ use dw_bytes::{Fault, FaultKind};
 use dw_ops::{Expression, operations};
 use std::alloc::Global;
 
-/// Why `recheck` refuses: the same type as `Fault`.
+/// The fault that `recheck` returns, which has the type of other faults.
 pub type CertFault = Fault;
 
-/// Whether there are exactly `count` given states; true if no states are given.
+/// Whether `given` has exactly `count` states; true if `given` is `None`.
 fn are_as_many_states(given: Option<&[State]>, count: usize) -> bool
     ensures { IsTrue result ↔ IfSome given.entry (λ states. length states.now ≡ count) }
 {
@@ -30,7 +30,7 @@ fn are_as_many_states(given: Option<&[State]>, count: usize) -> bool
     }
 }
 
-/// Reads the operations, then checks them in one pass. If states are given, they must be the ones
+/// Reads the operations, then checks them in one pass. If `given` has states, they must equal those
 /// that the pass finds.
 fn check_with_states<'a>(
     alloc: Global,
