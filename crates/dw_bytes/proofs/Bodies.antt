@@ -1,4 +1,5 @@
--- Bodies are read exactly where they are encoded, and lie in their section.
+-- The body of a record or table is read exactly if the next bytes encode its length and as many
+-- bytes as that length says, and it lies in its section.
 use Rattle.std.proofs.Common.{◌≡◌, ℕ, ◌+◌, ◌≤◌, List, ◌++◌, length, take, drop, Result, Ok, Err, refl, sym, ap, subst, ◌∙◌, arith, inl, inr}
 use Rattle.std.specs.Prelude.{◌⊎◌}
 use Rattle.std.proofs.lemmas.List.{drop-take, take_at as taken}
@@ -66,7 +67,7 @@ framed-only r format body after h =
 abbrev body-at : Target → ℕ → List ℕ → ReadPosition
 body-at target at bytes = record { target = target; position = at; rest = bytes }
 
--- the bytes of a body are those of the section up to the body's end
+-- the bytes of a body are those of the section from the body's start up to its end
 body-is : (section bytes rest : List ℕ) (first end : ℕ) → end ≡ first + length bytes → drop first section ≡ bytes ++ rest
     → drop first (take end section) ≡ bytes
 body-is section bytes rest first end long parts =
@@ -102,7 +103,7 @@ framed-window target section at format n mid bytes after inside first second mid
     ∙ ap (λ (r : ReadPosition). framed format (section_from target (take after.position section) mid.position) r) after_is)
     )
 
--- ---- refusals
+-- ---- where the faults are
 
 abbrev no : (A : Type 0) → Fault → Result A Fault
 no A fault = Err fault
@@ -113,7 +114,8 @@ err-is A f g e = cc
 pub not-err : {A : Type 0} {x : A} {fault : Fault} → Ok x ≡ Err fault → ⊥
 not-err e = cc
 
--- a fault of two steps in a row is that of the first step or that of the second
+-- if two steps in a row give a fault, the first step gives that fault, or it gives a value and the
+-- second step gives that fault
 pub bind-err : {A B : Type 0} (x : Result A Fault) (f : A → Result B Fault) (fault : Fault) → (x >>= f) ≡ Err fault
     → (x ≡ Err fault) ⊎ ((a : A) × (x ≡ Ok a) × (f a ≡ Err fault))
 bind-err (Ok a) f fault is = inr (a, refl, is)

@@ -1,4 +1,5 @@
--- Reading goes forward towards the same end, and is refused between where it began and that end.
+-- A read goes forward and keeps the end of the bytes. If it fails, its fault is reported between
+-- where it began and that end.
 use Rattle.std.proofs.Common.{◌≡◌, ℕ, zero, suc, ◌+◌, ◌≤◌, Bool, true, false, cond, ltb, List, [], length, take, Result, Ok, Err, refl, ap}
 use Rattle.std.proofs.Common.{subst, arith}
 use Rattle.std.specs.Prelude.{Contains}
@@ -21,8 +22,8 @@ abbrev pub Stays : {X : Type 0} → ℕ → ReadPosition → Result (X × ReadPo
 Stays from r (Ok x) = (r.position ≤ x.1.position) × (end-of x.1 ≡ end-of r)
 Stays from r (Err fault) = (from ≤ fault.at) × (fault.at ≤ end-of r)
 
--- a reader that goes forward and reports faults at offset `from` or after it, if it begins at
--- `from` or after it
+-- each read that begins at offset `from` or after it goes forward, and reports a fault at `from` or
+-- after it
 abbrev pub AlwaysStays : {X : Type 0} → ℕ → (ReadPosition → Result (X × ReadPosition) Fault) → Type 0
 AlwaysStays from read = (r : ReadPosition) → from ≤ r.position → Stays from r (read r)
 
@@ -51,7 +52,7 @@ pub located-stays : {A : Type 0} (read : ReadPosition → Result (A × ReadPosit
     → Stays r.position r (located_read read r)
 located-stays read r h = located r.position r.position r (read r) h
 
--- ---- the fields
+-- ---- reading single fields
 
 field-stays : {X : Type 0} (from : ℕ) (read : ReadPosition → Result (X × ReadPosition) Fault) (IsEncoding : List ℕ → X → Type 0)
     (r : ReadPosition) → IsExact read IsEncoding r → (x : Result (X × ReadPosition) Fault) → read r ≡ x → IsRefusedAt r x
@@ -89,7 +90,7 @@ take-refused n r = front-refused (ltb (length r.rest) n) n r
 pub take-stays : (from n : ℕ) → AlwaysStays from (take_at n)
 take-stays from n r h = field-stays from (take_at n) (Bytes n) r (take_exact n r) (take_at n r) refl (take-refused n r) h
 
--- ---- things one after the other
+-- ---- reading things one after another
 
 tested : {X : Type 0} (b : Bool) (items : List (Result X Fault)) (P : Result X Fault → Type 0) → AllByRecursion P items
     → AllByRecursion P (cond b items [])

@@ -41,7 +41,7 @@ values-stay from (kind ∷ kinds) = λ r h.
     (λ v s k. bind-stays from s (values_at kinds s) (λ vs t. Ok ((v, vs), t)) k (values-stay from kinds s k)
     (λ vs. made-stays {A = Operands (kind ∷ kinds)} from (v, vs)))
 
--- ---- ranges, which are refused at the code
+-- ---- the ranges of operands, whose faults are reported at the code
 
 abbrev IsAt : {A : Type 0} → ℕ → Result A Fault → Type 0
 IsAt at (Ok a) = Unit {0}

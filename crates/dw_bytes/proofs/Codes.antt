@@ -1,4 +1,4 @@
--- Codes and operands are read exactly where they are encoded.
+-- A code and its operands are read exactly if the next bytes encode them.
 use Rattle.std.proofs.Common.{◌≡◌, ℕ, ◌+◌, ◌<◌, Bool, true, false, cond, List, [], ◌∷◌, ◌++◌, length, Option, Some, None, Result, Ok, Err}
 use Rattle.std.proofs.Common.{refl, sym, ap, subst, ◌∙◌, append_assoc, arith}
 use Rattle.std.specs.Prelude.{ℤ}
@@ -19,7 +19,8 @@ use Rattle.dw_bytes.proofs.Readers.{ExactAt, bind-ok, ok-is, same-reading, fixed
 abbrev pub finish : {A : Type 0} → A → ReadPosition → Result (A × ReadPosition) Fault
 finish a r = Ok (a, r)
 
--- replaces what was read by what the reader returned, which is equal
+-- if the next bytes encode what was read, they encode a value and leave a rest that are equal to
+-- those
 pub given : {A : Type 0} (IsEncoding : List ℕ → A → Type 0) (r : ReadPosition) (a b : A) (x y : ReadPosition) → finish a x ≡ finish b y
     → Next IsEncoding r a x → Next IsEncoding r b y
 given {A} IsEncoding r a b x y is h = subst (λ (p : A × ReadPosition). Next IsEncoding r p.0 p.1) (ok-is (a, x) (b, y) is) h
@@ -102,7 +103,7 @@ operand-exact target read_size = fixed-exact target 1
 operand-exact target piece_size = uleb-exact target
 operand-exact target block = λ r same. subst (λ (t : Target). IsExact block_at (IsBlock t r.position) r) same (block-own r)
 
--- ---- operands one after the other
+-- ---- operands one after another
 
 values-exact : (target : Target) (kinds : List OperandKind) → ExactAt target (values_at kinds) (AreEncoded target kinds)
 values-exact target [] r same = record {
@@ -149,7 +150,7 @@ values-exact target (kind ∷ kinds) r same = record {
       rw (one, others) refl;
 }
 
--- ---- their ranges
+-- ---- the ranges of operands
 
 abbrev fine : {A : Type 0} → A → Result A Fault
 fine a = Ok a
@@ -180,7 +181,7 @@ ranges-fit target at (kind ∷ kinds) vs fit =
     let rest = ranges-fit target at kinds vs.1 fit.1 in
     rw (first, rest) refl
 
--- ---- lines and codes
+-- ---- lines of a table, and codes
 
 line-own : {I : Type 0} (unknown : FaultKind) (at : ℕ) (kinds : List OperandKind) (make : Operands kinds → I) (r : ReadPosition)
     → IsExact (operands_at unknown at (Some (line kinds make))) (AreOperands r.target (Some (line kinds make)) r.position) r

@@ -1,4 +1,5 @@
--- Fields are read exactly where bytes encode them, and their faults are within what is read.
+-- The fields of a header are read exactly if the next bytes encode them. Their faults are reported
+-- inside the bytes that are left, or at their end.
 use Rattle.std.proofs.Common.{◌≡◌, ℕ, ◌+◌, ◌≤◌, Bool, true, false, List, [], ◌++◌, length, Option, Some, None, Result, Ok, Err, refl, sym}
 use Rattle.std.proofs.Common.{ap, subst, ◌∙◌, append_assoc, arith}
 use Rattle.std.proofs.lemmas.List.{length-append}
@@ -13,7 +14,7 @@ use Rattle.dw_bytes.proofs.Codes.{finish, given, operand-exact}
 use Rattle.dw_bytes.proofs.Bounds.{Stays, AlwaysStays, bind-stays, made-stays}
 use Rattle.dw_bytes.proofs.CodeBounds.{operand-stays}
 
--- a test that was passed
+-- if `unless` gives no fault, its test is true
 pub passed : (b : Bool) (fault : FaultKind) → unless b fault ≡ None → b ≡ true
 passed true fault is = refl
 passed false fault is = absurd cc

@@ -1,4 +1,4 @@
--- A format placeholder that is padded with zeros writes a number's hex digits.
+-- A format placeholder that pads with zeros writes the hex digits of a number.
 use Rattle.std.proofs.Common.{◌≡◌, ℕ, zero, suc, ◌+◌, ◌-◌, ◌*◌, ◌/◌, ◌%◌, ◌^◌, ◌<◌, ◌≤◌, List, [], ◌∷◌, ◌++◌, false, length}
 use Rattle.std.proofs.Common.{replicate, ap, ap₂}
 use Rattle.std.proofs.Common.{sym, ◌∙◌, refl, arith, length-append, ◌⊎◌, inl, inr}

@@ -1,4 +1,5 @@
--- Readers that are exact, and what follows from each.
+-- Reads that give a value exactly if the next bytes encode it (`IsExact`), and what follows from
+-- that.
 use Rattle.std.proofs.Common.{◌≡◌, ℕ, ◌+◌, ◌≤◌, List, ◌++◌, length, take, drop, Result, Ok, Err, refl, sym, ap, subst, ◌∙◌, arith}
 use Rattle.std.proofs.Math.Seq.{drop-append-add, drop-append_seam}
 use Rattle.std.proofs.lemmas.List.{length-take, take-append-drop, take_at}
@@ -10,15 +11,17 @@ use Rattle.dw_bytes.specs.Reading.{ReadPosition, Next, IsExact, ◌>>=◌, take_
 use Rattle.dw_bytes.specs.Reading.{initial_length_at, uleb_at, sleb_at}
 use Rattle.dw_bytes.proofs.Fields.{take_exact, fixed_exact, initial_length_exact, uleb_exact, sleb_exact}
 
--- a reader that is exact at every position with this target
+-- a read that is exact at every position with this target
 abbrev pub Exact : {X : Type 0} → Target → (ReadPosition → Result (X × ReadPosition) Fault) → (List ℕ → X → Type 0) → Type 0
 Exact target read IsEncoding = (r : ReadPosition) → r.target ≡ target → IsExact read IsEncoding r
 
--- a reader that is exact at every position with this target, where encodings depend on the offset
+-- a read that is exact at every position with this target, where an encoding may depend on its
+-- offset
 abbrev pub ExactAt : {X : Type 0} → Target → (ReadPosition → Result (X × ReadPosition) Fault) → (ℕ → List ℕ → X → Type 0) → Type 0
 ExactAt target read IsEncoding = (r : ReadPosition) → r.target ≡ target → IsExact read (IsEncoding r.position) r
 
--- the value of a step that did not fail
+-- if two steps in a row give a value, the first step gives a value, from which the second gives its
+-- own
 pub bind-ok : {A B : Type 0} (r : Result A Fault) (f : A → Result B Fault) (y : B) → (r >>= f) ≡ Ok y → (x : A) × (r ≡ Ok x) × (f x ≡ Ok y)
 bind-ok (Ok x) f y e = (x, refl, e)
 bind-ok (Err d) f y e = absurd cc
@@ -36,7 +39,7 @@ pub same-reading : (a b : ReadPosition) → a.target ≡ b.target → a.position
 same-reading a b t p x = ap (λ v. reading-of v a.position a.rest) t
     ∙ (ap (λ v. reading-of b.target v a.rest) p ∙ ap (λ v. reading-of b.target b.position v) x)
 
--- ---- the fields
+-- ---- reading single fields
 
 pub take-exact : (target : Target) (n : ℕ) → Exact target (taken_at n) (Bytes n)
 take-exact target n r same = take_exact n r
@@ -65,7 +68,7 @@ offset-exact target format r same =
 pub length-exact : (target : Target) → Exact target initial_length_at (Length target.order)
 length-exact target r same = subst (λ (t : Target). IsExact initial_length_at (Length t.order) r) same (initial_length_exact r)
 
--- ---- no encoding is a proper prefix of another one
+-- ---- no encoding is a proper prefix of another encoding
 
 at-start : {X : Type 0} (IsEncoding : List ℕ → X → Type 0) (target : Target) (at : ℕ) (bytes a x : List ℕ) (v : X) → bytes ≡ a ++ x
     → IsEncoding a v → Next IsEncoding (reading-of target at bytes) v (reading-of target (at + length a) x)

@@ -1,4 +1,4 @@
--- Things one after the other are read exactly where they are encoded.
+-- Things that are encoded one after another are read exactly if the bytes are their encodings.
 use Rattle.std.proofs.Common.{◌≡◌, ℕ, zero, suc, ◌+◌, ◌-◌, ◌<◌, ◌≤◌, ◌↔◌, cond, ltb, List, [], ◌∷◌, ◌++◌, length, map, append_assoc, Result}
 use Rattle.std.proofs.Common.{Ok, Err, refl, sym, ap, subst, ◌∙◌, arith, inl, inr}
 use Rattle.std.proofs.lemmas.Bool.{lt-ltb, le-ltb, cases_lt}
@@ -11,7 +11,7 @@ use Rattle.dw_bytes.specs.Reading.{ReadPosition, Next, IsExact, ◌>>=◌, offse
 use Rattle.dw_bytes.specs.Sequence.{Sequence, Located, located_read, and_then, at_most_of, sequence_of, Exactly, exactly_of}
 use Rattle.dw_bytes.proofs.Readers.{ExactAt, bind-ok, ok-is, same-reading, offset-exact}
 
--- A reader of one thing: it is exact at every position with this target, and no encoding is empty.
+-- A read of one thing that is exact at every position with this target. No encoding is empty.
 pub record ReadsEach {X : Type 0} (target : Target) (read : ReadPosition → Result (X × ReadPosition) Fault) (IsEncoding : ℕ → List ℕ → X
     → Type 0) : Type 0 where
   pub exact : (r : ReadPosition) → r.target ≡ target → IsExact read (IsEncoding r.position) r
@@ -21,7 +21,7 @@ pub record ReadsEach {X : Type 0} (target : Target) (read : ReadPosition → Res
 abbrev pub Forward : {X : Type 0} → (ReadPosition → Result (X × ReadPosition) Fault) → Type 0
 Forward {X} read = (r : ReadPosition) (x : X) (after : ReadPosition) → read r ≡ Ok (x, after) → length after.rest < length r.rest
 
--- an exact reader of things is also exact for pairs of an offset and a thing
+-- if the read of a thing is exact, so is the read of the thing paired with its offset
 pub located-exact : {X : Type 0} (target : Target) (read : ReadPosition → Result (X × ReadPosition) Fault) (IsEncoding : ℕ → List ℕ → X
     → Type 0) → ExactAt target read IsEncoding → (r : ReadPosition) → r.target ≡ target
     → IsExact (located_read read) (Located IsEncoding r.position) r
@@ -60,7 +60,7 @@ same-then {X} read forward r (Ok found) f g is same =
     ap (λ (items : List (Result X Fault)). Ok found.0 ∷ items) (same found.1 (forward r found.0 found.1 is))
 same-then read forward r (Err fault) f g is same = refl
 
--- any two limits that are at least the number of bytes give the same list
+-- any two limits that are at least the number of bytes give the same list of things
 pub enough-same : {X : Type 0} (read : ReadPosition → Result (X × ReadPosition) Fault) → Forward read → (n m : ℕ) (r : ReadPosition)
     → length r.rest ≤ n → length r.rest ≤ m → at_most_of read n r ≡ at_most_of read m r
 enough-same read forward zero m r h k = sym (none read m r (omega arith))
@@ -80,7 +80,7 @@ turn-of {X} read forward n r x after long is =
     ∙ (ap (λ y. and_then y (at_most_of read n)) is ∙ ap (λ (items : List (Result X Fault)). Ok x ∷ items)
     (enough-same read forward n (length after.rest) after (omega (arith, less)) (omega arith))))
 
--- the value that is read comes first, and then the things after it
+-- if a thing is read, it comes first in the list, and then the things after it
 pub goes-on : {X : Type 0} (read : ReadPosition → Result (X × ReadPosition) Fault) → Forward read
     → (r : ReadPosition) (x : X) (after : ReadPosition) → read r ≡ Ok (x, after) → sequence_of read r ≡ Ok x ∷ sequence_of read after
 goes-on read forward r x after is = let less = forward r x after is in
@@ -92,7 +92,7 @@ unfolding sequence_of
 stops-of read n r fault long is = ap (λ k. at_most_of read k r) long
     ∙ (turn read n r (omega arith) ∙ ap (λ x. and_then x (at_most_of read n)) is)
 
--- a fault is the only item
+-- if the first read gives a fault, that fault is the only item of the list
 pub stops : {X : Type 0} (read : ReadPosition → Result (X × ReadPosition) Fault) (r : ReadPosition) (fault : Fault) → 0 < length r.rest
     → read r ≡ Err fault → sequence_of read r ≡ Err fault ∷ []
 stops read r fault some is = stops-of read (length r.rest - 1) r fault (omega arith) is
@@ -167,7 +167,8 @@ sequence-exact target read IsEncoding each r xs same = (
   (λ are. all-only target read IsEncoding each (length r.rest) r xs same (omega arith) are),
 )
 
--- a reader that is exact for every target takes at least one byte for each thing
+-- if a read is exact for every target and no encoding is empty, each successful read takes at least
+-- one byte
 pub forward : {X : Type 0} (read : ReadPosition → Result (X × ReadPosition) Fault) (IsEncoding : Target → ℕ → List ℕ → X → Type 0)
     → ((target : Target) → ReadsEach target read (IsEncoding target)) → Forward read
 forward read IsEncoding each r x after is =
@@ -245,13 +246,14 @@ exactly-exact {X} target read IsEncoding exact (suc count) r same = record {
         }) in
         rw (one, others) refl
 
--- the offsets of an array
+-- an array of offsets is read exactly if the next bytes are the encodings of its offsets
 pub offsets-exact : (format : Format) (count : ℕ) (r : ReadPosition)
     → IsExact (exactly_of (offset_at format) count) (Exactly (λ at. Offset r.target.order format) count r.position) r
 offsets-exact format count r = exactly-exact r.target (offset_at format) (λ at. Offset r.target.order format)
     (offset-exact r.target format) count r refl
 
--- appends one more thing to those that were read, or the fault of the next one
+-- If n things are read and then one more, n + 1 things are read. If the next one gives a fault
+-- instead, so does reading more than n things.
 pub exactly-more : {X : Type 0} (read : ReadPosition → Result (X × ReadPosition) Fault) (n : ℕ) (r mid after : ReadPosition) (xs : List X)
     (x : X)
     → exactly_of read n r ≡ Ok (xs, mid) → read mid ≡ Ok (x, after) → exactly_of read (suc n) r ≡ Ok (xs ++ x ∷ [], after)

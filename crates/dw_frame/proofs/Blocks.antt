@@ -1,4 +1,5 @@
--- Where the block of an instruction is, and where the program of a record ends.
+-- The block of an instruction ends where the instruction ends, and a record's program lies inside
+-- the record.
 use Rattle.std.proofs.Common.{◌≡◌, ℕ, ◌+◌, ◌<◌, Bool, true, false, cond, List, [], ◌∷◌, length, Option, Some, None, sym, ap, subst, arith}
 use Rattle.std.specs.Prelude.{◌==◌, nat_lt}
 use Rattle.std.proofs.lemmas.List.{length-append}
@@ -12,8 +13,8 @@ use Rattle.dw_frame.specs.Codes.{extended_line, line_of, EncodesInstruction}
 use Rattle.dw_frame.specs.Bounds.{EndsWith, EndsWithItsBlock, IsSoundRecord, offset_of}
 use Rattle.dw_frame.proofs.RecordBounds.{sound-record, record-offset}
 
--- if the bytes are the operands of a table line, then the instruction ends with its block, if it
--- has one
+-- if bytes encode the operands of a table line, then the instruction that they make ends with its
+-- block, if it has a block
 Holds : ℕ → Target → Option (Line Instruction) → Type 0
 Holds start target of = (at : ℕ) (bytes : List ℕ) (i : Instruction) → start < at → AreOperands target of at bytes i
     → EndsWithItsBlock target start (at + length bytes) i
@@ -22,7 +23,7 @@ which : (b : Bool) (P : Option (Line Instruction) → Type 0) (x y : Option (Lin
 which true P x y h k = h
 which false P x y h k = k
 
--- a line that makes instructions without a block
+-- the instructions of a table line have no block
 without : (start : ℕ) (target : Target) (kinds : List OperandKind) (make : Operands kinds → Instruction)
     → ((vs : Operands kinds) (end : ℕ) → EndsWithItsBlock target start end (make vs)) → Holds start target (Some (line kinds make))
 unfolding Holds
@@ -43,7 +44,7 @@ block-alone start target at bytes i lt (vs, (a, ra, pa, ia, ended), fit, is) =
     subst (EndsWithItsBlock target start (at + length bytes)) (sym is)
     (block-ends target start at (at + length bytes) a vs.0 lt (omega (arith, ap length pa, length-append a ra, ap length ended)) ia)
 
--- a block after another operand
+-- the second of two operands is a block
 block-second : (start : ℕ) (target : Target) (first : OperandKind) (make : Operands (first ∷ block ∷ []) → Instruction)
     → ((vs : Operands (first ∷ block ∷ [])) (end : ℕ) → EndsWith target start end vs.1.0 → EndsWithItsBlock target start end (make vs))
     → Holds start target (Some (line (first ∷ block ∷ []) make))

@@ -1,4 +1,4 @@
--- What the search for a CIE finds.
+-- What the search for the CIE at an offset (`cie_among`) finds.
 use Rattle.std.proofs.Common.{◌≡◌, ℕ, suc, Bool, true, false, cond, eqb, List, [], ◌∷◌, Option, Some, None, Result, Ok, Err, refl, subst}
 use Rattle.std.proofs.Common.{arith, inl, inr}
 use Rattle.std.specs.Prelude.{Contains, ◌⊎◌}
@@ -61,7 +61,7 @@ cie-fault offset (Ok (fde_record f) ∷ entries) fault e = there (Err fault) (Ok
 cie-fault offset (Err other ∷ entries) fault e = subst (λ (f : Fault). Contains (Err other ∷ entries) (Err f)) (same-fault other fault e)
     (here (Err other) entries)
 
--- an entry that isn't a CIE at the offset
+-- an item that isn't a CIE at the offset
 abbrev IsNot : ℕ → Result Record Fault → Type 0
 IsNot offset (Ok (cie_record c)) = ¬ (c.offset ≡ offset)
 IsNot offset (Ok (fde_record f)) = Unit {0}

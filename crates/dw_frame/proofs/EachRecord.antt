@@ -1,4 +1,4 @@
--- Records are read exactly where they are encoded.
+-- A record is read exactly if the next bytes encode it.
 use Rattle.std.proofs.Common.{◌≡◌, ℕ, ◌+◌, ◌<◌, ◌≤◌, ◌↔◌, List, [], ◌∷◌, ◌++◌, length, Result, Ok, Err, refl, sym, ap, subst, ◌∙◌}
 use Rattle.std.proofs.Common.{append_assoc, arith}
 use Rattle.std.proofs.lemmas.List.{length-append, length-drop}
@@ -125,7 +125,7 @@ unfolding entries_from
 sections-are-records target section records = sequence-exact target record_at (IsRecord target) (each-record target)
     (section_from target section 0) records refl
 
--- ---- the section from an offset on
+-- ---- reading a section from an offset on
 
 pub at-end : (target : Target) (section : List ℕ) (at : ℕ) → length section ≤ at → entries_from target section at ≡ []
 unfolding entries_from

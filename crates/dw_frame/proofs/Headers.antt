@@ -1,4 +1,4 @@
--- Headers are read exactly where they are encoded.
+-- The header of a record is read exactly if the next bytes encode it.
 use Rattle.dw_bytes.specs.declared.target.Target.{Target}
 use Rattle.dw_bytes.specs.declared.target.Format.{Format}
 use Rattle.dw_bytes.proofs.Readers.{ExactAt}

@@ -1,4 +1,5 @@
--- Records and their faults are inside their section.
+-- A record and its program lie inside their section, and a fault is reported inside the section or
+-- at its end.
 use Rattle.std.proofs.Common.{◌≡◌, ℕ, ◌+◌, ◌<◌, ◌≤◌, Bool, true, false, cond, List, [], ◌∷◌, ◌++◌, length, Result, Ok, Err, refl, sym, ap}
 use Rattle.std.proofs.Common.{subst, ◌∙◌, arith, inl, inr}
 use Rattle.std.specs.Prelude.{Contains, ◌==◌}
@@ -28,7 +29,7 @@ use Rattle.dw_frame.specs.Bounds.{IsSoundRecord, IsSound, offset_of, Ascends}
 use Rattle.dw_frame.proofs.CieAmong.{cie-fault}
 use Rattle.dw_frame.proofs.EachRecord.{record-found, some-bytes, some-length}
 
--- ---- refusals
+-- ---- where faults are reported
 
 header-stays : (from : ℕ) (target : Target) (format : Format) → AlwaysStays from (header_at target format)
 unfolding header_at
@@ -139,7 +140,7 @@ sound-record target size at bytes x s inside =
     (sound-from target size at (at + length s.front) s.format s.header program range (omega (arith, front)) (omega (arith, fields))
     (omega (arith, inside, ap length s.parts, long, longer)) refl)
 
--- r is a position in a section of this size and target
+-- r is a position in a section of this size, and has this target
 pub record IsOn (target : Target) (size : ℕ) (r : ReadPosition) : Type 0 where
   pub same_target : r.target ≡ target
   pub same_end : end-of r ≡ size
@@ -160,7 +161,7 @@ entries-sound target section item h =
     (λ r fault on is. let stands = record-refused r fault is in omega (arith, stands, on.same_end))
     (section_from target section 0) item (record { same_target = refl; same_end = omega (arith, length-drop 0 section) }) h
 
--- the fault of a search for a CIE is inside the section or at its end
+-- the fault that a search for a CIE gives is inside the section or at its end
 pub cie-inside : (target : Target) (section : List ℕ) (offset : ℕ) (fault : Fault)
     → cie_among offset (entries_of target section) ≡ Err fault → fault.at ≤ length section
 cie-inside target section offset fault is = entries-sound target section (Err fault) (cie-fault offset (entries_of target section) fault is)

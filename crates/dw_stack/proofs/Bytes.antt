@@ -1,4 +1,5 @@
--- Each operation of an expression is in its bytes.
+-- Reading the bytes at an operation's offset gives that operation, and ends where the next one
+-- begins.
 use Rattle.std.proofs.Common.{◌≡◌, ◌∙◌, ℕ, zero, suc, ◌+◌, List, [], ◌∷◌, length, drop, Some, Ok, refl, sym, ap, subst, arith}
 use Rattle.std.proofs.Common.{length-append}
 use Rattle.std.specs.Prelude.{slice_get}

@@ -1,6 +1,7 @@
 -- The questions about an expression, in order. Either the answer to all is yes and the expression
--- is good, or the first no is the first fault. If states are given, an operation's state is
--- compared with the given one before the operation is checked.
+-- is good, or the first question answered with no gives the first fault. If the caller passed
+-- states (`given`), an operation's state is compared with the passed one before the operation is
+-- checked.
 use Rattle.std.proofs.Common.{◌≡◌, ◌≢◌, ◌∙◌, ◌⊎◌, ℕ, ℤ, pos, negsuc, zero, suc, ◌+◌, ◌<◌, ◌≤◌, Bool, true, false, not, cond, map, List, []}
 use Rattle.std.proofs.Common.{◌∷◌, ◌++◌, length, get_or, Option, Some, None, refl, sym, ap, subst, inl, inr, arith, length-append}
 use Rattle.std.specs.Prelude.{slice_get, slice_set, slice_index_or, replicate, find, ◌==◌}
@@ -41,7 +42,7 @@ use Rattle.dw_stack.proofs.Encoded.{encoded_of, laid_if_read}
 use Rattle.dw_stack.proofs.InStates.{Has, states_come, come_states}
 use Rattle.dw_stack.proofs.Telling.{bool_tells, same_tells, others_tell, start_tells}
 
--- ---- which in-state follows from the set of states that arrive
+-- ---- which `InState` describes the set of states with which paths arrive
 
 arrived_none : (a : InState) (P : StackState → Type 0) → Describes a P → ((t : StackState) → P t → ⊥) → a ≡ Unreached
 arrived_none Unreached P d none = refl
@@ -100,7 +101,8 @@ answered_no : (b : Bool) (f : FaultKind) (at : ℕ) (rest : List Question) → b
     → first_no (else_fault b f at ∷ rest) ≡ Some (fault_of f at)
 answered_no b f at rest is = ap (λ (c : Bool). first_no (else_fault c f at ∷ rest)) is
 
--- the first no among the questions about an operation is the first check that it fails
+-- if one of the questions about an operation is answered with no, the first of them is the first
+-- check that the operation fails
 first_no-map : (p : FaultKind → Bool) (at : ℕ) (fs : List FaultKind)
     → first_no (map (λ f. else_fault (p f) f at) fs) ≡ option_map (λ f. fault_of f at) (find (λ f. not (p f)) fs)
 first_no-map p at [] = refl
@@ -121,7 +123,7 @@ pub at_seam : (before left : List Placed) (x : Placed) → slice_get (before ++ 
 at_seam [] left x = refl
 at_seam (y ∷ before) left x = at_seam before left x
 
--- ---- the given states
+-- ---- the states that the caller passed
 
 abbrev placed_at : ℕ → StackState → State
 placed_at at s = at_offset at s
@@ -141,7 +143,8 @@ same_placed t at s = elim (same_tells (stack_of t) s) [
   ]
 ]
 
--- the given state at an operation is right, or states are given and it is wrong
+-- either the state passed for an operation is right or none was passed, or states were passed and
+-- that one is wrong
 given_tells : (ops : List Placed) (len : ℕ) (given : Option (List State)) (k : ℕ) (s : StackState)
     → Given ops len given k s ⊎ ((Given ops len given k s → ⊥) × (given ≡ None → ⊥))
 given_tells ops len None k s = inl tt
@@ -153,7 +156,7 @@ given_tells ops len (Some states) k s = elim (slice_get_cases states k).1 [
   ]
 ]
 
--- good operations, with their states and their depth; if states are given, they are right
+-- good operations, with their states and their depth; if the caller passed states, they are right
 pub record Certified (kind : Kind) (ops : List Placed) (len : ℕ) (given : Option (List State)) : Type 0 where
   pub good : IsGood kind ops len
   pub known : KnowsOnly kind ops len given
@@ -163,7 +166,7 @@ pub record Certified (kind : Kind) (ops : List Placed) (len : ℕ) (given : Opti
   pub deepest : IsDepth kind ops len depth
 
 module _ (kind : Kind) (ops : List Placed) (len : ℕ) (laid : IsLaidOut ops len) where
-  -- a jump that isn't backward has a target if it leads to the start of an operation or to the end
+  -- a jump that isn't backward and leads to the start of an operation or to the end has a target
   target_there : (k : ℕ) → k < length ops → (o : Option ℤ) → is_ahead (place ops len (k + 1)) o ≡ true
       → is_start ops len (jump_target (place ops len (k + 1)) o) ≡ true → (t : Option ℕ) × TargetIs ops len k o t
   target_there k lt None ahead start = (None, tt)
@@ -225,8 +228,8 @@ module _ (kind : Kind) (ops : List Placed) (len : ℕ) (laid : IsLaidOut ops len
             )
 
   module _ (given : Option (List State)) where
-    -- Either the operations are good, or there is a first fault. If no states are given, o, the
-    -- result of the questions, is `None` or that fault.
+    -- Either the operations are good, or there is a first fault. If the caller passed no states,
+    -- then o, the result of the questions, is `None` or that fault.
     abbrev Named : Option Fault → Type 0
     Named o = ((given ≡ None → o ≡ None) × Certified kind ops len given)
         ⊎ ((f : FaultKind) × (a : ℕ) × (given ≡ None → o ≡ Some (fault_of f a)) × IsFirstFault kind ops len given f a)
@@ -414,8 +417,8 @@ module _ (kind : Kind) (ops : List Placed) (len : ℕ) (laid : IsLaidOut ops len
         others zero above le = absurd (omega arith)
         others (suc j) above le = get_or-replicate (length ops) j Unreached Unreached (omega arith)
 
--- the questions about a whole expression: either they give no fault and it is good, or they give
--- its first fault
+-- either the questions about a whole expression give no fault and it is good, or they give its
+-- first fault
 pub named_expression : (kind : Kind) (target : Target) (bytes : List ℕ)
     → ((expression_fault kind target bytes ≡ None) × IsGoodExpression kind target bytes)
     ⊎ ((f : Fault) × (expression_fault kind target bytes ≡ Some f) × IsFaultOf kind target bytes None f)

@@ -1,4 +1,4 @@
--- How an in-state describes the set of states with which paths reach an operation.
+-- How an `InState` describes the set of states with which paths reach an operation.
 use Rattle.std.proofs.Common.{◌≡◌, ◌≢◌, ℕ, ◌<◌, ◌⊎◌, Bool, true, false, List, length, get_or, Option, Some, None, Ok, refl, sym, ap, ◌∙◌}
 use Rattle.std.proofs.Common.{subst, inl, inr, length-set, IsTrue, get_or-set_same, get_or-set_other}
 use Rattle.std.proofs.lemmas.Bool.{cases_eq}
@@ -8,13 +8,14 @@ use Rattle.dw_stack.specs.declared.in_state.InState.TheVariants.{Unreached, Know
 use Rattle.dw_stack.specs.declared.state.StackState.{StackState}
 use Rattle.dw_stack.specs.InStates.{Merges, Receives, ReceivesIf, ReceivesAt, known_state}
 
--- the set has no state, only the known state, or two different states
+-- The set has no state if the `InState` is `Unreached`, only the known state if it is `Known`, and
+-- two different states if it is `Conflict`.
 abbrev pub Describes : InState → (StackState → Type 0) → Type 0
 Describes Unreached P = (h : StackState) → P h → ⊥
 Describes (Known s) P = P s × ((h : StackState) → P h → h ≡ s)
 Describes Conflict P = (g : StackState) × (h : StackState) × P g × P h × (g ≢ h)
 
--- if reading an in-state gives a state, the in-state is `Known` with that state
+-- if `known_state` gives a state, the `InState` is `Known` with that state
 pub arrived_is : (a : InState) (s : StackState) → Ok s ≡ known_state a → a ≡ Known s
 arrived_is Unreached s is = absurd (cc)
 arrived_is (Known t) s is = let same : t ≡ s = cc in ap (λ (x : StackState). Known x) same
@@ -42,8 +43,8 @@ describes_merged (Known t) b s P m d =
 describes_merged Conflict b s P m d =
     describes_is Conflict b (λ h. P h ⊎ (h ≡ s)) (sym m) (d.0, d.1, inl d.2, inl d.3, d.4)
 
--- the in-states still describe the sets of states after the operation numbered k receives one more
--- state
+-- the table of `InState` still describes the sets of states after the operation numbered k receives
+-- one more state
 pub describes_received : (old new : List InState) (k : ℕ) (s : StackState) (j : ℕ) (P : StackState → Type 0) → k < length old
     → Receives old k s new → Describes (get_or old j Unreached) P → Describes (get_or new j Unreached) (λ h. P h ⊎ ((j ≡ k) × (h ≡ s)))
 describes_received old new k s j P lt r d =

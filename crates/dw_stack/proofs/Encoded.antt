@@ -1,4 +1,5 @@
--- From the bytes of an expression to its operations, one after the other.
+-- The bytes of an expression that are read without a fault are the encodings of its operations,
+-- laid out one after another.
 use Rattle.std.proofs.Common.{◌≡◌, ◌∙◌, ℕ, zero, suc, ◌+◌, ◌<◌, List, [], ◌∷◌, length, map, None, Result, Ok, Err, refl, ap, subst, arith}
 use Rattle.std.proofs.Common.{length-append}
 use Rattle.dw_bytes.specs.declared.target.Target.{Target}
@@ -49,8 +50,8 @@ none_refused : {X : Type 0} (xs : List X) → fault_in (map {B = Result X Fault}
 none_refused [] = refl
 none_refused (x ∷ xs) = none_refused xs
 
--- bytes that are read to the end without a fault are the encodings of operations, and the other way
--- round
+-- bytes that are read to the end without a fault are the encodings of operations, and bytes that
+-- are encodings of operations are read to the end without a fault
 pub encoded_of : (target : Target) (bytes : List ℕ) → reading_fault target bytes ≡ None
     → AreOperations target 0 bytes (operations_in target bytes)
 encoded_of target bytes none =

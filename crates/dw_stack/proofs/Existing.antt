@@ -1,5 +1,5 @@
--- That a good expression has a depth and states, and that every expression, with or without given
--- states, is good or has a first fault.
+-- A good expression has a depth and states. Every expression is good or has a first fault, whether
+-- or not the caller passes states.
 use Rattle.std.proofs.Common.{◌≡◌, ◌⊎◌, ℕ, List, length, Option, Some, None, refl, inl, inr}
 use Rattle.std.proofs.lemmas.Bool.{cases_eq}
 use Rattle.dw_bytes.specs.declared.target.Target.{Target}
@@ -31,7 +31,8 @@ module _ (kind : Kind) (target : Target) (bytes : List ℕ) where
   pub each_has_a_certificate : IsGoodExpression kind target bytes → (states : List State) × AreStatesOf kind target bytes states
   each_has_a_certificate good = let certified = certified_of good in (certified.states, certified.are)
 
-  -- the number of given states is the number of operations, or it is another number
+  -- the number of states that the caller passed is the number of operations, or it is another
+  -- number
   count_tells : (given : Option (List State)) → (IsOtherCount target bytes given → ⊥) ⊎ IsOtherCount target bytes given
   count_tells None = inl (λ other. other)
   count_tells (Some states) = elim (cases_eq (length states) (length (operations_in target bytes))) [

@@ -18,7 +18,8 @@ start_within FrameCfa = omega arith
 start_within FrameRegister = omega arith
 start_within Location = omega arith
 
--- a piece clears the stack, and all other operations keep the height
+-- the stack height in the next state is at most the height h after the operation: a piece clears
+-- the stack, and all other operations keep h
 pub next_height_le : (r : Role) (h : ℕ) (b : Bool) → (next_mode r h b).height ≤ h
 next_height_le role.Piece h b = omega arith
 next_height_le role.Plain h b = omega arith

@@ -1,4 +1,5 @@
--- The states with which the first operations lead to an offset are those of the paths.
+-- The states that `states_to` computes for an operation are those with which paths through the
+-- operations before it reach it.
 use Rattle.std.proofs.Common.{◌≡◌, ◌∙◌, ℕ, ℤ, negsuc, zero, suc, ◌+◌, ◌≤◌, ◌<◌, ◌⊎◌, Bool, true, false, eqb, List, [], ◌∷◌, ◌++◌, length}
 use Rattle.std.proofs.Common.{map, Option, Some, None, refl, sym, ap, subst, inl, inr, arith, IsTrue, eq-eqb}
 use Rattle.std.specs.Prelude.{slice_get, if◌then◌else◌}
@@ -61,7 +62,7 @@ flat_map_has f (z ∷ xs) y h = elim (has_split (f z) (flat_map f xs) y h) [
   | inr later ↦ let m = flat_map_has f xs y later in (m.0, inr m.1, m.2)
 ]
 
--- ---- the states at an offset
+-- ---- the states that `states_at` gives at an offset
 
 abbrev paired : ℕ → StackState → ℕ × StackState
 paired at s = (at, s)
@@ -94,7 +95,7 @@ state_has at (c ∷ come) s h = elim (cases_eq c.0 at) [
       (cond-false (eqb c.0 at) (c.1 ∷ states_at at come) (states_at at come) (ne_eqb c.0 at other)) h))
 ]
 
--- ---- the offsets after an operation
+-- ---- the offsets that an operation leads to
 
 has_next : (falls_through : Bool) (n b : ℕ) → IsTrue falls_through → b ≡ n → Has (if falls_through then n ∷ [] else []) b
 has_next true n b is e = inl (sym e)

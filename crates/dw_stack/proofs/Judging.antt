@@ -1,4 +1,4 @@
--- The checks of one operation, in order.
+-- The checks of one operation, in order, and what their results mean.
 use Rattle.std.proofs.Common.{◌≡◌, ◌∙◌, ℕ, ℤ, pos, negsuc, ◌+◌, ◌<◌, ◌≤◌, ◌||◌, Bool, true, false, not, cond, ltb, List, [], ◌∷◌, length}
 use Rattle.std.proofs.Common.{Option, Some, None, refl, sym, ap, subst, inl, inr, arith}
 use Rattle.std.specs.Prelude.{find, is_some, slice_index_or}
@@ -34,7 +34,7 @@ failed p (x ∷ xs) f is = by (p x) refl is (failed p xs f)
     by false here found later = ap p (sym (same_Some x f found)) ∙ here
     by true here found later = later found
 
--- the checks come in the order of their ranks
+-- each check in the list has a greater rank than the one before
 abbrev Ascends : ℕ → List FaultKind → Type 0
 Ascends n [] = Unit {0}
 Ascends n (x ∷ xs) = (n < rank x) × Ascends (rank x) xs
@@ -135,7 +135,7 @@ stacked_none true true false d h rest is = absurd (cc)
 stacked_none true true true false h rest is = absurd (cc)
 stacked_none true true true true false rest is = absurd (cc)
 
--- the two checks of the jump
+-- the two checks of a branch target
 abbrev branched : Bool → Bool → Option FaultKind
 branched ahead start = cond (not ahead) (Some fault.Backward) (cond (not start) (Some fault.TargetNotStart) None)
 
@@ -167,7 +167,7 @@ module _ (kind : Kind) (ops : List Placed) (len k pieces : ℕ) (s : StackState)
       stacked_passed (has_operation kind e) (stands_alone e.role s.mode s.height) _ _ few branch fits.allowed fits.alone
       (le-leb e.needs s.height fits.needs) (le-leb (height_after e s) MAX_HEIGHT low) (few_passes (is_piece e.role) pieces fits.few)
 
-  -- an operation that passes all checks is allowed, and has a target if it jumps
+  -- an operation that passes all checks is allowed, and has a target if it branches
   pub all_passed : first_failed (passes kind ops len k pieces e s) ≡ None → Suits kind e pieces s (height_after e s)
       × (is_ahead (place ops len (k + 1)) e.jump ≡ true) × (is_start ops len (jump_target (place ops len (k + 1)) e.jump) ≡ true)
   all_passed is =
@@ -225,8 +225,8 @@ module _ (kind : Kind) (ops : List Placed) (len k pieces : ℕ) (s : StackState)
             (subst (λ (d : StackEffect). TargetIs ops len k d.jump target) at.is is);
       }
 
--- if an operation is reached with one state, the first check that the operation fails is the fault
--- of its step
+-- if paths reach an operation with only one state, the first check that the operation fails is the
+-- fault of its step
 pub step_objects : (kind : Kind) (ops : List Placed) (len : ℕ) (given : Option (List State)) (i pieces : ℕ) (old : List InState)
     (f : FaultKind) (s : StackState) → slice_index_or old i Unreached ≡ Known s → Given ops len given i s
     → Objects kind ops len i pieces s f → StepObjects kind ops len given i pieces old f

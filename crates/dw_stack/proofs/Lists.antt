@@ -1,4 +1,4 @@
--- The operations of the code, read one by one.
+-- The code's list of operations, read by index: the offset of an operation, and the operation.
 use Rattle.std.proofs.Common.{◌≡◌, ℕ, zero, suc, ◌<◌, ◌≤◌, List, [], ◌∷◌, length, get_or, Some, refl, ap, arith}
 use Rattle.std.specs.Prelude.{slice_get}
 use Rattle.dw_ops.specs.declared.operation.Operation as coded

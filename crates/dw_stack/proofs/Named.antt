@@ -1,4 +1,5 @@
--- The fault that the questions about an expression give is its first fault.
+-- The fault that `expression_fault` computes is the first fault of an expression; if it is None,
+-- the expression is good.
 use Rattle.std.proofs.Common.{◌≡◌, ◌∙◌, ◌⊎◌, ℕ, List, Some, None, sym, ap, subst, inl, inr}
 use Rattle.std.specs.Prelude.{Result, Ok, Err, OnOk, IfErr}
 use Rattle.std.proofs.lemmas.Option.{same_Some}
@@ -13,7 +14,7 @@ use Rattle.dw_stack.proofs.Unique.{one_fault}
 use Rattle.dw_stack.proofs.Whole.{good_faultless}
 
 module _ (kind : Kind) (target : Target) (bytes : List ℕ) where
-  -- if a checked expression has these bytes, the bytes are a good expression
+  -- if a checked expression has these bytes, this target and this kind, it is good
   pub good_of : (it : Checked) → IsChecked it → IsOf kind target bytes it → IsGoodExpression kind target bytes
   good_of it checked is =
       subst (λ (k : Kind). IsGoodExpression k target bytes) is.kind_is

@@ -1,4 +1,4 @@
--- How many of the first operations are pieces.
+-- How many of the first operations of an expression are pieces.
 use Rattle.std.proofs.Common.{◌≡◌, ℕ, ◌+◌, ◌≤◌, cond, List, [], ◌∷◌, length, take, Some, refl, ap, arith, length-append}
 use Rattle.std.specs.Prelude.{slice_get}
 use Rattle.std.specs.List.{sum_by}

@@ -1,4 +1,4 @@
--- A location that is a single byte, DW_OP_reg0 to DW_OP_reg31.
+-- A location that is a single byte, DW_OP_reg0 to DW_OP_reg31, passes the check.
 use Rattle.std.proofs.Common.{◌≡◌, ℕ, ◌+◌, ◌-◌, ◌<◌, ◌≤◌, true, false, List, [], ◌∷◌, length, drop, get_or, Some}
 use Rattle.std.proofs.Common.{Ok, refl, sym, ap, arith, rules}
 use Rattle.std.proofs.lemmas.Bool.{lt-ltb, le-ltb}

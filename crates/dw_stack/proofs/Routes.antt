@@ -55,7 +55,7 @@ module _ (kind : Kind) (ops : List Placed) (len : ℕ) where
         | inr last ↦ inr last
       ]
 
-  -- a path is still at the start of the expression, or has a last edge
+  -- a path has no edge and is at the start of the expression, or it has a last edge
   pub last_edge : (b : ℕ) (g : StackState) → Reaches kind ops len b g → ((0 ≡ b) × (start_of kind ≡ g)) ⊎ LastEdge kind ops len b g
   last_edge b g r = last_from r.path 0 (start_of kind) b g at_start r.follows
 
@@ -96,7 +96,7 @@ module _ (kind : Kind) (ops : List Placed) (len : ℕ) (laid : IsLaidOut ops len
         | inr before ↦ extend kind ops len before.last.a before.last.h b h before.last.reached before.last.edge
       ]
 
-  -- each path to an operation comes over the operations before it, or is at the start
+  -- each path to an operation has a last edge from an operation before it, or is at the start
   pub comes_from_reaches : (i : ℕ) (h : StackState) → i ≤ length ops → Reaches kind ops len (place ops len i) h
       → Comes kind ops len i (place ops len i) h
   comes_from_reaches i h le r =

@@ -30,7 +30,7 @@ use Rattle.dw_stack.proofs.Pieces.{pieces_mono, pieces_with, length-pieces_after
 use Rattle.dw_stack.proofs.Ends.{pieced_after, result_there}
 use Rattle.dw_stack.proofs.Routes.{reach_from, extend, at_start, reached_place, edge_lands}
 
--- for each operation: the location that it names is as its role says
+-- for each operation: what is pending after it is as the mode after its role says
 pending_is : (op : Operation) (s : List ℕ) (p : Option LocationDescription) (h : ℕ) (b : Bool) → p ≡ location_named op s
     → PendingIs (next_mode (effect_of op).role h b).mode p (next_mode (effect_of op).role h b).height
 pending_is (reg r) s p h b e = (r, e)
@@ -97,8 +97,8 @@ agrees_after m ops len s c d t a = record {
         let fair = m.fair t.meets.placed.1 c.stack t.new t.meets.entries t.answered in
         omega (arith, l, fair, a.height)
 
--- if the state allows an operation with this role, a configuration that agrees with the state
--- allows it, too
+-- if a state allows an operation with this role, a configuration that agrees with the state allows
+-- it, too
 can_do : (r : Role) (m : Mode) (h n : ℕ) (p : Option LocationDescription) → n ≡ h → StandsAlone r m h → PendingIs m p h → CanDo r n p
 can_do role.Piece mode.Stack h n None e alone is = omega (arith, leb-true h 1 alone, e)
 can_do role.Piece mode.AfterPiece h n None e alone is = let z = is.1 in omega (arith, z, e)
@@ -121,19 +121,19 @@ can_do r mode.AfterPiece h n (Some p) e alone is = let no_p = is.0 in absurd (cc
 can_do r mode.Register h n p e alone is = absurd (cc)
 can_do r mode.Value h n p e alone is = absurd (cc)
 
--- a run that is extended by one step
+-- a run followed by one more step is a run
 pub run_more : (m : Meaning) (ops : List Placed) (len n : ℕ) (c d e : Configuration) → Run m ops len n c d → Step m ops len d e
     → Run m ops len (suc n) c e
 run_more m ops len zero c d e run t = (e, subst (λ (x : Configuration). Step m ops len x e) (sym run) t, refl)
 run_more m ops len (suc n) c d e run t = (run.0, run.1, run_more m ops len n run.0 d e run.2 t)
 
 module _ (kind : Kind) (ops : List Placed) (len : ℕ) (laid : IsLaidOut ops len) (good : IsGood kind ops len) where
-  -- no jump of a good expression is backward
+  -- no branch of a good expression is backward
   pub ahead_of : (k : ℕ) (x : Placed) (z : ℤ) → slice_get ops k ≡ Some x → (effect_of x.1).jump ≡ Some z → (n : ℕ) × (z ≡ pos n)
   ahead_of k x (pos n) stands jump = (n, refl)
   ahead_of k x (negsuc n) stands jump = absurd (good.ahead k (negsuc n) x stands jump refl)
 
-  -- a jump leads a run to the offset to which it leads paths
+  -- a branch leads a run to the offset to which it leads paths
   target_is : (k b : ℕ) (x : Placed) (o : Option ℤ) → slice_get ops k ≡ Some x → (effect_of x.1).jump ≡ o
       → JumpsTo o (place ops len (k + 1)) b → jump_target (place ops len (k + 1)) o ≡ Some b
   target_is k b x None stands jump to = absurd to
@@ -160,7 +160,8 @@ module _ (kind : Kind) (ops : List Placed) (len : ℕ) (laid : IsLaidOut ops len
     state = refl;
   }
 
-  -- a run is at an offset that a path reaches, and agrees with the state there
+  -- a path reaches the offset of the run's configuration with a state that the configuration agrees
+  -- with
   Stands : Configuration → Type 0
   Stands c = (s : StackState) × Reaches kind ops len c.offset s × Agrees s c
 
@@ -236,7 +237,7 @@ module _ (kind : Kind) (ops : List Placed) (len : ℕ) (laid : IsLaidOut ops len
         place_mono ops len laid e.number l.number l.later l.within,
       )
 
-  -- the configuration after the operation x pushed `new`
+  -- the configuration after the operation x has pushed `new`, at offset `at`
   behind : (x : Placed) (c : Configuration) (new : List ℕ) → ℕ → Configuration
   behind x c new at = record {
     offset = at;

@@ -1,4 +1,5 @@
--- Statements about checked expressions that follow from their truncated forms (`∥ .. ∥₁`).
+-- If a proof of a statement about checked expressions is only known to exist (`∥ .. ∥₁`), the
+-- statement holds.
 use Rattle.std.proofs.Math.Logic.{∥∥₁_elim, ∥∥₁_prop}
 use mathlib.Core.HLevel.{⊥_prop}
 use Rattle.std.specs.Coded.{Coded-set, coded_ℕ, coded_bool, le_prop}

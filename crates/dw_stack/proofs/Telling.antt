@@ -1,4 +1,4 @@
--- What the results of tests on operations mean.
+-- Tests on operations, states and offsets, and that each is true exactly if what it tests holds.
 use Rattle.std.proofs.Common.{◌≡◌, ◌≢◌, ◌∙◌, ℕ, zero, suc, ◌+◌, ◌≤◌, ◌⊎◌, ◌||◌, ◌&&◌, Bool, true, false, not, eqb, List, [], ◌∷◌}
 use Rattle.std.proofs.Common.{length, Some, refl, sym, ap, inl, inr, arith}
 use Rattle.std.specs.Prelude.{◌==◌, if◌then◌else◌}

@@ -1,4 +1,5 @@
--- Operations without branches, whose states follow one another.
+-- Expressions without branches: one state after another is the only one with which paths reach the
+-- next operation.
 use Rattle.std.proofs.Common.{◌≡◌, ◌∙◌, ℕ, ℤ, zero, suc, ◌+◌, ◌<◌, ◌≤◌, Bool, true, false, cond, List, [], ◌∷◌, ◌++◌, length, get_or}
 use Rattle.std.proofs.Common.{get_or-set_same, get_or-set_other, length-append, Option, Some, None, Ok, refl, sym, ap, subst, arith}
 use Rattle.std.specs.Prelude.{slice_get, slice_set, replicate, max, ◌==◌}
@@ -30,7 +31,7 @@ use Rattle.dw_stack.proofs.Verdicts.{end_good, end_states, end_depth}
 use Rattle.dw_stack.proofs.Encoded.{encoded_of, laid_if_read}
 use Rattle.dw_stack.proofs.Deciding.{at_seam}
 
--- an operation that doesn't jump falls through
+-- an operation that isn't a branch falls through to the next operation
 falls : (op : Operation) → (effect_of op).jump ≡ None → (effect_of op).falls_through ≡ true
 falls (bra z) none = absurd (cc)
 falls (skip z) none = absurd (cc)
@@ -141,7 +142,7 @@ pub record JudgedSoFar (kind : Kind) (e : Expression) (at count : ℕ) (state : 
   pub straight : IsLaidOut (operations_in (target_of e) (bytes_of e)) (length (bytes_of e))
       → Straight kind (operations_in (target_of e) (bytes_of e)) (length (bytes_of e)) count state depth pieces states
 
--- `JudgedSoFar` without naming the states before the operations
+-- `JudgedSoFar` for some list of states
 abbrev pub JudgedAlone : Kind → Expression → ℕ → ℕ → StackState → ℕ → ℕ → Type 0
 JudgedAlone kind e at count state depth pieces = (states : List State) × JudgedSoFar kind e at count state depth pieces states
 
@@ -157,7 +158,8 @@ begun kind e state is = subst (λ (s : StackState). JudgedSoFar kind e 0 0 s s.h
   straight = λ laid. straight_start kind (operations_in (target_of e) (bytes_of e)) (length (bytes_of e)) laid;
 })
 
--- an operation adds at most one piece
+-- the number of pieces is still at most the number of operations after one more operation, of which
+-- b tells whether it is a piece
 one_more : (b : Bool) (pieces count : ℕ) → pieces ≤ count → pieces + cond b 1 0 ≤ count + 1
 one_more true pieces count le = omega (arith, le)
 one_more false pieces count le = omega (arith, le)

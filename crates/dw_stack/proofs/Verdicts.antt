@@ -1,4 +1,4 @@
--- What follows from the pass over the operations: they are good, or there is a first fault.
+-- What follows from the pass over the operations: either they are good, or there is a first fault.
 use Rattle.std.proofs.Math.Logic.{∥∥₁_elim}
 use mathlib.Core.HLevel.{⊥_prop}
 use Rattle.std.proofs.Common.{◌≡◌, ℕ, ℤ, negsuc, zero, suc, ◌+◌, ◌<◌, ◌≤◌, ◌⊎◌, true, List, length, get_or, Option, Some, None, refl, sym}
@@ -43,7 +43,7 @@ few_before ops k x s is few =
     omega (arith, more, few, pieces_mono ops (k + 1) (length ops) (omega (arith, within)))
 
 module _ (kind : Kind) (ops : List Placed) (len : ℕ) (laid : IsLaidOut ops len) where
-  -- an operation that is `Fine` passes each check
+  -- an operation that is `Fine` (Walks.antt) passes each check
   fine_passes : (f : FaultKind) (k : ℕ) (x : Placed) (s : StackState) → Fine kind ops len k x s
       → passes kind ops len k (pieces_before ops k) (effect_of x.1) s f ≡ true
   fine_passes fault.NotInFrame k x s fine = fine.allowed
@@ -176,7 +176,8 @@ module _ (kind : Kind) (ops : List Placed) (len : ℕ) (laid : IsLaidOut ops len
       before_state fault.Mismatch s lt u m = m
       before_state _ s lt u m = absurd (omega (arith, lt))
 
-      -- before the first check of the operation alone that fails, all checks are passed
+      -- if f is the first of the checks of the operation alone that fails, all checks before f are
+      -- passed
       before_local : (f g : FaultKind) (x : Placed) (s : StackState) → i < length ops → slice_get ops i ≡ Some x
           → first_failed (passes kind ops len i (pieces_before ops i) (effect_of x.1) s) ≡ Some f → rank g < rank f
           → Passes i s fault.Unreachable → Passes i s fault.Mismatch → Given ops len given i s → Passes i s g
@@ -386,7 +387,8 @@ module _ (kind : Kind) (ops : List Placed) (len : ℕ) (laid : IsLaidOut ops len
                 ends g (reach_from kind ops len b len g g b_is refl r) ∙ sym (ends e (reach_from kind ops len b len e e b_is refl q))
           ]
 
-      -- an operation is `Fine` in each state that paths have there, because they have only one
+      -- an operation is `Fine` in each state with which paths reach it, because there is only one
+      -- such state
       fine_at : (k : ℕ) (x : Placed) (s : StackState) → slice_get ops k ≡ Some x → Reaches kind ops len x.0 s → Fine kind ops len k x s
       fine_at k x s stands r =
           let a = accepted_at k x stands in
@@ -428,7 +430,7 @@ module _ (kind : Kind) (ops : List Placed) (len : ℕ) (laid : IsLaidOut ops len
             (elim t [ inl same ↦ inl same | inr u ↦ inr (u.0, u.1, u.2, u.3, u.4, u.5, omega (arith, slice_get_within ops u.0 u.1 u.3)) ]);
       }
 
--- good operations have no fault, as long as the given states, if there are any, are right
+-- good operations have no fault, as long as the states that the caller passed, if any, are right
 pub good_refuses : (kind : Kind) (ops : List Placed) (len : ℕ) → IsLaidOut ops len → (given : Option (List State))
     → ((k : ℕ) (x : Placed) (s : StackState) → slice_get ops k ≡ Some x → Reaches kind ops len x.0 s → Given ops len given k s)
     → IsGood kind ops len → (f : FaultKind) (a : ℕ) → Refuses kind ops len given f a → ⊥

@@ -1,4 +1,4 @@
--- What holds after the pass has checked the first operations.
+-- What is known after the pass has checked the first i operations.
 use Rattle.std.proofs.Common.{◌≡◌, ℕ, ℤ, zero, suc, ◌+◌, ◌<◌, ◌≤◌, ◌⊎◌, Bool, true, false, List, [], ◌∷◌, ◌++◌, length, get_or, Option}
 use Rattle.std.proofs.Common.{Some, None, refl, sym, ap, ◌∙◌, subst, inl, inr, arith, IsTrue, cond, length-append}
 use Rattle.std.specs.Prelude.{slice_get, max}
@@ -85,8 +85,8 @@ module _ (kind : Kind) (ops : List Placed) (len : ℕ) (laid : IsLaidOut ops len
   Goes : ℕ → StackState → Type 0
   Goes n g = Leads ops len i (effect_of j.placed.1) (place ops len n) × (g ≡ out.state)
 
-  -- the states to which the first i + 1 operations lead: those to which the first i lead, and the
-  -- one after the operation numbered i
+  -- the states to which the first i + 1 operations lead are those to which the first i operations
+  -- lead, and the one after the operation numbered i
   comes_more : ((g : StackState) → Reaches kind ops len (place ops len i) g → g ≡ h) → (n : ℕ) (g : StackState)
       → Comes kind ops len (i + 1) (place ops len n) g → Comes kind ops len i (place ops len n) g ⊎ Goes n g
   unfolding Goes
@@ -135,7 +135,8 @@ module _ (kind : Kind) (ops : List Placed) (len : ℕ) (laid : IsLaidOut ops len
             inr (record { last = record { a = place ops len i; h = h; reached = reached; edge = edge }; below = omega arith })
       ]
 
--- a branch target as an offset, and as the number of an operation
+-- the branch target of an operation, given as the number of an operation, is an offset that the
+-- branch may lead to
 target_to : (ops : List Placed) (len k n : ℕ) (o : Option ℤ) (o' : Option ℕ) → TargetIs ops len k o o' → o' ≡ Some n
     → (jump_target (place ops len (k + 1)) o ≡ Some (place ops len n)) × IsTarget ops len k (place ops len n)
 target_to ops len k n None None is e = absurd (cc)
@@ -353,7 +354,7 @@ module _ (kind : Kind) (ops : List Placed) (len : ℕ) (laid : IsLaidOut ops len
       described : (j : ℕ) → 0 ≤ j → j ≤ length ops → Describes (get_or in_states j Unreached) (Comes kind ops len 0 (place ops len j))
       described j low le = elim (cases_lt 0 j) [ inl pos ↦ at_other j pos le | inr low_end ↦ at_first j (omega arith) ]
 
-  -- a known in-state is the one state that paths have at the operation
+  -- if an `InState` is `Known`, its state is the only one with which paths reach the operation
   pub one_state : (i : ℕ) (s : StackState) (a : InState) → i ≤ length ops → a ≡ Known s
       → Describes a (Comes kind ops len i (place ops len i)) → Reaches kind ops len (place ops len i) s
       × ((t : StackState) → Reaches kind ops len (place ops len i) t → t ≡ s)

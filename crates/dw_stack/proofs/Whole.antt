@@ -1,4 +1,4 @@
--- From the operations of an expression to the expression.
+-- What is proved for the operations of an expression, stated for the expression and its bytes.
 use Rattle.std.proofs.Common.{◌≡◌, ◌∙◌, ◌⊎◌, ℕ, List, length, Option, Some, None, sym, ap, subst, inl, inr}
 use Rattle.std.specs.Prelude.{slice_get, IfSome}
 use Rattle.std.specs.Borrow.{Bor}
@@ -19,13 +19,13 @@ use Rattle.dw_stack.proofs.Verdicts.{good_refuses}
 use Rattle.dw_stack.proofs.Runs.{good_runs}
 use Rattle.dw_stack.proofs.Encoded.{laid_out, encoded_of, read_of, laid_if_read}
 
--- if the given states are as many as the operations, there is no fault of their number
+-- if the caller passed as many states as there are operations, there is no fault of their number
 pub same_count : (target : Target) (bytes : List ℕ) (given : Option (Bor (List State))) (n : ℕ) → n ≡ length (operations_in target bytes)
     → IfSome given (λ states. length states.now ≡ n) → IsOtherCount target bytes (given_of given) → ⊥
 same_count target bytes None n is same other = other
 same_count target bytes (Some states) n is same other = other (same ∙ is)
 
--- facts for operations and a length that are equal to those of the bytes
+-- what holds for operations and a length that are equal to those of the bytes
 module _ (kind : Kind) (target : Target) (bytes : List ℕ) (ops : List Placed) (len : ℕ) (read : reading_fault target bytes ≡ None)
     (are : ops ≡ operations_in target bytes) (long : len ≡ length bytes) where
   pub laid_for : IsLaidOut ops len
@@ -57,7 +57,8 @@ module _ (kind : Kind) (target : Target) (bytes : List ℕ) (ops : List Placed) 
         )))
   ]
 
--- if the given states are those that the paths have, they are the states of the operations
+-- if the states that the caller passed are those that the paths have, they are the states of the
+-- operations
 pub states_known : (kind : Kind) (ops : List Placed) (len : ℕ) (given : List State) → length given ≡ length ops
     → KnowsOnly kind ops len (Some given) → AreStates kind ops len given
 states_known kind ops len given long knows = record {
@@ -89,7 +90,7 @@ runs_for kind target bytes c checked is =
     (subst (λ (t : Target). RunsWellWithin c.kind t bytes c.depth) is.target_is
     (subst (λ (b : List ℕ). RunsWellWithin c.kind c.target b c.depth) is.bytes_are runs))
 
--- a good expression has no fault, as long as the given states, if there are any, are right
+-- a good expression has no fault, as long as the states that the caller passed, if any, are right
 pub good_faultless : (kind : Kind) (target : Target) (bytes : List ℕ) (given : Option (List State)) (f : Fault)
     → Knows kind target bytes given → IsGoodExpression kind target bytes → IsFaultOf kind target bytes given f → ⊥
 good_faultless kind target bytes given f right good fault = elim fault [

@@ -35,8 +35,7 @@ pub struct StackEffect {
     /// Whether an expression in call frame information may have the operation (DWARF 5, section
     /// 6.4.2).
     pub allowed_in_cfi: bool,
-    /// Whether the next operation may run after this one. Only a `DW_OP_skip` never goes there by
-    /// itself.
+    /// Whether the run may go to the next operation without a branch: false only for `DW_OP_skip`.
     pub falls_through: bool,
     /// The operand of a branch: how many bytes the branch target is after the first byte of the
     /// next operation. `None` if the operation isn't a branch.

@@ -27,7 +27,7 @@ pub struct OutState {
     pub height: u8,
     /// Whether the operation is a piece operation.
     pub piece: bool,
-    /// Whether the next operation may run after this one: false for `DW_OP_skip`.
+    /// Whether the run may go to the next operation without a branch: false only for `DW_OP_skip`.
     pub falls_through: bool,
     /// The index of the operation that this one may branch to. If this one may branch to the end,
     /// the number of all operations. `None` if this one isn't a branch.

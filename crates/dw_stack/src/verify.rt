@@ -86,18 +86,18 @@ fn certify_all_paths<'a>(
 
 /// Checks an expression on all paths, and returns it with the state before each operation.
 ///
-/// An error is the first fault. The whole expression is read first (`dw_ops::operations`). Then the
-/// operations are checked in order of offset. An operation is refused if no path leads to it (38),
-/// two paths reach it with different states (37), `kind` doesn't allow it (31), something is next
-/// to a location that must be alone (39), the stack has too few entries (35) or would get too many
-/// (36), it is the 33rd piece operation (41), or it branches backward (33) or to an offset where no
-/// operation begins (34). The end is checked last: two paths with different states (37), or no
-/// result (40). A fault in an operation is at the operation's offset, a fault of the end at the
-/// expression's length; offsets count from the expression's first byte. `Memory` is at 0. For n
-/// operations with b branches this takes O(n + b log n) time, and doesn't allocate for up to 16
-/// operations.
+/// An error is the first fault; the numbers in parentheses are those of `FaultKind`. The whole
+/// expression is read first (`dw_ops::operations`). Then the operations are checked in order of
+/// offset. An operation is refused if no path leads to it (38), two paths reach it with different
+/// states (37), `kind` doesn't allow it (31), it can't follow the operations before it (39), the
+/// stack has too few entries (35) or would get too many (36), it is the 33rd piece operation (41),
+/// or it branches backward (33) or to an offset where no operation begins (34). The end is checked
+/// last: two paths with different states (37), or no result (40). A fault in an operation is at the
+/// operation's offset, a fault of the end at the expression's length; offsets count from the
+/// expression's first byte. `Memory` is at 0. For n operations with b branches this takes O(n + b
+/// log n) time, and doesn't allocate for up to 16 operations.
 ///
-/// There is no first fault exactly if the expression is good by the definition in `specs/` (law
+/// There is no first fault exactly if the expression is good as `IsGoodExpression` defines it (law
 /// `the_fault_is_the_first`), and no run of a good expression goes wrong (law
 /// `good_expressions_run_well`).
 pub fn certify<'a>(
@@ -143,12 +143,13 @@ pub fn check_expression<'a>(
 }
 
 /// Checks an expression together with states from any source, such as `Certificate::states`.
-/// Accepts exactly if the expression passes the check and `states` are the states on its paths,
-/// including their offsets.
+/// Accepts exactly if the expression passes the check and `states` are the states that paths have
+/// before its operations, including their offsets.
 ///
-/// An error is the first fault. The whole expression is read first. Then there must be as many
-/// states as operations (70, at 0). Then everything is checked as in `certify`, with one more check
-/// after 37: the given state must be the one that the paths have (71, at the operation). Time and
+/// An error is the first fault; the numbers in parentheses are those of `FaultKind`. The whole
+/// expression is read first. Then there must be as many states as operations (70, at 0). Then
+/// everything is checked as in `certify`, with one more check after that for two different states
+/// (37): the state in `states` must be the one that the paths have (71, at the operation). Time and
 /// memory are as for `certify`. Laws say that there is at most one first fault
 /// (`first_faults_are_unique`), none if the expression is good and the states are right
 /// (`good_expressions_have_no_fault`), and one otherwise (`every_expression_has_a_verdict`).

@@ -27,7 +27,7 @@ use Rattle.dw_stack.proofs.Verdicts.{step_fault, end_not_nothing, end_mismatch, 
 use Rattle.dw_stack.proofs.pass.pass.Goals.{then-done, else-done}
 use Rattle.dw_stack.proofs.pass.pass.Goals as goal
 
--- a slice that was lent out has its new elements when it is given back
+-- when a borrowed slice is given back, the list has the slice's new elements
 written : (new items : List InState) (n : ℕ) → length items ≡ n → length new ≡ n → refill n items new ≡ new
 written new items n a b = grind (arith, common_steps)
 
@@ -125,7 +125,7 @@ module _ (kind : Kind) (ops : List Placed) (len : ℕ) (laid : IsLaidOut ops len
       → get_or in_states (length ops) Unreached ≡ Known s
   end_state a s e is = e ∙ arrived_is a s is
 
--- the in-state of the end is the one that the code read
+-- the `InState` at the end is the one that the code read from the last slot
 last_read : (xs items : List InState) (n m : ℕ) → xs ≡ items → m ≡ n → get_or items m Unreached ≡ get_or xs n Unreached
 last_read xs items n m same long = ap (get_or_at m) (sym same) ∙ ap (λ (k : ℕ). get_or xs k Unreached) long
   where
