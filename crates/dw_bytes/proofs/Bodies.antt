@@ -1,5 +1,5 @@
--- The body of a record or table is read exactly if the next bytes encode its length and as many
--- bytes as that length says, and it lies in its section.
+-- A body is read exactly if the next bytes encode its length and as many bytes as that length says.
+-- A body that is read lies inside its section.
 use Rattle.std.proofs.Common.{◌≡◌, ℕ, ◌+◌, ◌≤◌, List, ◌++◌, length, take, drop, Result, Ok, Err, refl, sym, ap, subst, ◌∙◌, arith, inl, inr}
 use Rattle.std.specs.Prelude.{◌⊎◌}
 use Rattle.std.proofs.lemmas.List.{drop-take, take_at as taken}

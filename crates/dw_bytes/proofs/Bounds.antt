@@ -27,7 +27,7 @@ Stays from r (Err fault) = (from ≤ fault.at) × (fault.at ≤ end-of r)
 abbrev pub AlwaysStays : {X : Type 0} → ℕ → (ReadPosition → Result (X × ReadPosition) Fault) → Type 0
 AlwaysStays from read = (r : ReadPosition) → from ≤ r.position → Stays from r (read r)
 
--- ---- the combinations
+-- ---- reads made of other reads
 
 moved : {B : Type 0} (from : ℕ) (r mid : ReadPosition) (y : Result (B × ReadPosition) Fault) → r.position ≤ mid.position
     → end-of mid ≡ end-of r → Stays from mid y → Stays from r y
@@ -105,7 +105,8 @@ step : {X : Type 0} (read : ReadPosition → Result (X × ReadPosition) Fault) (
 step read On P good bad others behind r (Ok x) is on = let h = good r x.0 x.1 on is in (h.0, behind x.1 h.1)
 step read On P good bad others behind r (Err fault) is on = (bad r fault on is, tt)
 
--- If P holds for each item that is read, then P holds for all items of the list.
+-- If P holds for each value and each fault that one read gives, P holds for all items of the list
+-- that reading again and again gives.
 all-along : {X : Type 0} (read : ReadPosition → Result (X × ReadPosition) Fault) (On : ReadPosition → Type 0) (P : Result X Fault → Type 0)
     → ((r : ReadPosition) (x : X) (after : ReadPosition) → On r → read r ≡ Ok (x, after) → P (Ok x) × On after)
     → ((r : ReadPosition) (fault : Fault) → On r → read r ≡ Err fault → P (Err fault))

@@ -19,8 +19,7 @@ use Rattle.dw_bytes.proofs.Readers.{ExactAt, bind-ok, ok-is, same-reading, fixed
 abbrev pub finish : {A : Type 0} → A → ReadPosition → Result (A × ReadPosition) Fault
 finish a r = Ok (a, r)
 
--- if the next bytes encode what was read, they encode a value and leave a rest that are equal to
--- those
+-- `Next` still holds if the value and the position after it are replaced by equal ones
 pub given : {A : Type 0} (IsEncoding : List ℕ → A → Type 0) (r : ReadPosition) (a b : A) (x y : ReadPosition) → finish a x ≡ finish b y
     → Next IsEncoding r a x → Next IsEncoding r b y
 given {A} IsEncoding r a b x y is h = subst (λ (p : A × ReadPosition). Next IsEncoding r p.0 p.1) (ok-is (a, x) (b, y) is) h

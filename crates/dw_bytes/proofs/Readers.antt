@@ -20,8 +20,8 @@ Exact target read IsEncoding = (r : ReadPosition) → r.target ≡ target → Is
 abbrev pub ExactAt : {X : Type 0} → Target → (ReadPosition → Result (X × ReadPosition) Fault) → (ℕ → List ℕ → X → Type 0) → Type 0
 ExactAt target read IsEncoding = (r : ReadPosition) → r.target ≡ target → IsExact read (IsEncoding r.position) r
 
--- if two steps in a row give a value, the first step gives a value, from which the second gives its
--- own
+-- if two steps in a row give the value y, the first step gives some value x, and the second step
+-- gives y for x
 pub bind-ok : {A B : Type 0} (r : Result A Fault) (f : A → Result B Fault) (y : B) → (r >>= f) ≡ Ok y → (x : A) × (r ≡ Ok x) × (f x ≡ Ok y)
 bind-ok (Ok x) f y e = (x, refl, e)
 bind-ok (Err d) f y e = absurd cc

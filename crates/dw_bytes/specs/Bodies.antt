@@ -6,7 +6,7 @@ use Rattle.dw_bytes.specs.declared.fault.Fault.{Fault}
 use Rattle.dw_bytes.specs.Encoding.{Length}
 use Rattle.dw_bytes.specs.Reading.{ReadPosition, ◌>>=◌, section_from, take_at, initial_length_at}
 
--- the given bytes as all that is left to read, from the position of r on
+-- the given bytes as all that is left to read, beginning at the position of r
 abbrev pub body_of : ReadPosition → List ℕ → ReadPosition
 body_of r bytes = record { target = r.target; position = r.position; rest = bytes }
 

@@ -1,7 +1,7 @@
 //! Reads the operands of operations and call frame instructions, some of which must be in a range.
 //! All operands after a code are read before any range is checked. If a field can't be read,
-//! `Truncated` or `LebRange` is reported at its first byte. The count of a block is one such field,
-//! and its bytes are another. If an operand is out of range, the fault is reported at the code
+//! `Truncated` or `LebRange` is reported at its first byte. A block's count is one such field, and
+//! the block's bytes are another. If an operand is out of range, the fault is reported at the code
 //! before the operands, whose offset the caller passes as `at`: `RegisterNumber` for a register
 //! above 65535, `PieceSize` for a size or offset of a piece above 2^32 - 1, `BadSize` for the size
 //! of a memory read. A read that fails leaves the cursor where it was.

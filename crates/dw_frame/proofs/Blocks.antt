@@ -23,7 +23,7 @@ which : (b : Bool) (P : Option (Line Instruction) → Type 0) (x y : Option (Lin
 which true P x y h k = h
 which false P x y h k = k
 
--- the instructions of a table line have no block
+-- `Holds` for a table line whose instructions have no block
 without : (start : ℕ) (target : Target) (kinds : List OperandKind) (make : Operands kinds → Instruction)
     → ((vs : Operands kinds) (end : ℕ) → EndsWithItsBlock target start end (make vs)) → Holds start target (Some (line kinds make))
 unfolding Holds
@@ -44,7 +44,7 @@ block-alone start target at bytes i lt (vs, (a, ra, pa, ia, ended), fit, is) =
     subst (EndsWithItsBlock target start (at + length bytes)) (sym is)
     (block-ends target start at (at + length bytes) a vs.0 lt (omega (arith, ap length pa, length-append a ra, ap length ended)) ia)
 
--- the second of two operands is a block
+-- `Holds` for a table line whose second operand is a block
 block-second : (start : ℕ) (target : Target) (first : OperandKind) (make : Operands (first ∷ block ∷ []) → Instruction)
     → ((vs : Operands (first ∷ block ∷ [])) (end : ℕ) → EndsWith target start end vs.1.0 → EndsWithItsBlock target start end (make vs))
     → Holds start target (Some (line (first ∷ block ∷ []) make))

@@ -14,8 +14,8 @@ use Rattle.dw_frame.proofs.Headers.{header-exact}
 abbrev framed : Format → ReadPosition → ReadPosition → Result ((Format × ReadPosition) × ReadPosition) Fault
 framed format body after = Ok ((format, body), after)
 
--- a record's body that was read is what is left to read of a program with the same first and last
--- byte
+-- If a record's body was read, and a program has the same target, start and end as that body, then
+-- the body is that program, to be read from its start.
 pub framed-program : (target : Target) (section : List ℕ) (at start end : ℕ) (format : Format) (p : Program)
     → framed_at (section_from target section at) ≡ Ok ((format, window target section start end), section_from target section end)
     → p.section.now ≡ take end section → p.start ≡ start → p.target ≡ target → length p.section.now ≡ end

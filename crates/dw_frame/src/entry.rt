@@ -18,7 +18,7 @@ pub struct CommonInformationEntry<'a> {
     pub code_alignment_factor: u64,
     /// The factor that a factored offset is multiplied by.
     pub data_alignment_factor: i64,
-    /// The register number (column in the table of rules) that stands for the return address.
+    /// The register number (a column of the unwind table) that stands for the return address.
     pub return_address_register: u16,
     /// The initial instructions of each FDE that refers to this CIE.
     pub program: Program<'a>,

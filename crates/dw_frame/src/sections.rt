@@ -112,9 +112,9 @@ pub fn entries<'a>(section: &'a [u8], target: Target) -> Entries<'a>
 }
 
 /// The CIE at offset `offset` of a section of fewer than 2^32 bytes, or `None` if no CIE begins
-/// there. If a fault in the records comes before that CIE, or if there is no such CIE, the first
-/// fault is returned instead. Reads the records in order up to the CIE: O(n) for n records.
-/// Allocates no memory.
+/// there. The first fault in the records is returned instead if it comes before that CIE, or if
+/// there is no such CIE. Reads the records in order up to the CIE: O(n) for n records. Allocates no
+/// memory.
 #[tactic(auto, using(crate::proofs::RecordBounds::cie_laws))]
 pub fn cie_at<'a>(
     section: &'a [u8],

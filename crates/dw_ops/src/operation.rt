@@ -1,8 +1,8 @@
 //! `Operation`: the operations of DWARF expressions.
 
 /// An operation with its operands as they are encoded (DWARF 5, sections 2.5 and 7.7.1). Each
-/// opcode of the standard's table that isn't excluded in docs/PROFILE.md has its own variant, but
-/// the 32 opcodes each of lit, reg and breg share one variant with a number.
+/// opcode of the standard's table that docs/PROFILE.md doesn't exclude has its own variant, except
+/// that lit, reg and breg have one variant each for their 32 opcodes, with a number from 0 to 31.
 #[derive(Clone, Copy, Debug, PartialEq, Eq)]
 pub enum Operation<'a> {
     /// `DW_OP_addr`: pushes the address.

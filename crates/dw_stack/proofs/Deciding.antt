@@ -101,8 +101,8 @@ answered_no : (b : Bool) (f : FaultKind) (at : ℕ) (rest : List Question) → b
     → first_no (else_fault b f at ∷ rest) ≡ Some (fault_of f at)
 answered_no b f at rest is = ap (λ (c : Bool). first_no (else_fault c f at ∷ rest)) is
 
--- if one of the questions about an operation is answered with no, the first of them is the first
--- check that the operation fails
+-- the first question about an operation that is answered with no is that of the first check that
+-- the operation fails
 first_no-map : (p : FaultKind → Bool) (at : ℕ) (fs : List FaultKind)
     → first_no (map (λ f. else_fault (p f) f at) fs) ≡ option_map (λ f. fault_of f at) (find (λ f. not (p f)) fs)
 first_no-map p at [] = refl
@@ -166,7 +166,7 @@ pub record Certified (kind : Kind) (ops : List Placed) (len : ℕ) (given : Opti
   pub deepest : IsDepth kind ops len depth
 
 module _ (kind : Kind) (ops : List Placed) (len : ℕ) (laid : IsLaidOut ops len) where
-  -- a jump that isn't backward and leads to the start of an operation or to the end has a target
+  -- a branch that isn't backward and leads to the start of an operation or to the end has a target
   target_there : (k : ℕ) → k < length ops → (o : Option ℤ) → is_ahead (place ops len (k + 1)) o ≡ true
       → is_start ops len (jump_target (place ops len (k + 1)) o) ≡ true → (t : Option ℕ) × TargetIs ops len k o t
   target_there k lt None ahead start = (None, tt)

@@ -31,7 +31,7 @@ module _ (kind : Kind) (ops : List Placed) (len : ℕ) where
   longer [] a h b g c k f e = (k, move_from b a g h c k (sym f.0) (sym f.1) e, (refl, refl))
   longer (d ∷ path) a h b g c k f e = (f.0, f.1, longer path d f.0 b g c k f.2 e)
 
-  -- a path that is extended by an edge
+  -- a path followed by an edge is a path
   pub extend : (b : ℕ) (g : StackState) (c : ℕ) (k : StackState) → Reaches kind ops len b g → Edge ops len b g c k
       → Reaches kind ops len c k
   extend b g c k r e = record { path = r.path ++ c ∷ []; follows = longer r.path 0 (start_of kind) b g c k r.follows e }

@@ -30,7 +30,7 @@ use Rattle.dw_stack.proofs.Pieces.{pieces_mono, pieces_with, length-pieces_after
 use Rattle.dw_stack.proofs.Ends.{pieced_after, result_there}
 use Rattle.dw_stack.proofs.Routes.{reach_from, extend, at_start, reached_place, edge_lands}
 
--- for each operation: what is pending after it is as the mode after its role says
+-- for each operation: the location that is pending after the operation is as its role says
 pending_is : (op : Operation) (s : List ℕ) (p : Option LocationDescription) (h : ℕ) (b : Bool) → p ≡ location_named op s
     → PendingIs (next_mode (effect_of op).role h b).mode p (next_mode (effect_of op).role h b).height
 pending_is (reg r) s p h b e = (r, e)
@@ -52,7 +52,8 @@ branches (bra z) s = either (not (eqb (entry s 0) 0))
 branches (skip z) s = (z, refl)
 branches _ s = refl
 
--- for each role: the stack height after an operation, and whether there are pieces then
+-- for each role: after an operation, the run's stack height and whether it has pieces are as the
+-- next state says
 height_behind : (r : Role) (new rest : List ℕ) (b : Bool)
     → length (stack_after r new rest) ≡ (next_mode r (length rest + length new) b).height
 height_behind role.Piece new rest b = refl
@@ -73,7 +74,8 @@ pieced_behind role.Register h b parts p e = e
 pieced_behind role.Bytes h b parts p e = e
 pieced_behind role.Top h b parts p e = e
 
--- if a configuration agrees with a state, so do the configuration and the state after one step
+-- if a configuration agrees with a state, the configuration after one step agrees with the state
+-- after that step
 agrees_after : (m : Meaning) (ops : List Placed) (len : ℕ) (s : StackState) (c d : Configuration) (t : Step m ops len c d) → Agrees s c
     → Agrees (state_after (effect_of t.meets.placed.1) s) d
 agrees_after m ops len s c d t a = record {
@@ -394,7 +396,7 @@ module _ (kind : Kind) (ops : List Placed) (len : ℕ) (laid : IsLaidOut ops len
       let p = run_path m n c d (start_of kind) (agrees_at_start c s) run in
       (p.0, subst (λ (at : ℕ). Follows ops len at (start_of kind) (offsets_of m ops len n c d run) d.offset p.0) s.offset p.1, p.2)
 
-  -- a run has no more pieces than there are piece operations before it
+  -- a run has no more pieces than there are piece operations before the operation where it is
   run_pieces : (m : Meaning) (n i : ℕ) (c d : Configuration) → i ≤ length ops → place ops len i ≡ c.offset
       → length c.pieces ≤ pieces_before ops i → Run m ops len n c d → (j : ℕ) × (j ≤ length ops) × (place ops len j ≡ d.offset)
       × (length d.pieces ≤ pieces_before ops j)

@@ -1,4 +1,5 @@
--- What follows from the pass over the operations: either they are good, or there is a first fault.
+-- What follows from the pass over the operations: either the operations are good, or there is a
+-- first fault.
 use Rattle.std.proofs.Math.Logic.{∥∥₁_elim}
 use mathlib.Core.HLevel.{⊥_prop}
 use Rattle.std.proofs.Common.{◌≡◌, ℕ, ℤ, negsuc, zero, suc, ◌+◌, ◌<◌, ◌≤◌, ◌⊎◌, true, List, length, get_or, Option, Some, None, refl, sym}

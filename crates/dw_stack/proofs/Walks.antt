@@ -135,8 +135,8 @@ module _ (kind : Kind) (ops : List Placed) (len : ℕ) (laid : IsLaidOut ops len
             inr (record { last = record { a = place ops len i; h = h; reached = reached; edge = edge }; below = omega arith })
       ]
 
--- the branch target of an operation, given as the number of an operation, is an offset that the
--- branch may lead to
+-- if a branch leads to the operation numbered n, or to the end, then that operation's offset, or
+-- the end, is the branch target
 target_to : (ops : List Placed) (len k n : ℕ) (o : Option ℤ) (o' : Option ℕ) → TargetIs ops len k o o' → o' ≡ Some n
     → (jump_target (place ops len (k + 1)) o ≡ Some (place ops len n)) × IsTarget ops len k (place ops len n)
 target_to ops len k n None None is e = absurd (cc)
@@ -310,7 +310,7 @@ few_more pieces true c is few le = let lt = few (sym is) in omega (arith, lt)
 few_more pieces false c is few le = omega (arith, le)
 
 module _ (kind : Kind) (ops : List Placed) (len : ℕ) (laid : IsLaidOut ops len) (given : Option (List State)) where
-  -- what holds before any operation is checked
+  -- `Walked` holds before any operation is checked
   pub walked_start : (in_states : List InState) → length in_states ≡ length ops + 1 → get_or in_states 0 Unreached ≡ Known (start_of kind)
       → ((j : ℕ) → 0 < j → j ≤ length ops → get_or in_states j Unreached ≡ Unreached)
       → Walked kind ops len given 0 [] in_states (start_of kind).height 0
@@ -363,7 +363,7 @@ module _ (kind : Kind) (ops : List Placed) (len : ℕ) (laid : IsLaidOut ops len
       describes_is a (Known s) (Comes kind ops len i (place ops len i)) e d in
       (reaches_from_comes kind ops len laid i (place ops len i) s d'.0, λ t r. d'.1 t (comes_from_reaches kind ops len laid i t le r))
 
-  -- what holds after one more operation is checked
+  -- `Walked` still holds after one more operation is checked
   pub walked_step : (i : ℕ) (states : List State) (old new : List InState) (depth pieces : ℕ) (done : Done) → i < length ops
       → Walked kind ops len given i states old depth pieces → Stepped kind ops len given i pieces old done new
       → Walked kind ops len given (i + 1) (states ++ at_offset (place ops len i) done.state ∷ []) new

@@ -27,7 +27,7 @@ located_of x = record { offset = x.0; kind = (checked_of x.1).kind; target = (ch
 abbrev pub all_located : List (ℕ × CheckedExpression) → List LocatedExpression
 all_located xs = map located_of xs
 
--- ---- why an expression is refused
+-- ---- where the fault of an expression is in its section
 
 -- a fault of the expression at offset `from` of a section: the fault's offset is changed to count
 -- from the section's first byte instead of the expression's

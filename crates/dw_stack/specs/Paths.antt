@@ -40,8 +40,9 @@ abbrev pub branch_target : ℕ → ℤ → Option ℕ
 branch_target next (pos n) = Some (next + n)
 branch_target next (negsuc n) = None
 
--- the branch target of an operation, whose next operation is at `next`, or of the operation
--- numbered k; None if it isn't a branch, or if it branches backward
+-- jump_target gives the branch target of an operation if the next operation is at offset `next`;
+-- branch_target_of gives that of the operation numbered k. Both give None if the operation isn't a
+-- branch, or if it branches backward.
 abbrev pub jump_target : ℕ → Option ℤ → Option ℕ
 jump_target next None = None
 jump_target next (Some z) = branch_target next z
