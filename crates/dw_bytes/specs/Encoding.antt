@@ -1,4 +1,5 @@
--- Which bytes encode which number. A byte is a number below 256, and a list of bytes is a list of such numbers.
+-- Which bytes encode which number. A byte is a number below 256, and a list of bytes is a list of
+-- such numbers.
 use Rattle.std.specs.Prelude.{◌≡◌, ◌<◌, ◌≤◌, ◌+◌, ◌*◌, ◌^◌, ◌%◌, ◌-◌, ℕ, ℤ, pos, ◌-ℤ◌, Bool, slice_index, nat_le, if◌then◌else◌, List, []}
 use Rattle.std.specs.Prelude.{◌∷◌, ◌++◌, length, FitsSigned}
 use Rattle.std.specs.Int.{w64}

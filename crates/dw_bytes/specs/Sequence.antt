@@ -1,4 +1,5 @@
--- Things that are encoded one after another: the records of a section, the instructions of a program.
+-- Things that are encoded one after another, such as the records of a section or the instructions
+-- of a program.
 use Rattle.std.specs.Prelude.{◌≡◌, ◌+◌, ℕ, zero, suc, List, [], ◌∷◌, ◌++◌, length, nat_lt, if◌then◌else◌, Result, Ok, Err}
 use Rattle.dw_bytes.specs.declared.fault.Fault.{Fault}
 use Rattle.dw_bytes.specs.Reading.{ReadPosition, ◌>>=◌}

@@ -35,7 +35,8 @@ pub record IsBehind (target : Target) (section : List ℕ) (at : ℕ) (after : R
   pub inside : after.position ≤ length section
   pub left : after ≡ section_from target section after.position
 
--- The program of a record lies after the record's offset, inside a section of this size, and has the same target.
+-- The program of a record lies after the record's offset, inside a section of this size, and has
+-- the same target.
 pub record LiesIn (target : Target) (size offset : ℕ) (program : ReadPosition) : Type 0 where
   pub begins : offset < program.position
   pub ends : program.position + length program.rest ≤ size

@@ -8,7 +8,8 @@ use Rattle.dw_bytes.specs.Reading.{ReadPosition}
 abbrev pub is_version : ℕ → Bool
 is_version number = number == 1 || number == 3 || number == 4
 
--- A CIE: the offset of its record, its header, and its program, which is what its body has left after the header.
+-- A CIE: the offset of its record, its header, and its program, which is the rest of its body after
+-- the header.
 pub record Cie : Type 0 where
   pub offset : ℕ
   pub format : Format
@@ -19,7 +20,7 @@ pub record Cie : Type 0 where
   pub program : ReadPosition
 
 -- An FDE: the offset of its record, its header, the offset of its CIE_pointer field, and its
--- program, which is what its body has left after the header.
+-- program, which is the rest of its body after the header.
 pub record Fde : Type 0 where
   pub offset : ℕ
   pub format : Format

@@ -1,5 +1,5 @@
-//! The records of a `.debug_frame` section and the instructions of their programs (DWARF 5, sections
-//! 6.4 and 7.24).
+//! The records of a `.debug_frame` section and the instructions of their programs (DWARF 5,
+//! sections 6.4 and 7.24).
 #![tactic(auto)]
 
 mod call_frame_instruction;

@@ -72,7 +72,8 @@ pub enum Operation<'a> {
     Shra,
     /// `DW_OP_xor`: bitwise exclusive or.
     Xor,
-    /// `DW_OP_bra`: pops the top, and branches if it isn't 0. The offset counts from the byte after the operation.
+    /// `DW_OP_bra`: pops the top, and branches if it isn't 0. The offset counts from the byte after
+    /// the operation.
     Bra { offset: i16 },
     /// `DW_OP_eq`: 1 if the second entry is equal to the top, else 0.
     Eq,
@@ -92,7 +93,8 @@ pub enum Operation<'a> {
     Lit { value: u8 },
     /// `DW_OP_reg0` to `DW_OP_reg31`: the location is the register, 0 to 31.
     Reg { register: u8 },
-    /// `DW_OP_breg0` to `DW_OP_breg31`: pushes the register's value plus the offset; the register is 0 to 31.
+    /// `DW_OP_breg0` to `DW_OP_breg31`: pushes the register's value plus the offset; the register
+    /// is 0 to 31.
     Breg { register: u8, offset: i64 },
     /// `DW_OP_regx`: the location is the register.
     Regx { register: u16 },

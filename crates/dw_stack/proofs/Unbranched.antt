@@ -128,8 +128,8 @@ module _ (kind : Kind) (ops : List Placed) (len : ℕ) (laid : IsLaidOut ops len
         passes = record { mid = new; next = receives; target = refl };
       }
 
--- the bytes of an expression before the offset `at` were read, and their `count` operations were
--- checked on the condition that the rest can be read, too
+-- the bytes of an expression before the offset `at` were read as `count` operations; if all
+-- operations of the expression are laid out in order, these were checked (`Straight`)
 pub record JudgedSoFar (kind : Kind) (e : Expression) (at count : ℕ) (state : StackState) (depth pieces : ℕ)
     (states : List State) : Type 0 where
   pub within : at ≤ length (bytes_of e)

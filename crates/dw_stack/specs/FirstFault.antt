@@ -33,13 +33,13 @@ offsets_to (Some t) = t ∷ []
 abbrev pub offsets_after : List Placed → ℕ → ℕ → StackEffect → List ℕ
 offsets_after ops len k e = (if e.falls_through then place ops len (k + 1) ∷ [] else []) ++ offsets_to (branch_target_of ops len k e)
 
--- from a list of offsets with states: the states at offset `at`
+-- the states at offset `at`, from a list of offsets with states
 abbrev pub states_at : ℕ → List (ℕ × StackState) → List StackState
 states_at at [] = []
 states_at at (c ∷ come) = if c.0 == at then c.1 ∷ states_at at come else states_at at come
 
--- the offsets that a path may go to from the operation numbered k, each with the state there, if
--- paths reach that operation with these states
+-- the offsets that paths may go to from the operation numbered k, each with the state there;
+-- `states` are the states with which paths reach that operation
 abbrev pub onward : List Placed → ℕ → ℕ → Option Placed → List StackState → List (ℕ × StackState)
 onward ops len k None states = []
 onward ops len k (Some x) states =
@@ -73,7 +73,7 @@ same_state s t =
 abbrev pub Question : Type 0
 Question = Bool × Fault
 
--- the question whether b is true; if it isn't, this is the fault
+-- the question whether b is true, with the fault if it isn't
 abbrev pub else_fault : Bool → FaultKind → ℕ → Question
 else_fault b kind at = (b, record { kind = kind; at = at })
 

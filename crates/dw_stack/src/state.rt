@@ -23,7 +23,7 @@ pub enum Kind {
 /// What the operations of a path have named since the last piece as the object's location or value.
 #[derive(Clone, Copy, Debug, PartialEq, Eq)]
 pub enum Mode {
-    /// Nothing: if there is anything, it is on the stack.
+    /// Nothing; there may be entries on the stack.
     Stack,
     /// A register.
     Register,
