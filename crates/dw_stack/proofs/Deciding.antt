@@ -156,7 +156,8 @@ given_tells ops len (Some states) k s = elim (slice_get_cases states k).1 [
   ]
 ]
 
--- good operations, with their states and their depth; if the caller passed states, they are right
+-- operations that are good (`IsGood`), with their states and their depth; if the caller passed
+-- states, they are right
 pub record Certified (kind : Kind) (ops : List Placed) (len : ℕ) (given : Option (List State)) : Type 0 where
   pub good : IsGood kind ops len
   pub known : KnowsOnly kind ops len given

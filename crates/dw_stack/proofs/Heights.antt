@@ -1,4 +1,4 @@
--- No stack height on a path of a good expression is above the limit.
+-- No stack height on a path of a good expression (`IsGood`) is above the limit.
 use Rattle.std.proofs.Math.Logic.{∥∥₁_elim}
 use Rattle.std.specs.Coded.{le_prop}
 use Rattle.std.proofs.Common.{ℕ, ◌≤◌, Bool, List, refl, sym, ap, inl, inr, arith}

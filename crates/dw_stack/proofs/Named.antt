@@ -14,7 +14,7 @@ use Rattle.dw_stack.proofs.Unique.{one_fault}
 use Rattle.dw_stack.proofs.Whole.{good_faultless}
 
 module _ (kind : Kind) (target : Target) (bytes : List ℕ) where
-  -- if a checked expression has these bytes, this target and this kind, it is good
+  -- if a checked expression has this kind, this target and these bytes, they are a good expression
   pub good_of : (it : Checked) → IsChecked it → IsOf kind target bytes it → IsGoodExpression kind target bytes
   good_of it checked is =
       subst (λ (k : Kind). IsGoodExpression k target bytes) is.kind_is

@@ -1,5 +1,5 @@
--- Expressions without branches: one state after another is the only one with which paths reach the
--- next operation.
+-- Expressions without branches: paths reach each operation with only one state, the one after the
+-- operation before it.
 use Rattle.std.proofs.Common.{◌≡◌, ◌∙◌, ℕ, ℤ, zero, suc, ◌+◌, ◌<◌, ◌≤◌, Bool, true, false, cond, List, [], ◌∷◌, ◌++◌, length, get_or}
 use Rattle.std.proofs.Common.{get_or-set_same, get_or-set_other, length-append, Option, Some, None, Ok, refl, sym, ap, subst, arith}
 use Rattle.std.specs.Prelude.{slice_get, slice_set, replicate, max, ◌==◌}

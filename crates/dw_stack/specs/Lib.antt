@@ -6,11 +6,11 @@
 pub mod Effects
 -- the state of the stack on a path: height, mode and pieces
 pub mod States
--- the paths through an expression, and what makes an expression good
+-- the paths through an expression, and when it is good: nothing goes wrong on any of them
 pub mod Paths
 -- runs with actual values, whatever the registers and memory are (2.5, 2.6)
 pub mod Machine
--- when the bytes of an expression are good, and what their states, depth and first fault are
+-- when an expression is good, and what its states, depth and first fault are, given its bytes
 pub mod Expressions
 -- an expression with its offset in a section
 pub mod Located

@@ -1,6 +1,6 @@
--- The paths through an expression, the states on them, and what makes an expression good. That a
--- path only goes forward, and that both ways of a branch count as paths whatever the value, are
--- rules of this checker.
+-- The paths through an expression, the states on them, and when an expression is good: nothing goes
+-- wrong on any path. That a path only goes forward, and that both ways of a branch count as paths
+-- whatever the value, are rules of this checker.
 use Rattle.std.specs.Prelude.{◌≡◌, ℕ, ℤ, pos, negsuc, zero, suc, ◌+◌, ◌==◌, ◌<◌, ◌≤◌, ◌⊎◌, Bool, true, false, List, [], ◌∷◌, length, take}
 use Rattle.std.specs.Prelude.{count_by, IsTrue, Option, Some, None, slice_get}
 use Rattle.dw_ops.specs.Operations.{Operation}

@@ -61,7 +61,7 @@ pub fn runs_are_determined()
         → IsOver kind m (operations_in target bytes) (length bytes) e → (n ≡ k) × (d ≡ e) }
 {}
 
-/// The values of this checker's two limits.
+/// `MAX_HEIGHT` and `MAX_PIECES`, the two limits of this checker, are 128 and 32.
 pub fn expression_limits()
     ensures height { MAX_HEIGHT ≡ 128 }
     ensures pieces { MAX_PIECES ≡ 32 }
@@ -192,7 +192,7 @@ pub fn runs_over_operations_are_determined()
         → (kind : Kind) (c : Configuration) → Ended kind ops len c → ¬ Meets ops c }
 {}
 
-/// In operations that are good on all paths, no branch has a negative operand.
+/// In operations that are good (`IsGood` in Paths.antt), no branch has a negative operand.
 pub fn branches_lead_ahead()
     ensures { (kind : Kind) (ops : List Placed) (len : ℕ) → IsLaidOut ops len → IsGood kind ops len
         → (k : ℕ) (x : Placed) (z : ℤ) → slice_get ops k ≡ Some x
