@@ -1,60 +1,67 @@
-//! The declarations of `c/include/dwcheck.h`, in the same order and words: the same names without
-//! `dwcheck_`, and the same fields. `layout` compares sizes, offsets and numbers with a C
-//! compiler's.
+//! The declarations of `c/include/dwcheck.h`, in the same order and with the same fields. The names
+//! are the header's without `dwcheck_` or `DWCHECK_`; those of structures are in Rust's case. The
+//! test in `layout.rs` compares sizes, offsets and numbers with those that a C compiler gives.
 //!
-//! The header's rules for the caller of every call, and why this crate follows them:
+//! The header has rules for the caller of every call. This is why this crate follows them:
 //!
-//! - "A pointer points to a whole, aligned value of its type, which no other thread writes during
-//!   the call. What a pointer without const points to overlaps no other argument; the others may
-//!   overlap. A pointer that comes with a length points to that many elements; for none it may be
-//!   .. any other address. No other pointer may be NULL." Here all pointers come from references
-//!   and slices. Two `const` pointers may be to one slice, because the library takes them as shared
-//!   references, `&[u8]` or `&CState`.
-//! - "A process is passed to one call at a time, and is moved only by copying it and setting the
-//!   old one to DWCHECK_CLOSED. A process that was added to, or made by dwcheck_process_share from
-//!   an open one, has to be closed, even after its modules are removed. It may go from thread to
-//!   thread, ordered by a lock, an atomic of memory_order_seq_cst, or a thread's start or join."
-//!   Here `Process` isn't `Sync`, Rust doesn't use a value that was moved, `Drop` closes each
-//!   process, and every way in which safe Rust passes a value to another thread synchronizes the
-//!   two threads.
-//! - "malloc, realloc and free belong to one allocator and may be called from the thread. So calls
-//!   that allocate or free are not for signal handlers, nor is any call for the forked child of a
-//!   process with threads." In Rust, signal handlers and `fork` need `unsafe` code of the user.
-//! - "There is enough stack." The library touches each page of its stack in turn, so a stack that
-//!   is too small ends the program at the guard page that Rust's threads have.
-//! - "Fields called `reserved` are set to 0."
+//! - "Each pointer points to a whole, aligned value of its type. No other thread writes that value
+//!   during the call. A value that a pointer without const points to overlaps no other argument.
+//!   Values that pointers to const point to may overlap each other. A pointer that comes with a
+//!   length points to that many elements. If the length is 0, the pointer may be any address except
+//!   NULL .. No other pointer may be NULL." In this crate all pointers come from references and
+//!   slices. Two `const` pointers may be to the same slice, because the library takes them as
+//!   shared references, `&[u8]` or `&CState`.
+//! - "A process is passed to only one call at a time. To move a process, copy the structure and set
+//!   the old one to DWCHECK_CLOSED. A process has to be closed if a module was added to it, or if
+//!   dwcheck_process_share made it from an open process, even if its modules have been removed. A
+//!   process may go from one thread to another if the threads synchronize: by a lock, by an atomic
+//!   of memory_order_seq_cst, or by a thread's start or join." In this crate `Process` isn't
+//!   `Sync`, Rust never uses a value after a move, `Drop` closes each process, and every way in
+//!   which safe Rust passes a value to another thread synchronizes the two threads.
+//! - "malloc, realloc and free belong to one allocator, and the calling thread may call them. So a
+//!   signal handler must not make a call that allocates or frees, and the child that a process with
+//!   threads forks must make no call at all." In Rust, a user needs `unsafe` code for signal
+//!   handlers and for `fork`.
+//! - "The stack is large enough." The library touches each page of its stack in turn. So if the
+//!   stack is too small, the program ends at the guard page, which each of Rust's threads has.
+//! - "Fields called `reserved` are set to 0." This crate sets them to 0.
 //!
-//! No export has a precondition beyond these. "Enumerations may gain values: treat one that you don't
-//! know as 'something else'."
+//! No call has a precondition beyond these. "A later version may add values to enumerations, so
+//! treat a value that you don't know as 'something else'." This crate has variants called `Other`
+//! for such values.
 
 use std::mem::MaybeUninit;
 use std::os::raw::c_void;
 
 /// The call's results are written.
 pub const DONE: u32 = 0;
-/// `fault` gives the reason.
+/// `fault` says why.
 pub const REFUSED: u32 = 1;
 /// malloc or realloc returned NULL.
 pub const NO_MEMORY: u32 = 2;
-/// The rows of the section can take more than `room`.
+/// The rows of the section can take more than `room` bytes.
 pub const NO_ROOM: u32 = 3;
-/// 2^32 bytes or more. (4 and 6 are for orders, sizes and kinds that this crate never passes.)
+/// The section or expression has 2^32 bytes or more. (The statuses 4 and 6 are missing here: they
+/// are for byte orders, address sizes and kinds of expressions that this crate never passes.)
 pub const TOO_LONG: u32 = 5;
 /// What was looked up doesn't exist.
 pub const NONE: u32 = 7;
 
-/// Byte orders.
+/// Byte orders: the least significant byte first, or last.
 pub const LITTLE: u32 = 0;
 pub const BIG: u32 = 1;
 
-/// What a fault's offset counts in: bytes of the frame section, ..
+/// The values of a fault's `within`: what its `offset` counts, from 0. Bytes of the frame section.
 pub const IN_FRAME: u32 = 0;
+/// Bytes of the location list section.
 pub const IN_LISTS: u32 = 1;
+/// Bytes of the expression.
 pub const IN_EXPRESSION: u32 = 2;
-/// An index into the callee-saved registers; the stack pointer's is after them.
+/// Elements of `kept`; `kept_length` stands for the stack pointer.
 pub const IN_ABI: u32 = 3;
 
-/// Why an input is refused: the number of the fault (docs/PROFILE.md lists them) and its offset.
+/// Why an input is refused. `number` says what is wrong (docs/PROFILE.md lists the numbers),
+/// `offset` says where, and `within` says what the offset counts.
 #[repr(C)]
 #[derive(Clone, Copy, Debug, Default)]
 pub struct Fault {
@@ -65,30 +72,31 @@ pub struct Fault {
 }
 
 /// A process: its modules, each a compiled .debug_frame section with a load address. The fields are
-/// private. If all of it is 0 it is closed: it has no module, and every call accepts it. The
-/// library writes one byte of `opaque_open` and may leave the other bytes uninitialized.
+/// private. A process whose bytes are all 0 is closed: it has no module, and every call accepts it.
+/// The library writes one byte of `opaque_open`, and may leave its other bytes uninitialized.
 #[repr(C)]
 pub struct Process {
     pub opaque: *mut c_void,
     pub opaque_open: MaybeUninit<u64>,
 }
 
-/// Kinds of rules.
+/// The values of a rule's `kind`. The value isn't available.
 pub const RULE_UNDEFINED: u32 = 1;
+/// The value that the register has now.
 pub const RULE_SAME_VALUE: u32 = 2;
-/// Saved at CFA + offset.
+/// Saved in memory at CFA + `offset`.
 pub const RULE_OFFSET: u32 = 3;
-/// CFA + offset.
+/// The number CFA + `offset`.
 pub const RULE_VAL_OFFSET: u32 = 4;
-/// The content of register `source`.
+/// The value that register `source` has now.
 pub const RULE_REGISTER: u32 = 5;
-/// Saved at the address that the expression gives.
+/// Saved in memory at the address that the expression gives.
 pub const RULE_EXPRESSION: u32 = 6;
 /// The value that the expression gives.
 pub const RULE_VAL_EXPRESSION: u32 = 7;
 
-/// The rule of a register of the caller. An expression begins at `offset` in the section, and has
-/// `length` bytes.
+/// How to find the value of register `reg` in the caller. If `kind` is one of the two for
+/// expressions, the expression begins at `offset` in the section and has `length` bytes.
 #[repr(C)]
 #[derive(Clone, Copy, Debug, Default)]
 pub struct Rule {
@@ -101,10 +109,11 @@ pub struct Rule {
 
 pub const MAX_RULES: usize = 128;
 
-/// The row of the addresses as linked from `start` up to, not including, `end`, in the module at a
-/// load address. The CFA is register cfa.reg plus cfa.offset (kind RULE_VAL_OFFSET), or what an
-/// expression gives (RULE_VAL_EXPRESSION). `return_reg` is the register of the return address,
-/// `count` the number of registers that have a rule, at most MAX_RULES.
+/// A row of the module that is loaded at `load_address`. The row covers the addresses as linked
+/// from `start` up to, but not including, `end`. If cfa.kind is RULE_VAL_OFFSET, the CFA is the
+/// value of register cfa.reg plus cfa.offset. If it is RULE_VAL_EXPRESSION, the CFA is the value
+/// that an expression gives. `return_reg` is the register of the return address, and `count` the
+/// number of registers that have a rule, at most MAX_RULES.
 #[repr(C)]
 #[derive(Clone, Copy, Debug, Default)]
 pub struct Row {
@@ -116,7 +125,7 @@ pub struct Row {
     pub count: u32,
 }
 
-/// Memory from an address on.
+/// A block of memory that starts at address `base`.
 #[repr(C)]
 #[derive(Clone, Copy)]
 pub struct Block {
@@ -125,12 +134,13 @@ pub struct Block {
     pub length: usize,
 }
 
-/// The state of a stopped thread. Register n has contents[n] if bit n % 8 of known[n / 8] is set
-/// and both elements exist. Memory is the blocks' bytes; if two blocks have an address, the first
-/// one's byte counts. `kept` (callee-saved registers, 127 at most) and stack_pointer (if
-/// has_stack_pointer isn't 0) are the ABI. It applies to registers that the row gives no rule: a
-/// kept one has its present value in the caller, the stack pointer is the CFA, and any other
-/// register is undefined there. No register occurs twice among these.
+/// The state of a stopped thread. The value of register n is contents[n] if contents[n] and
+/// known[n / 8] exist and bit n % 8 of known[n / 8] is set (bit 0 is the least significant);
+/// otherwise it isn't known. Memory is the bytes of the blocks; if two blocks contain an address,
+/// the byte of the first block counts. The ABI is `kept` (the callee-saved registers, 127 at most)
+/// and, if has_stack_pointer isn't 0, stack_pointer. The ABI applies to registers to which the row
+/// gives no rule: in the caller, a register in `kept` has the value that it has now, the stack
+/// pointer is the CFA, and any other register is undefined. The ABI names no register twice.
 #[repr(C)]
 pub struct State {
     pub contents: *const u64,
@@ -146,18 +156,19 @@ pub struct State {
     pub reserved: u32,
 }
 
-/// No FDE covers the address that is looked up.
+/// What is known of a CFA, a return address or a register. This value occurs only in the last frame
+/// of a walk: no FDE covers the frame.
 pub const NOT_COVERED: u32 = 0;
-/// It is `value`, below 2^w.
+/// It is `value`, below 2^w, where w is the address size in bits.
 pub const VALUE: u32 = 1;
-/// It isn't available.
+/// Its value isn't available.
 pub const UNDEFINED: u32 = 2;
-/// It requires a register or memory that isn't given, or memory past 2^w - 1.
+/// It needs a register or memory that isn't known, or memory past the highest address, 2^w - 1.
 pub const UNREADABLE: u32 = 3;
 /// Its expression divides by zero.
 pub const DIVISION_BY_ZERO: u32 = 4;
 
-/// What is known of a number.
+/// What is known of a CFA or a return address.
 #[repr(C)]
 #[derive(Clone, Copy, Debug, Default)]
 pub struct Answer {
@@ -175,8 +186,9 @@ pub struct Register {
     pub number: u32,
 }
 
-/// A caller: its canonical frame address, its return address, and the number of registers that have
-/// a rule from the row or the ABI, at most MAX_REGISTERS.
+/// A caller. `cfa` is the canonical frame address of the frame that was called. `return_address` is
+/// where the caller continues, just after the call. `count` is the number of registers that have a
+/// rule from the row or the ABI, at most MAX_REGISTERS.
 #[repr(C)]
 #[derive(Clone, Copy, Debug, Default)]
 pub struct Caller {
@@ -187,7 +199,7 @@ pub struct Caller {
 
 pub const MAX_REGISTERS: usize = 256;
 
-/// A frame: its address, and its canonical frame address.
+/// A frame: its address as loaded, and its canonical frame address (CFA).
 #[repr(C)]
 #[derive(Clone, Copy, Debug, Default)]
 pub struct Frame {
@@ -195,23 +207,29 @@ pub struct Frame {
     pub cfa: Answer,
 }
 
-/// Why a walk ends: the number of frames reached the number of slots.
+/// Why a walk ends: `frames` has no room for more.
 pub const STOP_LIMIT: u32 = 0;
 /// No module has a row for the last frame.
 pub const STOP_NOT_COVERED: u32 = 1;
-/// The row's rule for the return address is undefined, which completes the walk (DWARF 5, 6.4.4); or
-/// neither the row nor `kept` names its register.
+/// The return address of the last frame is undefined. Either the row's rule says so, and then the
+/// walk is complete (DWARF 5, section 6.4.4); or neither the row nor `kept` names the return
+/// address register.
 pub const STOP_RETURN_UNDEFINED: u32 = 2;
+/// The return address of the last frame is UNREADABLE.
 pub const STOP_RETURN_UNREADABLE: u32 = 3;
+/// The return address of the last frame is DIVISION_BY_ZERO.
 pub const STOP_RETURN_DIVISION_BY_ZERO: u32 = 4;
 
-/// The use of an expression: the rule of a CFA, ..
+/// What an expression is used for. The rule of a CFA: the stack is empty at first.
 pub const FRAME_CFA: u32 = 0;
-/// The rule of a register: its run begins with the CFA.
+/// The rule of a register: the stack begins with the CFA.
 pub const FRAME_REGISTER: u32 = 1;
+/// The location of an object: the stack is empty at first.
 pub const LOCATION: u32 = 2;
 
-/// The values that the point in the program supplies to an expression, each if its flag isn't 0.
+/// Values that an expression may need and that depend on where the program stopped: the CFA, the
+/// frame base (for DW_OP_fbreg) and the address of the object (for DW_OP_push_object_address). Each
+/// is known only if its flag, such as has_cfa, isn't 0.
 #[repr(C)]
 #[derive(Clone, Copy, Debug, Default)]
 pub struct Context {
@@ -224,28 +242,30 @@ pub struct Context {
     pub reserved: u32,
 }
 
-/// Of a frame's expression: `value`.
+/// The values of `kind` in `Value`, and, from LOCATION_NOWHERE to LOCATION_BYTES, in `Piece`.
+/// For the rule of a CFA or register: the result is `value`.
 pub const IS_VALUE: u32 = 0;
-/// The operation at `offset` requires something that isn't given, or reads memory past 2^w - 1. The
-/// rule of a register without has_cfa is unreadable at 0 after 0 steps.
+/// The operation at `offset` needs a register, memory or a context value that isn't known, or reads
+/// memory past 2^w - 1. If has_cfa is 0, the rule of a register always has this outcome, at offset
+/// 0 and after 0 steps.
 pub const IS_UNREADABLE: u32 = 1;
 /// The operation at `offset` divides by zero.
 pub const IS_DIVISION_BY_ZERO: u32 = 2;
-/// Of a location, or of a piece of it: the object was optimized away.
+/// The object, or this piece of it, was optimized away.
 pub const LOCATION_NOWHERE: u32 = 3;
 /// In memory, at `value`.
 pub const LOCATION_ADDRESS: u32 = 4;
 /// In register `value`.
 pub const LOCATION_REGISTER: u32 = 5;
-/// Nowhere, but its value is `value`.
+/// Nowhere, but the object's value is `value`.
 pub const LOCATION_VALUE: u32 = 6;
-/// Nowhere, but its value is bytes, `value` of them.
+/// Nowhere, but the object's value is bytes, and `value` is their number.
 pub const LOCATION_BYTES: u32 = 7;
 /// `count` pieces, 32 at most.
 pub const LOCATION_PIECES: u32 = 8;
 
-/// The outcome of an expression. `value` is 0 for the kinds that don't name it. `steps` is the
-/// number of operations reached, the one without an answer included.
+/// The outcome of an expression. `value` is 0 for kinds whose comment doesn't mention it. `steps`
+/// is the number of operations that were reached, including one that failed.
 #[repr(C)]
 #[derive(Clone, Copy, Debug, Default)]
 pub struct Value {
@@ -256,8 +276,8 @@ pub struct Value {
     pub count: u32,
 }
 
-/// A piece: where it is, and its number of bytes, or, if is_bits isn't 0, of bits from bit_offset
-/// on.
+/// A piece: where it is (`kind` and `value`, as in `Value`), and its size. The size is in bytes;
+/// but if is_bits isn't 0, it is in bits, and the piece begins at bit bit_offset.
 #[repr(C)]
 #[derive(Clone, Copy, Debug, Default)]
 pub struct Piece {
@@ -270,8 +290,8 @@ pub struct Piece {
 
 pub const MAX_PIECES: usize = 32;
 
-/// A look-up: the list whose first byte is at the offset `list` of the section, with the base of
-/// its unit, at an address as linked.
+/// What to look up: `address`, an address as linked, in the list whose first byte is at offset
+/// `list` of the section. `base` is the base address of the unit to which the list belongs.
 #[repr(C)]
 #[derive(Clone, Copy, Debug, Default)]
 pub struct Lookup {
@@ -281,7 +301,7 @@ pub struct Lookup {
     pub reserved: u32,
 }
 
-/// An expression of the section: the offset where it begins, and its length in bytes.
+/// An expression: the offset in the section where it begins, and its length in bytes.
 #[repr(C)]
 #[derive(Clone, Copy, Debug, Default)]
 pub struct Location {
@@ -290,14 +310,14 @@ pub struct Location {
 }
 
 extern "C" {
-    /// The version of this interface: 65536 times the major version, plus the minor version. If the
-    /// major versions are the same, a program keeps working with a library whose minor version is
-    /// later.
+    /// The version of the library's interface: 65536 * major + minor. A program keeps working with
+    /// a library that has the same major version and the same or a later minor version.
     pub fn dwcheck_version() -> u32;
 
-    /// The name of a fault, such as "NoSuchCie", without a final 0: as much of it as fits goes into
-    /// `text`, and `size` is its whole length, at most 22. DONE, or NONE if no fault has the
-    /// number, and then nothing is written. Neither allocates nor frees.
+    /// Writes the name of a fault, such as "NoSuchCie", to `text`, without a NUL at the end and as
+    /// much as fits. Writes the length of the whole name, at most 22, to `size`. Returns DONE; or
+    /// NONE if no fault has the number, and then nothing is written. The call neither allocates nor
+    /// frees.
     pub fn dwcheck_fault_name(
         number: u32,
         text: *mut u8,
@@ -306,10 +326,11 @@ extern "C" {
     ) -> u32;
 
     /// Checks a .debug_frame section and a .debug_loclists section, either of which may be empty.
-    /// DONE if both are well formed; REFUSED with the first fault; NO_MEMORY; BAD_TARGET. A section
-    /// of 2^32 bytes or more is refused with fault 61. The length of the frame section is checked
-    /// first, then that of the lists, then the frame section, then the lists. It allocates memory
-    /// in proportion to the sections, and frees it.
+    /// Returns DONE if both are well formed; REFUSED, with the first fault in `fault`, if one
+    /// isn't; NO_MEMORY; or BAD_TARGET. A section of 2^32 bytes or more is refused with fault 61.
+    /// The length of the frame section is checked first, then that of the lists, then the frame
+    /// section itself, then the lists. The call allocates memory in proportion to the sections, and
+    /// frees it.
     pub fn dwcheck_check(
         frame: *const u8,
         frame_length: usize,
@@ -320,12 +341,15 @@ extern "C" {
         fault: *mut Fault,
     ) -> u32;
 
-    /// Checks a .debug_frame section, compiles all its rows, and adds them as the last module.
-    /// The section's bytes aren't needed after the call returns. `room` is the number of bytes that
-    /// the rows may take, SIZE_MAX for no bound; it doesn't bound the memory that the check and the
-    /// compiling take meanwhile. NO_ROOM may come although rows that share their rules would fit.
-    /// DONE; REFUSED with the first fault of the section; NO_MEMORY; NO_ROOM; BAD_TARGET; TOO_LONG.
-    /// Only DONE changes the process, only REFUSED writes `fault`.
+    /// Checks a .debug_frame section, compiles all its rows into a table, and adds the table to the
+    /// process as its last module. The section's bytes aren't needed after the call returns.
+    /// `load_address` is what is added to an address as linked, modulo 2^w, to get the address as
+    /// loaded. `room` is the number of bytes that the table may take; SIZE_MAX sets no bound. In
+    /// the table, rows may share their rules. The call may return NO_ROOM although the table would
+    /// fit thanks to this sharing. `room` doesn't bound the memory that the call uses while it
+    /// checks and compiles. Returns DONE; REFUSED with the first fault of the section; NO_MEMORY;
+    /// NO_ROOM; BAD_TARGET; or TOO_LONG. Only DONE changes the process, and only REFUSED writes
+    /// `fault`.
     pub fn dwcheck_process_add(
         process: *mut Process,
         frame: *const u8,
@@ -337,22 +361,24 @@ extern "C" {
         fault: *mut Fault,
     ) -> u32;
 
-    /// Removes the first module with a load address, all 64 bits of which are compared: DONE, or
-    /// NONE if no module has it. Doesn't allocate; frees the table if no other process has it.
+    /// Removes the first module with this load address. All 64 bits are compared. Returns DONE; or
+    /// NONE if no module has this load address. The call doesn't allocate. It frees the module's
+    /// table if no other process shares the table.
     pub fn dwcheck_process_remove(process: *mut Process, load_address: u64) -> u32;
 
-    /// Makes `other` a process of the same modules; what it was before is closed. It is closed if
-    /// `process` is. The tables are shared, not copied, and are freed with the last process that
-    /// has them. DONE, or NO_MEMORY, and then `other` is unchanged. `process` is unchanged in
-    /// either case.
+    /// Makes `other` a process with the modules of `process`, after closing what `other` was
+    /// before. If `process` is closed, `other` is closed too. The tables are shared, not copied,
+    /// and are freed with the last process that has them. Returns DONE; or NO_MEMORY, and then
+    /// `other` is unchanged. `process` is unchanged in either case.
     pub fn dwcheck_process_share(process: *mut Process, other: *mut Process) -> u32;
 
     /// Releases all modules and closes the process. A closed process may be closed again.
     pub fn dwcheck_process_close(process: *mut Process);
 
-    /// The row of an address as loaded, from the first module that has one. The rules of its
-    /// registers go into `rules` by ascending registers, as many as fit. DONE, or NONE, and then
-    /// nothing is written. Neither allocates nor frees.
+    /// Writes the row that covers `address`, an address as loaded, from the first module that has
+    /// such a row. The rules of registers go into `rules` in ascending order of registers, as many
+    /// as fit. Returns DONE; or NONE if no module has a row, and then nothing is written. The call
+    /// neither allocates nor frees.
     pub fn dwcheck_row_at(
         process: *mut Process,
         address: u64,
@@ -361,11 +387,12 @@ extern "C" {
         rules_length: usize,
     ) -> u32;
 
-    /// The caller of the frame at an address as loaded, by the first module that has a row for it.
-    /// The address itself is looked up: to go on from a caller pass its return address minus 1. Its
-    /// registers go into `registers` by ascending numbers, as many as fit. DONE; NONE if no module
-    /// has a row; REFUSED if the ABI names too many registers or one twice. Only DONE writes
-    /// `caller` and `registers`, only REFUSED `fault`. Neither allocates nor frees.
+    /// Writes the caller of the frame at `address`, an address as loaded, by the first module that
+    /// has a row for the address. The address itself is looked up, so to find the caller's own
+    /// caller, pass the caller's return address minus 1. The caller's registers go into `registers`
+    /// in ascending order, as many as fit. Returns DONE; NONE if no module has a row; or REFUSED if
+    /// the ABI names too many registers or names one twice. Only DONE writes `caller` and
+    /// `registers`, and only REFUSED writes `fault`. The call neither allocates nor frees.
     pub fn dwcheck_unwind(
         process: *mut Process,
         address: u64,
@@ -376,11 +403,12 @@ extern "C" {
         fault: *mut Fault,
     ) -> u32;
 
-    /// Walks up the stack from the frame at `address`, and writes the frames to `frames`, as many
-    /// as fit; `count` is their number, and `stop` why there are no more. Frame 0 is looked up at
-    /// its address, each later frame at its address minus 1. DONE, or REFUSED like dwcheck_unwind;
-    /// only DONE writes `frames`, `count` and `stop`, only REFUSED `fault`. Neither allocates nor
-    /// frees.
+    /// Walks up the stack from the frame at `address`, an address as loaded, and writes the frames
+    /// to `frames`, the innermost first, as many as fit. `count` becomes their number, and `stop`
+    /// the reason why there are no more. Frame 0 is looked up at its address, and each later frame
+    /// at its address minus 1. Returns DONE; or REFUSED if the ABI names too many registers or
+    /// names one twice. Only DONE writes `frames`, `count` and `stop`, and only REFUSED writes
+    /// `fault`. The call neither allocates nor frees.
     pub fn dwcheck_backtrace(
         process: *mut Process,
         address: u64,
@@ -392,13 +420,13 @@ extern "C" {
         fault: *mut Fault,
     ) -> u32;
 
-    /// Checks an expression on all its paths, and runs it with registers and memory; the ABI of
-    /// `state` is not used. Its pieces go into `pieces`, as many as fit. The bytes of a location of
-    /// bytes, or of the n-th piece if that is bytes, counted from 0, go into `bytes`, as many as
-    /// fit. DONE; REFUSED with the first fault of the expression; NO_MEMORY; BAD_TARGET; TOO_LONG;
-    /// BAD_KIND. Only DONE writes `value`, `pieces` and `bytes`, only REFUSED `fault`. It allocates
-    /// only for expressions of more than 16 operations that branch or are refused, and frees the
-    /// memory.
+    /// Checks all paths of an expression, and runs it with the registers and memory of `state`,
+    /// whose ABI isn't used. The pieces of the result go into `pieces`, as many as fit. If the
+    /// result is LOCATION_BYTES, or if piece `n` (counted from 0) is, these bytes go into `bytes`,
+    /// as many as fit. Returns DONE; REFUSED with the first fault of the expression; NO_MEMORY;
+    /// BAD_TARGET; TOO_LONG; or BAD_KIND. Only DONE writes `value`, `pieces` and `bytes`, and only
+    /// REFUSED writes `fault`. The call allocates memory only if the expression has more than 16
+    /// operations and branches or is refused, and frees the memory.
     pub fn dwcheck_evaluate(
         expression: *const u8,
         expression_length: usize,
@@ -416,12 +444,12 @@ extern "C" {
         fault: *mut Fault,
     ) -> u32;
 
-    /// Checks a .debug_loclists section, and writes the expressions of a list that hold at an
-    /// address into `locations`, in order, as many as fit; `count` is the number written, so if it
-    /// is `locations_length` there may be more. DONE; NONE if no list begins there; REFUSED with
-    /// the first fault; NO_MEMORY; BAD_TARGET; TOO_LONG. Only DONE writes `locations` and `count`,
-    /// only REFUSED `fault`. It takes time and memory in proportion to the section, and frees the
-    /// memory.
+    /// Checks a .debug_loclists section, and writes the expressions of a list that apply at an
+    /// address into `locations`, in the order of the list, as many as fit. `count` becomes the
+    /// number written; if it is `locations_length`, there may be more. Returns DONE; NONE if no
+    /// list begins at `lookup.list`; REFUSED with the first fault; NO_MEMORY; BAD_TARGET; or
+    /// TOO_LONG. Only DONE writes `locations` and `count`, and only REFUSED writes `fault`. The
+    /// call takes time and memory in proportion to the section, and frees the memory.
     pub fn dwcheck_locations(
         lists: *const u8,
         lists_length: usize,
