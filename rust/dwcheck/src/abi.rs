@@ -1,17 +1,19 @@
-//! Which registers a call preserves.
+//! ABIs: which registers a call preserves, and which register is the stack pointer.
 
 /// What an ABI says about registers for which an unwind table has no rule.
 ///
-/// `kept` are the callee-saved registers: the caller has the same values in them as the function
-/// that it called. The stack pointer's value in the caller is the CFA. Nothing is known of any
-/// other register without a rule. Register numbers are DWARF's for the machine.
+/// `kept` are the callee-saved registers. If the table has no rule for one of them, its value in
+/// the caller is the value that it has now. If the table has no rule for the stack pointer, its
+/// value in the caller is the CFA. Nothing is known about any other register without a rule.
+/// Register numbers are the machine's DWARF numbers.
 ///
 /// `kept` has at most 127 registers, none of them twice, and not the stack pointer. Otherwise the
 /// call that takes the ABI refuses it with [`AbiTooLarge`](crate::FaultKind::AbiTooLarge) or
 /// [`AbiTwice`](crate::FaultKind::AbiTwice).
 ///
 /// The constants cover the general-purpose registers. On machines where a call leaves the return
-/// address in a register, that register is in `kept`: leaf functions have no rule for it.
+/// address in a register, that register is in `kept` as well, because leaf functions have no rule
+/// for it.
 ///
 /// ```
 /// use dwcheck::Abi;
@@ -22,12 +24,13 @@
 pub struct Abi<'a> {
     /// The callee-saved registers.
     pub kept: &'a [u16],
-    /// The stack pointer, which isn't one of `kept`.
+    /// The stack pointer, which must not be in `kept`. `None` if the ABI says nothing about it.
     pub stack_pointer: Option<u16>,
 }
 
 impl<'a> Abi<'a> {
-    /// An ABI with these registers. They are checked by the call that takes the ABI.
+    /// An ABI with these registers. They aren't checked here, but by the call that the ABI is
+    /// passed to.
     pub const fn new(kept: &'a [u16], stack_pointer: Option<u16>) -> Abi<'a> {
         Abi {
             kept,
@@ -37,13 +40,14 @@ impl<'a> Abi<'a> {
 }
 
 impl Abi<'static> {
-    /// Says nothing about any register.
+    /// An ABI that says nothing about any register.
     pub const NONE: Abi<'static> = Abi::new(&[], None);
 
     /// x86-64: rbx, rbp and r12 to r15. The stack pointer is rsp.
     pub const X86_64: Abi<'static> = Abi::new(&[3, 6, 12, 13, 14, 15], Some(7));
 
-    /// i386: ebx, ebp, esi and edi. The stack pointer is esp. (DWARF's numbers on ELF systems.)
+    /// i386: ebx, ebp, esi and edi. The stack pointer is esp. (These are the DWARF
+    /// numbers that ELF systems use.)
     pub const I386: Abi<'static> = Abi::new(&[3, 5, 6, 7], Some(4));
 
     /// aarch64: x19 to x29, and x30 for the return address. The stack pointer is sp.
@@ -62,15 +66,17 @@ impl Abi<'static> {
         Some(1),
     );
 
-    /// s390x: r6 to r13, r15, and r14 for the return address. The stack pointer, r15, is among
-    /// `kept` instead: the CFA isn't its value in the caller, but that value plus 160.
+    /// s390x: r6 to r13, r15, and r14 for the return address. The stack pointer is r15, but it is
+    /// in `kept` and `stack_pointer` is `None`, because the CFA isn't the value of r15 in the
+    /// caller: it is that value plus 160.
     pub const S390X: Abi<'static> = Abi::new(&[6, 7, 8, 9, 10, 11, 12, 13, 15, 14], None);
 
-    /// riscv: s0 to s11 (8, 9 and 18 to 27), and 1 for the return address. The stack pointer is sp,
-    /// 2.
+    /// riscv: s0 to s11 (8, 9 and 18 to 27), and ra (1) for the return address. The stack pointer
+    /// is sp (2).
     pub const RISCV: Abi<'static> =
         Abi::new(&[8, 9, 18, 19, 20, 21, 22, 23, 24, 25, 26, 27, 1], Some(2));
 
-    /// mips: 16 to 23, 30, and 31 for the return address. The stack pointer is 29.
+    /// mips: s0 to s7 (16 to 23), s8 (30), and ra (31) for the return address. The stack pointer is
+    /// sp (29).
     pub const MIPS: Abi<'static> = Abi::new(&[16, 17, 18, 19, 20, 21, 22, 23, 30, 31], Some(29));
 }

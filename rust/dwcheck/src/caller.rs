@@ -1,4 +1,4 @@
-//! Callers: what is known of the frame that called another.
+//! Callers: what an unwinding finds out about the frame that called another.
 
 use crate::ffi;
 use crate::state::Registers;
@@ -8,11 +8,13 @@ use std::fmt;
 #[derive(Clone, Copy, Debug, PartialEq, Eq, Hash)]
 #[non_exhaustive]
 pub enum Answer {
-    /// The value is this number, below 2^w.
+    /// The value is this number, which is below 2^w. (w is the address size in bits.)
     Value(u64),
-    /// The value isn't available: its rule is undefined, or neither the table nor the ABI has one.
+    /// The value isn't available: the row's rule is `Undefined`, or neither the row nor the ABI
+    /// says anything about the register.
     Undefined,
-    /// The value depends on a register or memory that wasn't passed, or on memory past 2^w - 1.
+    /// The value depends on a register or memory that wasn't passed, or on memory past the highest
+    /// address, 2^w - 1.
     Unreadable,
     /// The expression for the value divides by zero.
     DivisionByZero,
@@ -21,7 +23,7 @@ pub enum Answer {
 }
 
 impl Answer {
-    /// The value, if there is one.
+    /// The value. `None` for every other answer.
     pub fn value(self) -> Option<u64> {
         match self {
             Answer::Value(value) => Some(value),
@@ -58,9 +60,10 @@ impl fmt::Display for Answer {
 pub struct Caller {
     /// The canonical frame address (CFA) of the frame that was called.
     pub cfa: Answer,
-    /// The address after the call, where the caller continues.
+    /// The address where the caller continues, just after the call.
     pub return_address: Answer,
-    /// The registers that have a rule from the row or the ABI, in ascending order, 256 at most.
+    /// The registers that have a rule from the row or the ABI, with what is known of their values
+    /// in the caller. They are in ascending order, and there are 256 at most.
     pub registers: Vec<(u16, Answer)>,
 }
 
@@ -74,7 +77,8 @@ impl Caller {
         Some(self.registers[place].1)
     }
 
-    /// The registers that have a value, for the next step up the stack.
+    /// The caller's registers whose values are known: those to pass to the next
+    /// [`Process::unwind`](crate::Process::unwind).
     pub fn known(&self) -> Registers {
         self.registers
             .iter()
@@ -82,7 +86,8 @@ impl Caller {
             .collect()
     }
 
-    /// Decodes what the library wrote.
+    /// Decodes the caller that the library wrote. The library wrote its registers to the first
+    /// `raw.count` elements of `registers`.
     pub(crate) fn of(raw: &ffi::Caller, registers: &[ffi::Register]) -> Caller {
         let count = usize::try_from(raw.count).unwrap_or(usize::MAX);
         Caller {
@@ -96,8 +101,8 @@ impl Caller {
         }
     }
 
-    /// Decodes one register that the library wrote. The library's register numbers always fit 16
-    /// bits.
+    /// Decodes one register that the library wrote. `None` if its number doesn't fit 16 bits, which
+    /// never happens.
     fn register_of(raw: &ffi::Register) -> Option<(u16, Answer)> {
         let number = u16::try_from(raw.number).ok()?;
         Some((number, Answer::of(raw.kind, raw.value)))

@@ -1,10 +1,10 @@
-//! Why an input is refused.
+//! Faults, which say why an input is refused, and errors, which say why a call failed.
 
 use crate::ffi;
 use std::error;
 use std::fmt;
 
-/// Makes `FaultKind`, and converts between kinds, numbers and names.
+/// Defines `FaultKind`, and its conversions from a number, to a number and to a name.
 macro_rules! fault_kinds {
     ($($(#[$doc:meta])+ $name:ident = $number:literal,)+) => {
         /// What is wrong. The last sentence of each kind says where the [`Fault`]'s offset points.
@@ -19,7 +19,7 @@ macro_rules! fault_kinds {
         }
 
         impl FaultKind {
-            /// The kind with a number.
+            /// The kind with this number. `Other` if this crate doesn't know the number.
             ///
             /// ```
             /// use dwcheck::FaultKind;
@@ -34,7 +34,8 @@ macro_rules! fault_kinds {
                 }
             }
 
-            /// The kind's number, which is part of a refusal's text. No two kinds share one.
+            /// The kind's number, which the text of a [`Fault`] shows. Each kind has its own
+            /// number.
             pub const fn number(self) -> u32 {
                 match self {
                     $(FaultKind::$name => $number,)+
@@ -58,115 +59,126 @@ fault_kinds! {
     /// field's first byte.
     Truncated = 1,
     /// A LEB128 number has more than ten bytes, or its value doesn't fit 64 bits. Reported at the
-    /// field's first byte.
+    /// number's first byte.
     LebRange = 2,
-    /// An initial length from 0xfffffff0 to 0xfffffffe. Reported at its first byte.
+    /// An initial length is from 0xfffffff0 to 0xfffffffe, which DWARF reserves. Reported at the
+    /// length's first byte.
     ReservedLength = 3,
     /// A CIE's version isn't 1, 3 or 4. Reported at the version byte.
     Version = 4,
-    /// A CIE's augmentation isn't empty. Reported at the augmentation's first byte.
+    /// A CIE's augmentation string isn't empty. Reported at the string's first byte.
     Augmentation = 5,
-    /// A CIE's or list table's address size isn't the target's. Reported at that byte.
+    /// The address size in a CIE or list table isn't the target's. Reported at the address size.
     AddressSize = 6,
-    /// A CIE's or list table's segment selector size isn't 0. Reported at that byte.
+    /// The segment selector size in a CIE or list table isn't 0. Reported at the segment selector
+    /// size.
     SegmentSize = 7,
-    /// A CIE_pointer isn't the offset of a CIE. Reported at that field.
+    /// A CIE_pointer isn't the offset of a CIE. Reported at the CIE_pointer field.
     NoSuchCie = 9,
-    /// A register number is above 65535. Reported at the instruction or operation; for the return
-    /// address register of a CIE, at that field.
+    /// A register number is above 65535. Reported at the instruction or operation that names the
+    /// register; in a CIE's header, at the return_address_register field.
     RegisterNumber = 10,
-    /// An FDE's initial location plus its range is above 2^w - 1. Reported at the address_range
-    /// field.
+    /// An FDE's initial_location plus address_range is above the highest address. Reported at the
+    /// address_range field.
     RangePastTop = 11,
     /// An unknown instruction code. Reported at the instruction.
     UnknownInstruction = 12,
     /// An instruction that isn't allowed in a CIE's program. Reported at the instruction.
     NotInCie = 13,
-    /// A set_loc's address isn't above the current location. Reported at the instruction.
+    /// A set_loc to an address that isn't above the current location. Reported at the instruction.
     LocationBack = 14,
-    /// The location moves above the end of the FDE's range. Reported at the instruction.
+    /// An instruction moves the location above the end of the FDE's range. Reported at the
+    /// instruction.
     LocationPastEnd = 15,
-    /// A restore_state without a remember_state before it. Reported at the instruction.
+    /// A restore_state when no state is remembered. Reported at the instruction.
     RestoreWithoutRemember = 16,
-    /// A remember_state has no restore_state by the end of the program. Reported at the program's
-    /// end.
+    /// An FDE's program ends with a remembered state that was never restored. Reported at the
+    /// program's end.
     Unrestored = 17,
-    /// A remember_state while 16 states are remembered already. Reported at the instruction.
+    /// A remember_state when 16 states are already remembered. Reported at the instruction.
     RememberTooDeep = 18,
-    /// An instruction changes the register or the offset of a CFA rule that doesn't have these.
-    /// Reported at the instruction.
+    /// An instruction changes the register or the offset of a CFA rule that isn't a register plus
+    /// an offset. Reported at the instruction.
     CfaNotRegister = 19,
-    /// An offset doesn't fit 64 signed bits. Reported at the instruction.
+    /// A rule's offset doesn't fit in a signed 64-bit number. Reported at the instruction that sets
+    /// the offset.
     OffsetRange = 20,
-    /// One row gets a 129th register rule. Reported at the instruction.
+    /// An instruction gives a row a 129th register rule. Reported at the instruction.
     TooManyRules = 21,
-    /// A row that covers an address has no CFA rule. Reported at the instruction that advances past
-    /// the row, or at the program's end.
+    /// A row that covers an address has no CFA rule. Reported at the instruction that moves the
+    /// location past that address, or at the program's end.
     NoCfa = 22,
     /// Two FDEs cover the same address. Reported at the first byte of the later FDE.
     Overlap = 23,
-    /// An unknown opcode. Reported at the operation.
+    /// An unknown operation code. Reported at the operation.
     UnknownOperation = 30,
-    /// An operation that isn't allowed in a CFA's or register's expression. Reported at the
+    /// An operation that isn't allowed in an expression for a CFA or a register. Reported at the
     /// operation.
     NotInFrame = 31,
-    /// A deref_size's size isn't 1, 2, 4 or 8, or is above the address size. Reported at the
+    /// The size of a deref_size isn't 1, 2, 4 or 8, or is above the address size. Reported at the
     /// operation.
     BadSize = 32,
     /// A branch goes backward. Reported at the branch.
     Backward = 33,
-    /// A branch goes to a byte where no operation begins, other than the expression's end. Reported
-    /// at the branch.
+    /// A branch to an offset where no operation begins, and which isn't the expression's end
+    /// either. Reported at the branch.
     TargetNotStart = 34,
     /// The stack has fewer entries than the operation needs. Reported at the operation.
     Underflow = 35,
-    /// The stack has more than 128 entries. Reported at the operation.
+    /// The stack has more than 128 entries after the operation. Reported at the operation.
     TooDeep = 36,
-    /// Paths that meet have different stack heights or phases (`docs/PROFILE.md` defines a phase).
-    /// Reported at the operation where they meet, or the expression's length.
+    /// Paths that meet have different stack heights, or differ in what they describe so far (a
+    /// stack entry, register, value or piece). Reported at the operation where they meet, or at the
+    /// expression's end.
     Mismatch = 37,
     /// No path leads to the operation. Reported at the operation.
     Unreachable = 38,
-    /// An operation other than a piece follows a register location or a value; or a register
-    /// location, an implicit value or a piece finds too many stack entries. Reported at the
-    /// operation.
+    /// An operation can't follow those before it: an operation other than a piece follows a
+    /// register location or a value; or a register location, an implicit value or a piece comes
+    /// when the stack has too many entries. Reported at that operation.
     NotAlone = 39,
-    /// The expression ends without a result. Reported at the expression's length.
+    /// The expression ends without a result. Reported at the expression's end.
     EndsEmpty = 40,
-    /// A location has a 33rd piece. Reported at that piece's operation.
+    /// The 33rd piece or bit_piece operation of an expression. Reported at that operation.
     TooManyPieces = 41,
     /// The size or the offset of a piece is above 2^32 - 1. Reported at the operation.
     PieceSize = 42,
-    /// A list table's version isn't 5. Reported at the version field.
+    /// A list table's version isn't 5. Reported at the first byte of the version field.
     ListVersion = 50,
-    /// An unknown list entry. Reported at the entry.
+    /// An unknown entry code in a location list. Reported at the entry.
     UnknownEntry = 51,
-    /// A range begins above its end. Reported at the entry.
+    /// A list entry's range begins above its end. Reported at the entry.
     BackRange = 52,
-    /// A list has a second default entry. Reported at the second entry.
+    /// A location list has a second default_location entry. Reported at the second entry.
     SecondDefault = 53,
-    /// A table ends before its last list has an end_of_list entry. Reported at the table's end.
+    /// A list table ends before its last list has an end_of_list entry. Reported at the table's
+    /// end.
     NoEnd = 54,
-    /// An offset in a table's offset array isn't where one of its lists begins. Reported at the
-    /// offset's first byte.
+    /// An offset in a list table's array isn't that of a list in the table. Reported at the first
+    /// byte of the offset.
     BadOffsetEntry = 55,
-    /// Memory ran out. Reported at 0.
+    /// Memory ran out. Reported at 0. This crate returns [`Error::NoMemory`] instead.
     Memory = 60,
-    /// A section of 2^32 bytes or more. Reported at 0.
+    /// A section or an expression has 2^32 bytes or more. Reported at 0. Of this crate's functions,
+    /// only [`check`](crate::check) gives this fault; the others return [`Error::TooLong`].
     SectionTooLong = 61,
-    /// An ABI has more than 127 callee-saved registers. Reported at index 127.
+    /// An ABI has more than 127 callee-saved registers. Reported at index 127, that of the first
+    /// one too many.
     AbiTooLarge = 62,
-    /// An ABI names a register twice. Reported at the index of the second one among the
-    /// callee-saved registers; the stack pointer's index is their count.
+    /// An ABI names a register twice. Reported at the index of the second number; the index of the
+    /// stack pointer is the number of callee-saved registers.
     AbiTwice = 63,
-    /// A certificate's number of states isn't the expression's number of operations. Reported at 0.
+    /// A certificate, which lists the stack state before each operation of an expression, doesn't
+    /// have as many states as there are operations. Reported at 0. No call of this crate takes a
+    /// certificate.
     CertLength = 70,
-    /// A certificate's state for an operation isn't the one that the check finds. Reported at the
-    /// operation.
+    /// A certificate's state for an operation isn't the one that the check computes. Reported at
+    /// the operation. No call of this crate takes a certificate.
     CertState = 71,
 }
 
-/// The kind's name. If this crate doesn't know the kind, it asks the library for the name.
+/// The kind's name. If this crate doesn't know the kind, the name comes from the library. If the
+/// library doesn't know the kind either, it is `Unknown`.
 impl fmt::Display for FaultKind {
     fn fmt(&self, f: &mut fmt::Formatter<'_>) -> fmt::Result {
         match self {
@@ -179,7 +191,8 @@ impl fmt::Display for FaultKind {
     }
 }
 
-/// The library's name for a fault number, cut to the length of `text`.
+/// The name that the library has for a fault number, written to `text` and cut to its length.
+/// `None` if the library knows no fault with this number.
 pub(crate) fn library_name(number: u32, text: &mut [u8]) -> Option<&str> {
     let mut size = 0;
     // SAFETY: the pointer and the length are those of one slice, and `size` is a local.
@@ -196,14 +209,15 @@ pub(crate) fn library_name(number: u32, text: &mut [u8]) -> Option<&str> {
 #[derive(Clone, Copy, Debug, PartialEq, Eq, Hash)]
 #[non_exhaustive]
 pub enum Section {
-    /// The offset is a byte of the frame section.
+    /// The frame section. The offset counts bytes from its start.
     Frame,
-    /// The offset is a byte of the location lists.
+    /// The location list section. The offset counts bytes from its start.
     Lists,
-    /// The offset is a byte of the expression that was passed alone, outside a section.
+    /// The expression that was passed to [`evaluate`](crate::evaluate). The offset counts bytes
+    /// from its start.
     Expression,
-    /// The offset is an index into the ABI's callee-saved registers; the stack pointer's is their
-    /// count.
+    /// The ABI. The offset is an index into its callee-saved registers, from 0. The number of these
+    /// registers is the index of the stack pointer.
     Abi,
     /// A number that this crate doesn't know, because the library is newer.
     Other(u32),
@@ -233,9 +247,9 @@ impl fmt::Display for Section {
     }
 }
 
-/// The first thing that is wrong, and where it is.
+/// The first thing that is wrong with an input, and where it is.
 ///
-/// Its text has the section, the kind's number and name, and the offset:
+/// As text, a fault shows the section, the kind's number and name, and the offset:
 ///
 /// ```
 /// let cut = [1, 0, 0, 0];
@@ -246,8 +260,8 @@ impl fmt::Display for Section {
 pub struct Fault {
     /// What is wrong.
     pub kind: FaultKind,
-    /// The offset: in bytes from the start of the input that `section` names, or an index as
-    /// [`Section::Abi`] says.
+    /// Where it is: the number of bytes from the start of the input that `section` names. For
+    /// [`Section::Abi`] it is an index instead.
     pub offset: u32,
     /// Which input the offset refers to.
     pub section: Section,
@@ -297,11 +311,12 @@ impl error::Error for Fault {}
 #[derive(Clone, Copy, Debug, PartialEq, Eq, Hash)]
 #[non_exhaustive]
 pub enum Error {
-    /// The input is refused, for this fault.
+    /// The input is refused because of this fault.
     Refused(Fault),
     /// Memory ran out.
     NoMemory,
-    /// The rows of the section may take more than `room` bytes.
+    /// The rows of the section can take more bytes than the `room` that was passed to
+    /// [`Process::add`](crate::Process::add).
     NoRoom,
     /// The section or the expression has 2^32 bytes or more.
     TooLong,
@@ -310,7 +325,7 @@ pub enum Error {
 }
 
 impl Error {
-    /// The fault, if the input is refused.
+    /// The fault, if the input is refused. `None` for any other error.
     pub fn fault(&self) -> Option<Fault> {
         match self {
             Error::Refused(fault) => Some(*fault),
@@ -318,7 +333,8 @@ impl Error {
         }
     }
 
-    /// The result that a status stands for. `fault` is used only if the status is `REFUSED`.
+    /// Turns the status that a call returned into a result. `fault` is used only if the status is
+    /// `REFUSED`.
     pub(crate) fn check(status: u32, fault: ffi::Fault) -> Result<(), Error> {
         match status {
             ffi::DONE => Ok(()),
