@@ -1,18 +1,19 @@
-//! Expressions and their results.
+//! Evaluating DWARF expressions: what a caller passes, and the results.
 
 use crate::fault::Error;
 use crate::ffi;
 use crate::state::State;
 use crate::target::Target;
 
-/// What an expression is used for. That decides the stack that its evaluation begins with.
+/// What an expression is used for. That decides what is on the stack at first, and which operations
+/// are allowed.
 #[derive(Clone, Copy, Debug, PartialEq, Eq, Hash)]
 pub enum ExpressionKind {
-    /// The rule of a CFA. The stack begins empty.
+    /// The rule of a CFA. The stack is empty at first.
     FrameCfa,
-    /// The rule of a register. The stack begins with the CFA.
+    /// The rule of a register. The stack holds the CFA at first.
     FrameRegister,
-    /// The location of an object. The stack begins empty.
+    /// The location of an object. The stack is empty at first.
     Location,
 }
 
@@ -29,9 +30,10 @@ impl ExpressionKind {
 /// Values that depend on where the program stopped, each `None` if it isn't known.
 #[derive(Clone, Copy, Debug, Default, PartialEq, Eq, Hash)]
 pub struct Context {
-    /// The canonical frame address.
+    /// The canonical frame address (CFA), for [`ExpressionKind::FrameRegister`] and
+    /// `DW_OP_call_frame_cfa`.
     pub cfa: Option<u64>,
-    /// The frame base.
+    /// The frame base, for `DW_OP_fbreg`.
     pub frame_base: Option<u64>,
     /// The object's address, for `DW_OP_push_object_address`.
     pub object: Option<u64>,
@@ -51,7 +53,7 @@ impl Context {
     }
 }
 
-/// Where an object is, or a piece of it.
+/// Where an object, or a piece of it, is.
 #[derive(Clone, Debug, PartialEq, Eq, Hash)]
 #[non_exhaustive]
 pub enum Location {
@@ -74,7 +76,7 @@ pub enum Location {
 pub enum PieceSize {
     /// This many bytes.
     Bytes(u32),
-    /// `size` bits, starting at bit `offset`.
+    /// This many bits, starting at this bit.
     Bits {
         /// The number of bits.
         size: u32,
@@ -92,18 +94,20 @@ pub struct Piece {
     pub size: PieceSize,
 }
 
-/// The result of an expression, or the operation that has none.
+/// The result of an expression, or, if there is none, the operation that failed.
 #[derive(Clone, Debug, PartialEq, Eq, Hash)]
 #[non_exhaustive]
 pub enum Outcome {
-    /// The value of a CFA's or register's expression, below 2^w.
+    /// The value of an expression in the rule of a CFA or register. It is below 2^w, where w is the
+    /// address size in bits.
     Value(u64),
-    /// A location without pieces.
+    /// The location of an object that isn't in pieces.
     Location(Location),
-    /// A location in pieces, 32 at most, in the object's order.
+    /// The pieces of an object in their order in the object, 32 at most.
     Pieces(Vec<Piece>),
     /// An operation needs a register, memory or a context value that wasn't passed, or reads memory
-    /// past 2^w - 1. A register's rule without a CFA is unreadable at 0 after 0 steps.
+    /// past the highest address, 2^w - 1. This is also the outcome, with `at` 0 and after 0 steps,
+    /// of every expression in the rule of a register if [`Context::cfa`] is `None`.
     Unreadable {
         /// The offset in the expression of the operation's first byte.
         at: u32,
@@ -115,22 +119,22 @@ pub enum Outcome {
     },
 }
 
-/// The outcome of an expression, and the number of steps.
+/// The outcome of an expression, and the number of steps that its run took.
 #[derive(Clone, Debug, PartialEq, Eq, Hash)]
 #[non_exhaustive]
 pub struct Evaluation {
     /// The result, or why there is none.
     pub outcome: Outcome,
-    /// The number of operations reached, including one that has no answer.
+    /// The number of operations that the run reached, including one that failed.
     pub steps: u32,
 }
 
-/// Checks an expression on all its paths, and evaluates it with registers and memory.
+/// Checks all paths of an expression, and evaluates it with registers and memory.
 ///
-/// The ABI of `state` isn't used. `DW_OP_addr` pushes an address as linked, while registers and
-/// memory are as loaded. The library allocates only for expressions of more than 16 operations that
-/// branch or are refused, and frees the memory. The expression is run once, and once more for each
-/// location or piece that is bytes.
+/// The ABI of `state` isn't used. `DW_OP_addr` pushes an address as linked, while the addresses in
+/// registers and memory are as loaded. The library allocates memory only if the expression has more
+/// than 16 operations and branches or is refused, and frees the memory. The expression is run once.
+/// Then it is run once more for each [`Location::Bytes`] in the outcome, to get the bytes.
 ///
 /// # Errors
 ///
@@ -175,7 +179,8 @@ pub fn evaluate(
     })
 }
 
-/// The arguments of a call. Each run with the same arguments has the same result.
+/// The arguments of a call of [`evaluate`]. The library may run the expression with them several
+/// times, and each run has the same result.
 struct Run<'a> {
     expression: &'a [u8],
     kind: ExpressionKind,
@@ -185,7 +190,8 @@ struct Run<'a> {
 }
 
 impl Run<'_> {
-    /// Runs the expression. If the location or the `n`-th piece is bytes, they go into `bytes`.
+    /// Runs the expression. The pieces of the result go into `pieces`. If the result is a location
+    /// that is bytes, or if piece `n` (counted from 0) is, these bytes go into `bytes`.
     fn run(
         &self,
         n: u32,
@@ -247,7 +253,8 @@ impl Run<'_> {
         Ok(Piece { location, size })
     }
 
-    /// Decodes a location. `n` is the index of its piece, or 0 if there are no pieces.
+    /// Decodes a location that the library wrote as `kind` and `number`. `n` is the index of the
+    /// piece that has this location, or 0 if there are no pieces.
     fn location(&self, kind: u32, number: u64, n: u32) -> Result<Location, Error> {
         Ok(match kind {
             ffi::LOCATION_NOWHERE => Location::Nowhere,
@@ -262,8 +269,9 @@ impl Run<'_> {
         })
     }
 
-    /// The first `length` bytes of the location or of the `n`-th piece. They come from the
-    /// expression, so there can't be more than it has.
+    /// Runs the expression again to get the `length` bytes of a location. `n` is the index of the
+    /// piece that has this location, or 0 if there are no pieces. The bytes are some of the
+    /// expression's own, so there can't be more of them than the expression has.
     fn bytes(&self, length: u64, n: u32) -> Result<Vec<u8>, Error> {
         let whole = self.expression.len();
         let length = usize::try_from(length).map_or(whole, |length| length.min(whole));

@@ -1,31 +1,32 @@
-//! Location lists.
+//! Looking up the expressions of a location list that apply at an address.
 
 use crate::fault::Error;
 use crate::ffi;
 use crate::row::Span;
 use crate::target::Target;
 
-/// How many expressions the first look-up has slots for.
+/// The number of expressions for which the first look-up of [`locations`] has room.
 const FIRST_LOCATIONS: usize = 16;
 
-/// A list, and the address to look up in it.
+/// A location list, and the address to look up in it.
 #[derive(Clone, Copy, Debug, PartialEq, Eq, Hash)]
 pub struct Lookup {
     /// The offset of the list's first byte in the section.
     pub list: u32,
-    /// The base address of the list's unit.
+    /// The base address of the unit to which the list belongs.
     pub base: u64,
     /// The address to look up, as linked.
     pub address: u64,
 }
 
-/// Checks a `.debug_loclists` section, and gives the expressions of a list that hold at an address.
+/// Checks a `.debug_loclists` section, and gives the expressions of a list that apply at an
+/// address.
 ///
 /// The result is `None` if no list begins at `lookup.list`, and an empty `Vec` if no expression of
-/// the list holds. The expressions are in the list's order; [`evaluate`](crate::evaluate) gives
-/// their results. Each look-up checks the whole section, which takes time and memory in proportion
-/// to it. If 16 expressions or more hold, the section is checked again, with eight times as many
-/// slots.
+/// the list applies. The expressions are in the list's order. [`evaluate`](crate::evaluate) gives
+/// their results. Each call checks the whole section, which takes time and memory in proportion to
+/// the section's length. If 16 or more expressions apply, the section is checked again with room
+/// for eight times as many expressions, and so on.
 ///
 /// # Errors
 ///
@@ -35,7 +36,7 @@ pub struct Lookup {
 /// ```
 /// use dwcheck::{locations, Lookup, Target};
 ///
-/// // One table; its list at 0xc: register 0 from the base to before the base + 0x10, else the value 0.
+/// // One table with one list, at 0xc: register 0 from the base to 0xf after it, else the value 0.
 /// let lists = [
 ///     0x12, 0, 0, 0, 5, 0, 8, 0, 0, 0, 0, 0, 4, 0, 0x10, 1, 0x50, 5, 2, 0x30, 0x9f, 0,
 /// ];
@@ -67,7 +68,8 @@ pub fn locations(
     }
 }
 
-/// The number of slots that were filled. `None` if no list begins at `lookup.list`.
+/// Writes the expressions that apply to `slots`, as many as fit, and returns their number. `None`
+/// if no list begins at `lookup.list`.
 fn look_up(
     lists: &[u8],
     target: Target,

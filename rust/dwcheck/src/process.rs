@@ -13,19 +13,20 @@ use std::fmt;
 use std::mem::MaybeUninit;
 use std::ptr::null_mut;
 
-/// How many frames the first walk of [`Process::backtrace`] has slots for.
+/// The number of frames for which the first walk of [`Process::backtrace`] has room.
 const FIRST_FRAMES: usize = 64;
 
 /// A process: its modules, each a compiled `.debug_frame` section with a load address.
 ///
-/// A look-up uses the first module that has a row for the address. All addresses are as loaded.
+/// A look-up uses the first module that has a row for the address. The addresses that are passed to
+/// look-ups and walks are as loaded: they are those of the running process.
 ///
 /// A `Process` is `Send` but not `Sync`. Each thread needs its own, which [`share`](Process::share)
 /// makes without copying the tables. Look-ups and walks take no lock.
 ///
-/// As measured on x86-64, [`add`](Process::add) takes 82 KB of stack; an unwinding or a walk takes
-/// 61 KB, and up to 14 KB more if a rule is an expression. If a thread's stack is too small, the
-/// program ends, as with any stack overflow.
+/// As measured on x86-64, [`add`](Process::add) takes 82 KB of stack. [`unwind`](Process::unwind)
+/// and the walks take 61 KB, and up to 14 KB more if a rule is an expression. If a thread's stack
+/// is too small, the program ends, as with any stack overflow.
 ///
 /// ```
 /// # const SECTION: &[u8] = &[
@@ -61,19 +62,20 @@ pub struct Process {
     raw: UnsafeCell<ffi::Process>,
 }
 
-// SAFETY: the library allows a process to go from one thread to another if the threads synchronize,
-// which safe Rust does for every value that changes threads. `Process` isn't `Sync`, because it may
-// be passed to only one call at a time.
+// SAFETY: the library allows a process to go from one thread to another if the threads synchronize.
+// In safe Rust they do so for every value that goes from one to another. `Process` isn't `Sync`,
+// because it may be passed to only one call at a time.
 unsafe impl Send for Process {}
 
 impl Process {
-    /// No bound on the bytes that the rows of a section may take.
+    /// As the `room` of [`add`](Process::add): no bound on the bytes that the rows of a section may
+    /// take.
     ///
     /// The rows of a compiler's section take some 1.5 times the section's length. Those of a
-    /// hostile section take 700 times its length and more.
+    /// hostile section may take 700 times its length or more.
     pub const NO_BOUND: usize = usize::MAX;
 
-    /// A process without a module. Allocates nothing.
+    /// A process without modules. This allocates nothing.
     pub const fn new() -> Process {
         Process {
             raw: UnsafeCell::new(ffi::Process {
@@ -83,10 +85,10 @@ impl Process {
         }
     }
 
-    /// The pointer that a call takes.
+    /// The pointer to pass to the library.
     ///
-    /// Only one call uses it at a time: `Process` isn't `Sync`, this crate never makes a reference
-    /// to the `ffi::Process`, and the library never calls back.
+    /// Only one call uses the pointer at a time: `Process` isn't `Sync`, this crate never makes a
+    /// reference to the `ffi::Process`, and the library never calls back.
     fn raw(&self) -> *mut ffi::Process {
         self.raw.get()
     }
@@ -94,18 +96,19 @@ impl Process {
     /// Checks a `.debug_frame` section, compiles all its rows, and adds them as the last module.
     ///
     /// The section's bytes aren't needed after the call. `load_address` is what is added to an
-    /// address as linked, modulo 2^w, to get the address as loaded: for a position-independent
-    /// module what `dl_iterate_phdr` gives as `dlpi_addr`, for any other 0. `room` is how many
-    /// bytes the rows may take, or [`NO_BOUND`](Process::NO_BOUND). It doesn't bound the memory
-    /// that the check and the compiling take meanwhile.
+    /// address as linked, modulo 2^w (w is the address size in bits), to get the address as loaded:
+    /// for a position-independent module, the `dlpi_addr` that `dl_iterate_phdr` gives; for any
+    /// other module, 0. `room` is the number of bytes that the rows may take, or
+    /// [`NO_BOUND`](Process::NO_BOUND). It doesn't bound the memory that the call uses while it
+    /// checks and compiles.
     ///
-    /// This takes O(n log n) time for n bytes of programs and rows; a section of n bytes may have n
-    /// rows.
+    /// This takes O(n log n) time, where n is the number of bytes of the section's programs and of
+    /// the rows. The number of rows may be in proportion to the section's length.
     ///
     /// # Errors
     ///
     /// [`Error::Refused`] with the first fault of the section, [`Error::NoRoom`],
-    /// [`Error::NoMemory`] or [`Error::TooLong`]. The process is then unchanged.
+    /// [`Error::NoMemory`] or [`Error::TooLong`]. After an error the process is unchanged.
     pub fn add(
         &mut self,
         section: &[u8],
@@ -131,8 +134,8 @@ impl Process {
         Error::check(status, fault)
     }
 
-    /// Removes the first module whose load address is `load_address`, in all 64 bits. `false` if
-    /// there is no such module.
+    /// Removes the first module whose load address is `load_address`; all 64 bits are compared.
+    /// Returns whether there was such a module.
     pub fn remove(&mut self, load_address: u64) -> bool {
         // SAFETY: the process is borrowed exclusively.
         let status = unsafe { ffi::dwcheck_process_remove(self.raw(), load_address) };
@@ -153,7 +156,7 @@ impl Process {
     ///
     /// # Errors
     ///
-    /// [`Error::NoMemory`].
+    /// [`Error::NoMemory`] is the only error.
     ///
     /// ```
     /// use dwcheck::Process;
@@ -167,16 +170,17 @@ impl Process {
     /// ```
     pub fn share(&self) -> Result<Process, Error> {
         let other = Process::new();
-        // SAFETY: only this thread has either process, and they are different ones.
+        // SAFETY: only this thread has the two processes, and they are different ones.
         let status = unsafe { ffi::dwcheck_process_share(self.raw(), other.raw()) };
         Error::check(status, ffi::Fault::default())?;
         Ok(other)
     }
 
-    /// The row that covers an address, from the first module that has one.
+    /// The row that covers an address, from the first module that has such a row. `None` if no
+    /// module has one.
     ///
-    /// This takes O(log n) time per module with n rows. The library allocates nothing; the returned
-    /// [`Row`] has its rules in a `Vec`.
+    /// This takes O(log n) time for each module, where n is the module's number of rows. Memory is
+    /// allocated only for the `Vec` of rules in the returned [`Row`].
     ///
     /// ```
     /// # const SECTION: &[u8] = &[
@@ -201,13 +205,14 @@ impl Process {
         Some(row)
     }
 
-    /// Looks up the rows of many addresses, one after the other, with buffers that are allocated
-    /// once.
+    /// For looking up the rows of many addresses: [`Rows::row`] gives the same rows as
+    /// [`row`](Process::row), but all look-ups share one allocation.
     pub fn rows(&self) -> Rows<'_> {
         Rows::new(self)
     }
 
-    /// Writes the row that covers `address` into `row`. `None` if no module has one.
+    /// Writes the row that covers `address` into `row`. `slots` is where the library writes the
+    /// row's rules. `None` if no module has a row.
     pub(crate) fn row_into(
         &self,
         address: u64,
@@ -234,10 +239,10 @@ impl Process {
 
     /// The caller of the frame at an address, from the first module that has a row for the address.
     ///
-    /// The result is `None` if no module has one. To find the caller's own caller, call this again
-    /// with the caller's return address minus one, where its call is, and with [`Caller::known`] as
-    /// registers; or use [`backtrace`]. The library allocates nothing; the returned [`Caller`] has
-    /// its registers in a `Vec`.
+    /// The result is `None` if no module has a row. To find the caller's own caller, call this
+    /// again with [`Caller::known`] as the registers, and with the caller's return address minus
+    /// one, which is an address within the call instruction; or use [`backtrace`]. Memory is
+    /// allocated only for the `Vec` of registers in the returned [`Caller`].
     ///
     /// # Errors
     ///
@@ -291,13 +296,13 @@ impl Process {
         Ok(Some(Caller::of(&caller, &registers)))
     }
 
-    /// Walks up the stack from the frame at an address, and returns its frames, `limit` at most.
+    /// Walks up the stack from the frame at an address, and returns the frames, `limit` at most.
     ///
-    /// The first frame is looked up at its address, each later frame at its address minus one,
-    /// where the call is. On a corrupt stack a walk may never end, so choose a limit. A high limit
-    /// costs nothing by itself: if the first 64 slots are all filled, the walk starts over with
-    /// four times as many slots, and so on up to the limit.
-    /// [`backtrace_into`](Process::backtrace_into) walks once.
+    /// The first frame is looked up at its address, and each later frame at its address minus one,
+    /// which is an address within the call instruction. On a corrupt stack a walk may never end, so
+    /// choose a limit. A high limit costs nothing by itself: the first walk has room for 64 frames,
+    /// and if they aren't enough, the walk starts over with room for four times as many, and so on
+    /// up to the limit. [`backtrace_into`](Process::backtrace_into) walks only once.
     ///
     /// # Errors
     ///
@@ -327,9 +332,9 @@ impl Process {
     }
 
     /// Walks up the stack from the frame at an address, and writes as many frames as fit into
-    /// `slots`. Also returns why there are no more.
+    /// `slots`. Returns these frames, and why there are no more.
     ///
-    /// Allocates nothing.
+    /// This allocates nothing.
     ///
     /// # Errors
     ///
@@ -356,7 +361,8 @@ impl Process {
         Ok((&slots[..count], stop))
     }
 
-    /// The number of slots that were filled, and why the walk ended.
+    /// Walks up the stack, and writes as many frames as fit into `slots`. Returns the number of
+    /// frames, and why the walk ended.
     fn walk(
         &self,
         address: u64,
