@@ -1,4 +1,5 @@
-//! Compares the sizes, offsets and constants of `ffi` with a C compiler's.
+//! Tests that the structures and constants of `ffi` are those of `dwcheck.h`: a C program that
+//! includes the header prints sizes, offsets and numbers, which are compared with Rust's.
 
 use crate::ffi;
 use std::env;
@@ -8,8 +9,9 @@ use std::path::{Path, PathBuf};
 use std::process::Command;
 use std::ptr::addr_of;
 
-/// For a structure's Rust and C names: lines with its size and alignment and with the offset and
-/// size of each field, and C statements that print the same lines.
+/// From a structure's name in Rust, its name in C and its fields: first, lines with the structure's
+/// size and alignment, and the offset and size of each field; second, C statements that print these
+/// lines as the C compiler sees them.
 macro_rules! layout {
     ($rust:ident, $c:literal: $($field:ident)*) => {{
         let whole = MaybeUninit::<ffi::$rust>::uninit();
@@ -59,7 +61,8 @@ fn layouts() -> (String, String) {
     all.into_iter().unzip()
 }
 
-/// Pairs of a constant's name in the header and its value in `ffi`.
+/// Pairs of a constant's name in the header and its value in `ffi`. The arguments alternate between
+/// the names in `ffi` and the names in the header, the latter without `DWCHECK_`.
 macro_rules! numbers {
     ($($rust:ident $c:literal)*) => {
         [$((concat!("DWCHECK_", $c), ffi::$rust as u64)),*]
@@ -96,7 +99,8 @@ fn constants() -> (String, String) {
         .unzip()
 }
 
-/// The folder of the header: `DWCHECK_INCLUDE_DIR`, or else the repository's.
+/// The folder of the header: the value of `DWCHECK_INCLUDE_DIR`, or else `c/include` in the
+/// repository. `None` if the folder has no `dwcheck.h`.
 fn include_folder() -> Option<PathBuf> {
     let folder = match env::var_os("DWCHECK_INCLUDE_DIR") {
         Some(folder) => PathBuf::from(folder),
@@ -105,7 +109,8 @@ fn include_folder() -> Option<PathBuf> {
     folder.join("dwcheck.h").is_file().then_some(folder)
 }
 
-/// What a C program of these statements prints. `None` if there is no C compiler.
+/// Compiles a C program that includes the header and whose `main` has these statements, and returns
+/// what it prints. `None` if there is no C compiler.
 fn run_c(include: &Path, statements: &str) -> Option<String> {
     let folder = env::temp_dir().join(format!("dwcheck-layout-{}", std::process::id()));
     fs::create_dir_all(&folder).unwrap();
@@ -144,7 +149,7 @@ fn c_has_the_same_layouts_and_numbers() {
     };
     let (layout_lines, layout_statements) = layouts();
     let (mut number_lines, mut number_statements) = constants();
-    // the library that is linked has to have the header's version
+    // the version of the library that is linked has to be the header's
     let (first, second) = crate::version();
     number_lines += &format!("version {}.{}\n", first, second);
     number_statements +=
@@ -155,7 +160,8 @@ fn c_has_the_same_layouts_and_numbers() {
     }
 }
 
-/// The types that are cast to each other have the same size and alignment.
+/// The types of this crate whose pointers are cast to pointers to types of `ffi` have the same size
+/// and alignment as those.
 #[test]
 fn casts_are_between_equal_layouts() {
     use crate::{Block, Frame, Span};

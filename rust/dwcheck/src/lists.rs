@@ -36,7 +36,7 @@ pub struct Lookup {
 /// ```
 /// use dwcheck::{locations, Lookup, Target};
 ///
-/// // One table with one list, at 0xc: register 0 from the base to 0xf after it, else the value 0.
+/// // One table with one list, at 0xc: register 0 from base to base + 0xf, else the value 0.
 /// let lists = [
 ///     0x12, 0, 0, 0, 5, 0, 8, 0, 0, 0, 0, 0, 4, 0, 0x10, 1, 0x50, 5, 2, 0x30, 0x9f, 0,
 /// ];

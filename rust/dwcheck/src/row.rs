@@ -1,10 +1,11 @@
-//! Rows of unwind tables.
+//! Rows of unwind tables, and their rules.
 
 use crate::ffi;
 use std::ops::Range;
 
-/// Where an expression lies in a section. For a row's expressions that is the section that was
-/// passed to [`Process::add`](crate::Process::add); the process doesn't keep its bytes.
+/// Where an expression lies in a section. For an expression of a row, the section is the one that
+/// was passed to [`Process::add`](crate::Process::add). The process doesn't keep the section's
+/// bytes.
 #[derive(Clone, Copy, Debug, Default, PartialEq, Eq, Hash)]
 #[repr(C)]
 pub struct Span {
@@ -28,9 +29,9 @@ impl Span {
         section.get(start..start.checked_add(length)?)
     }
 
-    /// A pointer to slots, in the type that the library takes.
+    /// A pointer to the first element of `slots`, as the type that the library takes.
     pub(crate) fn raw_slots(slots: &mut [Span]) -> *mut ffi::Location {
-        // a `Span` has the fields and the layout of an `ffi::Location`
+        // a `Span` has the same fields and the same layout as an `ffi::Location`
         slots.as_mut_ptr().cast()
     }
 
@@ -50,14 +51,14 @@ pub enum Rule {
     Undefined,
     /// The value that the register has now.
     SameValue,
-    /// Saved at the CFA plus this many bytes.
+    /// Saved in memory at the CFA plus this many bytes.
     Offset(i64),
     /// The CFA plus this many bytes.
     ValOffset(i64),
     /// The value that this other register has now.
     Register(u16),
-    /// Saved at the address that an expression gives. The CFA is pushed before the expression is
-    /// run.
+    /// Saved in memory at the address that an expression gives. The CFA is pushed before the
+    /// expression is run.
     Expression(Span),
     /// The value that an expression gives. The CFA is pushed before the expression is run.
     ValExpression(Span),
@@ -92,7 +93,7 @@ pub enum CfaRule {
         /// The offset.
         offset: i64,
     },
-    /// The value that an expression gives. Its stack begins empty.
+    /// The value that an expression gives. The expression's stack is empty at first.
     Expression(Span),
     /// The number of a rule that this crate doesn't know, because the library is newer.
     Other(u32),
@@ -112,26 +113,26 @@ impl CfaRule {
     }
 }
 
-/// A row of an unwind table: the rules at some addresses of a module.
+/// A row of an unwind table: the rules that apply at a range of addresses in a module.
 #[derive(Clone, Debug, PartialEq, Eq, Hash)]
 #[non_exhaustive]
 pub struct Row {
     /// The load address of the module.
     pub load_address: u64,
-    /// The addresses that the row covers, as linked. Add the load address, modulo 2^w, to get them
-    /// as loaded.
+    /// The addresses that the row covers, as linked. To get them as loaded, add the load address,
+    /// modulo 2^w, where w is the address size in bits.
     pub addresses: Range<u64>,
     /// The rule of the CFA.
     pub cfa: CfaRule,
     /// The register of the return address.
     pub return_register: u16,
-    /// The registers that have a rule, in ascending order, 128 at most. The ABI decides about all
-    /// others.
+    /// The registers that have a rule, with their rules, in ascending order, 128 at most. For all
+    /// other registers, the ABI decides.
     pub rules: Vec<(u16, Rule)>,
 }
 
 impl Row {
-    /// The rule of a register, if it has one.
+    /// The rule of a register. `None` if it has none, so that the ABI decides.
     pub fn rule(&self, register: u16) -> Option<Rule> {
         let place = self
             .rules
@@ -140,7 +141,7 @@ impl Row {
         Some(self.rules[place].1)
     }
 
-    /// A row without addresses, to be overwritten.
+    /// A row without addresses, which [`set`](Row::set) overwrites.
     pub(crate) fn empty() -> Row {
         Row {
             load_address: 0,
@@ -151,8 +152,9 @@ impl Row {
         }
     }
 
-    /// Decodes what the library wrote. `None` if the return address register's number has more than
-    /// 16 bits, which never happens.
+    /// Overwrites this row with the one that the library wrote to `raw`, and its rules with those
+    /// that the library wrote to the first `raw.count` elements of `rules`. `None` if the number of
+    /// the return address register doesn't fit 16 bits, which never happens.
     pub(crate) fn set(&mut self, raw: &ffi::Row, rules: &[ffi::Rule]) -> Option<()> {
         let count = usize::try_from(raw.count).ok()?.min(rules.len());
         self.load_address = raw.load_address;

@@ -1,14 +1,14 @@
-//! Rows of many addresses.
+//! Looking up the rows of many addresses with one allocation.
 
 use crate::ffi;
 use crate::process::Process;
 use crate::row::Row;
 use std::fmt;
 
-/// Looks up the rows of many addresses, one after the other, with buffers that are allocated once.
-/// [`Process::rows`] makes it.
+/// For looking up the rows of many addresses. [`Process::rows`] makes this.
 ///
-/// [`Process::row`] gives the same rows, but allocates for each.
+/// [`Process::row`] gives the same rows, but allocates memory for each. This allocates its buffers
+/// once, and every look-up uses them again.
 ///
 /// ```
 /// # const SECTION: &[u8] = &[
@@ -47,8 +47,8 @@ impl<'p> Rows<'p> {
         }
     }
 
-    /// The row that covers an address, from the first module that has one. The next look-up
-    /// overwrites it.
+    /// The row that covers an address, from the first module that has such a row. `None` if no
+    /// module has one. The next look-up overwrites the row.
     pub fn row(&mut self, address: u64) -> Option<&Row> {
         self.process
             .row_into(address, &mut self.slots, &mut self.row)?;

@@ -1,4 +1,4 @@
-//! The state of a stopped thread: registers and memory.
+//! The state of a stopped thread: its registers, the memory that is known, and its ABI.
 
 use crate::abi::Abi;
 use crate::ffi;
@@ -8,8 +8,8 @@ use std::slice;
 
 /// Registers with their contents, by DWARF register number.
 ///
-/// Contents are taken modulo 2^w. This takes some 8 bytes for each number up to the highest one
-/// that was set.
+/// Contents are taken modulo 2^w, where w is the address size in bits. The memory use is some 8
+/// bytes for each register number up to the highest one that was set.
 ///
 /// ```
 /// use dwcheck::Registers;
@@ -26,13 +26,14 @@ pub struct Registers {
     known: Vec<u8>,
 }
 
-/// The index of the byte, and the bit in it, that say whether a register is known.
+/// The index of the byte in `known`, and the mask of the bit in that byte, that say whether a
+/// register is known.
 fn flag(number: u16) -> (usize, u8) {
     (usize::from(number / 8), 1 << (number % 8))
 }
 
 impl Registers {
-    /// No registers.
+    /// No register is known yet.
     pub const fn new() -> Registers {
         Registers {
             contents: Vec::new(),
@@ -54,7 +55,7 @@ impl Registers {
         self.known[byte] |= bit;
     }
 
-    /// A register's content, if it is known.
+    /// A register's content. `None` if the register isn't known.
     pub fn get(&self, number: u16) -> Option<u64> {
         let (byte, bit) = flag(number);
         if self.known.get(byte)? & bit == 0 {
@@ -63,7 +64,8 @@ impl Registers {
         self.contents.get(usize::from(number)).copied()
     }
 
-    /// Forgets a register, and returns the content that it had.
+    /// Forgets a register, and returns the content that it had. `None` if the register wasn't
+    /// known.
     pub fn remove(&mut self, number: u16) -> Option<u64> {
         let had = self.get(number)?;
         let (byte, bit) = flag(number);
@@ -77,7 +79,7 @@ impl Registers {
         self.known.clear();
     }
 
-    /// The registers that are known, in ascending order.
+    /// The registers that are known, with their contents, in ascending order.
     pub fn iter(&self) -> impl Iterator<Item = (u16, u64)> + '_ {
         (0..=u16::MAX)
             .take(self.contents.len())
@@ -121,7 +123,8 @@ impl<const N: usize> From<[(u16, u64); N]> for Registers {
     }
 }
 
-/// The bytes of memory from an address on, such as a copy of the top of a stack.
+/// A block of known memory: an address, and the bytes from there on, such as a copy of the top of a
+/// stack.
 ///
 /// Bytes that would lie past the address 2^64 - 1 are never read.
 ///
@@ -136,9 +139,9 @@ pub struct Block<'a> {
     bytes: PhantomData<&'a [u8]>,
 }
 
-// SAFETY: a `Block` is an address and a `&[u8]`.
+// SAFETY: a `Block` is a number and a `&[u8]`, both of which are `Send` and `Sync`.
 unsafe impl Send for Block<'_> {}
-// SAFETY: as above.
+// SAFETY: the same as for `Send`.
 unsafe impl Sync for Block<'_> {}
 
 impl<'a> Block<'a> {
@@ -161,7 +164,7 @@ impl<'a> Block<'a> {
 
     /// The bytes.
     pub fn bytes(&self) -> &'a [u8] {
-        // SAFETY: the pointer and the length come from a `&'a [u8]`, and nothing changes them.
+        // SAFETY: the pointer and the length are those of a `&'a [u8]`, and nothing changes them.
         unsafe { slice::from_raw_parts(self.raw.bytes, self.raw.length) }
     }
 }
@@ -180,14 +183,16 @@ impl fmt::Debug for Block<'_> {
 pub struct State<'a> {
     /// The registers.
     pub registers: &'a Registers,
-    /// The memory that is known. If two blocks have an address, the first one's byte counts.
+    /// The memory that is known. If two blocks contain an address, the byte of the first block
+    /// counts.
     pub memory: &'a [Block<'a>],
-    /// Which registers a call preserves.
+    /// Which registers a call preserves, and which register is the stack pointer.
     pub abi: Abi<'a>,
 }
 
 impl State<'_> {
-    /// This state as a C structure. Its pointers are valid while what `self` borrows is.
+    /// This state as a C structure. The pointers in it are valid as long as the values that `self`
+    /// borrows.
     pub(crate) fn raw(&self) -> ffi::State {
         ffi::State {
             contents: self.registers.contents.as_ptr(),

@@ -1,4 +1,4 @@
-//! Walks step by step, with all registers of each caller.
+//! Walking up a stack frame by frame, with all registers of each caller.
 
 use crate::abi::Abi;
 use crate::caller::{Answer, Caller};
@@ -12,20 +12,21 @@ use crate::state::{Block, Registers, State};
 pub struct Step {
     /// The frame's address, as loaded: the walk's first address, or a return address.
     pub address: u64,
-    /// The frame's caller, together with the frame's CFA. `None` if no module has a row for the
-    /// frame.
+    /// What is known about the frame's caller. [`Caller::cfa`] is the CFA of this frame. `None` if
+    /// no module has a row for this frame.
     pub caller: Option<Caller>,
 }
 
-/// The frames of a stack, each with its caller: an iterator that [`Process::steps`] makes.
+/// An iterator over the frames of a stack, each with its caller. [`Process::steps`] makes it.
 #[derive(Clone, Debug)]
 pub struct Steps<'a> {
     process: &'a Process,
     memory: &'a [Block<'a>],
     abi: Abi<'a>,
     registers: Registers,
-    /// The next frame's address, and the address at which to look the frame up: `None` for a return
-    /// address of 0, which has no address before it.
+    /// The address of the next frame, and the address at which to look up that frame. The second
+    /// one is `None` if the frame's address is a return address of 0, because there is no address
+    /// before 0. The whole is `None` if there is no next frame.
     next: Option<(u64, Option<u64>)>,
 }
 
@@ -33,14 +34,14 @@ impl Process {
     /// Walks up the stack from the frame at an address. Each step gives a frame, and all registers
     /// of its caller.
     ///
-    /// The frames are those of [`backtrace`](Process::backtrace), which is much faster. Each step
-    /// is an [`unwind`](Process::unwind): the first frame is looked up at its address, each later
-    /// frame at its address minus one, with the registers that have a value in the step before. The
-    /// walk ends after a frame that no module covers, or whose return address has no value. On a
-    /// corrupt stack it may never end: [`take`](Iterator::take) as many steps as you want.
+    /// The frames are the same as those of [`backtrace`](Process::backtrace), which is much faster.
+    /// Each step calls [`unwind`](Process::unwind): for the first frame with its address and with
+    /// the registers of `state`; for each later frame with its address minus one, and with the
+    /// registers whose values the step before found. The walk ends after a frame that no module
+    /// covers, or whose return address has no value. On a corrupt stack the walk may never end, so
+    /// use [`take`](Iterator::take) to limit the number of steps.
     ///
-    /// If the ABI names too many registers or a register twice, the first step is an error, and the
-    /// last.
+    /// If the ABI names too many registers or a register twice, the only step is an error.
     ///
     /// ```
     /// # const SECTION: &[u8] = &[
@@ -78,7 +79,8 @@ impl Process {
 }
 
 impl Steps<'_> {
-    /// The caller of the frame that is looked up at `address`. `None` if there is no address.
+    /// The caller of the frame that is looked up at `address`. `None` if `address` is `None`, or if
+    /// no module has a row for it.
     fn caller(&self, address: Option<u64>) -> Result<Option<Caller>, Error> {
         let state = State {
             registers: &self.registers,

@@ -1,5 +1,5 @@
-//! Numbers that this version of the library never gives, but a newer one might. Each is decoded to
-//! some answer, without a panic.
+//! Tests of decoding numbers that the library never gives in this version, but may give in a newer
+//! one. Each of them has to be decoded without a panic, mostly to a variant called `Other`.
 
 use crate::caller::{Answer, Caller};
 use crate::fault::{Error, Fault, FaultKind, Section};

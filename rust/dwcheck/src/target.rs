@@ -1,4 +1,4 @@
-//! The kind of machine that a section is for.
+//! Targets: the byte order and the address size of the machine that a section is for.
 
 use crate::ffi;
 

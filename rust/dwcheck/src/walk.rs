@@ -1,4 +1,4 @@
-//! Walks up a stack.
+//! The results of walking up a stack: frames, and why the walk ended.
 
 use crate::caller::Answer;
 use crate::ffi;
@@ -8,8 +8,9 @@ use std::vec;
 
 /// A frame of a stack.
 ///
-/// The first frame's address is where the walk began. Every other frame's address is a return
-/// address, which is just after the call, so a symbolizer has to look up that address minus one.
+/// The first frame's address is the one that the walk began with. Every other frame's address is a
+/// return address. That is just after the call instruction, so to find the function that made the
+/// call, look up the address minus one.
 #[repr(transparent)]
 #[derive(Clone, Copy, Default)]
 pub struct Frame {
@@ -30,9 +31,9 @@ impl Frame {
         }
     }
 
-    /// A pointer to slots, in the type that the library takes.
+    /// A pointer to the first element of `slots`, as the type that the library takes.
     pub(crate) fn raw_slots(slots: &mut [Frame]) -> *mut ffi::Frame {
-        // a `Frame` has the layout of an `ffi::Frame`, since it is transparent
+        // `Frame` is `repr(transparent)`, so it has the layout of its field, an `ffi::Frame`
         slots.as_mut_ptr().cast()
     }
 }
@@ -58,17 +59,17 @@ impl fmt::Debug for Frame {
 #[derive(Clone, Copy, Debug, PartialEq, Eq, Hash)]
 #[non_exhaustive]
 pub enum Stop {
-    /// The walk has as many frames as were asked for.
+    /// The walk has as many frames as its limit allows.
     Limit,
     /// No module has a row for the last frame.
     NotCovered,
-    /// The return address of the last frame is undefined. Either the row's rule says so, which
-    /// completes the walk (DWARF 5, section 6.4.4); or neither the row nor the ABI's callee-saved
-    /// registers name the register of the return address. On targets that keep the return address
-    /// in a register, the ABI has to name that register.
+    /// The return address of the last frame is undefined. Either the row's rule says so, and then
+    /// the walk is complete (DWARF 5, section 6.4.4); or neither the row nor the ABI's callee-saved
+    /// registers name the return address register. On targets where functions keep the return
+    /// address in a register, that register has to be among the ABI's callee-saved registers.
     ReturnUndefined,
     /// The last frame's return address depends on a register or memory that wasn't passed, or on
-    /// memory past 2^w - 1.
+    /// memory past the highest address, 2^w - 1 (w is the address size in bits).
     ReturnUnreadable,
     /// The expression of the last frame's return address divides by zero.
     ReturnDivisionByZero,
@@ -108,7 +109,7 @@ impl fmt::Display for Stop {
 pub struct Backtrace {
     /// The frames, the innermost first.
     pub frames: Vec<Frame>,
-    /// Why there are no more.
+    /// Why there are no more frames.
     pub stop: Stop,
 }
 
