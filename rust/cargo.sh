@@ -1,9 +1,9 @@
 #!/usr/bin/env bash
-# Runs cargo on the crate in the current folder, offline, with the packages that Debian 12 installs:
-#   ../cargo.sh build --release
-#   ../cargo.sh test
-# CARGO names another cargo, JOBS how many jobs it may run. `../cargo.sh packages` prints which of its Debian packages
-# aren't installed.
+# Runs cargo on the crate in the current folder, offline. All dependencies come from the
+# librust-*-dev packages of Debian 12: ../cargo.sh build --release ../cargo.sh test The variable
+# CARGO is the cargo program to run (`cargo` if not set), and JOBS is the number of its parallel
+# jobs (1 if not set). `../cargo.sh packages` doesn't run cargo. It prints the Debian packages below
+# that aren't installed, and `cargo` if there is no cargo.
 set -eu
 packages="librust-object-dev librust-gimli-dev librust-flate2-dev librust-clap-dev librust-rayon-dev
     librust-indicatif-dev librust-rustc-demangle-dev librust-cpp-demangle-dev"

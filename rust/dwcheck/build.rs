@@ -1,4 +1,5 @@
-//! Finds the library: in the folders of DWCHECK_LIB_DIR, or else with pkg-config.
+//! Finds the C library `dwcheck` and tells cargo to link it. The library is looked for in the
+//! folders that DWCHECK_LIB_DIR lists, or, if that variable isn't set, with pkg-config.
 
 use std::env;
 use std::ffi::{OsStr, OsString};
@@ -8,8 +9,8 @@ use std::process::{exit, Command};
 const DIRS: &str = "DWCHECK_LIB_DIR";
 const NAMES: &str = "DWCHECK_LIBS";
 
-/// The libraries to link if DWCHECK_LIBS isn't set: all in one, or the C interface and its
-/// allocator.
+/// The libraries to link if DWCHECK_LIBS isn't set: one library that has everything, or, if it
+/// isn't there, the C interface and the library through which that calls malloc and free.
 const KNOWN: [&[&str]; 2] = [&["dwcheck"], &["dwcheck_c", "libc_c"]];
 
 fn main() {
@@ -26,7 +27,8 @@ fn main() {
     }
 }
 
-/// A library's file, and how it is linked.
+/// A library that was found: its file, its folder, and the kind (`static` or `dylib`) as which
+/// rustc links it.
 struct Found {
     name: String,
     kind: &'static str,

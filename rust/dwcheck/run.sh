@@ -1,6 +1,7 @@
 #!/bin/sh
-# Builds the wrapper against the static library (crates/dwcheck_c, built by `rt lib`), and runs its
-# tests and examples. If valgrind is installed, the tests run a second time under it.
+# Builds this crate with the static library that `rt lib` made in crates/dwcheck_c, and runs the
+# crate's tests and documentation examples. If valgrind is installed, the tests run a second time
+# under valgrind. DWCHECK_LIB_DIR names other folders to take the library from (see build.rs).
 set -eu
 here=$(cd "$(dirname "$0")" && pwd)
 top=$(dirname "$(dirname "$here")")

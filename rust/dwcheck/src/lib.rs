@@ -1,18 +1,18 @@
-//! Checks `.debug_frame` and `.debug_loclists` sections of DWARF 5, and unwinds stacks by them.
+//! Checks `.debug_frame` and `.debug_loclists` sections of DWARF 5, and unwinds stacks with them.
 //!
 //! This is a safe wrapper over the C interface of `dwcheck`, a library whose every function is
-//! proved to meet its contract, to end, and to be safe on every input. The proofs cover the
-//! library, not this crate, which has `unsafe` in its calls and in one file of declarations.
+//! proved to meet its contract, to terminate, and to be safe on every input. The proofs cover the
+//! library. They don't cover this crate, which uses `unsafe` to declare and call the C interface.
 //!
 //! - [`check`] checks a frame section and location lists.
-//! - A [`Process`] has modules, each a section with a load address. It gives the [`Row`] of an
-//!   address, the [`Caller`] of a frame, and the frames of a stack.
-//! - [`locations`] gives the expressions of a location list that hold at an address.
+//! - A [`Process`] has modules, each a frame section with a load address. It gives the [`Row`] of
+//!   an address, the [`Caller`] of a frame, and the frames of a stack.
+//! - [`locations`] gives the expressions of a location list that apply at an address.
 //! - [`evaluate`] gives the result of an expression.
 //!
-//! Sections are bytes of a linked file, not compressed, such as `objcopy --dump-section` or an ELF
-//! reader gives them. No call panics. The project's `docs/PROFILE.md` says what is refused and what
-//! isn't read.
+//! Sections are passed as bytes. They have to come from a linked file and be uncompressed. For
+//! example, `objcopy --dump-section` or an ELF reader gives them. No call panics. The project's
+//! `docs/PROFILE.md` says what is refused, and which parts of DWARF aren't supported.
 //!
 //! ```
 //! use dwcheck::{check, FaultKind, Target};
@@ -33,7 +33,7 @@
 #![warn(missing_docs, rust_2018_idioms, unreachable_pub)]
 #![deny(unsafe_op_in_unsafe_fn)]
 
-/// Compiles the example of the README.
+/// Makes the example of the README a documentation test.
 #[cfg(doctest)]
 #[doc = include_str!("../README.md")]
 struct Readme;
@@ -84,7 +84,7 @@ pub use walk::{Backtrace, Frame, Stop};
 pub fn check(frame: &[u8], lists: &[u8], target: Target) -> Result<(), Error> {
     let mut fault = ffi::Fault::default();
     // SAFETY: the pointers and lengths are those of slices that are only read, and `fault` is a
-    // local.
+    // local variable.
     let status = unsafe {
         ffi::dwcheck_check(
             frame.as_ptr(),
@@ -99,8 +99,8 @@ pub fn check(frame: &[u8], lists: &[u8], target: Target) -> Result<(), Error> {
     Error::check(status, fault)
 }
 
-/// The version of the library's interface: major, minor. A new minor version only adds calls,
-/// fields or values.
+/// The version of the library's interface: the major number, then the minor number. A new minor
+/// version only adds calls, fields or values.
 ///
 /// This crate is for major version 1.
 ///

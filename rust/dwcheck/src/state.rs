@@ -199,7 +199,7 @@ impl State<'_> {
             contents_length: self.registers.contents.len(),
             known: self.registers.known.as_ptr(),
             known_length: self.registers.known.len(),
-            // a `Block` has the layout of an `ffi::Block`, since it is transparent
+            // `Block` is `repr(transparent)`, so it has the layout of its field, an `ffi::Block`
             blocks: self.memory.as_ptr().cast(),
             blocks_length: self.memory.len(),
             kept: self.abi.kept.as_ptr(),

@@ -1,4 +1,4 @@
-//! `evaluate`, on the expressions of docs/WORKED.md, with the answers there.
+//! Tests of `evaluate`. The expressions and their results are from docs/WORKED.md.
 
 mod common;
 
@@ -10,7 +10,7 @@ use dwcheck::{
 
 use ExpressionKind::{FrameCfa, FrameRegister};
 
-/// Registers, memory and a context.
+/// What an expression is run with: registers, memory and a context.
 #[derive(Default)]
 struct Machine {
     registers: Registers,
@@ -163,7 +163,7 @@ fn pieces() {
     assert_eq!((outcome, steps), (Outcome::Pieces(three), 5));
 }
 
-/// Each piece that is bytes has its own bytes: docs/PROFILE.md, implicit_value and piece.
+/// If several pieces are bytes (implicit_value followed by piece), each gets its own bytes.
 #[test]
 fn pieces_of_bytes() {
     let pieces = vec![

@@ -1,4 +1,5 @@
-//! Input that makes no sense: each call returns something. Run this under valgrind, too.
+//! Tests that every call returns, and that calls agree, on random input and damaged sections. They
+//! are meant to run under valgrind, too.
 
 mod common;
 
@@ -7,7 +8,7 @@ use dwcheck::{
     evaluate, Abi, Block, Context, ExpressionKind, Frame, Process, Registers, State, Target,
 };
 
-/// Pseudorandom numbers, the same in each run.
+/// A generator of pseudorandom numbers, which are the same in each run of the tests.
 struct Numbers(u64);
 
 impl Numbers {
@@ -37,7 +38,8 @@ impl Numbers {
         all[self.below(4)]
     }
 
-    /// An address near those that the sections cover, or any address.
+    /// Any address, one of the 32 highest (and 0), or one from 0x1000 to 0x103f: the sections have rows
+    /// from 0x1000 to 0x101f.
     fn address(&mut self) -> u64 {
         match self.below(3) {
             0 => self.next(),
@@ -47,7 +49,7 @@ impl Numbers {
     }
 }
 
-/// An accepted section, with some bytes changed.
+/// A section that would be accepted, but with up to two bytes changed.
 fn changed(numbers: &mut Numbers) -> Vec<u8> {
     let mut section = if numbers.below(2) == 0 { row_1() } else { x() };
     for _ in 0..numbers.below(3) {

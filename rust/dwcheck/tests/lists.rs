@@ -1,4 +1,4 @@
-//! `locations`, on the lists of docs/WORKED.md, with the answers there.
+//! Tests of `locations`. The location lists and the results are from docs/WORKED.md.
 
 mod common;
 
@@ -8,7 +8,8 @@ use dwcheck::{
     Section, State, Target,
 };
 
-/// The offsets of the expressions that hold.
+/// The offsets in the section of the expressions of a list that apply at an address. `None` if no
+/// list begins at `list`.
 fn at(section: &[u8], list: u32, base: u64, address: u64) -> Option<Vec<u64>> {
     let lookup = Lookup {
         list,
@@ -19,7 +20,8 @@ fn at(section: &[u8], list: u32, base: u64, address: u64) -> Option<Vec<u64>> {
     Some(found.iter().map(|span| span.offset).collect())
 }
 
-/// The results of the expressions that hold.
+/// For each expression that applies at an address, in the list at 0xc: its result, and its number
+/// of steps.
 fn come_to(section: &[u8], base: u64, address: u64) -> Vec<(Outcome, u32)> {
     let lookup = Lookup {
         list: 0xc,
@@ -77,7 +79,7 @@ fn ls_list() {
     assert_eq!(registers, want);
 }
 
-/// Ranges may overlap, so any number of expressions of a list may hold at an address.
+/// Ranges may overlap, so any number of expressions of a list may apply at an address.
 #[test]
 fn many_expressions_hold() {
     for count in [15, 16, 17, 127, 128, 129, 1000] {

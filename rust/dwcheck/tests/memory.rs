@@ -1,5 +1,6 @@
-//! Each allocation of a call fails in turn. This file has `unsafe`, because it replaces the
-//! allocator of the C library.
+//! Tests that a call returns `Error::NoMemory`, or succeeds nonetheless, whichever of its
+//! allocations fails. This file uses `unsafe`, because it replaces `malloc` and `realloc` of the C
+//! library.
 #![cfg(all(target_os = "linux", target_env = "gnu"))]
 #![deny(unsafe_op_in_unsafe_fn)]
 
@@ -15,7 +16,7 @@ use std::os::raw::c_void;
 use std::ptr::null_mut;
 
 thread_local! {
-    /// How many allocations of this thread succeed before one fails. If negative, none fails.
+    /// How many more allocations of this thread succeed before one fails. If negative, none fails.
     static LEFT: Cell<isize> = const { Cell::new(-1) };
 }
 
@@ -53,7 +54,7 @@ unsafe extern "C" fn realloc(block: *mut c_void, size: usize) -> *mut c_void {
     unsafe { __libc_realloc(block, size) }
 }
 
-/// Whether this file's allocator is in use. Valgrind uses its own.
+/// Whether this file's `malloc` is in use. It isn't under valgrind, which has its own.
 fn is_in_place() -> bool {
     LEFT.with(|left| left.set(0));
     let refused = Vec::<u8>::new().try_reserve_exact(1).is_err();
@@ -61,9 +62,9 @@ fn is_in_place() -> bool {
     refused
 }
 
-/// Repeats a call: the first allocation fails, then only the second, and so on, until the call
-/// makes fewer allocations. Returns their number. A call may succeed without an allocation that
-/// failed.
+/// Repeats a call. In the first round only the call's first allocation fails, in the second round
+/// only the second, and so on, until there is a round in which none fails. Returns the number of
+/// allocations in that last round. A call may succeed although one of its allocations failed.
 fn refuse_each<T>(mut call: impl FnMut() -> Result<T, Error>) -> isize {
     for granted in 0.. {
         LEFT.with(|left| left.set(granted));
@@ -104,7 +105,7 @@ fn processes() {
     let mut process = Process::new();
     assert!(refuse_each(|| add(&mut process, &section, 0)) > 0);
     assert!(refuse_each(|| add(&mut process, &section, 0x10000)) > 0);
-    // a section that wasn't added because memory ran out isn't there
+    // 0x10000 was added only once: the rounds in which memory ran out added no module
     assert!(process.remove(0x10000) && !process.remove(0x10000));
     assert!(process.row(0x1000).is_some());
     assert!(refuse_each(|| process.share()) > 0);

@@ -1,5 +1,6 @@
-//! Compares faults with the table of docs/PROFILE.md, and ABIs with the table of `keep` and `sp` in
-//! docs/OUTPUT.md.
+//! Tests that faults have the numbers and names of the table in docs/PROFILE.md, and that the
+//! constants of `Abi` have the registers of the table of `keep` and `sp` in docs/OUTPUT.md. The
+//! tables are copied here.
 
 use dwcheck::{Abi, FaultKind};
 
@@ -38,7 +39,7 @@ fn faults_have_their_numbers_and_names() {
     assert_eq!(FaultKind::from_number(u32::MAX).number(), u32::MAX);
 }
 
-/// The numbers that words such as `19 to 29` and `30` stand for.
+/// The register numbers in a text such as `19 to 29, and 30`.
 fn registers(text: &str) -> Vec<u16> {
     let mut all = Vec::new();
     for part in text.replace("and ", "").split(", ") {

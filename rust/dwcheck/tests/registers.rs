@@ -1,4 +1,4 @@
-//! `Registers`, which doesn't call the library.
+//! Tests of `Registers`, which doesn't call the C library.
 
 use dwcheck::Registers;
 

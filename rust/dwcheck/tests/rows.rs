@@ -1,4 +1,4 @@
-//! `Process::row`, on the sections of docs/WORKED.md, with the answers there.
+//! Tests of `Process::row`. Most sections and their rows are from docs/WORKED.md.
 
 mod common;
 
@@ -70,7 +70,7 @@ fn rules_that_are_expressions() {
         (0x33, Some(&[0x23, 8][..]))
     );
     assert_eq!((value.offset, value.of(&section)), (0x38, Some(&[][..])));
-    // row 25
+    // row 25 of docs/WORKED.md
     let section = with_program("0f 03 770806");
     let span = Span {
         offset: 0x32,
@@ -96,7 +96,8 @@ fn older_cies_and_many_registers() {
     let cie = "14000000 ffffffff 03 00 01 78 9001 0c0708 9001 0000000000";
     let section = hex(&format!("{} {} 41 0e10 8602 43 0d06", cie, H1));
     assert_eq!(row(&section, 0x1000).return_register, 144);
-    // registers 0 to 126 are undefined, and the return address register has a rule: 128 rules
+    // a program that makes registers 0 to 126 undefined; the CIE's rule for register 16 is
+    // replaced, so there are 127 rules
     let program: String = (0..127)
         .map(|register| format!("07{:02x} ", register))
         .collect();
@@ -131,7 +132,8 @@ fn other_targets() {
     process
         .add(&section, Target::BIG_32, 0xffff_8000, room)
         .unwrap();
-    // 0x8000 and 0x8008 as linked; the load address is -0x8000 modulo 2^32
+    // the rows begin at 0x8000 and 0x8008 as linked; the load address is -0x8000 modulo 2^32, so as
+    // loaded they begin at 0 and 8
     assert_eq!(process.row(0).unwrap().cfa, cfa(13, 0));
     let found = process.row(0xf).unwrap();
     assert_eq!(found.addresses, 0x8008..0x8010);
@@ -175,7 +177,7 @@ fn room_is_a_bound_and_no_request() {
         .add(&section, Target::LITTLE_64, 0, usize::MAX)
         .unwrap();
     assert!(process.row(0x1000).is_some());
-    // a refused section changes nothing
+    // adding a section that is refused changes nothing
     let refused = add(&mut process, &section[..5], 0x5000);
     assert_eq!(refusal(refused), Some(("Truncated", 4)));
     assert!(process.row(0x1000).is_some());

@@ -1,4 +1,4 @@
-//! `check`, on the sections of docs/WORKED.md, with the answers there.
+//! Tests of `check`. Most sections and their faults are from docs/WORKED.md.
 
 mod common;
 
@@ -20,7 +20,7 @@ fn good_sections_are_accepted() {
         assert_eq!(check(&section, &row_16(), Target::LITTLE_64), Ok(()));
         assert_eq!(check(&section, &l(), Target::LITTLE_64), Ok(()));
     }
-    // row 19, and one table with one list
+    // row 19 of docs/WORKED.md, and then location lists: one table with one list
     let wide = "ffffffff 1400000000000000 ffffffffffffffff 04 00 08 00 01 78 10 0c0708 9001";
     assert_eq!(frame(&hex(wide)), None);
     let table = "ffffffff 1100000000000000 0500 08 00 01000000 0800000000000000 00";
@@ -33,7 +33,7 @@ fn other_targets() {
          00000014 00000000 00008000 00000010 42 0e08 8e01 000000");
     assert_eq!(check(&big, &[], Target::BIG_32), Ok(()));
     assert!(check(&big, &[], Target::LITTLE_32).is_err());
-    // the address size is part of the CIE
+    // the CIE has an address size of 8, which is wrong for a 32-bit target
     let wrong = refusal(check(&row_1(), &[], Target::LITTLE_32));
     assert_eq!(wrong, Some(("AddressSize", 10)));
 }
@@ -75,7 +75,7 @@ fn row_1_changed() {
         let mut section = row_1();
         section[place] = byte;
         assert_eq!(frame(&section), want, "{:#x} at {}", byte, place);
-        // a process refuses the section with the same fault
+        // adding the section to a process is refused with the same fault
         let added = add(&mut Process::new(), &section, 0);
         assert_eq!(refusal(added), want, "{:#x} at {}", byte, place);
     }
@@ -163,8 +163,8 @@ fn faults_as_text() {
     assert_eq!(boxed.to_string(), fault.to_string());
 }
 
-/// Cuts a section at every length, and changes each of its bytes to a few other values. Each result
-/// gets an answer.
+/// Cuts sections at every length, and changes each byte to a few other values: every check returns,
+/// and adding a changed section to a process gives the same result as `check`.
 #[test]
 fn each_small_change_has_an_answer() {
     for section in [row_1(), x(), row_16(), l()] {

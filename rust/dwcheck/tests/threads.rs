@@ -1,4 +1,4 @@
-//! Processes that move from thread to thread, and tables that threads share.
+//! Tests of processes that move from thread to thread, and of processes that share their tables.
 
 mod common;
 
@@ -21,12 +21,12 @@ fn what_is_send_and_sync() {
     is_send::<dwcheck::Backtrace>();
     is_sync::<dwcheck::Row>();
     is_sync::<dwcheck::Error>();
-    // a `Mutex` around a process lets all threads use it
+    // several threads may use one process if it is in a `Mutex`
     is_sync::<Mutex<Process>>();
 }
 
-/// Walks from the module at 0x200000 through the one at 0x100000. Returns whether the walk is
-/// right.
+/// Walks from the module at 0x200000 through the one at 0x100000. Returns whether the walk has the
+/// right frames and ends for the right reason.
 fn walks_well(process: &Process) -> bool {
     let registers = Registers::from([(6, 0x7000)]);
     let words: [u64; 6] = [0x7020, 0x101010, 0, 0, 0, 0x5000];
@@ -62,7 +62,7 @@ fn threads_share_tables() {
             })
         })
         .collect();
-    // the other processes still have the tables
+    // the processes of the threads still have both modules
     assert!(process.remove(0x100000));
     drop(process);
     for walker in walkers {
@@ -101,7 +101,8 @@ fn a_shared_process_is_its_own() {
     assert!(process.share().unwrap().row(0x101010).is_none());
 }
 
-/// musl gives threads stacks of 128 KB, the smallest of the usual ones.
+/// All calls work on a stack of 128 KB. That is what musl gives to threads; other common C libraries
+/// give more.
 #[test]
 fn calls_fit_a_small_stack() {
     let walker = thread::Builder::new().stack_size(128 * 1024);

@@ -1,4 +1,5 @@
-//! `unwind` and `backtrace`, on the examples of docs/WORKED.md, with the answers there.
+//! Tests of `unwind`, `backtrace` and `steps`. Most sections and their results are from
+//! docs/WORKED.md.
 
 mod common;
 
@@ -11,7 +12,7 @@ fn words(words: &[u64]) -> Vec<u8> {
     words.iter().flat_map(|word| word.to_le_bytes()).collect()
 }
 
-/// A frame's address and CFA.
+/// The address of each frame of a walk, and its CFA, `None` if the CFA has no value.
 fn shown(walk: &Backtrace) -> Vec<(u64, Option<u64>)> {
     walk.into_iter()
         .map(|frame| (frame.address(), frame.cfa().and_then(Answer::value)))
@@ -203,14 +204,15 @@ fn walks_into_slots() {
     assert_eq!((frames.len(), stop), (0, Stop::Limit));
 }
 
-/// The section of C1 and H1 with a program, and with 0 as its initial location.
+/// The section of [`with_program`], but with 0 as the initial location of its FDE.
 fn from_0(program: &str) -> Vec<u8> {
     let mut section = with_program(program);
     section[33] = 0;
     section
 }
 
-/// A walk through the section of [`from_0`], from address 3, with register 7 at 0x10.
+/// Walks through the section of [`from_0`], from the frame at address 3, where register 7 is 0x10.
+/// Also compares the walk with `steps`.
 fn walk_from_3(program: &str, limit: usize) -> Backtrace {
     let process = process_at(&from_0(program), 0);
     let registers = Registers::from([(7, 0x10)]);
@@ -225,7 +227,7 @@ fn walk_from_3(program: &str, limit: usize) -> Backtrace {
     walk
 }
 
-/// Whether steps have the same frames as a walk.
+/// For comparing the frames of `steps` with those of a walk.
 trait EqFrames {
     fn eq_frames(self, walk: &Backtrace) -> bool;
 }
@@ -281,7 +283,9 @@ fn walks_that_end() {
     );
 }
 
-/// Loads row 1's section at two addresses, and walks through both modules.
+/// A process that has row 1's section at two load addresses, and the frames (addresses and CFAs) of
+/// the walk through both modules. The walk begins at 0x201010, with 0x7000 in register 6 and `STACK`
+/// in memory at 0x7000.
 fn two_modules() -> (Process, [(u64, Option<u64>); 3]) {
     let mut process = process_at(&row_1(), 0x100000);
     add(&mut process, &row_1(), 0x200000).unwrap();
@@ -295,8 +299,8 @@ fn two_modules() -> (Process, [(u64, Option<u64>); 3]) {
 
 const STACK: [u64; 6] = [0x7020, 0x101010, 0, 0, 0, 0x5000];
 
-/// A frame at address 0 is looked up nowhere, because no address is before 0. The module here
-/// covers the last address, which must not be found instead.
+/// If a return address is 0, its frame is not covered, because there is no address before 0. The
+/// second module here covers the highest address, 2^64 - 1, and must not be found instead.
 #[test]
 fn a_frame_at_0_is_not_covered() {
     let mut process = process_at(&from_0("0f 01 3f 16 10 01 30"), 0);
@@ -358,7 +362,7 @@ fn single_calls_through_modules() {
     let first = process.unwind(0x201010, &state).unwrap().unwrap();
     let known = first.known();
     assert_eq!(known, Registers::from([(6, 0x7020), (16, 0x101010)]));
-    // looked up where the call is
+    // the caller is looked up at its return address minus one
     state.registers = &known;
     let second = process.unwind(0x10100f, &state).unwrap().unwrap();
     assert_eq!(
@@ -387,7 +391,7 @@ fn without_a_module_nothing_is_covered() {
     }
 }
 
-/// Blocks at both ends of the address space, overlapping, and empty.
+/// Memory blocks may overlap, be empty, or run past the highest address.
 #[test]
 fn blocks_anywhere() {
     let bytes = words(&[0x7f40, 0x1020, 3, 4]);

@@ -1,9 +1,10 @@
-//! Sections of docs/WORKED.md, and helpers. Not every test file uses all of them.
+//! For all test files: the example sections of docs/WORKED.md, and helper functions. Not every test
+//! file uses all of them, so unused code is allowed.
 #![allow(dead_code)]
 
 use dwcheck::{Error, Process, Target};
 
-/// The bytes of a text of hexadecimal digits and spaces.
+/// Converts hexadecimal digits to bytes. Spaces and line breaks are skipped.
 pub fn hex(text: &str) -> Vec<u8> {
     let digits: Vec<u8> = text
         .chars()
@@ -17,20 +18,22 @@ pub fn hex(text: &str) -> Vec<u8> {
         .collect()
 }
 
-/// The CIE that docs/WORKED.md calls C1.
+/// The CIE that docs/WORKED.md calls C1, in hexadecimal.
 pub const C1: &str = "14000000 ffffffff 04 00 08 00 01 78 10 0c0708 9001 00000000";
 
-/// The beginning of the FDE that docs/WORKED.md calls H1, up to its program of eight bytes.
+/// The header of the FDE that docs/WORKED.md calls H1, in hexadecimal. A program of eight bytes has
+/// to follow.
 pub const H1: &str = "1c000000 00000000 0010000000000000 2000000000000000";
 
-/// The section of C1 and H1 with a program, which is padded with zeros to eight bytes.
+/// The section that consists of [`C1`], [`H1`] and a program, which is padded with nops (zeros) to
+/// eight bytes.
 pub fn with_program(program: &str) -> Vec<u8> {
     let mut section = hex(&format!("{} {} {}", C1, H1, program));
     section.resize(section.len().max(56), 0);
     section
 }
 
-/// Row 1's section.
+/// The section of row 1 in docs/WORKED.md.
 pub fn row_1() -> Vec<u8> {
     with_program("41 0e10 8602 43 0d06")
 }
@@ -40,7 +43,7 @@ pub fn x() -> Vec<u8> {
     with_program("10 06 02 2308 16 07 00")
 }
 
-/// Row 16's location lists.
+/// The location lists of row 16 in docs/WORKED.md.
 pub fn row_16() -> Vec<u8> {
     hex("12000000 0500 08 00 00000000 04 00 10 01 50 05 02 309f 00")
 }
@@ -53,7 +56,8 @@ pub fn l() -> Vec<u8> {
     )
 }
 
-/// An FDE like H1 with another range, and a program of eight nops.
+/// An FDE with this initial location, this address range, and a program of eight nops. Its CIE is
+/// at offset 0.
 pub fn fde(initial: u64, range: u64) -> Vec<u8> {
     let mut bytes = hex("1c000000 00000000");
     bytes.extend(initial.to_le_bytes());
@@ -62,7 +66,7 @@ pub fn fde(initial: u64, range: u64) -> Vec<u8> {
     bytes
 }
 
-/// A process of one module, little-endian with addresses of 8 bytes.
+/// A process with one module, whose section is for a little-endian target with 8-byte addresses.
 pub fn process_at(section: &[u8], load_address: u64) -> Process {
     let mut process = Process::new();
     add(&mut process, section, load_address).expect("a good section");
@@ -74,7 +78,8 @@ pub fn add(process: &mut Process, section: &[u8], load_address: u64) -> Result<(
     process.add(section, Target::LITTLE_64, load_address, room)
 }
 
-/// A refusal's fault and offset, such as `NoSuchCie` and 28.
+/// The name and the offset of the fault in a refusal, such as `NoSuchCie` and 28. `None` if the
+/// result is `Ok`.
 pub fn refusal(result: Result<(), Error>) -> Option<(&'static str, u32)> {
     match result {
         Ok(()) => None,
