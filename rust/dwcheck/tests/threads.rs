@@ -101,8 +101,8 @@ fn a_shared_process_is_its_own() {
     assert!(process.share().unwrap().row(0x101010).is_none());
 }
 
-/// All calls work on a stack of 128 KB. That is what musl gives to threads; other common C libraries
-/// give more.
+/// All calls work on a stack of 128 KB. That is what musl gives to threads; other common C
+/// libraries give more.
 #[test]
 fn calls_fit_a_small_stack() {
     let walker = thread::Builder::new().stack_size(128 * 1024);

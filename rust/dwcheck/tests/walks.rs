@@ -284,8 +284,8 @@ fn walks_that_end() {
 }
 
 /// A process that has row 1's section at two load addresses, and the frames (addresses and CFAs) of
-/// the walk through both modules. The walk begins at 0x201010, with 0x7000 in register 6 and `STACK`
-/// in memory at 0x7000.
+/// the walk through both modules. The walk begins at 0x201010, with 0x7000 in register 6 and
+/// `STACK` in memory at 0x7000.
 fn two_modules() -> (Process, [(u64, Option<u64>); 3]) {
     let mut process = process_at(&row_1(), 0x100000);
     add(&mut process, &row_1(), 0x200000).unwrap();
