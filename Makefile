@@ -1,11 +1,13 @@
-# Builds and installs dwcheck: the program, the library for C, dwcheck-elf, their manual pages.
-#   make            the programs and both libraries, in build/
-#   make check      builds and runs the C cases and the C examples, whose frames gdb's are compared with, and the tests of
-#                   dwcheck-elf
-#   make install    into $(DESTDIR)$(PREFIX)
-# It needs the kit's rt, and cc and ar; dwcheck-elf needs cargo and the packages that `rust/cargo.sh packages` names, and
-# is left out where these aren't there. JOBS is the number of cargo's jobs, 1 if not given. rt proves what it builds; the
-# tests and the wrong bodies, which the prover has to refuse, are tried by the gate, `rt ci`.
+# Builds and installs the programs dwcheck and dwcheck-elf, the C library, and their manual pages.
+#   make            builds the programs, and the C library as libdwcheck.a and libdwcheck.so, in build/
+#   make check      does this too, then builds and runs the C tests, the C examples (and compares
+#                   their frames with gdb's), and the tests of dwcheck-elf
+#   make install    does the same as make, then installs everything in $(DESTDIR)$(PREFIX)
+# This needs rt, the command of the Rattle kit, and cc and ar. dwcheck-elf also needs cargo and some
+# Debian packages. If one of these is missing (`rust/cargo.sh packages` prints what is), dwcheck-elf
+# is left out. JOBS is the number of cargo's parallel jobs (1 if not set). rt proves what it builds.
+# It doesn't run the tests in crates/dw_tests, nor try the wrong function bodies in must-fail/, which
+# the prover has to refuse: `rt ci` does both.
 PREFIX ?= /usr/local
 BINDIR ?= $(PREFIX)/bin
 LIBDIR ?= $(PREFIX)/lib
@@ -15,7 +17,7 @@ CC ?= cc
 AR ?= ar
 INSTALL ?= install
 
-# That of the interface: DWCHECK_VERSION of the header.
+# The version of the C interface. DWCHECK_VERSION in the header has the same major and minor numbers.
 version := 1.0.0
 major := 1
 kit := $(dir $(shell rt doc))
@@ -28,8 +30,9 @@ all: $(built) build/dwcheck-elf
 build:
 	mkdir -p $@
 
-# rt proves again only what has changed. But it makes the library for C anew each time, and cargo then builds dwcheck-elf
-# anew: with nothing changed, `make` and `make install` take a minute.
+# rt proves only what has changed since the last time. But it always writes the C library anew, and
+# then cargo builds dwcheck-elf anew. So `make` and `make install` take a minute even if nothing has
+# changed.
 build/dwcheck: FORCE | build
 	(cd crates/dwcheck && rt run -- rows --hex data/frame.hex) >build/log 2>&1 || { tail -n 5 build/log >&2; exit 1; }
 	cp crates/dwcheck/out/dwcheck $@
@@ -38,7 +41,8 @@ build/libdwcheck_c.a: FORCE | build
 	(cd crates/dwcheck_c && rt lib) >build/log 2>&1 || { tail -n 5 build/log >&2; exit 1; }
 	cp crates/dwcheck_c/out/libdwcheck_c.a $@
 
-# One archive: the library, and the kit's few lines of C, which call malloc and free.
+# libdwcheck.a joins two archives: the library that rt made, and the kit's few lines of C, through
+# which the library calls malloc and free.
 build/libdwcheck.a: build/libdwcheck_c.a
 	rm -f $@
 	printf 'create $@\naddlib $<\naddlib $(kit)c/liblibc_c.a\nsave\nend\n' | $(AR) -M
@@ -51,13 +55,14 @@ build/dwcheck.pc: c/dwcheck.pc.in FORCE | build
 	sed -e 's|@PREFIX@|$(PREFIX)|' -e 's|@LIBDIR@|$(LIBDIR)|' -e 's|@INCLUDEDIR@|$(INCLUDEDIR)|' \
 	    -e 's|@VERSION@|$(version)|' $< >$@
 
-# Runs cargo on dwcheck-elf, or says what it needs.
+# The beginning of a command that runs cargo on dwcheck-elf; cargo's arguments follow. If cargo or a
+# package is missing, the command prints what is missing, and succeeds without doing anything.
 elf = missing=$$(rust/cargo.sh packages | tr '\n' ' '); \
     if [ -n "$$missing" ]; then echo "dwcheck-elf is left out: it needs $$missing"; exit 0; fi; \
     cd rust/dwcheck-elf && \
     DWCHECK_LIB_DIR=$(CURDIR)/build CARGO_TARGET_DIR=$(CURDIR)/build/cargo DWCHECK=$(CURDIR)/build/dwcheck ../cargo.sh
 
-# An old program doesn't stay where a new one can't be built.
+# The old program is deleted first, so that none is left over if the new one can't be built.
 build/dwcheck-elf: build/libdwcheck.a FORCE
 	rm -f $@
 	@$(elf) build --quiet --release --bin dwcheck-elf && cp $(CURDIR)/build/cargo/release/dwcheck-elf $(CURDIR)/$@

@@ -1,9 +1,11 @@
 #!/usr/bin/env bash
-# Runs cargo on the crate in the current folder, offline. All dependencies come from the
-# librust-*-dev packages of Debian 12: ../cargo.sh build --release ../cargo.sh test The variable
-# CARGO is the cargo program to run (`cargo` if not set), and JOBS is the number of its parallel
-# jobs (1 if not set). `../cargo.sh packages` doesn't run cargo. It prints the Debian packages below
-# that aren't installed, and `cargo` if there is no cargo.
+# Runs cargo, offline, on the crate in the current folder. All dependencies come from Debian 12's
+# librust-*-dev packages:
+#   ../cargo.sh build --release
+#   ../cargo.sh test
+# The variable CARGO is the cargo program to run (`cargo` if not set). JOBS is the number of its
+# parallel jobs (1 if not set). `../cargo.sh packages` doesn't run cargo: it prints which of the
+# Debian packages below aren't installed, and `cargo` if there is no cargo.
 set -eu
 packages="librust-object-dev librust-gimli-dev librust-flate2-dev librust-clap-dev librust-rayon-dev
     librust-indicatif-dev librust-rustc-demangle-dev librust-cpp-demangle-dev"

@@ -46,8 +46,8 @@ impl Abi<'static> {
     /// x86-64: rbx, rbp and r12 to r15. The stack pointer is rsp.
     pub const X86_64: Abi<'static> = Abi::new(&[3, 6, 12, 13, 14, 15], Some(7));
 
-    /// i386: ebx, ebp, esi and edi. The stack pointer is esp. (These are the DWARF
-    /// numbers that ELF systems use.)
+    /// i386: ebx, ebp, esi and edi. The stack pointer is esp. (These are the DWARF numbers that ELF
+    /// systems use.)
     pub const I386: Abi<'static> = Abi::new(&[3, 5, 6, 7], Some(4));
 
     /// aarch64: x19 to x29, and x30 for the return address. The stack pointer is sp.

@@ -68,7 +68,7 @@ pub struct Process {
 unsafe impl Send for Process {}
 
 impl Process {
-    /// As the `room` of [`add`](Process::add): no bound on the bytes that the rows of a section may
+    /// For the `room` of [`add`](Process::add): no bound on the bytes that the rows of a section may
     /// take.
     ///
     /// The rows of a compiler's section take some 1.5 times the section's length. Those of a
@@ -206,7 +206,8 @@ impl Process {
     }
 
     /// For looking up the rows of many addresses: [`Rows::row`] gives the same rows as
-    /// [`row`](Process::row), but all look-ups share one allocation.
+    /// [`row`](Process::row), but its look-ups use the same buffers again and again, and so rarely
+    /// allocate memory.
     pub fn rows(&self) -> Rows<'_> {
         Rows::new(self)
     }

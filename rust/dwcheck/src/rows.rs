@@ -1,4 +1,4 @@
-//! Looking up the rows of many addresses with one allocation.
+//! Looking up the rows of many addresses, with buffers that all look-ups use.
 
 use crate::ffi;
 use crate::process::Process;
@@ -7,8 +7,8 @@ use std::fmt;
 
 /// For looking up the rows of many addresses. [`Process::rows`] makes this.
 ///
-/// [`Process::row`] gives the same rows, but allocates memory for each. This allocates its buffers
-/// once, and every look-up uses them again.
+/// [`Process::row`] gives the same rows, but allocates memory for each. Here every look-up uses the
+/// buffers of the one before again.
 ///
 /// ```
 /// # const SECTION: &[u8] = &[
