@@ -1,13 +1,13 @@
 # Builds and installs the programs dwcheck and dwcheck-elf, the C library, and their manual pages.
-#   make            builds the programs, and the C library as libdwcheck.a and libdwcheck.so, in build/
-#   make check      does this too, then builds and runs the C tests, the C examples (and compares
-#                   their frames with gdb's), and the tests of dwcheck-elf
-#   make install    does the same as make, then installs everything in $(DESTDIR)$(PREFIX)
+#   make            builds the programs, libdwcheck.a and libdwcheck.so in build/
+#   make check      the same; then builds and runs the C tests, the C examples (one of them compares
+#                   its frames with gdb's) and the tests of dwcheck-elf
+#   make install    the same as make; then installs what was built in $(DESTDIR)$(PREFIX)
 # This needs rt, the command of the Rattle kit, and cc and ar. dwcheck-elf also needs cargo and some
 # Debian packages. If one of these is missing (`rust/cargo.sh packages` prints what is), dwcheck-elf
 # is left out. JOBS is the number of cargo's parallel jobs (1 if not set). rt proves what it builds.
-# It doesn't run the tests in crates/dw_tests, nor try the wrong function bodies in must-fail/, which
-# the prover has to refuse: `rt ci` does both.
+# make doesn't run the tests in crates/dw_tests, nor does it try the wrong function bodies in
+# must-fail/, which the prover has to refuse: `rt ci` does both.
 PREFIX ?= /usr/local
 BINDIR ?= $(PREFIX)/bin
 LIBDIR ?= $(PREFIX)/lib
@@ -17,7 +17,8 @@ CC ?= cc
 AR ?= ar
 INSTALL ?= install
 
-# The version of the C interface. DWCHECK_VERSION in the header has the same major and minor numbers.
+# The version of the C interface. Its major and minor numbers are those of DWCHECK_VERSION in the
+# header.
 version := 1.0.0
 major := 1
 kit := $(dir $(shell rt doc))

@@ -68,8 +68,8 @@ pub struct Process {
 unsafe impl Send for Process {}
 
 impl Process {
-    /// For the `room` of [`add`](Process::add): no bound on the bytes that the rows of a section may
-    /// take.
+    /// For the `room` of [`add`](Process::add): no bound on the bytes that the rows of a section
+    /// may take.
     ///
     /// The rows of a compiler's section take some 1.5 times the section's length. Those of a
     /// hostile section may take 700 times its length or more.
