@@ -51,13 +51,14 @@ pub const NONE: u32 = 7;
 pub const LITTLE: u32 = 0;
 pub const BIG: u32 = 1;
 
-/// The values of a fault's `within`: what its `offset` counts, from 0. Bytes of the frame section.
+/// A fault's `offset` counts bytes of the frame section, from 0. (The four IN_ constants are the
+/// values of a fault's `within`.)
 pub const IN_FRAME: u32 = 0;
-/// Bytes of the location list section.
+/// A fault's `offset` counts bytes of the location list section.
 pub const IN_LISTS: u32 = 1;
-/// Bytes of the expression.
+/// A fault's `offset` counts bytes of the expression.
 pub const IN_EXPRESSION: u32 = 2;
-/// Elements of `kept`; `kept_length` stands for the stack pointer.
+/// A fault's `offset` counts elements of `kept`; `kept_length` stands for the stack pointer.
 pub const IN_ABI: u32 = 3;
 
 /// Why an input is refused. `number` says what is wrong (docs/PROFILE.md lists the numbers),
@@ -80,7 +81,7 @@ pub struct Process {
     pub opaque_open: MaybeUninit<u64>,
 }
 
-/// The values of a rule's `kind`. The value isn't available.
+/// The value isn't available. (The seven RULE_ constants are the values of a rule's `kind`.)
 pub const RULE_UNDEFINED: u32 = 1;
 /// The value that the register has now.
 pub const RULE_SAME_VALUE: u32 = 2;
@@ -156,16 +157,17 @@ pub struct State {
     pub reserved: u32,
 }
 
-/// What is known of a CFA, a return address or a register. This value occurs only in the last frame
-/// of a walk: no FDE covers the frame.
+/// No FDE covers the frame. This occurs only in the last frame of a walk. (This and the next four
+/// are the values of `kind` in `Answer` and `Register`.)
 pub const NOT_COVERED: u32 = 0;
-/// It is `value`, below 2^w, where w is the address size in bits.
+/// The number is `value`, which is below 2^w, where w is the address size in bits.
 pub const VALUE: u32 = 1;
-/// Its value isn't available.
+/// The number isn't available.
 pub const UNDEFINED: u32 = 2;
-/// It needs a register or memory that isn't known, or memory past the highest address, 2^w - 1.
+/// The number depends on a register or memory that isn't known, or on memory past the highest
+/// address, 2^w - 1.
 pub const UNREADABLE: u32 = 3;
-/// Its expression divides by zero.
+/// The expression for the number divides by zero.
 pub const DIVISION_BY_ZERO: u32 = 4;
 
 /// What is known of a CFA or a return address.
@@ -177,7 +179,7 @@ pub struct Answer {
     pub reserved: u32,
 }
 
-/// What is known of a register, by its number.
+/// What is known of the register with this number.
 #[repr(C)]
 #[derive(Clone, Copy, Debug, Default)]
 pub struct Register {
@@ -207,7 +209,7 @@ pub struct Frame {
     pub cfa: Answer,
 }
 
-/// Why a walk ends: `frames` has no room for more.
+/// The walk ends because `frames` has no room for more. (The five STOP_ constants are the reasons.)
 pub const STOP_LIMIT: u32 = 0;
 /// No module has a row for the last frame.
 pub const STOP_NOT_COVERED: u32 = 1;
@@ -220,11 +222,12 @@ pub const STOP_RETURN_UNREADABLE: u32 = 3;
 /// The return address of the last frame is DIVISION_BY_ZERO.
 pub const STOP_RETURN_DIVISION_BY_ZERO: u32 = 4;
 
-/// What an expression is used for. The rule of a CFA: the stack is empty at first.
+/// The expression is the rule of a CFA: the stack is empty at first. (This and the next two are the
+/// kinds of expressions.)
 pub const FRAME_CFA: u32 = 0;
-/// The rule of a register: the stack begins with the CFA.
+/// The expression is in the rule of a register: the stack begins with the CFA.
 pub const FRAME_REGISTER: u32 = 1;
-/// The location of an object: the stack is empty at first.
+/// The expression is the location of an object: the stack is empty at first.
 pub const LOCATION: u32 = 2;
 
 /// Values that an expression may need and that depend on where the program stopped: the CFA, the
@@ -242,8 +245,9 @@ pub struct Context {
     pub reserved: u32,
 }
 
-/// The values of `kind` in `Value`, and, from LOCATION_NOWHERE to LOCATION_BYTES, in `Piece`.
-/// For the rule of a CFA or register: the result is `value`.
+/// The result is `value`, for the rule of a CFA or register. (This and the next eight are the
+/// values of `kind` in `Value`. Those from LOCATION_NOWHERE to LOCATION_BYTES also occur in
+/// `Piece`.)
 pub const IS_VALUE: u32 = 0;
 /// The operation at `offset` needs a register, memory or a context value that isn't known, or reads
 /// memory past 2^w - 1. If has_cfa is 0, the rule of a register always has this outcome, at offset
