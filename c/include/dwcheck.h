@@ -20,10 +20,10 @@
      threads at once, give each thread its own process, made by dwcheck_process_share. These
      processes share the tables, and no lock is needed.
    - malloc, realloc and free belong to one allocator, and the calling thread may call them. So a
-     signal handler must not make a call that allocates or frees, and the child that a process with
-     threads forks must make no call at all.
-   - The stack is large enough. As measured on x86-64 (Rattle kit 13f), dwcheck_backtrace and
-     dwcheck_unwind take 61 KB of stack, and up to 14 KB more if a rule is an expression;
+     signal handler must not make a call that allocates or frees. After a fork in a program with
+     several threads, the child must make no call at all.
+   - The stack is large enough. As measured on x86-64 (built with Rattle kit 13f), dwcheck_backtrace
+     and dwcheck_unwind take 61 KB of stack, and up to 14 KB more if a rule is an expression;
      dwcheck_process_add takes 82 KB, dwcheck_check 41 KB, dwcheck_evaluate 12 KB, and every other
      call less than 4 KB. So a signal handler on an alternate stack of the usual 8 KB can't walk.
    - Fields called `reserved` are set to 0. A later version may give them a meaning.
@@ -93,9 +93,10 @@ uint32_t dwcheck_fault_name(uint32_t number, uint8_t *text, size_t text_length, 
 
 /* Checks a .debug_frame section and a .debug_loclists section, either of which may be empty.
    Returns DONE if both are well formed; REFUSED, with the first fault in `fault`, if one isn't;
-   NO_MEMORY; or BAD_TARGET. A section of 2^32 bytes or more is refused with fault 61. The length of
-   the frame section is checked first, then that of the lists, then the frame section itself, then
-   the lists. The call allocates memory in proportion to the sections, and frees it. */
+   NO_MEMORY; or BAD_TARGET. A section of 2^32 bytes or more is refused with fault 61,
+   SectionTooLong. The length of the frame section is checked first, then that of the lists, then
+   the frame section itself, then the lists. The call allocates memory in proportion to the
+   sections, and frees it. */
 uint32_t dwcheck_check(const uint8_t *frame, size_t frame_length, const uint8_t *lists, size_t lists_length,
                        uint32_t order, uint32_t address_size, dwcheck_fault *fault);
 

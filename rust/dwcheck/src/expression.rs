@@ -57,7 +57,7 @@ impl Context {
 #[derive(Clone, Debug, PartialEq, Eq, Hash)]
 #[non_exhaustive]
 pub enum Location {
-    /// Nowhere: it was optimized away.
+    /// Nowhere: the object or piece was optimized away.
     Nowhere,
     /// In memory, starting at this address.
     Address(u64),
@@ -76,11 +76,11 @@ pub enum Location {
 pub enum PieceSize {
     /// This many bytes.
     Bytes(u32),
-    /// This many bits, starting at this bit.
+    /// `size` bits, starting at bit `offset`.
     Bits {
         /// The number of bits.
         size: u32,
-        /// The first bit.
+        /// The first bit, as the offset operand of `DW_OP_bit_piece` gives it.
         offset: u32,
     },
 }

@@ -157,10 +157,10 @@ fault_kinds! {
     /// An offset in a list table's array isn't that of a list in the table. Reported at the first
     /// byte of the offset.
     BadOffsetEntry = 55,
-    /// Memory ran out. Reported at 0. This crate returns [`Error::NoMemory`] instead.
+    /// Memory ran out. (This crate returns [`Error::NoMemory`] instead.) Reported at 0.
     Memory = 60,
-    /// A section or an expression has 2^32 bytes or more. Reported at 0. Of this crate's functions,
-    /// only [`check`](crate::check) gives this fault; the others return [`Error::TooLong`].
+    /// A section has 2^32 bytes or more. Only [`check`](crate::check) gives this fault; other calls
+    /// return [`Error::TooLong`]. Reported at 0.
     SectionTooLong = 61,
     /// An ABI has more than 127 callee-saved registers. Reported at index 127, that of the first
     /// one too many.
@@ -169,11 +169,11 @@ fault_kinds! {
     /// stack pointer is the number of callee-saved registers.
     AbiTwice = 63,
     /// A certificate, which lists the stack state before each operation of an expression, doesn't
-    /// have as many states as there are operations. Reported at 0. No call of this crate takes a
-    /// certificate.
+    /// have as many states as there are operations. (No call of this crate takes a certificate.)
+    /// Reported at 0.
     CertLength = 70,
-    /// A certificate's state for an operation isn't the one that the check computes. Reported at
-    /// the operation. No call of this crate takes a certificate.
+    /// A certificate's state for an operation isn't the one that the check computes. (No call of
+    /// this crate takes a certificate.) Reported at the operation.
     CertState = 71,
 }
 

@@ -19,9 +19,9 @@
 //!   `Sync`, Rust never uses a value after a move, `Drop` closes each process, and every way in
 //!   which safe Rust passes a value to another thread synchronizes the two threads.
 //! - "malloc, realloc and free belong to one allocator, and the calling thread may call them. So a
-//!   signal handler must not make a call that allocates or frees, and the child that a process with
-//!   threads forks must make no call at all." In Rust, a user needs `unsafe` code for signal
-//!   handlers and for `fork`.
+//!   signal handler must not make a call that allocates or frees. After a fork in a program with
+//!   several threads, the child must make no call at all." In Rust, a user needs `unsafe` code for
+//!   signal handlers and for `fork`.
 //! - "The stack is large enough." The library touches each page of its stack in turn. So if the
 //!   stack is too small, the program ends at the guard page, which each of Rust's threads has.
 //! - "Fields called `reserved` are set to 0." This crate sets them to 0.

@@ -36,7 +36,7 @@ const FIRST_FRAMES: usize = 64;
 /// # ];
 /// use dwcheck::{Abi, Block, Process, Registers, State, Stop, Target};
 ///
-/// // SECTION covers the addresses 0x1000 to 0x1020; the module is loaded at 0x40_0000.
+/// // SECTION covers the addresses 0x1000 to 0x101f; the module is loaded at 0x40_0000.
 /// let mut process = Process::new();
 /// process.add(SECTION, Target::LITTLE_64, 0x40_0000, Process::NO_BOUND)?;
 ///
