@@ -331,10 +331,10 @@ extern "C" {
 
     /// Checks a .debug_frame section and a .debug_loclists section, either of which may be empty.
     /// Returns DONE if both are well formed; REFUSED, with the first fault in `fault`, if one
-    /// isn't; NO_MEMORY; or BAD_TARGET. A section of 2^32 bytes or more is refused with fault 61.
-    /// The length of the frame section is checked first, then that of the lists, then the frame
-    /// section itself, then the lists. The call allocates memory in proportion to the sections, and
-    /// frees it.
+    /// isn't; NO_MEMORY; or BAD_TARGET. A section of 2^32 bytes or more is refused with fault 61,
+    /// SectionTooLong. The length of the frame section is checked first, then that of the lists,
+    /// then the frame section itself, then the lists. The call allocates memory in proportion to
+    /// the sections, and frees it.
     pub fn dwcheck_check(
         frame: *const u8,
         frame_length: usize,
