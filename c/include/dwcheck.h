@@ -10,8 +10,8 @@
      during the call. A value that a pointer without const points to overlaps no other argument.
      Values that pointers to const point to may overlap each other. A pointer that comes with a
      length points to that many elements. If the length is 0, the pointer may be any address except
-     NULL, and NULL too where this header's macros are used. No other pointer may be NULL, such as
-     `fault`, `count`, `stop`, `size`, `row`, `state` and `context`.
+     NULL, and NULL too where the macros at the end of this header are used. No other pointer may be
+     NULL, such as `fault`, `count`, `stop`, `size`, `row`, `state` and `context`.
    - A process (dwcheck_process) is passed to only one call at a time. To move a process, copy the
      structure and set the old one to DWCHECK_CLOSED. A process has to be closed if a module was
      added to it, or if dwcheck_process_share made it from an open process, even if its modules have
@@ -31,11 +31,11 @@
    A later version may add values to enumerations, so treat a value that you don't know as
    "something else". It may add fields to structures, but only in place of fields named `reserved`.
 
-   Registers are given by their DWARF numbers. An address as linked is an address in the module's
-   file. The address as loaded is where that place is in the process: the address as linked plus
-   the module's load address, modulo 2^w. A target is a byte order and an address size of 4 or 8
-   bytes; w is the address size in bits. Contents of registers and values of a context are taken
-   modulo 2^w. The modules of a process may have different targets. An address is looked up modulo
+   Registers are given by their DWARF numbers. A target is a byte order and an address size of 4 or 8
+   bytes; w is the address size in bits. An address as linked is an address in the module's file.
+   The address as loaded is where that place is in the process: the address as linked plus the
+   module's load address, modulo 2^w. Contents of registers and values of a context are taken modulo
+   2^w. The modules of a process may have different targets. An address is looked up modulo
    2^w in each module, so an address of 2^32 or more may be found in a module with 4-byte addresses.
    In all expressions, including those of rows, DW_OP_addr pushes an address as linked, while
    registers and memory contain addresses as loaded.
