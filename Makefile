@@ -1,7 +1,7 @@
 # Builds and installs the programs dwcheck and dwcheck-elf, the C library, and their manual pages.
 #   make            builds the programs, libdwcheck.a and libdwcheck.so in build/
-#   make check      the same; then builds and runs the C tests, the C examples (the frames of one are
-#                   compared with gdb's) and the tests of dwcheck-elf
+#   make check      the same; then builds and runs the C tests, the C examples (the frames of one
+#                   are compared with gdb's) and the tests of dwcheck-elf
 #   make install    the same as make; then installs what was built in $(DESTDIR)$(PREFIX)
 # This needs rt, the command of the Rattle kit, and cc and ar. dwcheck-elf also needs cargo and some
 # Debian packages. If one of these is missing (`rust/cargo.sh packages` prints what is), dwcheck-elf

@@ -31,12 +31,12 @@
    A later version may add values to enumerations, so treat a value that you don't know as
    "something else". It may add fields to structures, but only in place of fields named `reserved`.
 
-   Registers are given by their DWARF numbers. A target is a byte order and an address size of 4 or 8
-   bytes; w is the address size in bits. An address as linked is an address in the module's file.
+   Registers are given by their DWARF numbers. A target is a byte order and an address size of 4 or
+   8 bytes; w is the address size in bits. An address as linked is an address in the module's file.
    The address as loaded is where that place is in the process: the address as linked plus the
    module's load address, modulo 2^w. Contents of registers and values of a context are taken modulo
-   2^w. The modules of a process may have different targets. An address is looked up modulo
-   2^w in each module, so an address of 2^32 or more may be found in a module with 4-byte addresses.
+   2^w. The modules of a process may have different targets. An address is looked up modulo 2^w in
+   each module, so an address of 2^32 or more may be found in a module with 4-byte addresses.
    In all expressions, including those of rows, DW_OP_addr pushes an address as linked, while
    registers and memory contain addresses as loaded.
 
