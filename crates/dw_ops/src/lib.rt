@@ -7,7 +7,7 @@ pub mod laws;
 mod list;
 mod operation;
 
-pub use decode::decode_one;
+pub use decode::{BaseRegister, decode_base_register, decode_one};
 pub use expression::Expression;
 pub use list::operations;
 pub use operation::Operation;
