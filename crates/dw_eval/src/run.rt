@@ -1,6 +1,6 @@
 //! The run of a location expression, step by step.
 
-use crate::bare::execute_bare;
+use crate::bare::{execute_bare, execute_base_register};
 use crate::branch_target::{location_named, piece_size_named};
 use crate::context::{Memory, Registers};
 use crate::environment::Environment;
@@ -8,7 +8,7 @@ use crate::evaluation_error::EvaluationError;
 use crate::execution::{execute, read_operation};
 use crate::location::{Location, Piece, PieceSize};
 use crate::stack::Stack;
-use dw_ops::{Expression, Operation};
+use dw_ops::{Expression, Operation, decode_base_register};
 
 /// The state of a location expression's run, except for its offset and its pieces.
 #[derive(Drop)]
@@ -124,9 +124,9 @@ impl<'a, const PLACES: usize> Run<'a, PLACES> {
         }
     }
 
-    /// Applies the operation at the offset `at`. An operation that `execute_bare` handles neither
-    /// uses nor names a location: `pending` is `None` before and after it, so `pending` isn't
-    /// written.
+    /// Applies the operation at the offset `at`. An operation that `execute_bare` or
+    /// `execute_base_register` handles neither uses nor names a location: `pending` is `None` before
+    /// and after it, so `pending` isn't written.
     #[inline(always)]
     pub fn step<R: Registers, M: Memory>(
         &mut self,
@@ -147,6 +147,10 @@ impl<'a, const PLACES: usize> Run<'a, PLACES> {
         let code = expression.bytes()[at as usize];
         if execute_bare(environment, code, &mut self.stack)? {
             return Ok(Step::To(at + 1));
+        }
+        if let Some(found) = decode_base_register(expression, at) {
+            execute_base_register(environment, found, &mut self.stack)?;
+            return Ok(Step::To(found.next));
         }
         let (operation, next) = read_operation(expression, at);
         self.apply(environment, &operation, next)

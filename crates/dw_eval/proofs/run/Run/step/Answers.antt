@@ -1,14 +1,15 @@
-use Rattle.std.proofs.Common.{ℕ, ◌+◌, ◌-◌, ◌≤◌, List, length, get_or, sym, ap, subst, rules}
+use Rattle.std.proofs.Common.{ℕ, ◌+◌, ◌-◌, ◌≤◌, List, length, get_or, sym, ap, subst, arith, rules}
 use Rattle.std.specs.Option.{option_map}
-use Rattle.dw_ops.specs.Operations.{Operation}
+use Rattle.dw_ops.specs.Operations.{Operation, breg}
 use Rattle.dw_ops.specs.Views.{operation_of, reading_from}
 use Rattle.dw_stack.specs.Effects.{effect_of}
 use Rattle.dw_stack.specs.Machine.{CanDo}
+use Rattle.dw_eval.specs.BareOperations.{LeavesAlone}
 use Rattle.dw_eval.specs.StackChanges.{error_of}
 use Rattle.dw_eval.specs.Handed.{world_in}
 use Rattle.dw_eval.specs.Views.{location_description_of}
 use Rattle.dw_eval.proofs.Ahead.{same_read}
-use Rattle.dw_eval.proofs.Codes.{bare_has, bare_moves, bare_fails, can_read, applied_at, if_so, if_not}
+use Rattle.dw_eval.proofs.Codes.{bare_has, bare_moves, bare_fails, alone_moves, can_read, applied_at, if_so, if_not}
 use Rattle.dw_eval.proofs.run.Run.step.Goals as goal
 
 pub execute_bare-requires : goal.execute_bare-requires
@@ -36,6 +37,22 @@ returns-then-branch g c =
     bare_moves e c.args.expression.now c.args.at _ c.args.self.now c.execute_bare.new.stack c.requires.inside
     (ap (λ (xs : List ℕ). get_or xs c.args.at 0) (sym c.bytes.ensures)) c.requires.can
     (if_so _ _ _ c.if-branch.true c.in_ok-execute_bare.ensures)
+
+pub execute_base_register-requires : goal.execute_base_register-requires
+execute_base_register-requires g c =
+    let same = if_not _ _ _ c.if-branch.false c.in_ok-execute_bare.ensures in
+    let can = can_read c.args.expression.now g.row.PLACES c.args.at c.args.self.now.stack c.execute_bare.new.stack
+    (breg c.in-Some.found.register c.in-Some.found.offset) c.in-Some.found.next c.requires.can.executes same c.in-Some.ensures in
+    omega (arith, can.room)
+
+pub returns-in-Some : goal.returns-in-Some
+returns-in-Some g c =
+    let e = world_in g.R.Registers.contents g.M.Memory.bytes c.args.environment.now in
+    let same = if_not _ _ _ c.if-branch.false c.in_ok-execute_bare.ensures in
+    let op = breg c.in-Some.found.register c.in-Some.found.offset in
+    alone_moves e c.args.expression.now c.args.at c.in-Some.found.next op c.args.self.now c.execute_base_register.new.stack
+    c.in-Some.ensures c.requires.can
+    (subst (λ (s : List ℕ). LeavesAlone e s c.execute_base_register.new.stack op) same c.in_ok-execute_base_register.ensures)
 
 pub apply-requires : goal.apply-requires
 apply-requires g c =
