@@ -17,12 +17,10 @@ pub mod Results
 pub mod MemoryBlocks
 -- which numbers are below 2^w
 pub mod Fits
-
 -- ---- What the code's values mean, and what its calls return.
 
 -- translates the code's inputs, locations, pieces and outcomes
 pub mod Views
-
 -- ---- Internal: no contract of a public call uses the modules below.
 
 -- proves that an operation pushes as many entries as `effect_of` says

@@ -9,18 +9,15 @@ pub mod Lists
 pub mod Locations
 -- where lists and expressions are in a section, and in what order
 pub mod Bounds
-
 -- ---- The first fault, computed from the bytes. Laws (../src/laws.rt) say how it follows from the
 -- trusted definitions.
 
 -- reading a section from left to right: its tables, lists and entries, or the first fault
 pub mod Reading
-
 -- ---- What the code's values mean, and what its calls return.
 
 -- what the code's entries, lists and stored expressions mean
 pub mod Views
-
 -- ---- Internal: no contract of a public call uses these modules.
 
 -- what the code stores about a section

@@ -11,7 +11,6 @@ pub mod Modules
 pub mod WalkSteps
 -- which callers and frames have only numbers below a bound
 pub mod CallerFits
-
 -- ---- What the code's values mean.
 
 -- translates the code's `Answer` and `Caller`
