@@ -1,7 +1,6 @@
 -- The text that `check` writes for two sections without a fault: the report.
 use Rattle.std.specs.Prelude.{◌≡◌, ℕ, ◌+◌, List, [], ◌∷◌, ◌++◌, length, codes, decimal}
-use Rattle.std.specs.List.{flat_map}
-use Rattle.dw_rows.specs.Section.{FrameSection, rows_in}
+use Rattle.dw_rows.specs.Section.{FrameSection, row_count}
 use Rattle.dw_stack.specs.declared.state.Kind.{Kind}
 use Rattle.dw_stack.specs.declared.state.Kind.TheVariants.{FrameCfa, FrameRegister, Location}
 use Rattle.dw_stack.specs.Expressions.{IsDepthOf, operations_in}
@@ -13,10 +12,6 @@ use Rattle.dw_check.specs.declared.stop.Section.{Section}
 use Rattle.dw_check.specs.declared.stop.Section.TheVariants as sections
 
 -- ---- the counts
-
--- the number of rows of all FDEs, added up
-abbrev pub row_count : FrameSection → ℕ
-row_count frame = length (flat_map (rows_in frame) frame.fdes)
 
 -- a number after the name of what it counts
 unfoldable pub count_text : List ℕ → ℕ → List ℕ

@@ -1,12 +1,12 @@
 //! Writes the report on two accepted sections: what they hold, and a line for each expression.
 
-ghost use Rattle.std.specs.Prelude.{◌≡◌, ◌+◌, ◌++◌, ◌<◌, ◌^◌, ℕ, List, OnOk, false, length, map};
+ghost use Rattle.std.specs.Prelude.{◌≡◌, ◌+◌, ◌++◌, ℕ, List, OnOk, false, length, map};
 ghost use Rattle.std.specs.List.{flat_map};
 ghost use Rattle.std.specs.String.{string_bytes};
 ghost use Rattle.dw_stack.specs.Certificates.{checked_of};
 ghost use Rattle.dw_stack.specs.Located.{located_of};
 ghost use Rattle.dw_loclists.specs.Reading.{tables_in, lists_in, located_in};
-ghost use Rattle.dw_check.specs.Report.{IsReport, AreLines, row_count, count_text, last_count_text, expressions_text, frame_counts_line};
+ghost use Rattle.dw_check.specs.Report.{IsReport, AreLines, count_text, last_count_text, expressions_text, frame_counts_line};
 ghost use Rattle.dw_check.specs.Report.{lists_counts_line, frame_line, lists_line, summary_text, expression_kind_text, expression_line};
 ghost use Rattle.dw_check.specs.ReportViews.{line_of};
 ghost use Rattle.dw_check.specs.WriteResults.{IsSame, Writes, WritesWhole, is_write};
@@ -18,42 +18,9 @@ use crate::stop::{ReportFault, Section};
 use crate::whole_check::Checked;
 use crate::writer::{Writer, send_line};
 use dw_loclists::{CheckedLists, Expressions};
-use dw_rows::laws::rows_cover;
-use dw_rows::{CheckedFrame, Rows, UnwindTableRow};
+use dw_rows::CheckedFrame;
 use dw_stack::{CheckedExpression, Kind};
 use std::alloc::{AllocError, Global};
-
-/// Counts the rows that `rows` has not given yet. Each of them overwrites the buffer `row`.
-fn count_rows_of<'f, 'a>(rows: &mut Rows<'f, 'a>, row: &mut UnwindTableRow<'f, 'a>) -> u64
-    requires { length rows.old < 2 ^ 64 }
-    ensures { result ≡ length rows.old }
-{
-    let mut count = 0;
-    'rows: while rows.next_into(row) {
-        count += 1;
-    }
-    count
-}
-
-/// The total number of rows of all FDEs in a section.
-fn count_rows(frame: &CheckedFrame<'_>) -> u128
-    ensures { result ≡ row_count frame.now }
-{
-    rows_cover();
-    let fdes = frame.fdes();
-    let number = fdes.len();
-    if number == 0 {
-        return 0;
-    }
-    let mut rows = frame.rows(&fdes[0]);
-    let mut row = UnwindTableRow::empty();
-    let mut count = 0;
-    for fde in fdes {
-        frame.rows_into(fde, &mut rows);
-        count += u128::from(count_rows_of(&mut rows, &mut row));
-    }
-    count
-}
 
 fn cie_count(frame: &CheckedFrame<'_>) -> usize
     ensures { result ≡ length frame.now.cies }
@@ -154,8 +121,7 @@ fn push_lists_counts(
 fn push_frame_line(line: &mut String, frame: &CheckedFrame<'_>) -> Result<(), AllocError>
     ensures { OnOk result (string_bytes line.new ≡ string_bytes line.old ++ frame_line frame.now) }
 {
-    let rows = count_rows(frame);
-    push_frame_counts(line, cie_count(frame), fde_count(frame), rows)
+    push_frame_counts(line, cie_count(frame), fde_count(frame), frame.row_count())
 }
 
 /// Appends the line with the number of tables and the number of location lists in the section of

@@ -1,5 +1,7 @@
 -- Facts about frame sections that passed the check.
-use Rattle.std.proofs.Common.{◌≡◌, ℕ, ◌+◌, ◌≤◌, List, length, None, Contains, sym, subst, ap, ◌∙◌}
+use Rattle.std.proofs.Common.{◌≡◌, ℕ, ◌+◌, ◌≤◌, List, [], ◌∷◌, length, None, Contains, refl, sym, subst, ap, ◌∙◌, arith, length-append}
+use Rattle.std.proofs.lemmas.List.{length-map}
+use Rattle.std.specs.List.{flat_map}
 use Rattle.dw_bytes.specs.declared.target.Target.{Target}
 use Rattle.dw_bytes.specs.Answers.{fault_in}
 use Rattle.dw_frame.specs.Records.{Cie, Fde}
@@ -8,7 +10,8 @@ use Rattle.dw_frame.specs.Bounds.{Ascends, IsSoundCie, IsSoundFde}
 use Rattle.dw_stack.specs.Located.{LocatedExpression}
 use Rattle.dw_rows.specs.Expressions.{cie_expressions, frame_expressions}
 use Rattle.dw_rows.specs.Judgement.{cie_fault}
-use Rattle.dw_rows.specs.Section.{FrameSection, CoversOnce, IsChecked, section_fault, frame_of, parts_fault}
+use Rattle.dw_rows.specs.Section.{FrameSection, CoversOnce, IsChecked, section_fault, frame_of, parts_fault, placed_rows, rows_in}
+use Rattle.dw_rows.specs.GivenRows.{given_row}
 use Rattle.dw_rows.specs.RuleSet.{KeptRules}
 use Rattle.dw_rows.specs.Initial.{AreLeftBy}
 use Rattle.dw_rows.specs.Overlap.{cie_offset, fde_offset, IsAddressIndex, IsKept}
@@ -64,14 +67,26 @@ in-programs s k e among =
     let there : Contains (frame_expressions t.cies t.fdes) e = subst (λ (u : FrameSection). Contains u.expressions e) k.whole among in
     subst (λ (u : FrameSection). Contains (frame_expressions u.cies u.fdes) e) (sym k.whole) there
 
+-- an FDE has as many rows with expressions as with the offsets of expressions
+count-given : (s : FrameSection) (fdes : List Fde) → length (flat_map (placed_rows s.cies) fdes) ≡ length (flat_map (rows_in s) fdes)
+count-given s [] = refl
+count-given s (f ∷ fdes) =
+    let rows = placed_rows s.cies f in
+    let placed = length-append rows (flat_map (placed_rows s.cies) fdes) in
+    let given = length-append (rows_in s f) (flat_map (rows_in s) fdes) in
+    let same = length-map rows (given_row s.expressions) in
+    let later = count-given s fdes in
+    omega (arith, placed, given, same, later)
+
 -- if the parts of a section have no fault, what the code stores about the section meets `IsKept`
 pub kept : (target : Target) (section : List ℕ) (cies : List Cie) (left : List KeptRules) (fdes : List Fde) (index : List IndexEntry)
     → fault_in (entries_of target section) ≡ None → cies ≡ (frame_of target section).cies → fdes ≡ (frame_of target section).fdes
     → parts_fault cies fdes ≡ None → AreLeftBy cies left → IsAddressIndex fdes index → (expressions : List LocatedExpression)
     → expressions ≡ frame_expressions cies fdes → (count : ℕ) → count ≡ length (cie_expressions cies)
-    → IsKept (record { target = target; section = section; cies = cies; fdes = fdes; expressions = expressions }) left index count
+    → (rows : ℕ) → rows ≡ length (flat_map (placed_rows cies) fdes)
+    → IsKept (record { target = target; section = section; cies = cies; fdes = fdes; expressions = expressions }) left index count rows
 unfolding section_fault
-kept target section cies left fdes index read cies_is fdes_is none left_by index_of expressions all count in_cies = record {
+kept target section cies left fdes index read cies_is fdes_is none left_by index_of expressions all count in_cies rows counted = record {
   checked = record {
     whole =
         let same : expressions ≡ (frame_of target section).expressions = all ∙ ap (λ l. frame_expressions l fdes) cies_is
@@ -85,4 +100,6 @@ kept target section cies left fdes index read cies_is fdes_is none left_by index
   left_by = left_by;
   index_of = index_of;
   in_cies = in_cies;
+  row_count = counted
+      ∙ count-given (record { target = target; section = section; cies = cies; fdes = fdes; expressions = expressions }) fdes;
 }

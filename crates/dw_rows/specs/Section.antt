@@ -1,9 +1,9 @@
 -- A whole `.debug_frame` section: when it is accepted, and its first fault (DWARF 5, section
 -- 6.4.1).
 use Rattle.std.specs.Prelude.{◌≡◌, ℕ, ◌+◌, ◌<◌, ◌≤◌, ◌==◌, ◌&&◌, nat_lt, nat_le, Bool, if◌then◌else◌, Option, Some, None, is_some, List}
-use Rattle.std.specs.Prelude.{[], ◌∷◌, Contains, find, map, option_and_then}
+use Rattle.std.specs.Prelude.{[], ◌∷◌, Contains, find, length, map, option_and_then}
 use Rattle.std.specs.Option.{option_or}
-use Rattle.std.specs.List.{filter_map, list_any}
+use Rattle.std.specs.List.{filter_map, flat_map, list_any}
 use Rattle.dw_bytes.specs.declared.target.Target.{Target}
 use Rattle.dw_bytes.specs.declared.fault.Fault.{Fault}
 use Rattle.dw_bytes.specs.declared.fault.FaultKind.TheVariants.{NoSuchCie, Overlap}
@@ -133,9 +133,17 @@ abbrev pub rows_behind : Option Cie → Fde → List PlacedRow
 rows_behind None f = []
 rows_behind (Some c) f = rows_of c f
 
+-- the rows of an FDE whose CIE is among `cies`, with the offsets of expressions
+abbrev pub placed_rows : List Cie → Fde → List PlacedRow
+placed_rows cies f = rows_behind (cie_at cies f.cie_pointer) f
+
 -- the rows of an FDE, with the expressions in place of their offsets
 abbrev pub rows_in : FrameSection → Fde → List Row
-rows_in s f = map (given_row s.expressions) (rows_behind (cie_in s f) f)
+rows_in s f = map (given_row s.expressions) (placed_rows s.cies f)
+
+-- the number of rows of all FDEs, added up
+abbrev pub row_count : FrameSection → ℕ
+row_count s = length (flat_map (rows_in s) s.fdes)
 
 -- ---- the row of an address
 

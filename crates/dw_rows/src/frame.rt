@@ -9,7 +9,8 @@ ghost use Rattle.dw_frame.specs.Views.{cie_of, fde_of};
 ghost use Rattle.dw_bytes.specs.Answers.{Judges, Answers, fault_in};
 ghost use Rattle.dw_rows.specs.Judgement.{cie_fault, fde_fault};
 ghost use Rattle.dw_rows.specs.Section.{IsCoverOf, first_fault, overlap_fault, programs_fault, parts_fault, section_fault, IsChecked};
-ghost use Rattle.dw_rows.specs.Section.{frame_of, cie_in, rows_in, row_of};
+ghost use Rattle.dw_rows.specs.Section.{frame_of, cie_in, placed_rows, rows_in, row_count, row_of};
+ghost use Rattle.std.specs.List.{flat_map};
 ghost use Rattle.dw_rows.specs.Overlap.{cie_offset, fde_offset, IsAddressIndex};
 ghost use Rattle.dw_frame.specs.Bounds.{Ascends};
 ghost use Rattle.dw_rows.specs.ProgramState.{IsLeftBy};
@@ -73,6 +74,8 @@ pub struct CheckedFrame<'a> {
     expressions: Vec<(u32, CheckedExpression<'a>)>,
     /// How many of the expressions belong to CIEs.
     in_cies: usize,
+    /// How many rows all FDEs have.
+    rows: u128,
 }
 
 impl<'a> Model for CheckedFrame<'a> {
@@ -99,7 +102,7 @@ impl<'a> Model for CheckedFrame<'a> {
           cies = map cie_of c.cies.items;
           fdes = map fde_of c.fdes.items;
           expressions = all_located c.expressions.items;
-        }) c.initial c.index.items c.in_cies };
+        }) c.initial c.index.items c.in_cies c.rows };
 }
 
 /// Compilers usually write FDEs of at least this many bytes. The list of FDEs is allocated with
@@ -163,6 +166,8 @@ struct JudgedPrograms<'a> {
     expressions: Vec<(u32, CheckedExpression<'a>)>,
     /// How many of the expressions belong to CIEs.
     in_cies: usize,
+    /// How many rows all FDEs have.
+    rows: u128,
 }
 
 /// Checks the CIE_pointers first, then the programs of the CIEs, then those of the FDEs.
@@ -178,17 +183,20 @@ fn check_programs<'a>(
         ≡ frame_expressions (map cie_of cies.now) (map fde_of fdes.now)) }
     ensures in_cies { IfOk result (λ programs. programs.in_cies
         ≡ length (cie_expressions (map cie_of cies.now))) }
+    ensures rows { IfOk result (λ programs. programs.rows
+        ≡ length (flat_map (placed_rows (map cie_of cies.now)) (map fde_of fdes.now))) }
 {
     check_pointers(cies, fdes)?;
     let mut context = UnwindContext::new();
     let mut judged = JudgedExpressions::new(alloc);
     let initial = check_cies(alloc, &mut context.state, &mut judged, cies)?;
     let in_cies = judged.count();
-    check_fdes(&mut context, &mut judged, cies, &initial, fdes)?;
+    let rows = check_fdes(&mut context, &mut judged, cies, &initial, fdes)?;
     Ok(JudgedPrograms {
         initial,
         expressions: judged.into_kept(),
         in_cies,
+        rows,
     })
 }
 
@@ -208,6 +216,8 @@ fn check_parts<'a>(
         ≡ frame_expressions (map cie_of cies.now) (map fde_of fdes.now)) }
     ensures in_cies { IfOk result (λ parts. (parts.0).in_cies
         ≡ length (cie_expressions (map cie_of cies.now))) }
+    ensures rows { IfOk result (λ parts. (parts.0).rows
+        ≡ length (flat_map (placed_rows (map cie_of cies.now)) (map fde_of fdes.now))) }
     ensures index { IfOk result (λ parts. IsAddressIndex (map fde_of fdes.now) parts.1.items) }
 {
     let programs = check_programs(alloc, cies, fdes)?;
@@ -239,6 +249,7 @@ pub fn check_frame<'a>(
         initial,
         expressions,
         in_cies,
+        rows,
     } = programs;
     Ok(CheckedFrame {
         target,
@@ -249,6 +260,7 @@ pub fn check_frame<'a>(
         index,
         expressions,
         in_cies,
+        rows,
     })
 }
 
@@ -284,6 +296,13 @@ impl<'a> CheckedFrame<'a> {
             → f.initial_location + f.address_range ≤ top_of self.now.target }
     {
         self.fdes.as_slice()
+    }
+
+    /// The number of rows of all FDEs, added up. The check counted them, so this is O(1).
+    pub fn row_count(&self) -> u128
+        ensures { result ≡ row_count self.now }
+    {
+        self.rows
     }
 
     /// The checked expressions of all programs, each with the offset of its first byte in the

@@ -6,7 +6,8 @@ ghost use Rattle.dw_bytes.specs.Answers.{Judges, Answers};
 ghost use Rattle.dw_frame.specs.Views.{cie_of, fde_of};
 ghost use Rattle.dw_rows.specs.Expressions.{cie_expressions, fde_expressions};
 ghost use Rattle.dw_rows.specs.Judgement.{cie_fault};
-ghost use Rattle.dw_rows.specs.Section.{cie_at, first_fault, pointer_fault, program_fault};
+ghost use Rattle.dw_rows.specs.Section.{cie_at, first_fault, pointer_fault, program_fault, placed_rows};
+ghost use Rattle.std.specs.List.{flat_map};
 ghost use Rattle.dw_rows.specs.Overlap.{cie_offset};
 ghost use Rattle.dw_frame.specs.Bounds.{Ascends};
 ghost use Rattle.dw_rows.specs.ProgramState.{IsLeftBy};
@@ -180,15 +181,16 @@ pub fn check_cies<'a>(
     Ok(left)
 }
 
-/// Checks each FDE's program, starting from the rules that its CIE's program leaves, and adds the
-/// programs' expressions to `judged`. Each CIE_pointer must be the offset of a CIE.
+/// Checks each FDE's program, starting from the rules that its CIE's program leaves. Adds the
+/// programs' expressions to `judged`, and returns how many rows all FDEs have together. Each
+/// CIE_pointer must be the offset of a CIE.
 pub fn check_fdes<'a>(
     context: &mut UnwindContext,
     judged: &mut JudgedExpressions<'a>,
     cies: &[CommonInformationEntry<'a>],
     initial: &InitialRules,
     fdes: &[FrameDescriptionEntry<'a>],
-) -> Result<(), Fault>
+) -> Result<u128, Fault>
     requires order { Ascends cie_offset (map cie_of cies.now) }
     requires left { AreLeftBy (map cie_of cies.now) initial.now }
     requires pointed { first_fault (pointer_fault (map cie_of cies.now))
@@ -196,17 +198,20 @@ pub fn check_fdes<'a>(
     ensures answer { Answers (first_fault (program_fault (map cie_of cies.now))
         (map fde_of fdes.now)) result }
     ensures kept { OnOk result (judged.new ≡ judged.old ++ fde_expressions (map fde_of fdes.now)) }
+    ensures rows { IfOk result (λ rows. rows
+        ≡ length (flat_map (placed_rows (map cie_of cies.now)) (map fde_of fdes.now))) }
 {
+    let mut rows = 0;
     let mut last = None;
     for fde in fdes {
         let offset = fde.cie_pointer;
         match begin_with_rules_again(&mut context.state, cies, initial, last, offset) {
             Some(found) => {
-                judge_fde(context, judged, &found.cie, fde)?;
+                rows += u128::from(judge_fde(context, judged, &found.cie, fde)?);
                 last = Some(found);
             }
             None => unreachable!(),
         }
     }
-    Ok(())
+    Ok(rows)
 }

@@ -4,7 +4,8 @@ use Rattle.dw_frame.specs.declared.entry.CommonInformationEntry.{CommonInformati
 use Rattle.dw_frame.specs.declared.entry.FrameDescriptionEntry.{FrameDescriptionEntry}
 use Rattle.dw_stack.specs.Located.{all_located}
 use Rattle.dw_rows.specs.Expressions.{cie_expressions, frame_expressions}
-use Rattle.dw_rows.specs.Section.{parts_fault, section_fault, frame_of}
+use Rattle.std.specs.List.{flat_map}
+use Rattle.dw_rows.specs.Section.{parts_fault, section_fault, frame_of, placed_rows}
 use Rattle.dw_rows.specs.Initial.{AreLeftBy}
 use Rattle.dw_rows.specs.Overlap.{cie_offset, fde_offset, IsAddressIndex}
 use Rattle.dw_frame.specs.Bounds.{Ascends}
@@ -48,9 +49,15 @@ invariant_of-result c =
     let counted : c.in_ok-programs.programs.in_cies ≡ length (cie_expressions (map cie_of cies)) =
     subst (λ (l : List CommonInformationEntry). c.in_ok-programs.programs.in_cies ≡ length (cie_expressions (map cie_of l)))
     c.deref.ensures.value c.in_ok-programs.ensures.in_cies in
+    let rows : c.in_ok-programs.programs.rows ≡ length (flat_map (placed_rows (map cie_of cies)) (map fde_of fdes)) =
+    subst (λ (l : List CommonInformationEntry). c.in_ok-programs.programs.rows
+    ≡ length (flat_map (placed_rows (map cie_of l)) (map fde_of fdes))) c.deref.ensures.value
+    (subst (λ (l : List FrameDescriptionEntry). c.in_ok-programs.programs.rows
+    ≡ length (flat_map (placed_rows (map cie_of c.deref.result.now)) (map fde_of l))) c.deref-2.ensures.value c.in_ok-programs.ensures.rows) in
     kept c.args.target c.args.section.now (map cie_of cies) left
     (map fde_of fdes) index c.in_ok-cies.ensures.read c.in_ok-cies.ensures.cies c.in_ok-cies.ensures.fdes answer left_by index_of
     (all_located expressions) listed c.in_ok-programs.programs.in_cies counted
+    c.in_ok-programs.programs.rows rows
 
 pub returns-in_err-cies-clause-inside : goal.returns-in_err-cies-clause-inside
 unfolding section_fault
