@@ -16,7 +16,8 @@ use Rattle.dw_rows.specs.Judgement.{refusal_at, item_fault, fde_fault_from, fde_
 use Rattle.dw_rows.specs.UnwindRows.{rows_up_to, rows_after, rows_of, has_address, Cover}
 use Rattle.dw_rows.proofs.Judging.{passed-from}
 use Rattle.dw_rows.proofs.Faults.{option_or-none}
-use Rattle.dw_rows.proofs.RowCursors.{item-passes, forward}
+use Rattle.dw_rows.proofs.RowCursors.{item-passes}
+use Rattle.dw_rows.proofs.Running.{forward}
 
 cover-up : (s : Start) (before : List Effect) (to : ℕ) (rows : List PlacedRow) (end : ℕ) → location_of s before ≤ to → Cover to rows end
     → Cover (location_of s before) (rows_up_to s before to ++ rows) end

@@ -2,6 +2,7 @@ pub mod Tables
 pub mod Edits
 pub mod Effects
 pub mod Running
+mod QuickChecks
 mod Search
 mod Sweeps
 mod Indexes

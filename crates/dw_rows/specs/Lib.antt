@@ -55,6 +55,8 @@ pub mod RememberStack
 pub mod ProgramState
 -- programs that are checked while they are read
 pub mod Judging
+-- the quick check of an FDE's program
+pub mod QuickCheck
 -- checked expressions in order of offset
 pub mod ExpressionOrder
 -- the rules of two tables taken together, where the first table has precedence

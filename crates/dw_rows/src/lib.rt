@@ -17,6 +17,7 @@ mod lookup;
 mod map;
 mod owned_expressions;
 mod placed_table;
+mod quick;
 mod remember_stack;
 mod room;
 mod row;

@@ -13,7 +13,7 @@ ghost use Rattle.dw_frame.specs.Bounds.{Ascends};
 ghost use Rattle.dw_rows.specs.ProgramState.{IsLeftBy};
 ghost use Rattle.dw_rows.specs.Initial.{AreLeftBy};
 
-use crate::check::{judge_cie, judge_fde};
+use crate::check::{judge_cie, judge_fde_quickly};
 use crate::initial_rules::InitialRules;
 use crate::judged::JudgedExpressions;
 use crate::unwind_context::UnwindContext;
@@ -207,7 +207,7 @@ pub fn check_fdes<'a>(
         let offset = fde.cie_pointer;
         match begin_with_rules_again(&mut context.state, cies, initial, last, offset) {
             Some(found) => {
-                rows += u128::from(judge_fde(context, judged, &found.cie, fde)?);
+                rows += u128::from(judge_fde_quickly(context, judged, &found.cie, fde)?);
                 last = Some(found);
             }
             None => unreachable!(),
