@@ -33,7 +33,7 @@ pub mod Commands
 pub mod Requests
 -- what the files of a request contain
 pub mod Files
--- how much of a long file determines the reply
+-- how many bytes at the front of a file determine the reply to a request
 pub mod LongFiles
 -- what a state file gives
 pub mod StateFile

@@ -7,9 +7,9 @@ use Rattle.dw_frame.specs.Bounds.{Ascends}
 use Rattle.dw_frame.specs.Records.{Fde}
 use Rattle.dw_rows.proofs.Search.{ascending-at, ascending-place, ascending-same, three_ways, before_or_at}
 
--- What is known after a pass over the first i FDEs, in order of address. Of those whose offset is
--- at most `last`, the one that ends last ends at `end` (0 if there are none), and no two share an
--- address.
+-- What holds after a pass over the first i FDEs of `xs`, which is in order of address. Among those
+-- of them whose offset is at most `last`, no two share an address, and the greatest end of a range
+-- is `end` (0 if there are no such FDEs).
 pub record IsSwept (xs : List Fde) (last i end : ℕ) : Type 0 where
   pub below : (k : ℕ) (d : Fde) → k < i → (get_or xs k d).offset ≤ last
       → (get_or xs k d).initial_location + (get_or xs k d).address_range ≤ end

@@ -45,7 +45,7 @@ pub enum RegisterRule<'a> {
     Expression {
         /// The offset of the expression's first byte in the section.
         offset: u32,
-        /// The expression, checked as a `FrameRegister`.
+        /// The checked expression. Its kind is `dw_stack::Kind::FrameRegister`.
         expression: CheckedExpression<'a>,
     },
     /// The caller's value is what the expression evaluates to. Evaluation starts with the CFA on
@@ -53,7 +53,7 @@ pub enum RegisterRule<'a> {
     ValExpression {
         /// The offset of the expression's first byte in the section.
         offset: u32,
-        /// The expression, checked as a `FrameRegister`.
+        /// The checked expression. Its kind is `dw_stack::Kind::FrameRegister`.
         expression: CheckedExpression<'a>,
     },
 }
@@ -70,7 +70,7 @@ pub enum CfaRule<'a> {
     Expression {
         /// The offset of the expression's first byte in the section.
         offset: u32,
-        /// The expression, checked as a `FrameCfa`.
+        /// The checked expression. Its kind is `dw_stack::Kind::FrameCfa`.
         expression: CheckedExpression<'a>,
     },
 }
@@ -330,9 +330,9 @@ impl<'f, 'a> Model for RegisterRules<'f, 'a> {
         × LendsEach (lent_by r.expressions) (entries_of r.others.now) };
 }
 
-/// The entry of the lowest register in both tables, and what remains of both tables after it, or
-/// `None` if both are empty. If both tables have that register, the entry is the one in `entries`,
-/// and the one in `others` is skipped.
+/// The entry of the lowest register that is in either table, and what remains of both tables after
+/// it, or `None` if both are empty. If both tables have that register, the entry is the one in
+/// `entries`, and the one in `others` is skipped.
 #[inline(always)]
 fn lowest<'f>(
     entries: &'f [RuleEntry],

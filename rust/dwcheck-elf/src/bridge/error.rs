@@ -14,7 +14,7 @@ pub struct BridgeError {
     pub reason: Reason,
 }
 
-/// Why a field of a record can't be rewritten.
+/// Why a field of an `.eh_frame` record can't be rewritten for `.debug_frame`.
 #[derive(Clone, Debug, PartialEq, Eq)]
 pub enum Reason {
     /// The section or the record ends before the field does.

@@ -114,8 +114,9 @@ fn is_elf(path: &Path) -> io::Result<bool> {
     Ok(start == MAGIC)
 }
 
-/// For each file, a 128-bit hash of its bytes, or `None` if no other file has the same size. Two
-/// files with different bytes have the same hash with a probability of about 2^-128.
+/// For each file, a 128-bit hash of its bytes, or `None` if no other file has the same size or the
+/// file can't be read. Two files with different bytes have the same hash with a probability of about
+/// 2^-128.
 fn marks(files: &[Candidate]) -> Vec<Option<u128>> {
     let mut sizes: HashMap<u64, usize> = HashMap::new();
     files.iter().for_each(|file| *sizes.entry(file.size).or_insert(0) += 1);
