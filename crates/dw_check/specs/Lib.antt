@@ -5,7 +5,6 @@
 pub mod Checked
 -- the main promise: what holds for sections that a check accepts
 pub mod Headline
-
 -- ---- Trusted: what docs/PROFILE.md and docs/OUTPUT.md say about texts, command lines, files and
 -- statuses. The main promise needs none of these.
 
@@ -45,7 +44,6 @@ pub mod Lookups
 pub mod Statuses
 -- what a run writes, and how it ends
 pub mod Runs
-
 -- ---- What the code's values mean, and what its calls return.
 
 -- the code's table of commands

@@ -30,12 +30,10 @@ pub mod GoodRows
 pub mod ExactRows
 -- compiled tables, which store all rows of a section
 pub mod UnwindTables
-
 -- ---- The first fault, computed from the bytes. Laws tie it to the trusted definitions.
 
 -- the first fault of a CIE's or an FDE's program
 pub mod Judgement
-
 -- ---- What the values of the code's types mean, in terms of the definitions above.
 
 -- rules
@@ -44,7 +42,6 @@ pub mod Views
 pub mod AbiViews
 -- the checked expressions that the rules of a row refer to
 pub mod LentExpressions
-
 -- ---- Internal: no contract of a public call uses the files of this part.
 
 -- rule sets: the rules of a row, as they are stored
