@@ -32,8 +32,10 @@ pub enum NameError {
     Unknown(String),
     /// Several functions have the name. These are their addresses.
     Ambiguous(String, Vec<u64>),
-    /// The text after the plus sign isn't a number, or the sum doesn't fit in 64 bits.
+    /// The text after the plus sign isn't a number.
     Offset(String),
+    /// The sum of the function's address and the offset doesn't fit in 64 bits.
+    Sum(String),
 }
 
 /// All functions of a file, by address.
@@ -133,11 +135,12 @@ impl<'data> Functions<'data> {
             Err(NameError::Unknown(_)) => {}
             found => return found,
         }
-        let bad_offset = || NameError::Offset(text.to_string());
         let (name, offset) = split_offset(text);
         match self.address_of(name) {
-            Ok(begin) => begin.checked_add(offset).ok_or_else(bad_offset),
-            Err(NameError::Unknown(_)) if self.names_before_plus(name) => Err(bad_offset()),
+            Ok(begin) => begin.checked_add(offset).ok_or_else(|| NameError::Sum(text.to_string())),
+            Err(NameError::Unknown(_)) if self.names_before_plus(name) => {
+                Err(NameError::Offset(text.to_string()))
+            }
             Err(error) => Err(error),
         }
     }
@@ -225,6 +228,7 @@ impl fmt::Display for NameError {
                 addresses.iter().try_for_each(|address| write!(f, " {:#x}", address))
             }
             NameError::Offset(text) => write!(f, "no number follows the plus sign in {}", text),
+            NameError::Sum(text) => write!(f, "the address {} is past the highest one", text),
         }
     }
 }

@@ -68,6 +68,8 @@ fn functions() {
     assert_eq!(functions.parse("main+4"), Ok(main + 4));
     assert_eq!(functions.parse("main + 0x10"), Ok(main + 16));
     assert_eq!(functions.parse("main+x"), Err(NameError::Offset("main+x".into())));
+    let past = "main+0xffffffffffffffff";
+    assert_eq!(functions.parse(past), Err(NameError::Sum(past.into())));
     assert_eq!(functions.parse("nothing"), Err(NameError::Unknown("nothing".into())));
     assert_eq!(functions.at(u64::MAX), None);
     assert_eq!(functions.at(0), None);
