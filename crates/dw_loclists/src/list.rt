@@ -164,6 +164,61 @@ fn keep_location(alloc: Global, block: Block<'_>, expressions: &mut Vec<KeptExpr
     true
 }
 
+/// Reads the next entry, checks it, and stores its expression, if it is an offset_pair whose LEB128
+/// numbers have at most three bytes. Returns `Some(false)`, since the entry doesn't end its list.
+/// Returns `None`, and changes nothing, for any other entry, for an entry with a fault, or if there
+/// is no memory.
+#[inline(always)]
+fn check_pair(
+    alloc: Global,
+    cursor: &mut Cursor<'_>,
+    expressions: &mut Vec<KeptExpression>,
+) -> Option<bool>
+    ensures exact { MatchOption result
+        ((cursor.new ≡ cursor.old) × (expressions.new.items ≡ expressions.old.items))
+        (λ ended. (has_default : Bool) → Passes has_default ended false cursor.old cursor.new
+        expressions.old.items expressions.new.items) }
+    ensures goes_on { MovesForward cursor.old cursor.new }
+    ensures forward { IfSome result (λ _. cursor.old.position < cursor.new.position) }
+{
+    let mut ahead = cursor.copy();
+    match ahead.u8() {
+        Ok(0x04) => {
+            let begin = ahead.short_uleb()?;
+            let end = ahead.short_uleb()?;
+            let block = operands::short_block(&mut ahead)?;
+            if end < begin || !keep_location(alloc, block, expressions) {
+                return None;
+            }
+            *cursor = ahead;
+            Some(false)
+        }
+        _ => None,
+    }
+}
+
+/// Whether the next seven bytes are the most common entry: an offset_pair of two LEB128 numbers of
+/// two bytes each, with a register. This is only a hint, on which nothing but time depends: after
+/// it the compiler leaves out the tests that `check_pair` makes of the same bytes, and one length
+/// is compared in place of seven.
+#[inline(always)]
+fn is_usual_pair(cursor: &Cursor<'_>) -> bool {
+    let mut ahead = cursor.copy();
+    match ahead.take(7) {
+        Ok(bytes) => {
+            bytes[0] == 0x04
+                && bytes[1] >= 0x80
+                && bytes[2] < 0x80
+                && bytes[3] >= 0x80
+                && bytes[4] < 0x80
+                && bytes[5] == 0x01
+                && bytes[6] >= 0x50
+                && bytes[6] <= 0x6f
+        }
+        Err(_) => false,
+    }
+}
+
 /// Reads the next entry, checks it, and stores its expression, if it is a common one: an
 /// end_of_list, a base_address, or an offset_pair or start_length whose LEB128 numbers have at most
 /// three bytes. Returns whether the entry ends the list. Returns `None`, and changes nothing, for
@@ -182,22 +237,16 @@ fn check_common(
     ensures goes_on { MovesForward cursor.old cursor.new }
     ensures forward { IfSome result (λ _. cursor.old.position < cursor.new.position) }
 {
+    if is_usual_pair(cursor) {
+        return check_pair(alloc, cursor, expressions);
+    }
     let mut ahead = cursor.copy();
     match ahead.u8() {
         Ok(0x00) => {
             *cursor = ahead;
             Some(true)
         }
-        Ok(0x04) => {
-            let begin = ahead.short_uleb()?;
-            let end = ahead.short_uleb()?;
-            let block = operands::short_block(&mut ahead)?;
-            if end < begin || !keep_location(alloc, block, expressions) {
-                return None;
-            }
-            *cursor = ahead;
-            Some(false)
-        }
+        Ok(0x04) => check_pair(alloc, cursor, expressions),
         Ok(0x06) => {
             ahead.skip_address()?;
             *cursor = ahead;

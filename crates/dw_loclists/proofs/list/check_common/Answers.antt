@@ -2,7 +2,7 @@ use Rattle.std.proofs.Common.{◌≡◌, Ok, arith}
 use Rattle.std.proofs.lemmas.Grind.{common_steps}
 use Rattle.dw_bytes.specs.Reading.{fixed_at}
 use Rattle.dw_bytes.specs.Operands.{block_of}
-use Rattle.dw_loclists.proofs.Passing.{end-passes, base-passes, pair-passes, length-passes}
+use Rattle.dw_loclists.proofs.Passing.{end-passes, base-passes, length-passes}
 use Rattle.dw_loclists.proofs.list.check_common.Goals as goal
 
 pub returns-in-Ok-eq0-clause-exact : goal.returns-in-Ok-eq0-clause-exact
@@ -18,18 +18,9 @@ returns-in_ok-skip_address-in-Ok-eq6-clause-exact c = λ d.
 
 pub returns-else-not-keep_location-clause-exact : goal.returns-else-not-keep_location-clause-exact
 returns-else-not-keep_location-clause-exact c = λ d.
-    let code : fixed_at 1 c.args.cursor.now ≡ Ok (4, c.u8.new.self) = grind (arith, common_steps, c.in-Ok-eq4.ensures.exact) in
-    pair-passes d c.args.cursor.now c.u8.new.self c.short_uleb.new.self c.short_uleb-in-Ok-eq4.new.self c.short_block.new.cursor
-    c.in_ok-begin-in-Ok-eq4.begin c.in_ok-end-in-Ok-eq4.end (block_of c.in_ok-block-in-Ok-eq4.block) c.args.expressions.now.items
-    c.keep_location.new.expressions.items code c.in_ok-begin-in-Ok-eq4.ensures.exact c.in_ok-end-in-Ok-eq4.ensures.exact
-    c.in_ok-block-in-Ok-eq4.ensures.exact (omega (arith, c.if-end-begin.false)) c.if-not-keep_location.ensures.0
-    c.if-not-keep_location.ensures.1
-
-pub returns-else-not-keep_location-2-clause-exact : goal.returns-else-not-keep_location-2-clause-exact
-returns-else-not-keep_location-2-clause-exact c = λ d.
     let code : fixed_at 1 c.args.cursor.now ≡ Ok (8, c.u8.new.self) = grind (arith, common_steps, c.in-Ok-eq8.ensures.exact) in
-    length-passes d c.args.cursor.now c.u8.new.self c.skip_address-in-Ok-eq8.new.self c.short_uleb-in-Ok-eq8.new.self
-    c.short_block-in-Ok-eq8.new.cursor c.in_ok-skip_address-in-Ok-eq8.ensures.exact.0 c.in_ok-short_uleb-in-Ok-eq8.field-0
-    (block_of c.in_ok-block-in-Ok-eq8.block) c.args.expressions.now.items c.keep_location-in-Ok-eq8.new.expressions.items code
+    length-passes d c.args.cursor.now c.u8.new.self c.skip_address-in-Ok-eq8.new.self c.short_uleb.new.self
+    c.short_block.new.cursor c.in_ok-skip_address-in-Ok-eq8.ensures.exact.0 c.in_ok-short_uleb-in-Ok-eq8.field-0
+    (block_of c.in_ok-block-in-Ok-eq8.block) c.args.expressions.now.items c.keep_location.new.expressions.items code
     c.in_ok-skip_address-in-Ok-eq8.ensures.exact.1 c.in_ok-short_uleb-in-Ok-eq8.ensures.exact c.in_ok-block-in-Ok-eq8.ensures.exact
-    c.if-not-keep_location-2.ensures.0 c.if-not-keep_location-2.ensures.1
+    c.if-not-keep_location.ensures.0 c.if-not-keep_location.ensures.1
