@@ -143,7 +143,7 @@ fn names_the_fault_that_comes_before_an_expressions(rt: HostRuntime) {
 
 /// A program that gives 128 registers a rule, which is the greatest number allowed, followed by the
 /// instruction `rule`.
-fn behind_most(alloc: Global, rule: &[u8]) -> Result<Vec<u8>, AllocError> {
+fn after_most_rules(alloc: Global, rule: &[u8]) -> Result<Vec<u8>, AllocError> {
     let mut program = Vec::new(alloc);
     for register in 0..128u8 {
         program.extend_from_slice(&[7, register])?;
@@ -164,7 +164,7 @@ const ONE_TOO_MANY: [(&[u8], FaultKind, u32); 2] = [
 #[test]
 fn names_an_expressions_fault_before_too_many_rules(rt: HostRuntime) -> Result<(), AllocError> {
     for &(rule, kind, at) in &ONE_TOO_MANY {
-        let program = behind_most(rt.alloc(), rule)?;
+        let program = after_most_rules(rt.alloc(), rule)?;
         let found = first_fault(rt.alloc(), &[], &program);
         assert_eq!(rt; found, Some(in_frame(kind, at)), "{rule:?}");
     }

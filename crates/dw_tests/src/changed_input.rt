@@ -89,7 +89,7 @@ fn rows_agree(rt: &impl Abort, alloc: Global, checked: &Checked<'_>) -> Result<(
     for fde in frame.fdes() {
         let start = fde.initial_location;
         let Some(end) = start.checked_add(fde.address_range) else {
-            panic!(rt; "no end behind {start}")
+            panic!(rt; "no end after {start}")
         };
         if start < end {
             rows_cover(rt, alloc, frame, start, end)?;

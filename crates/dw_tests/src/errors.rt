@@ -147,7 +147,7 @@ fn readers_and_writers_say_what_failed(rt: HostRuntime) -> Result<(), AllocError
 }
 
 #[test]
-fn want_of_memory_is_a_fault_without_a_place(rt: HostRuntime) -> Result<(), AllocError> {
+fn lack_of_memory_is_a_fault_at_offset_0(rt: HostRuntime) -> Result<(), AllocError> {
     let fault = Fault::from(AllocError);
     assert_eq!(rt; (fault.kind, fault.at), (FaultKind::Memory, 0));
     is_shown(&rt, &fault, "60 Memory at 0x00000000")?;

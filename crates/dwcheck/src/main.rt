@@ -59,7 +59,7 @@ impl<T: Drop> From<AllocFailed<T>> for Ending {
 
 /// Whether this program's allocator ran out of memory. If the operating system did, the error has
 /// an OS error number.
-fn is_want_of_memory(error: &io::Error) -> bool {
+fn is_out_of_memory(error: &io::Error) -> bool {
     error.kind() == ErrorKind::OutOfMemory && error.raw_os_error().is_none()
 }
 
@@ -67,7 +67,7 @@ fn is_want_of_memory(error: &io::Error) -> bool {
 fn words_of(rt: &(impl Env + AllocGlobal)) -> Result<Vec<String>, Ending> {
     let mut words: Vec<String> = match env::args(rt) {
         Ok(given) => given.collect(rt.alloc())?,
-        Err(e) if is_want_of_memory(&e) => return Err(Ending::Run(End::Memory)),
+        Err(e) if is_out_of_memory(&e) => return Err(Ending::Run(End::Memory)),
         Err(_) => return Err(Ending::NotUtf8),
     };
     if words.is_empty() {
@@ -84,7 +84,7 @@ fn file_content(
 ) -> Result<Vec<u8>, Ending> {
     let file = match fs::open(rt, name.as_str()) {
         Ok(file) => file,
-        Err(e) if is_want_of_memory(&e) => return Err(Ending::Run(End::Memory)),
+        Err(e) if is_out_of_memory(&e) => return Err(Ending::Run(End::Memory)),
         Err(_) => return Err(Ending::CannotRead(name.clone()?)),
     };
     match load(rt.alloc(), &mut Reads::new(file.take(most))) {
