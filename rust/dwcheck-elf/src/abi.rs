@@ -50,7 +50,8 @@ const AARCH64: Abi = Abi {
     program_counter: 32,
 };
 
-/// The calling convention of a machine (`e_machine`). `None` for a machine that isn't supported.
+/// The calling convention of a machine (`e_machine`) with this address size. `None` if the two
+/// aren't supported together.
 pub fn abi(machine: u16, address_size: AddressSize) -> Option<&'static Abi> {
     const KNOWN: [&Abi; 3] = [&X86_64, &I386, &AARCH64];
     KNOWN.into_iter().find(|abi| abi.machine == machine && abi.address_size == address_size)

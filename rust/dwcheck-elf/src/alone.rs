@@ -8,13 +8,14 @@ use crate::target::Target;
 use dwcheck::{Fault, FaultKind, Section};
 use std::collections::{BTreeMap, HashMap, HashSet};
 
-/// The first fault of each record of a refused section, and every overlap of FDEs. Each CIE is
-/// checked as a section of its own. Each FDE is checked as a section that has only its CIE and
-/// itself. Then FDEs that share addresses are found. The faults' offsets are relative to
-/// [`Frames::bytes`].
+/// Lists the first fault of each CIE and of each FDE of a refused section, and every overlap of
+/// FDEs. Each CIE is checked as a section of its own. Each FDE is checked as a section that has
+/// only its CIE and itself. Then FDEs that share addresses are found. The faults' offsets are
+/// relative to [`Frames::bytes`].
 ///
 /// An FDE whose CIE is refused isn't checked. `first` is the fault that the check of the whole
-/// section gave. It is part of the result even if no record alone has that fault.
+/// section gave. It is always in the result, even if no CIE or FDE has that fault when it is
+/// checked on its own.
 pub fn every_fault(frames: &Frames<'_>, first: Fault) -> Vec<Fault> {
     let records = records(frames.bytes(), frames.target());
     let judge = Alone { bytes: frames.bytes(), target: frames.target() };
@@ -40,19 +41,20 @@ pub fn every_fault(frames: &Frames<'_>, first: Fault) -> Vec<Fault> {
     faults
 }
 
-/// A section from which the refused records have been left out.
+/// A section from which the refused CIEs and FDEs have been left out.
 #[derive(Clone, Debug)]
 pub struct AcceptedPart {
-    /// The section's bytes up to the end of its last readable record. Each record that is left out
-    /// is overwritten with a CIE that no FDE uses, so the other records keep their offsets.
+    /// The section's bytes up to the end of the last CIE or FDE whose length can be read. Each CIE
+    /// or FDE that is left out is overwritten with a CIE that no FDE uses, so the others keep their
+    /// offsets.
     pub bytes: Vec<u8>,
-    /// The number of records that are left out: those with a fault, and the FDEs whose CIE has a
-    /// fault.
+    /// The number of CIEs and FDEs that are left out: those with a fault, and the FDEs whose CIE
+    /// has a fault.
     pub left_out: usize,
 }
 
-/// Leaves the refused records out of a section, so that the other FDEs can still be used to unwind
-/// a stack. `first` is the fault that the check of the whole section gave.
+/// Leaves the refused CIEs and FDEs out of a section, so that the other FDEs can still be used to
+/// unwind a stack. `first` is the fault that the check of the whole section gave.
 pub fn accepted_part(frames: &Frames<'_>, first: Fault) -> AcceptedPart {
     let all = records(frames.bytes(), frames.target());
     let mut refused: HashSet<usize> = HashSet::new();
@@ -88,7 +90,7 @@ pub fn accepted_part(frames: &Frames<'_>, first: Fault) -> AcceptedPart {
     AcceptedPart { bytes, left_out }
 }
 
-/// A frame section whose records are checked one by one.
+/// A frame section whose CIEs and FDEs are checked one by one.
 struct Alone<'a> {
     bytes: &'a [u8],
     target: Target,
@@ -124,7 +126,8 @@ impl Alone<'_> {
     }
 }
 
-/// Adjusts the offset of a fault in a record that is moved from offset `from` to offset `to`.
+/// Turns the offset of a fault into the one that it has in the section: the CIE or FDE with the
+/// fault was checked at offset `from`, and is at offset `to` of the section.
 fn moved(fault: Fault, from: usize, to: usize) -> Fault {
     Fault { offset: (fault.offset as usize).saturating_sub(from).saturating_add(to) as u32, ..fault }
 }

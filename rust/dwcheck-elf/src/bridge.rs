@@ -9,10 +9,10 @@
 //!   yet, unless [`Options::strict`] is set. GNU as begins CIEs for alpha, mips and riscv with this
 //!   instruction.
 //!
-//! An instruction that is unknown or cut off is copied, together with the rest of its record.
+//! An instruction that is unknown or cut off is copied, together with the rest of its CIE or FDE.
 //! `dwcheck` then refuses it.
 //!
-//! [`crate::validate`] compares the rows of the original section with those of the rewritten
+//! [`crate::validate`] compares the rows of the `.eh_frame` section with those of the rewritten
 //! section.
 
 mod error;
@@ -57,7 +57,7 @@ pub struct Options {
     pub strict: bool,
 }
 
-/// How many records and instructions were read, dropped or changed.
+/// How many CIEs, FDEs and instructions were read, dropped or changed.
 #[derive(Clone, Copy, Debug, Default, PartialEq, Eq)]
 pub struct Counts {
     /// Common information entries.
@@ -90,7 +90,8 @@ pub struct Bridged {
     mended: Vec<u64>,
 }
 
-/// Rewrites a section. An error names the first record that has no counterpart in `.debug_frame`.
+/// Rewrites a section. An error names the first CIE or FDE that has no counterpart in
+/// `.debug_frame`.
 ///
 /// The rewritten section is at most a few times as long as the original.
 pub fn bridge(section: &EhFrame<'_>, options: Options) -> Result<Bridged, BridgeError> {
@@ -103,26 +104,28 @@ impl Bridged {
         &self.bytes
     }
 
-    /// How many records and instructions were read, dropped or changed.
+    /// How many CIEs, FDEs and instructions were read, dropped or changed.
     pub fn counts(&self) -> &Counts {
         &self.counts
     }
 
-    /// The offsets in `.eh_frame` of each `DW_CFA_def_cfa_register` that became a `DW_CFA_def_cfa`.
+    /// The offsets in `.eh_frame` of the instructions `DW_CFA_def_cfa_register` that were replaced
+    /// by a `DW_CFA_def_cfa`.
     pub fn mended(&self) -> &[u64] {
         &self.mended
     }
 
-    /// All records, in the order of the rewritten section. The original section has the same order.
+    /// All CIEs and FDEs, in the order of the rewritten section. The section in the file has the
+    /// same order.
     pub fn records(&self) -> &[Record] {
         &self.places.records
     }
 
-    /// Where an offset of the rewritten section comes from in the original section. `None` if the
-    /// offset belongs to no record.
+    /// The place in the file's section from which the byte at an offset of the rewritten section
+    /// was made. `None` if the offset is past the end, or belongs to no CIE or FDE.
     ///
-    /// An offset can be both the end of one record and the beginning of the next. `edge` says which
-    /// of these records is meant.
+    /// An offset can be both the end of one CIE or FDE and the beginning of the next. `edge` says
+    /// which of the two is meant.
     pub fn place(&self, offset: u64, edge: Edge) -> Option<Place> {
         if offset > self.bytes.len() as u64 {
             return None;

@@ -50,8 +50,8 @@ impl<'a> Cursor<'a> {
         self.bytes.get(start..self.at).unwrap_or(&[])
     }
 
-    /// A cursor over the next `length` bytes, which `self` moves past. Its offsets still count from
-    /// the beginning of the section.
+    /// A cursor over the next `length` bytes, which `self` moves past. The offsets of the new
+    /// cursor still count from the beginning of the section.
     pub fn split(&mut self, length: u64) -> Result<Cursor<'a>, ReadError> {
         let start = self.at;
         let end = self.end_of(length)?;

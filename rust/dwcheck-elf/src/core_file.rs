@@ -129,7 +129,8 @@ impl<'data> CoreFile<'data> {
         &self.mappings
     }
 
-    /// Whether the core file ends before all the memory that its headers list.
+    /// Whether the core file is cut off: its headers list memory that would be past the end of the
+    /// file.
     pub fn is_cut(&self) -> bool {
         self.segments.iter().any(|segment| segment.is_cut)
     }
@@ -142,8 +143,8 @@ impl<'data> CoreFile<'data> {
         self.segments.iter().find(holds).map_or(true, |segment| segment.is_executable)
     }
 
-    /// The bytes that the core has from an address to the end of a segment. `None` if it has no
-    /// byte there.
+    /// The bytes that the core has from an address to the end of a segment. `None` if the core
+    /// doesn't have the byte at the address.
     fn bytes_from(&self, address: u64) -> Option<&'data [u8]> {
         self.segments.iter().find_map(|segment| {
             let past = usize::try_from(address.checked_sub(segment.address)?).ok()?;

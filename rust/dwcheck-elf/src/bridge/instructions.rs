@@ -147,7 +147,7 @@ impl CfaKnown {
 
 impl Bridge<'_> {
     /// Copies the instructions of a CIE or an FDE. `function` is the FDE's first address, or `None`
-    /// in a CIE. An error has the offset of the field that can't be rewritten.
+    /// in a CIE. An error has the offset in `.eh_frame` of the field that can't be rewritten.
     pub(super) fn instructions(
         &mut self,
         cursor: &mut Cursor<'_>,
@@ -199,8 +199,8 @@ impl Bridge<'_> {
         Ok(())
     }
 
-    /// Writes a `DW_CFA_def_cfa` with the offset 0 in place of the `DW_CFA_def_cfa_register` at
-    /// `start`.
+    /// Writes a `DW_CFA_def_cfa` with the offset 0 instead of a `DW_CFA_def_cfa_register`, which
+    /// begins at the offset `start` of `.eh_frame` and has just been read.
     fn mend(&mut self, cursor: &Cursor<'_>, start: usize) {
         self.bytes.push(DEF_CFA);
         self.bytes.extend_from_slice(cursor.since(start + 1));

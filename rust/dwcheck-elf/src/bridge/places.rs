@@ -1,15 +1,17 @@
-//! Finds where an offset of the rewritten section comes from in the original section.
+//! Maps offsets of a rewritten frame section to offsets of the section in the file.
 
 use std::ops::Range;
 
-/// A record of the rewritten section, and the record that it was made from.
+/// A CIE or FDE of the rewritten section, and where the CIE or FDE that it was made from is in the
+/// file's section. The bytes after the last CIE or FDE that can be read are listed here too, as a
+/// CIE.
 #[derive(Clone, Debug, PartialEq, Eq)]
 pub struct Record {
-    /// The offset of the record in the rewritten section.
+    /// The offset in the rewritten section.
     pub bridged: u64,
-    /// The offset of the original record in the original section.
+    /// The offset in the file's section.
     pub source: u64,
-    /// Whether the record is a CIE or an FDE.
+    /// Whether this is a CIE or an FDE.
     pub kind: RecordKind,
 }
 
@@ -30,36 +32,37 @@ pub enum RecordKind {
     },
 }
 
-/// A place in the original section.
+/// A place in the section that the file has, before it is rewritten.
 #[derive(Clone, Copy, Debug, PartialEq, Eq)]
 pub struct Place {
-    /// The offset in the original section.
+    /// The place's offset in that section.
     pub offset: u64,
-    /// The offset in the original section of the record that contains the place.
+    /// The offset in that section of the CIE or FDE that contains the place.
     pub record: u64,
-    /// Whether the record is a CIE or an FDE.
+    /// Whether the place is in a CIE or in an FDE.
     pub kind: RecordKind,
 }
 
-/// Which record an offset belongs to, if one record ends there and the next one begins there.
+/// Which CIE or FDE is meant by an offset at which one ends and the next one begins.
 #[derive(Clone, Copy, Debug, PartialEq, Eq)]
 pub enum Edge {
-    /// The record that begins there: for the fault Overlap, which is reported where an FDE begins.
+    /// The one that begins there: for the fault Overlap, which is reported where an FDE begins.
     Begin,
-    /// The record that ends there: for faults such as Unrestored, which are reported where a record
+    /// The one that ends there: for faults such as Unrestored, which are reported where an FDE
     /// ends.
     End,
 }
 
-/// The bytes of the rewritten section from offset `bridged` up to the `bridged` of the next pair
-/// come from the bytes of the original section from offset `source` on.
+/// A part of the rewritten section, and where it comes from. The part begins at the offset
+/// `bridged`, and ends where the part of the next pair begins. Its bytes were made from those at
+/// the offset `source` of the file's section.
 #[derive(Clone, Copy, Debug)]
 pub(super) struct Pair {
     pub bridged: u32,
     pub source: u32,
 }
 
-/// All records, and where each part of the rewritten section comes from. Both lists are in
+/// All CIEs and FDEs, and where each part of the rewritten section comes from. Both lists are in
 /// ascending order of offset.
 #[derive(Clone, Debug, Default)]
 pub(super) struct Places {
@@ -68,8 +71,9 @@ pub(super) struct Places {
 }
 
 impl Places {
-    /// Where an offset of the rewritten section comes from. `None` if it belongs to no record. The
-    /// offset is at most the length of the rewritten section.
+    /// The place in the file's section from which the byte at an offset of the rewritten section
+    /// was made. `None` if the offset belongs to no CIE or FDE. The offset is at most the length of
+    /// the rewritten section.
     pub fn find(&self, offset: u64, edge: Edge) -> Option<Place> {
         let next = self.records.partition_point(|record| match edge {
             Edge::Begin => record.bridged <= offset,

@@ -6,7 +6,8 @@ use crate::debug_frame::{self, Kind};
 use crate::target::Target;
 use std::collections::HashMap;
 
-/// A CIE pointer that leads to no record.
+/// The CIE pointer that is written for an FDE whose own CIE pointer leads nowhere. It leads nowhere
+/// either.
 const NOWHERE: u64 = 0xffff_fffe;
 
 /// Copies a `.debug_frame` section for `dwcheck`, without the records of length 0.
@@ -63,13 +64,13 @@ struct Copy<'a> {
     bytes: Vec<u8>,
     counts: Counts,
     target: Target,
-    /// Whether the section has no records of length 0, so that no record is left out.
+    /// Whether the section has no records of length 0, so that its copy has the same bytes.
     is_whole: bool,
 }
 
 impl Copy<'_> {
-    /// Copies a record. The CIE pointer of an FDE is changed to the offset of its CIE in the copy.
-    /// A pointer that leads to no record in the section leads to no record in the copy either.
+    /// Copies a CIE or an FDE. The CIE pointer of an FDE is changed to the offset of its CIE in the
+    /// copy. A pointer that leads to no CIE or FDE in the section leads to none in the copy either.
     fn record(&mut self, record: &debug_frame::Record, starts: &HashMap<u64, u64>) -> RecordKind {
         let part = |from, to| self.section.get(from..to).unwrap_or(&[]);
         match record.kind {

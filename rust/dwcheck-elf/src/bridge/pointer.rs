@@ -36,7 +36,8 @@ fn number(cursor: &mut Cursor<'_>, encoding: u8, address_size: u8) -> Result<u64
 }
 
 /// Reads a pointer, and returns the address that it stands for. `function` is the FDE's first
-/// address, if that is known already.
+/// address, which pointers with `DW_EH_PE_funcrel` are relative to. It is `None` while that address
+/// isn't known.
 pub(super) fn address(
     cursor: &mut Cursor<'_>,
     encoding: u8,
@@ -64,8 +65,8 @@ pub(super) fn address(
     Ok(section.target.wrap(base.wrapping_add(number)))
 }
 
-/// Reads the number of bytes that an FDE covers. It is written as the FDE's addresses are, but
-/// isn't relative to anything.
+/// Reads the number of bytes that an FDE covers. It has the same format as the FDE's first address,
+/// but isn't relative to anything.
 pub(super) fn range(cursor: &mut Cursor<'_>, encoding: u8, section: &EhFrame<'_>) -> Result<u64, Reason> {
     let range = number(cursor, encoding, section.target.address_size.bytes())?;
     let narrow = matches!(encoding & FORMAT, 0x0a | 0x0b) && encoding & FORMAT != widest(section);
@@ -76,7 +77,7 @@ pub(super) fn range(cursor: &mut Cursor<'_>, encoding: u8, section: &EhFrame<'_>
     Ok(section.target.wrap(range))
 }
 
-/// The signed format that has the size of an address.
+/// The bits of an encoding that stand for a signed number with the size of an address.
 fn widest(section: &EhFrame<'_>) -> u8 {
     match section.target.address_size.bytes() {
         4 => 0x0b,

@@ -8,7 +8,7 @@ use crate::bytes::Cursor;
 /// The id of a CIE in `.debug_frame`.
 const CIE_ID: u64 = 0xffff_ffff;
 
-/// What has to be known of a CIE to rewrite its FDEs.
+/// What has to be known about a CIE to rewrite its FDEs.
 #[derive(Clone, Debug)]
 pub(super) struct CieParts {
     /// Its offset in `.eh_frame`.
@@ -36,8 +36,8 @@ pub(super) struct Bridge<'a> {
     cies: Vec<CieParts>,
 }
 
-/// The offset of a field in `.eh_frame`, and why it can't be rewritten. The caller makes a
-/// [`BridgeError`] of it, which also has the offset of the record.
+/// The offset of a field in `.eh_frame`, and why the field can't be rewritten. The caller adds the
+/// offset of the CIE or FDE, which makes it a [`BridgeError`].
 type AtField = (usize, Reason);
 
 impl<'a> Bridge<'a> {
@@ -53,7 +53,7 @@ impl<'a> Bridge<'a> {
         }
     }
 
-    /// Rewrites all records.
+    /// Rewrites all CIEs and FDEs.
     pub fn run(mut self) -> Result<Bridged, BridgeError> {
         if u32::try_from(self.section.bytes.len()).is_err() {
             return Err(Reason::TooLong.at(0, 0));
@@ -70,7 +70,8 @@ impl<'a> Bridge<'a> {
         Ok(Bridged { bytes, places, counts, mended })
     }
 
-    /// Stores that the bytes that are written next come from the offset `source` of `.eh_frame`.
+    /// Stores that the bytes that are written next come from the bytes at the offset `source` of
+    /// `.eh_frame`.
     pub fn pair(&mut self, source: usize) {
         let pair = Pair { bridged: self.bytes.len() as u32, source: source as u32 };
         self.places.pairs.push(pair);
@@ -82,7 +83,7 @@ impl<'a> Bridge<'a> {
         self.section.target.push(&mut self.bytes, address, size);
     }
 
-    /// Rewrites the next record.
+    /// Rewrites the next CIE or FDE. Drops a record of length 0.
     fn record(&mut self, cursor: &mut Cursor<'a>) -> Result<(), AtField> {
         let start = cursor.at();
         let length = length(cursor).map_err(|reason| (start, reason))?;
@@ -109,8 +110,8 @@ impl<'a> Bridge<'a> {
         self.finish(bridged).ok_or((start, Reason::TooLong))
     }
 
-    /// Fills in the length of the record that was just written, at the offset `bridged`. `None` if
-    /// the length doesn't fit in the 32-bit format.
+    /// Fills in the length field of the CIE or FDE that was just written at the offset `bridged`.
+    /// `None` if the length doesn't fit in the 32-bit format.
     fn finish(&mut self, bridged: usize) -> Option<()> {
         let length = self.bytes.len().checked_sub(bridged + 4)?;
         u32::try_from(length).ok().filter(|length| *length < 0xffff_fff0)?;
@@ -120,15 +121,16 @@ impl<'a> Bridge<'a> {
         Some(())
     }
 
-    /// The CIE that an FDE's CIE pointer leads to, or `None`. `place` is the offset of the pointer,
-    /// and `pointer` is the distance from the CIE to that offset.
+    /// The CIE that an FDE's CIE pointer leads to. `None` if it leads to no CIE before the FDE.
+    /// `place` is the offset of the pointer, and `pointer` is the distance from the CIE to that
+    /// offset.
     fn cie_of(&self, place: usize, pointer: u64) -> Option<CieParts> {
         let source = place.checked_sub(usize::try_from(pointer).ok()?)?;
         let found = self.cies.binary_search_by_key(&source, |cie| cie.source).ok()?;
         self.cies.get(found).cloned()
     }
 
-    /// Rewrites a CIE from its version on.
+    /// Rewrites the rest of a CIE, which begins with the version.
     fn cie(&mut self, record: &mut Cursor<'a>, source: usize, bridged: usize) -> Result<(), AtField> {
         self.section.target.push(&mut self.bytes, CIE_ID, 4);
         let at = record.at();
@@ -202,7 +204,7 @@ impl<'a> Bridge<'a> {
         Ok(())
     }
 
-    /// Rewrites an FDE from its CIE pointer on.
+    /// Rewrites the rest of an FDE, which begins with the CIE pointer.
     fn fde(&mut self, record: &mut Cursor<'a>, cie: &CieParts) -> Result<RecordKind, AtField> {
         self.section.target.push(&mut self.bytes, cie.bridged, 4);
         let at = record.at();

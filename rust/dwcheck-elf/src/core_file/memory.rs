@@ -72,7 +72,7 @@ impl<'data> CoreFile<'data> {
 }
 
 impl<'a> Memory<'a> {
-    /// Adds the parts of a block that aren't covered by earlier blocks.
+    /// Adds those parts of a block whose addresses aren't in a block that was added before.
     fn add(&mut self, block: Block<'a>) {
         let mut next = block.address;
         while next < block.end() {
@@ -103,7 +103,7 @@ impl<'a> Memory<'a> {
     }
 
     /// Copies the bytes from an address on into `bytes`, from one block or several. Returns false
-    /// if one of them isn't known.
+    /// if one of the bytes isn't known. Those before it are then copied nevertheless.
     pub fn read(&self, address: u64, bytes: &mut [u8]) -> bool {
         let mut done = 0;
         while let Some(rest) = bytes.get_mut(done..).filter(|rest| !rest.is_empty()) {

@@ -44,8 +44,9 @@ impl<'a> Image<'a> {
     }
 }
 
-/// An ELF file that is mapped with some bias, with what is known from the mappings that were looked
-/// at so far. It is a module if `has_code` is true. `place` is the file's index in [`Files::all`].
+/// An ELF file that is mapped with some bias, as far as the mappings that were looked at so far
+/// show. It is a module if `has_code` is true, which means that one of its executable segments is
+/// mapped. `place` is the file's index in [`Files::all`].
 struct Candidate<'a> {
     place: usize,
     has_code: bool,
@@ -74,9 +75,9 @@ impl CoreFile<'_> {
     }
 
     /// Makes a module of the program, for a core that doesn't list its mapped files, such as
-    /// qemu's. The bias comes from the address of the program's first instruction, which the core
-    /// has. `None` if the core doesn't have that address, or if the program isn't for the core's
-    /// byte order and address size.
+    /// qemu's. The bias comes from the address of the program's first instruction, which is in the
+    /// core's auxiliary vector. `None` if the core doesn't have that address, or if the program
+    /// can't be read, has no segments, or isn't for the core's byte order and address size.
     pub fn program_module<'a>(&self, path: &Path, bytes: &'a [u8]) -> Option<Module<'a>> {
         let program = Program::read(bytes).ok().filter(|program| program.target() == self.target())?;
         let bias = self.target().wrap(self.entry?.wrapping_sub(program.entry()));
@@ -86,7 +87,8 @@ impl CoreFile<'_> {
         Some(Module { path: path.to_path_buf(), bias, begin, end, image: Image::Program(bytes) })
     }
 
-    /// The vDSO as a module, if the core has it. The core's memory has its whole ELF file.
+    /// The vDSO as a module. Its whole ELF file is in the core's memory. `None` if the core has no
+    /// vDSO that can be read.
     fn vdso_module(&self) -> Option<Module<'_>> {
         let begin = self.vdso?;
         let bytes = self.bytes_from(begin)?;
@@ -99,8 +101,9 @@ impl CoreFile<'_> {
 }
 
 impl<'a> Finder<'a> {
-    /// Adds a mapping to the module that it belongs to. Begins a new module if that one isn't known
-    /// yet, and does nothing if the mapping has no part of an ELF file that can be read.
+    /// Finds out to which module a mapping belongs, and adds the mapping to that module, or begins
+    /// a new module with it. Does nothing if the mapping has no part of an ELF file that can be
+    /// read.
     fn add(&mut self, mapping: &Mapping<'_>) {
         let (place, bytes) = match self.files.find(mapping.path) {
             Some(found) => found,
@@ -136,9 +139,9 @@ impl<'a> Finder<'a> {
 /// Whether a mapping has at least one byte of a segment.
 ///
 /// If one segment ends in the page of the file in which the next one begins, that page is mapped
-/// for both segments. So a mapping can have bytes of a segment that it wasn't made for. Each
-/// segment gives a bias. If one of these biases is known already from another mapping, that one is
-/// right.
+/// for both segments. So a mapping can have bytes of a segment that it wasn't made for, and then
+/// more than one segment gives a bias. The right bias is the one that another mapping of the file
+/// has given already.
 fn is_shown(mapping: &Mapping<'_>, segment: &Segment) -> bool {
     let mapped_end = mapping.offset.saturating_add(mapping.end.saturating_sub(mapping.begin));
     let segment_end = segment.offset.saturating_add(segment.file_size);

@@ -33,11 +33,12 @@ const NO: u16 = u16::MAX;
 const X86_64: [u16; 27] =
     [15, 14, 13, 12, 6, 3, 11, 10, 9, 8, 0, 2, 1, 4, 5, NO, 16, 51, 49, 7, 52, 58, 59, 53, 50, 54, 55];
 
-/// The same for i386: ebx, ecx, edx, esi, edi, ebp, eax, ds, es, fs, gs, orig_eax, eip, cs, eflags,
-/// esp, ss.
+/// The DWARF numbers of the registers of i386, in the order in which a core file has them: ebx,
+/// ecx, edx, esi, edi, ebp, eax, ds, es, fs, gs, orig_eax, eip, cs, eflags, esp, ss.
 const I386: [u16; 17] = [3, 1, 2, 6, 7, 5, 0, 43, 40, 44, 45, NO, 8, 41, 9, 4, 42];
 
-/// The same for aarch64: x0 to x30, sp, pc, pstate.
+/// The DWARF numbers of the registers of aarch64, in the order in which a core file has them: x0 to
+/// x30, sp, pc, pstate.
 const AARCH64: [u16; 34] = [
     0, 1, 2, 3, 4, 5, 6, 7, 8, 9, 10, 11, 12, 13, 14, 15, 16, 17, 18, 19, 20, 21, 22, 23, 24, 25, 26, 27, 28, 29, 30,
     31, 32, NO,

@@ -67,10 +67,10 @@ impl Reading {
     }
 }
 
-/// What is said beside the answer.
+/// What to print in addition to the result.
 #[derive(Args, Clone, Copy, Debug)]
 pub struct Notes {
-    /// Say what of .eh_frame was dropped or changed
+    /// List what was dropped from .eh_frame or changed in it before the check
     #[arg(long)]
     pub notes: bool,
 }
@@ -80,7 +80,7 @@ pub struct CheckWords {
     /// ELF files: programs, libraries, unlinked objects, kernel modules
     #[arg(required = true)]
     pub programs: Vec<PathBuf>,
-    /// Go on after the first fault: check each FDE alone, and list every one that is refused
+    /// Don't stop at the first fault: check each FDE on its own, and list every one that is refused
     #[arg(long)]
     pub all: bool,
     /// Leave .debug_loclists out. Compilers write entries in it that are refused (see the manual page)

@@ -16,8 +16,8 @@ use dwcheck_elf::validate::Agreement;
 use std::io::{self, Write};
 use std::path::Path;
 
-/// Checks each program in turn. If there are several programs, one that can't be read or checked
-/// doesn't end the run.
+/// Checks each program in turn. If there are several, and one can't be read or checked, the others
+/// are checked nevertheless.
 pub fn check(words: &CheckWords, out: &mut impl Write) -> Result<Done, Failure> {
     let mut done = Done::Accepted;
     for path in &words.programs {
@@ -62,7 +62,8 @@ fn check_one(words: &CheckWords, path: &Path, out: &mut impl Write) -> Result<Do
     Ok(done)
 }
 
-/// Writes the counts of what an accepted section has, and a line for each of its expressions.
+/// Writes what an accepted section holds: a line of counts, such as those of its CIEs, FDEs and
+/// rows, and a line for each of its expressions.
 fn write_accepted(out: &mut impl Write, program: &Program<'_>, section: &Inspected<'_>) -> io::Result<()> {
     match (&section.verdict, &section.frames) {
         (Verdict::Frames(agreement), Some(frames)) => write_frames(out, agreement, frames),

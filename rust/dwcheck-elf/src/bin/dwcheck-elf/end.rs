@@ -47,7 +47,7 @@ impl Failure {
         }
     }
 
-    /// The failure of a run that can't check the sections of a file.
+    /// The failure for a file whose sections can't be checked.
     pub fn judging(path: &Path, error: &InspectError) -> Self {
         Failure::File(format!("{}: {}", path.display(), error))
     }

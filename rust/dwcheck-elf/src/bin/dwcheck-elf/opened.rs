@@ -31,11 +31,11 @@ pub fn program<'data>(path: &Path, data: &'data [u8]) -> Result<Program<'data>, 
     Program::read(data).map_err(|error| Failure::File(format!("{}: {}", path.display(), error)))
 }
 
-/// Checks the frame sections of a program, and returns those that the commands use. If all are
-/// accepted, all are used. If `.debug_frame` is refused and `.eh_frame` is accepted, only
-/// `.eh_frame` is used, and a note on standard error says so. In any other case, the inner error is
-/// the fault of the first section that is refused. The rows of rewritten sections are also compared
-/// with gimli's.
+/// Checks the frame sections of a program, and returns those from which rows may be looked up. If
+/// all are accepted, these are all. If `.debug_frame` is refused and `.eh_frame` is accepted, it is
+/// only `.eh_frame`, and a note on standard error says so. In any other case, the inner error is
+/// the fault of the first section that is refused. A section that had to be rewritten for
+/// `dwcheck`, such as `.eh_frame`, is accepted only if its rows are also those that gimli reads.
 pub fn accepted_frames<'data>(
     path: &Path,
     program: &Program<'data>,
@@ -68,8 +68,8 @@ fn note_eh_frame(path: &Path, defect: &Defect) {
     let _ = writeln!(io::stderr(), "dwcheck-elf: {}: {}", path.display(), note);
 }
 
-/// Writes a fault in two lines: first its record and its name, then its offset and the rule that it
-/// breaks.
+/// Writes a fault in two lines. The first says which CIE or FDE has the fault, and the fault's
+/// name. The second has the fault's offset, and the rule that the fault breaks.
 pub fn write_defect(out: &mut impl Write, path: &Path, defect: &Defect) -> io::Result<()> {
     writeln!(out, "{}: {}", path.display(), defect)?;
     writeln!(out, "    at {:#x}: {}", defect.offset, defect.rule)
@@ -81,8 +81,8 @@ pub fn add(process: &mut Process, path: &Path, frames: &[Frames<'_>], load: u64)
     frames.iter().try_for_each(|one| one.add_to(process, load).map_err(|error| failed(one.name(), error)))
 }
 
-/// The name of the function that contains an address, in parentheses after a space. Empty if there
-/// is none.
+/// The name of the function that contains an address, in parentheses after a space. Empty if the
+/// program has no name for the address.
 pub fn named(functions: &Functions<'_>, address: u64) -> String {
     Spot::at(functions, address).map_or_else(String::new, |spot| format!(" ({})", spot))
 }

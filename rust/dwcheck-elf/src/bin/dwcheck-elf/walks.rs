@@ -35,8 +35,8 @@ struct Loaded<'a> {
 impl<'a> Loaded<'a> {
     /// The name of the function that contains an address in the process, in parentheses after a
     /// space. It comes from the first module that has a name for the address. Empty if no module
-    /// has one. If `is_after_call`, the name is that of the function with the call before the
-    /// address.
+    /// has one. `is_after_call` says that the address is a return address. Then the name is that of
+    /// the function that contains the call.
     fn named(&self, address: u64, is_after_call: bool) -> String {
         let find = if is_after_call { Spot::after_call } else { Spot::at };
         let spot =
@@ -45,8 +45,8 @@ impl<'a> Loaded<'a> {
     }
 }
 
-/// Lists the program, whose bytes are `data`, and the further modules that the command line names.
-/// Reads the files of those modules.
+/// Lists the modules that the command line names: first the program, whose bytes are `data`, then
+/// the further modules, whose files are read here.
 fn given(words: &UnwindWords, target: Target, data: Vec<u8>) -> Result<Vec<Given>, Failure> {
     let load = number_argument(&words.modules.load, target)?;
     let mut all = vec![Given { path: words.program.clone(), load, data }];
@@ -65,8 +65,8 @@ fn given(words: &UnwindWords, target: Target, data: Vec<u8>) -> Result<Vec<Given
     Ok(all)
 }
 
-/// Checks all modules and puts them into a process. The inner error is the first fault of a module,
-/// with the module's file.
+/// Checks all modules and puts them into a process. If a module is refused, the inner error is the
+/// module's file and the fault.
 fn loaded<'a>(
     words: &UnwindWords,
     given: &'a [Given],

@@ -9,8 +9,8 @@ use std::io::{self, Read};
 use std::os::unix::fs::MetadataExt;
 use std::path::{Path, PathBuf};
 
-/// The most bytes that a file may have. A larger file isn't read, because some system files stand
-/// for all of memory.
+/// The most bytes that a file may have. A larger file isn't read, because some system files, such
+/// as `/proc/kcore`, stand for all of memory.
 pub const LARGEST: u64 = 4 << 30;
 
 /// What an ELF file begins with.
@@ -44,8 +44,8 @@ struct Walk {
 }
 
 impl Files {
-    /// The ELF files among `paths`, and those in the folders among `paths` and below. Of several
-    /// files with the same bytes, only the first one is listed.
+    /// The ELF files among `paths`, and those in the folders among `paths` and below. If several
+    /// files have the same bytes, only the one that was found first is listed.
     pub fn once_each(paths: &[PathBuf]) -> Self {
         let mut walk = Walk::default();
         paths.iter().for_each(|path| walk.start(path));

@@ -15,8 +15,9 @@ use std::path::Path;
 const HEADER: usize = 64;
 
 /// The bytes of a file, each at its offset. Bytes that a check of frame sections doesn't need are 0
-/// here, and take no memory. `None` if the check needs the whole file: if it is an unlinked object,
-/// whose relocations name symbols, or if the header doesn't say where the sections are.
+/// here, and take no memory. `None` if the file has to be read as a whole instead: if it is an
+/// unlinked object, whose relocations name symbols, or if the header doesn't say where the sections
+/// are. Also `None` for a file that is shorter than [`HEADER`] or longer than [`LARGEST`].
 pub fn frame_content(path: &Path) -> io::Result<Option<Vec<u8>>> {
     let file = File::open(path)?;
     let size = file.metadata()?.len();
@@ -42,7 +43,7 @@ pub fn frame_content(path: &Path) -> io::Result<Option<Vec<u8>>> {
     Ok(Some(bytes))
 }
 
-/// Reads a range of the file, given by its offset and its length, into the same place in `bytes`.
+/// Reads a range of the file, given by its offset and its length, to the same offset in `bytes`.
 /// Does nothing if the file doesn't have the whole range.
 fn fill(file: &File, bytes: &mut [u8], (offset, length): (u64, u64)) -> io::Result<()> {
     let end = offset.checked_add(length).filter(|end| *end <= bytes.len() as u64);
@@ -52,7 +53,7 @@ fn fill(file: &File, bytes: &mut [u8], (offset, length): (u64, u64)) -> io::Resu
     }
 }
 
-/// The offset and the length of each frame section.
+/// The offset and the length of each frame section. Empty if the headers can't be read.
 fn frame_ranges(bytes: &[u8]) -> Vec<(u64, u64)> {
     let file = match object::File::parse(bytes) {
         Ok(file) => file,
@@ -79,8 +80,8 @@ struct Header {
 
 impl Header {
     /// Reads the header. `None` if the header doesn't say how many sections there are, or which
-    /// section has their names. In a file with 65,280 sections or more, the table of sections says
-    /// so instead.
+    /// section has their names. That is so in a file with 65,280 sections or more, where the table
+    /// of sections says it instead.
     fn of(bytes: &[u8]) -> Option<Header> {
         let (is_64, is_little) = (bytes[4] == 2, bytes[5] == 1);
         let number = |at: usize, size: usize| number(bytes, is_little, at, size);
@@ -99,7 +100,8 @@ impl Header {
         Some(header).filter(|header| header.sections.1 > 0 && header.names < count(3))
     }
 
-    /// The offset and the length of the section that has the names of all sections.
+    /// The offset and the length of the section that has the names of all sections. `None` if its
+    /// entry in the table of sections isn't in the file.
     fn names(&self, bytes: &[u8]) -> Option<(u64, u64)> {
         let (offset, size, word) = if self.is_64 { (24, 32, 8) } else { (16, 20, 4) };
         let entry = self.sections.0.checked_add(self.names * self.section_size)?;
@@ -110,7 +112,8 @@ impl Header {
     }
 }
 
-/// The number of `size` bytes at the offset `at`. All of them have to be in `bytes`.
+/// Reads the `size` bytes at the offset `at` as an unsigned number. All of these bytes have to be
+/// in `bytes`.
 fn number(bytes: &[u8], is_little: bool, at: usize, size: usize) -> u64 {
     let digits = &bytes[at..at + size];
     let add = |sum: u64, byte: &u8| sum << 8 | u64::from(*byte);

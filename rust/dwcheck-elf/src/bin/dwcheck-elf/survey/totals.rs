@@ -10,7 +10,7 @@ use std::io::{self, Write};
 pub struct Totals {
     /// ELF files, no two of which have the same bytes.
     pub files: usize,
-    /// Further ELF files that have the same bytes as one of these files.
+    /// Further ELF files, each with the same bytes as a file that is counted in `files`.
     pub repeated: usize,
     /// Files and folders that couldn't be read, and files that couldn't be checked.
     pub unread: usize,
