@@ -1,4 +1,5 @@
-//! Finds the records of a `.debug_frame` section, and their instructions.
+//! Finds the records of a `.debug_frame` section, which are its CIEs and FDEs, and their
+//! instructions.
 //!
 //! `dwcheck` checks the records. This module only finds where records and instructions begin, so
 //! that `dwcheck`'s answers can be shown.
@@ -8,7 +9,7 @@ use crate::bytes::Cursor;
 use crate::target::Target;
 use std::ops::Range;
 
-/// A record, as far as it can be read.
+/// A CIE, an FDE, or a record of length 0, as far as it can be read.
 ///
 /// ```
 /// use dwcheck_elf::debug_frame::{records, Kind};
@@ -30,7 +31,8 @@ pub struct Record {
     pub end: usize,
     /// Whether it is a CIE or an FDE, and some of its fields.
     pub kind: Kind,
-    /// The range of offsets of its instructions, if its header can be read.
+    /// The range of offsets of its instructions. `None` if its header can't be read, or its length
+    /// is 0.
     pub program: Option<Range<usize>>,
 }
 
@@ -39,7 +41,7 @@ pub struct Record {
 pub enum Kind {
     /// A record of length 0. DWARF has no such records, but some linkers leave them.
     Empty,
-    /// A common information entry.
+    /// A common information entry, or a record that is too short for a CIE id.
     Cie {
         /// The register of the return address, if the header can be read.
         return_register: Option<u64>,
@@ -65,8 +67,9 @@ impl Record {
     }
 }
 
-/// The records of a section, in order, that come before the first one whose length can't be read or
-/// whose end is past the end of the section. This takes time in proportion to the section's length.
+/// The records of a section, in order. If the length of a record can't be read, or its end is past
+/// the end of the section, that record and all bytes after it are left out. This takes time in
+/// proportion to the section's length.
 pub fn records(section: &[u8], target: Target) -> Vec<Record> {
     let mut cursor = Cursor::new(section, target);
     let mut all = Vec::new();
@@ -105,7 +108,7 @@ fn record(cursor: &mut Cursor<'_>) -> Option<Record> {
 }
 
 /// Reads a CIE from its version to its return address register, and returns the number of that
-/// register.
+/// register. `None` if one of these fields can't be read.
 fn return_register(record: &mut Cursor<'_>) -> Option<u64> {
     let version = record.byte().ok()?;
     while record.byte().ok()? != 0 {}
@@ -121,7 +124,8 @@ fn return_register(record: &mut Cursor<'_>) -> Option<u64> {
     }
 }
 
-/// Reads the first address that an FDE covers, and the number of addresses.
+/// Reads the first address that an FDE covers, and the number of addresses. `None` if the FDE is
+/// too short for both.
 fn range(record: &mut Cursor<'_>, target: Target) -> Option<(u64, u64)> {
     let size = target.address_size.bytes();
     Some((record.number(size).ok()?, record.number(size).ok()?))
@@ -140,7 +144,8 @@ pub struct Instruction {
 
 impl Instruction {
     /// The instruction's name, such as `def_cfa_register`, or a text such as `instruction 0x3f` if
-    /// its code has no name. `machine` (`e_machine`) decides where vendors share a code.
+    /// its code has no name. Vendors use some codes for different instructions; `machine`
+    /// (`e_machine`) then decides which one is meant.
     pub fn name(&self, machine: u16) -> String {
         name_of(self.code, machine).map_or_else(|| format!("instruction {:#04x}", self.code), str::to_string)
     }

@@ -97,8 +97,8 @@ pub fn operations(expression: &[u8], target: Target) -> Vec<Operation> {
 const BRA: u8 = 0x28;
 const SKIP: u8 = 0x2f;
 
-/// Moves past the operands of an operation. Returns the distance in bytes that a branch goes, and 0
-/// for any other operation.
+/// Moves past the operands of an operation. For a branch, returns the distance in bytes from the
+/// end of the branch to its target. For any other operation, returns 0.
 fn skip(cursor: &mut Cursor<'_>, code: u8) -> Result<u64, ReadError> {
     let size = cursor.target().address_size.bytes();
     match code {
@@ -130,8 +130,8 @@ fn change(code: u8) -> Change {
     }
 }
 
-/// The opcodes below 0x97 with their names. The opcodes of lit, reg and breg operations aren't
-/// here.
+/// The names, without `DW_OP_`, of the opcodes below 0x97. Those of lit, reg and breg operations
+/// aren't here.
 const NAMES: [(u8, &str); 49] = [
     (0x03, "addr"),
     (0x06, "deref"),
@@ -184,7 +184,7 @@ const NAMES: [(u8, &str); 49] = [
     (0x96, "nop"),
 ];
 
-/// The names of the opcodes from 0x97 on, in ascending order without a gap.
+/// The names, without `DW_OP_`, of the opcodes from 0x97 on, in ascending order without a gap.
 const LATER: [&str; 19] = [
     "push_object_address",
     "call2",

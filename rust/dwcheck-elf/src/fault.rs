@@ -1,5 +1,5 @@
-//! Describes faults that `dwcheck` has found by what the ELF file has there: the section, the
-//! record, the instruction or operation, and the function.
+//! Describes the faults that `dwcheck` finds in terms of the ELF file: which section, which CIE or
+//! FDE, which instruction or operation, and which function.
 
 use crate::bridge::{BridgeError, Edge, RecordKind};
 use crate::debug_frame::{self, Instruction, Record};
@@ -15,7 +15,7 @@ use std::ops::Range;
 
 /// A fault of a section, described in terms of the file.
 ///
-/// Its text is one line without a line feed, with the offset of the record, such as
+/// Its text is one line without a line feed, and has the offset of the CIE or FDE, such as
 /// `.eh_frame+0xeb30: CfaNotRegister: def_cfa_register, FDE 0xcb480..0xccad1 (name of the
 /// function)`.
 #[derive(Clone, Debug, PartialEq, Eq)]
@@ -24,31 +24,33 @@ pub struct Defect {
     pub section: Name,
     /// The offset of the fault in the file's section, decompressed.
     pub offset: u64,
-    /// In a frame section, the offset of the record with the fault, as readelf shows it. In
-    /// location lists, or if no record has the fault, the offset of the fault.
+    /// In a frame section, the offset of the CIE or FDE with the fault, as readelf shows it. In
+    /// location lists, or if the fault is in no CIE or FDE, the offset of the fault.
     pub at: u64,
     /// The fault's name, such as `CfaNotRegister`.
     pub fault: &'static str,
     /// What is at the fault, in words: the name of an instruction, an operation or a field, for
     /// example.
     pub what: String,
-    /// The record with the fault. In location lists, the table with the fault.
+    /// The CIE or FDE with the fault. In location lists, the table with the fault. `None` if the
+    /// fault is in none.
     pub record: Option<Within>,
-    /// The function at the FDE's first address, if the record is an FDE and the file has a name for
-    /// the function.
+    /// The function at the FDE's first address. `None` if the fault isn't in an FDE, or if the file
+    /// has no name for the function.
     pub function: Option<String>,
     /// The rule that the fault breaks, in words.
     pub rule: String,
 }
 
-/// The record or the table that has a fault.
+/// The CIE, FDE or table that has a fault.
 #[derive(Clone, Debug, PartialEq, Eq)]
 pub enum Within {
     /// A CIE, by its offset in the section.
     Cie(u64),
     /// An FDE, by its range of addresses.
     Fde(Range<u64>),
-    /// A record that can't be read, or a table of location lists, by its offset in the section.
+    /// A CIE or FDE that can't be read or can't be rewritten, or a table of location lists, by its
+    /// offset in the section.
     Record(u64),
 }
 
@@ -56,17 +58,17 @@ pub enum Within {
 pub struct Terms<'a> {
     frames: &'a Frames<'a>,
     functions: &'a Functions<'a>,
-    /// The records of [`Frames::bytes`], in order.
+    /// The CIEs and FDEs of [`Frames::bytes`], in order.
     records: Vec<Record>,
 }
 
 impl<'a> Terms<'a> {
-    /// Reads the records of a section, whose faults can then be described.
+    /// Reads the CIEs and FDEs of a section, whose faults can then be described.
     pub fn of(frames: &'a Frames<'a>, functions: &'a Functions<'a>) -> Self {
         Terms { frames, functions, records: debug_frame::records(frames.bytes(), frames.target()) }
     }
 
-    /// The records of [`Frames::bytes`], in order.
+    /// The CIEs and FDEs of [`Frames::bytes`], in order.
     pub fn records(&self) -> &[Record] {
         &self.records
     }
@@ -102,7 +104,8 @@ impl<'a> Terms<'a> {
 }
 
 impl Defect {
-    /// Describes a record of `.eh_frame` that has no counterpart in `.debug_frame`.
+    /// Describes an error of [`bridge`](crate::bridge::bridge): a CIE or FDE that has no
+    /// counterpart in `.debug_frame`, or that can't be read.
     pub fn of_bridge(error: &BridgeError) -> Self {
         Defect {
             section: Name::EhFrame,
@@ -141,8 +144,8 @@ impl Defect {
 }
 
 impl Within {
-    /// The function at an FDE's first address. `None` if the file has no name for it, and for any
-    /// other record.
+    /// The function at an FDE's first address. `None` if this isn't an FDE, or if the file has no
+    /// name for the function.
     fn function(&self, functions: &Functions<'_>) -> Option<String> {
         match self {
             Within::Fde(range) => Spot::at(functions, range.start).map(|spot| spot.to_string()),
@@ -151,8 +154,8 @@ impl Within {
     }
 }
 
-/// Says in words what is at a fault: an instruction, an operation, a field, or the end of a
-/// program.
+/// Says in words what is at a fault: an instruction, an operation, a field, or the end of the
+/// instructions of a CIE or FDE.
 fn what(frames: &Frames<'_>, fault: &Fault, record: &Record) -> String {
     let field = match fault.kind {
         FaultKind::Version => "version",
@@ -169,8 +172,9 @@ fn what(frames: &Frames<'_>, fault: &Fault, record: &Record) -> String {
     field.to_string()
 }
 
-/// Names the instruction or operation at a fault's offset. If the offset isn't among the record's
-/// instructions, this is `a field` or `the end of the program`.
+/// Names the instruction or operation at a fault's offset. If the offset is before the instructions
+/// of the CIE or FDE, or if these can't be found, this is `a field`. If it is after them, this is
+/// `the end of the program`.
 fn in_program(frames: &Frames<'_>, fault: &Fault, record: &Record) -> String {
     let offset = fault.offset as usize;
     // `EndsEmpty` is reported where the expression ends, which is where the next instruction
@@ -193,7 +197,7 @@ fn in_program(frames: &Frames<'_>, fault: &Fault, record: &Record) -> String {
 }
 
 /// The name of an instruction. If `offset` is in its expression, also the name of the operation
-/// there.
+/// there. If `offset` is where the expression ends, this says so.
 fn named(frames: &Frames<'_>, instruction: &Instruction, offset: usize) -> String {
     let (begin, length) = match instruction.expression {
         Some((begin, length)) if offset > instruction.offset => (begin, length),
@@ -209,7 +213,8 @@ fn named(frames: &Frames<'_>, instruction: &Instruction, offset: usize) -> Strin
     }
 }
 
-/// Names the first FDE in the section that shares an address with `record`, and its addresses.
+/// Says which FDE before `record` shares an address with it, and which addresses that FDE covers.
+/// If there are several, this is the first one in the section.
 fn overlap(frames: &Frames<'_>, record: &Record) -> String {
     let range = |kind| match kind {
         RecordKind::Fde { begin, size, .. } => begin..begin.saturating_add(size),

@@ -25,7 +25,7 @@ pub enum Name {
     DebugLoclists,
 }
 
-/// A frame section of a program: its bytes in the file, and those that `dwcheck` takes.
+/// A frame section of a program: its bytes in the file, and the bytes that are passed to `dwcheck`.
 ///
 /// ```no_run
 /// use dwcheck_elf::frames::Frames;
@@ -112,8 +112,7 @@ impl<'data> Frames<'data> {
         &self.source
     }
 
-    /// The section, and the addresses that its pointers may be relative to, as [`bridge`] takes
-    /// them.
+    /// The section as [`bridge`] takes it, with the addresses that its pointers may be relative to.
     pub fn eh_frame(&self) -> EhFrame<'_> {
         EhFrame {
             bytes: &self.source.bytes,
@@ -125,7 +124,8 @@ impl<'data> Frames<'data> {
         }
     }
 
-    /// The rewritten section, with its records and the counts of what was dropped or changed.
+    /// The rewritten section, with a list of its CIEs and FDEs, and the counts of what was dropped
+    /// or changed.
     pub fn bridged(&self) -> &Bridged {
         &self.bridged
     }
@@ -140,8 +140,8 @@ impl<'data> Frames<'data> {
         self.name == Name::EhFrame || self.bridged.counts().terminators > 0
     }
 
-    /// Where an offset of [`bytes`](Self::bytes) comes from in the file's section. See
-    /// [`Bridged::place`].
+    /// The place in the file's section from which the byte at an offset of [`bytes`](Self::bytes)
+    /// was made. See [`Bridged::place`].
     pub fn place(&self, offset: u64, edge: Edge) -> Option<Place> {
         self.bridged.place(offset, edge)
     }

@@ -21,7 +21,9 @@ pub struct Function<'data> {
     /// The end address of its section if that section has code, else the end address of the
     /// function.
     limit: u64,
-    /// Of several symbols with the same name, those with the highest rank are used.
+    /// Used if several symbols have the same name: those with the highest rank are preferred. A
+    /// function has a higher rank than a label. Within each of the two, global symbols are above
+    /// weak ones, and weak ones above local ones.
     rank: u8,
 }
 
@@ -42,7 +44,8 @@ pub enum NameError {
 #[derive(Clone, Debug, Default)]
 pub struct Functions<'data> {
     functions: Vec<Function<'data>>,
-    /// For each function, the highest end address of that function and all functions before it.
+    /// For each function in `functions`, the highest end address of that function and of those
+    /// before it in the list.
     ends: Vec<u64>,
 }
 
@@ -78,9 +81,10 @@ impl<'data> Functions<'data> {
     }
 
     /// The function that contains an address, and the distance from the function's first address.
+    /// If several functions contain the address, it is the one that begins last.
     ///
-    /// If no function contains the address, the answer is the last symbol at or before the address,
-    /// but only if that symbol has size 0 and is in the same section. Otherwise it is `None`.
+    /// If no function contains the address, the nearest symbol at or before it is used, but only if
+    /// that symbol has size 0 and is in the same section. Otherwise the result is `None`.
     pub fn at(&self, address: u64) -> Option<(&Function<'data>, u64)> {
         let count = self.functions.partition_point(|function| function.begin <= address);
         let before = self.functions.get(..count)?.iter().zip(&self.ends).rev();
@@ -109,9 +113,9 @@ impl<'data> Functions<'data> {
         self.only(name, |symbol| symbol == name)
     }
 
-    /// The address of the functions whose names in the file satisfy `has_name`. Of these, only
-    /// those with the highest rank are used, and all have to have the same address. `name` is for
-    /// the error.
+    /// The address of the functions whose names in the file satisfy `has_name`. Functions whose
+    /// rank is below the highest one among these are ignored. The rest have to have the same
+    /// address. `name` is for the error.
     fn only(&self, name: &str, has_name: impl Fn(&str) -> bool) -> Result<u64, NameError> {
         let named: Vec<_> = self.functions.iter().filter(|function| has_name(function.name)).collect();
         let best = named.iter().map(|function| function.rank).max();
@@ -145,7 +149,7 @@ impl<'data> Functions<'data> {
         }
     }
 
-    /// Whether some function's name is the part of the text before its last plus sign.
+    /// Whether the part of the text before its last plus sign is the name of a function.
     fn names_before_plus(&self, text: &str) -> bool {
         let before = text.rsplit_once('+').map(|(name, _)| name.trim_end());
         before.map_or(false, |name| !matches!(self.address_of(name), Err(NameError::Unknown(_))))
@@ -178,7 +182,8 @@ fn code_sections(file: &object::File<'_>, layout: &Layout) -> HashMap<usize, u64
     code.map(|section| (section.index().0, layout.address(section.index()).saturating_add(section.size()))).collect()
 }
 
-/// The function or the label in code that a symbol stands for. `None` for any other symbol.
+/// Makes a [`Function`] of a symbol. `None` if the symbol is neither a function nor a label in
+/// code, isn't in a section, or has no name in UTF-8.
 fn function<'data>(
     symbol: &object::Symbol<'data, '_>,
     layout: &Layout,

@@ -62,7 +62,7 @@ pub enum Verdict {
 pub enum InspectError {
     /// The section can't be read from the file.
     Program(ProgramError),
-    /// A row or a record of the rewritten section differs from its counterpart in the original.
+    /// A row, CIE or FDE of the rewritten section differs from its original.
     Difference(Difference),
     /// `dwcheck` neither accepted nor refused the section, for example because memory ran out.
     Dwcheck(Name, Error),
@@ -104,7 +104,7 @@ pub fn inspect_frame_sections<'data>(
     sections.collect()
 }
 
-/// The result for a frame section that [`Frames::all`] couldn't give: a section that can't be
+/// The result for a frame section that [`Frames::all`] gives an error for: a section that can't be
 /// rewritten is refused, and a section that can't be read is an error.
 fn unread_frames<'data>(error: FramesError) -> Result<Inspected<'data>, InspectError> {
     let (name, defect) = match error {
@@ -141,9 +141,9 @@ fn inspect_frames<'data>(
     Ok(Inspected { name: frames.name(), bytes: frames.source().bytes.len(), frames: Some(frames), verdict })
 }
 
-/// Makes sure that a fault isn't due to the rewriting of `.eh_frame`. gimli's rows of the original
-/// and of the rewritten section have to be equal, as far as gimli can read the records of the
-/// original.
+/// Makes sure that a fault isn't due to the rewriting of `.eh_frame`: it is an error if the
+/// rewritten section and the original differ, as gimli reads them. At a CIE or FDE of the original
+/// that gimli can't read, the comparison ends without an error.
 fn compared_by_gimli(frames: &Frames<'_>) -> Result<(), InspectError> {
     if frames.name() != Name::EhFrame {
         return Ok(());
@@ -154,7 +154,7 @@ fn compared_by_gimli(frames: &Frames<'_>) -> Result<(), InspectError> {
     }
 }
 
-/// Counts the records and rows of a section that wasn't rewritten.
+/// Counts the CIEs, FDEs and rows of a section that wasn't rewritten.
 fn counted(frames: &Frames<'_>, process: &Process) -> Agreement {
     let mut agreement = Agreement::default();
     let mut row = Row::default();
@@ -181,8 +181,8 @@ fn inspect_lists(lists: &[u8], target: Target) -> Result<Verdict, InspectError> 
     }
 }
 
-/// Where a record, or anything in it, begins in the file's section. `record` is the offset in
-/// [`Frames::bytes`].
+/// Turns an offset in [`Frames::bytes`], such as that of a CIE, an FDE or an expression, into the
+/// offset in the file's section. An offset that belongs to no CIE or FDE stays the same.
 pub fn source_offset(frames: &Frames<'_>, record: u64) -> u64 {
     frames.place(record, Edge::Begin).map_or(record, |place| place.offset)
 }

@@ -43,7 +43,7 @@ impl Contents {
         Ok(())
     }
 
-    /// Reads an entry of a list. Returns whether it is the end of the list.
+    /// Reads an entry of a list. Returns true for the entry that ends the list.
     fn entry(&mut self, table: &mut Cursor<'_>) -> Result<bool, ReadError> {
         let address = u64::from(table.target().address_size.bytes());
         let code = table.byte()?;
@@ -74,7 +74,7 @@ fn initial_length(cursor: &mut Cursor<'_>) -> Result<(u64, u64), ReadError> {
 }
 
 /// The offset of the table that contains `offset` or ends there. A table that can't be read is
-/// taken to reach to the section's end. `None` if no table does.
+/// taken to reach to the section's end. `None` if `offset` is past all tables.
 pub fn table_of(section: &[u8], target: Target, offset: usize) -> Option<u64> {
     let mut cursor = Cursor::new(section, target);
     while !cursor.is_at_end() {

@@ -5,14 +5,15 @@ use cpp_demangle::{DemangleOptions, ParseOptions, Symbol};
 use std::borrow::Cow;
 use std::fmt::{self, Write};
 
-/// A name of more bytes isn't demangled. Neither is a name whose demangled form would have more
-/// bytes, because a short mangled name can stand for a huge one.
+/// A name with more bytes than this isn't demangled. Neither is a name whose demangled form would
+/// have more bytes than this, because a short mangled name can stand for a huge one.
 const LONGEST: usize = 4096;
 
-/// How deep the parts of a C++ name may be nested.
+/// A C++ name whose parts are nested deeper than this isn't demangled.
 const NESTED: u32 = 64;
 
-/// Demangles a Rust or C++ name. Returns any other name unchanged.
+/// Demangles a Rust or C++ name. Returns the name unchanged if it is neither, or can't be
+/// demangled.
 ///
 /// ```
 /// use dwcheck_elf::names::demangled;

@@ -77,7 +77,8 @@ impl Object<'_, '_> {
         Ok(unresolved)
     }
 
-    /// The address of the symbol that a relocation names. `None` if the object doesn't define it.
+    /// The address of the symbol that a relocation names. `None` if the object doesn't define the
+    /// symbol. An error if the file has no such symbol.
     fn symbol(&self, relocation: &Relocation) -> Result<Option<u64>, RelocationError> {
         let index = match relocation.target() {
             RelocationTarget::Symbol(index) => index,
@@ -113,7 +114,8 @@ impl Object<'_, '_> {
     }
 }
 
-/// The bytes of the field at an offset, at most 8. `None` if they aren't all in the section.
+/// The bytes that hold the field of `bits` bits at an offset, at most 8 bytes. `None` if they
+/// aren't all in the section.
 fn field(bytes: &mut [u8], offset: u64, bits: u8) -> Option<&mut [u8]> {
     let size = usize::from(bits.min(64).checked_add(7)? / 8);
     let begin = usize::try_from(offset).ok()?;

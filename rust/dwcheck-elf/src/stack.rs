@@ -80,8 +80,9 @@ pub struct Stack<'s, 'a> {
 }
 
 impl<'a> Stacks<'a> {
-    /// Reads the modules of a core file. Records that `dwcheck` refuses and files that can't be
-    /// read are left out; [`missing`](Self::missing) says of which files, and why.
+    /// Reads the modules of a core file. CIEs and FDEs that `dwcheck` refuses are left out, and so
+    /// are files that can't be read. [`missing`](Self::missing) lists the files with something left
+    /// out, and the reasons.
     pub fn of(core: &'a CoreFile<'a>, files: &'a Files) -> Self {
         let memory = core.memory(files);
         let mut stacks = Stacks {
@@ -199,8 +200,8 @@ impl<'a> Stacks<'a> {
     }
 }
 
-/// Adds a section of a module to a process. If the section is refused, its accepted part is added,
-/// and the error says how many records aren't used.
+/// Adds a section of a module to a process. A refused section is added without its refused CIEs and
+/// FDEs, and the error says how many these are.
 fn add_section(process: &mut Process, frames: &Frames<'_>, bias: u64) -> Result<(), String> {
     match frames.add_to(process, bias) {
         Err(dwcheck::Error::Refused(fault)) => {

@@ -26,8 +26,8 @@ const MOST_KEPT: usize = 127;
 pub struct StateFile {
     /// The values of the registers, by DWARF register number.
     pub registers: Registers,
-    /// Parts of memory, each with its first address and its bytes. If two parts have the same
-    /// address, the byte of the earlier part counts.
+    /// Parts of memory, each with its first address and its bytes. If an address is in two parts,
+    /// the byte of the earlier part counts.
     pub memory: Vec<(u64, Vec<u8>)>,
     /// The CFA, the frame base and the object's address, each if the file has it.
     pub context: Context,

@@ -2,9 +2,9 @@
 //!
 //! [`validate_rows`] compares gimli's rows of the original with `dwcheck`'s rows of the rewritten
 //! section. [`validate`] compares gimli's rows of both sections, which also works if `dwcheck`
-//! refuses the rewritten section. Both functions find the records of the original by their lengths
-//! alone. Of what [`crate::bridge`] gives, they use only the bytes. So they notice every record
-//! that was lost, added or changed by mistake.
+//! refuses the rewritten section. Both functions find the CIEs and FDEs of the original by their
+//! lengths alone, and those of the rewritten section by its bytes alone. So they notice every CIE
+//! or FDE that was lost, added or changed by mistake.
 
 mod dwcheck_rows;
 mod gimli_rows;
@@ -38,25 +38,26 @@ pub struct Agreement {
 pub struct Difference {
     /// The name of the original section.
     pub section: Name,
-    /// The offset of the record in the original section.
+    /// The offset in the original section of the CIE or FDE that differs. If the rewritten section
+    /// has one too many, the original section's length.
     pub record: u64,
     /// What differs.
     pub what: What,
 }
 
-/// What differs between a record of the original section and its counterpart in the rewritten
-/// section.
+/// What differs between a CIE or FDE of the original section and its counterpart, which is the CIE
+/// or FDE that it was rewritten as.
 #[derive(Clone, Debug, PartialEq, Eq)]
 pub enum What {
-    /// gimli can't read the record in the original section.
+    /// gimli can't read the CIE or FDE in the original section.
     Unreadable(String),
-    /// gimli can't read the record's counterpart in the rewritten section.
+    /// gimli can't read the counterpart in the rewritten section.
     UnreadableBridged(String),
-    /// The rewritten section has no counterpart of the record.
+    /// The rewritten section has no counterpart.
     Missing,
-    /// The rewritten section has a record that the original doesn't have.
+    /// The rewritten section has a CIE or FDE that the original doesn't have.
     Surplus,
-    /// One of the two records is a CIE, and the other one is an FDE.
+    /// One of the two is a CIE, and the other one is an FDE.
     Kind,
     /// The CIEs differ in an alignment factor or in the return address register.
     Numbers,
@@ -80,9 +81,9 @@ pub enum What {
 
 /// Gives the rows of an FDE one by one.
 ///
-/// gimli doesn't distinguish an undefined register from a register without a rule. So a source that
-/// is compared with [`GimliRows`] has to leave out each [`crate::row::Rule::Undefined`], and each
-/// row that covers no address.
+/// A source that is compared with [`GimliRows`] has to leave out what is missing there: each
+/// [`crate::row::Rule::Undefined`], because gimli doesn't distinguish an undefined register from a
+/// register without a rule; and each row that covers no address.
 pub trait RowSource<'a> {
     /// Writes the next row to `row`. Returns false after the last row, or an error if no more rows
     /// can be read.
@@ -121,7 +122,7 @@ fn shown(outcome: &Result<bool, String>, row: &Row<'_>) -> String {
     }
 }
 
-/// Compares each record of `.eh_frame` with its counterpart in the rewritten section, as gimli
+/// Compares each CIE and FDE of `.eh_frame` with its counterpart in the rewritten section, as gimli
 /// reads both.
 pub fn validate(section: &EhFrame<'_>, bridged: &Bridged) -> Result<Agreement, Difference> {
     let mut original = Original::new(section);
@@ -159,8 +160,8 @@ pub fn validate(section: &EhFrame<'_>, bridged: &Bridged) -> Result<Agreement, D
     }
 }
 
-/// Moves past the next record whose length isn't 0, and returns its offset. `None` if there is no
-/// such record, or if a length can't be read.
+/// Moves past the next CIE or FDE, which is a record whose length isn't 0, and returns its offset.
+/// `None` if there is no further one, or if a length can't be read.
 fn next_record(cursor: &mut Cursor<'_>) -> Option<usize> {
     while !cursor.is_at_end() {
         let record = cursor.at();

@@ -9,7 +9,9 @@ use common::{has, Folder, C, CXX, MACHINES};
 use dwcheck_elf::bridge::{Edge, RecordKind};
 use frames::{compared, records, Shown};
 
-/// Rewrites the section of a linked file, and compares its counts, rows and places with readelf's.
+/// Rewrites the section of a linked file, and compares the result with what readelf shows: the
+/// counts, the rows, and the offsets in the file's section that the rewritten bytes are traced back
+/// to.
 fn counted(folder: &Folder, file: &str) {
     let (bridged, agreement) = compared(folder, file, "objcopy");
     let shown = records(folder, file, ".eh_frame");
@@ -39,8 +41,8 @@ fn is_signal(shown: &[Shown], cie: u64) -> bool {
     shown.iter().any(|record| record.offset == cie && record.augmentation.contains('S'))
 }
 
-/// Checks that the place of each rewritten record is where readelf shows the original record, and
-/// that the place of each byte of an FDE's instructions has the same byte.
+/// Checks that each rewritten CIE or FDE is traced back to the offset where readelf shows the
+/// original, and each byte of an FDE's instructions to an equal byte.
 fn placed(folder: &Folder, file: &str, shown: &[Shown], bridged: &dwcheck_elf::bridge::Bridged) {
     let source = folder.section(file, ".eh_frame");
     assert_eq!(bridged.records().len(), shown.len());

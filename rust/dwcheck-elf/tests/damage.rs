@@ -40,9 +40,9 @@ impl Numbers {
     }
 }
 
-/// Rewrites a section. Returns false if it can't be rewritten. The only allowed difference is a
-/// record that gimli can't read because of its augmentation data, which the rewritten section
-/// doesn't have.
+/// Rewrites a section, and compares gimli's rows of both sections. Returns false if the section
+/// can't be rewritten. The only allowed difference is a CIE or FDE that gimli can't read because of
+/// its augmentation data, which the rewritten section doesn't have.
 fn frames(section: &EhFrame<'_>) -> bool {
     let bridged = match bridge(section, Options::default()) {
         Ok(bridged) => bridged,

@@ -34,7 +34,7 @@ fn bridged(folder: &Folder, options: Options) -> (Bridged, Agreement) {
 }
 
 /// gimli refuses the instruction in the original and in the rewritten section. The instruction's
-/// place in the original section is found.
+/// offset in the rewritten section is traced back to its offset in the original.
 #[test]
 fn def_cfa_register_after_an_expression() {
     let folder = Folder::new("expression");
@@ -50,8 +50,8 @@ fn def_cfa_register_after_an_expression() {
     assert_eq!(place.kind, RecordKind::Fde { begin, size: 3, signal: false });
 }
 
-/// `dwcheck` reports Unrestored at the end of an FDE, which is also the start of the next record.
-/// `Edge` says which of the two records is meant.
+/// `dwcheck` reports Unrestored at the end of an FDE, where the next CIE or FDE begins. `Edge` says
+/// which of the two is meant.
 #[test]
 fn remember_without_restore() {
     let folder = Folder::new("remember");
@@ -85,8 +85,8 @@ fn instructions_that_are_wrong() {
     }
 }
 
-/// After an instruction that is dropped, the places of later offsets in the original section are
-/// right.
+/// Offsets after an instruction that was dropped are traced back to the right offsets in the
+/// original section.
 #[test]
 fn args_size_is_dropped() {
     let folder = Folder::new("args");
@@ -281,8 +281,8 @@ fn changes_are_seen() {
     assert_eq!(lost.counts().fdes, fdes - 1);
 }
 
-/// If the process has rows of other bytes than the rewritten section's, that is a difference, and
-/// both rows are shown.
+/// If the process was made from other bytes than those of the rewritten section, its rows differ
+/// from gimli's. The difference shows both rows.
 #[test]
 fn a_wrong_row_of_dwcheck_is_a_difference() {
     let folder = Folder::new("difference");

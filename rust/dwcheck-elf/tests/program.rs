@@ -136,7 +136,7 @@ int main(int argc, char **) { return thrice(argc); }
 }
 
 /// Functions of Rust, with both kinds of mangled names. Shown names have no hash, so two functions
-/// may have the same one.
+/// may be shown with the same name.
 #[test]
 fn names_of_rust_that_are_demangled() {
     let folder = Folder::new("rust-names");

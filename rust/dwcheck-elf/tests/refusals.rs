@@ -6,7 +6,7 @@ use common::run::dwcheck_elf;
 use common::{has, Folder, MACHINES};
 
 /// Functions with a defect. Each has its name, the directives between its instructions, the name of
-/// the fault, and what is written to be at the fault.
+/// the fault, and the words in which `dwcheck-elf` says what is at the fault.
 const DEFECTS: [(&str, &str, &str, &str); 13] = [
     (
         "after_expression",

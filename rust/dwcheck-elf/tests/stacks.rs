@@ -59,8 +59,8 @@ fn addresses(shown: &str) -> Vec<String> {
     lines.collect()
 }
 
-/// Compares the stacks of a program that a signal ends with eu-stack's. Returns what `dwcheck-elf`
-/// wrote, or an empty text if a tool isn't installed.
+/// Runs a program that is ended by a signal, and compares its stacks with those that eu-stack
+/// shows. Returns what `dwcheck-elf` wrote, or an empty text if a tool isn't installed.
 fn compared(name: &str, compiler: &str, source: &str) -> String {
     let folder = Folder::new(name);
     if !["gdb", "eu-stack"].iter().all(|tool| has(tool)) {

@@ -190,8 +190,8 @@ struct Run<'a> {
 }
 
 impl Run<'_> {
-    /// Runs the expression. The pieces of the result go into `pieces`. If the result is a location
-    /// that is bytes, or if piece `n` (counted from 0) is, these bytes go into `bytes`.
+    /// Runs the expression. The pieces of the result go into `pieces`. If the result's location, or
+    /// that of piece `n` (counted from 0), is bytes, these bytes go into `bytes`.
     fn run(
         &self,
         n: u32,

@@ -165,8 +165,8 @@ fault_kinds! {
     /// An ABI has more than 127 callee-saved registers. Reported at index 127, that of the first
     /// one too many.
     AbiTooLarge = 62,
-    /// An ABI names a register twice. Reported at the index of the second number; the index of the
-    /// stack pointer is the number of callee-saved registers.
+    /// An ABI names a register twice. Reported at the index of the second number. The stack
+    /// pointer's index is the one after the last callee-saved register.
     AbiTwice = 63,
     /// A certificate, which lists the stack state before each operation of an expression, doesn't
     /// have as many states as there are operations. (No call of this crate takes a certificate.)
@@ -216,8 +216,8 @@ pub enum Section {
     /// The expression that was passed to [`evaluate`](crate::evaluate). The offset counts bytes
     /// from its start.
     Expression,
-    /// The ABI. The offset is an index into its callee-saved registers, from 0. The number of these
-    /// registers is the index of the stack pointer.
+    /// The ABI. The offset is an index into its callee-saved registers, from 0. The stack pointer's
+    /// index is the one after the last callee-saved register.
     Abi,
     /// A number that this crate doesn't know, because the library is newer.
     Other(u32),

@@ -9,9 +9,10 @@ use std::path::{Path, PathBuf};
 use std::process::Command;
 use std::ptr::addr_of;
 
-/// From a structure's name in Rust, its name in C and its fields: first, lines with the structure's
-/// size and alignment, and the offset and size of each field; second, C statements that print these
-/// lines as the C compiler sees them.
+/// Takes the name of a structure in Rust, its name in C, and the names of its fields. Gives two
+/// strings. The first has lines with the structure's size and alignment, and with the offset and
+/// size of each field. The second has C statements that print these lines as the C compiler sees
+/// them.
 macro_rules! layout {
     ($rust:ident, $c:literal: $($field:ident)*) => {{
         let whole = MaybeUninit::<ffi::$rust>::uninit();

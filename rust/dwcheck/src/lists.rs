@@ -68,8 +68,8 @@ pub fn locations(
     }
 }
 
-/// Writes the expressions that apply to `slots`, as many as fit, and returns their number. `None`
-/// if no list begins at `lookup.list`.
+/// Writes to `slots` the expressions that apply at the address, as many as fit, and returns the
+/// number written. `None` if no list begins at `lookup.list`.
 fn look_up(
     lists: &[u8],
     target: Target,

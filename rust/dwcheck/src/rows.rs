@@ -7,8 +7,8 @@ use std::fmt;
 
 /// For looking up the rows of many addresses. [`Process::rows`] makes this.
 ///
-/// [`Process::row`] gives the same rows, but allocates memory for each. Here every look-up uses the
-/// buffers of the one before again.
+/// [`Process::row`] gives the same rows, but allocates memory for each. Here all look-ups share the
+/// same buffers.
 ///
 /// ```
 /// # const SECTION: &[u8] = &[

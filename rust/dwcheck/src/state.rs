@@ -26,14 +26,14 @@ pub struct Registers {
     known: Vec<u8>,
 }
 
-/// The index of the byte in `known`, and the mask of the bit in that byte, that say whether a
-/// register is known.
+/// Where `known` says whether a register is known: the index of the byte, and the mask of the bit
+/// in that byte.
 fn flag(number: u16) -> (usize, u8) {
     (usize::from(number / 8), 1 << (number % 8))
 }
 
 impl Registers {
-    /// No register is known yet.
+    /// An empty set of registers: none is known yet.
     pub const fn new() -> Registers {
         Registers {
             contents: Vec::new(),

@@ -26,7 +26,7 @@ pub struct Steps<'a> {
     registers: Registers,
     /// The address of the next frame, and the address at which to look up that frame. The second
     /// one is `None` if the frame's address is a return address of 0, because there is no address
-    /// before 0. The whole is `None` if there is no next frame.
+    /// before 0. All of `next` is `None` if there is no next frame.
     next: Option<(u64, Option<u64>)>,
 }
 

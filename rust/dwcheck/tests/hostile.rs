@@ -38,8 +38,8 @@ impl Numbers {
         all[self.below(4)]
     }
 
-    /// Any address, or 0 or one of the 31 highest, or one from 0x1000 to 0x103f. The sections have
-    /// rows from 0x1000 to 0x101f.
+    /// An address of one of three kinds: any; 0 or one of the 31 highest; or one from 0x1000 to
+    /// 0x103f. The sections have rows from 0x1000 to 0x101f.
     fn address(&mut self) -> u64 {
         match self.below(3) {
             0 => self.next(),

@@ -76,8 +76,8 @@ fn block(cursor: &mut Cursor<'_>) -> Result<usize, ReadError> {
 }
 
 /// The name of the instruction with this code, without `DW_CFA_`. It is the name in DWARF 5,
-/// section 7.24, or a vendor's. `machine` (`e_machine`) decides where vendors share a code. `None`
-/// if the code has no name.
+/// section 7.24, or a vendor's. Vendors use some codes for different instructions; `machine`
+/// (`e_machine`) then decides which one is meant. `None` if the code has no name.
 pub(crate) fn name_of(code: u8, machine: u16) -> Option<&'static str> {
     Some(match code {
         0x40..=0x7f => "advance_loc",

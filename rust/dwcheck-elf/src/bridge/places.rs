@@ -2,9 +2,8 @@
 
 use std::ops::Range;
 
-/// A CIE or FDE of the rewritten section, and where the CIE or FDE that it was made from is in the
-/// file's section. The bytes after the last CIE or FDE that can be read are listed here too, as a
-/// CIE.
+/// A CIE or FDE: where it is in the rewritten section, and where the original is in the file's
+/// section. The bytes after the last CIE or FDE that can be read are listed here too, as a CIE.
 #[derive(Clone, Debug, PartialEq, Eq)]
 pub struct Record {
     /// The offset in the rewritten section.

@@ -141,7 +141,7 @@ impl<'a> Finder<'a> {
 /// If one segment ends in the page of the file in which the next one begins, that page is mapped
 /// for both segments. So a mapping can have bytes of a segment that it wasn't made for, and then
 /// more than one segment gives a bias. The right bias is the one that another mapping of the file
-/// has given already.
+/// has given already, if there is one.
 fn is_shown(mapping: &Mapping<'_>, segment: &Segment) -> bool {
     let mapped_end = mapping.offset.saturating_add(mapping.end.saturating_sub(mapping.begin));
     let segment_end = segment.offset.saturating_add(segment.file_size);

@@ -30,7 +30,7 @@ pub struct DwcheckRows<'a> {
 
 impl<'a> DwcheckRows<'a> {
     /// The rows from `begin` up to, not including, `end`. The section's FDEs have to cover all
-    /// these addresses.
+    /// these addresses. Otherwise reading a row gives an error.
     pub fn new(process: &'a Process, bytes: &'a [u8], begin: u64, end: u64) -> Self {
         DwcheckRows { rows: process.rows(), bytes, next: begin, end, return_register: None, has_undefined: false }
     }
@@ -41,7 +41,8 @@ impl<'a> DwcheckRows<'a> {
         DwcheckRows { has_undefined: true, ..DwcheckRows::new(process, bytes, begin, end) }
     }
 
-    /// The register of the return address in the last row that was read.
+    /// The register of the return address in the last row that was read. `None` before the first
+    /// row.
     pub fn return_register(&self) -> Option<u16> {
         self.return_register
     }
@@ -190,7 +191,8 @@ where
         self.section.cie_from_offset(&self.bases, offset.into()).is_ok()
     }
 
-    /// Compares gimli's rows of the FDE at an offset with `dwcheck`'s. Returns the number of rows.
+    /// Compares gimli's rows of the FDE at an offset with `dwcheck`'s. Returns the number of rows,
+    /// or the first difference.
     fn compare(&self, offset: usize, room: &mut Room<'a>) -> Result<usize, What> {
         let unreadable = |error: gimli::Error| What::Unreadable(error.to_string());
         let fde = self.section.fde_from_offset(&self.bases, offset.into(), S::cie_from_offset).map_err(unreadable)?;
@@ -214,8 +216,8 @@ where
         }
     }
 
-    /// The number of an FDE's rows. `None` unless gimli's rows are equal to `dwcheck`'s, and
-    /// `register` is the return address register of each.
+    /// Counts an FDE's rows. `None` if a row of gimli's and the one of `dwcheck`'s aren't equal, if
+    /// gimli can't read a row, or if a row's return address register isn't `register`.
     fn count_equal(
         &self,
         mut table: UnwindTable<'_, '_, Bytes<'a>, Bounded>,

@@ -14,8 +14,9 @@ type Context<'a> = Box<UnwindContext<Bytes<'a>, Bounded>>;
 type Cie<'a> = CommonInformationEntry<Bytes<'a>>;
 type Fde<'a> = FrameDescriptionEntry<Bytes<'a>>;
 
-/// gimli's storage for rules and remembered rows. It has room for more of both than `dwcheck`
-/// accepts, but for a fixed number: gimli's default storage for remembered rows has no bound.
+/// gimli's storage for rules and remembered rows. It has room for 192 rules and 32 remembered rows,
+/// more than `dwcheck` accepts. It is used because gimli's default storage has no bound on the
+/// number of remembered rows.
 pub(super) struct Bounded;
 
 impl<R: Reader> UnwindContextStorage<R> for Bounded {
@@ -38,7 +39,7 @@ pub(super) struct Original<'a> {
     context: Context<'a>,
 }
 
-/// A record of the original section.
+/// A CIE or FDE of the original section.
 pub(super) enum OriginalEntry<'a> {
     Cie(Cie<'a>),
     Fde(Fde<'a>),
@@ -74,8 +75,7 @@ impl<'a> Original<'a> {
         Original { section: read, bytes: section.bytes, target: section.target, bases, context }
     }
 
-    /// The record at an offset. The id after the length tells whether the record is a CIE or an
-    /// FDE.
+    /// The CIE or FDE at an offset. The id after the length tells which of the two it is.
     pub fn entry(&self, record: usize) -> gimli::Result<OriginalEntry<'a>> {
         let is_long = self.bytes.get(record..).map_or(false, |bytes| bytes.starts_with(&[0xff; 4]));
         let id = record.saturating_add(if is_long { 12 } else { 4 });
@@ -88,8 +88,8 @@ impl<'a> Original<'a> {
         }
     }
 
-    /// Compares an FDE with its counterpart. Returns the number of equal rows, and whether gimli
-    /// then refuses both with the same error.
+    /// Compares an FDE with its counterpart in the rewritten section. Returns the number of equal
+    /// rows, and whether gimli then gives the same error for both FDEs instead of further rows.
     pub fn compare<'b>(
         &mut self,
         fde: &Fde<'a>,
@@ -151,7 +151,7 @@ impl<'data> RowSource<'data> for GimliRows<'data, '_, '_> {
     }
 }
 
-/// Copies the rules of a row that gimli has read.
+/// Copies the rules of a row that gimli has read to `row`.
 fn fill<'a>(row: &mut Row<'a>, read: &UnwindTableRow<Bytes<'a>, Bounded>) {
     row.cfa = match read.cfa() {
         CfaRule::RegisterAndOffset { register, offset } => {

@@ -48,8 +48,8 @@ fn part<'a>(shown: &'a str, section: &str) -> impl Iterator<Item = &'a str> {
     lines.take_while(|line| !line.starts_with("Contents of"))
 }
 
-/// The lines in which readelf shows the rows of a section, without the offsets of records and the
-/// augmentation strings, which differ after rewriting.
+/// The lines in which readelf shows the rows of a section. The offsets of CIEs and FDEs and the
+/// augmentation strings are cut off, because they differ after rewriting.
 fn rows(shown: &str, section: &str) -> Vec<String> {
     let kept = |line: &'_ str| {
         let start = ["pc=", "cf="].iter().find_map(|word| line.find(word)).unwrap_or(0);

@@ -70,7 +70,7 @@ impl Reading {
 /// What to print in addition to the result.
 #[derive(Args, Clone, Copy, Debug)]
 pub struct Notes {
-    /// List what was dropped from .eh_frame or changed in it before the check
+    /// List what was dropped or changed when .eh_frame was rewritten
     #[arg(long)]
     pub notes: bool,
 }

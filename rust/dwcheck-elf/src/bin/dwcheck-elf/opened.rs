@@ -31,11 +31,11 @@ pub fn program<'data>(path: &Path, data: &'data [u8]) -> Result<Program<'data>, 
     Program::read(data).map_err(|error| Failure::File(format!("{}: {}", path.display(), error)))
 }
 
-/// Checks the frame sections of a program, and returns those from which rows may be looked up. If
-/// all are accepted, these are all. If `.debug_frame` is refused and `.eh_frame` is accepted, it is
-/// only `.eh_frame`, and a note on standard error says so. In any other case, the inner error is
-/// the fault of the first section that is refused. A section that had to be rewritten for
-/// `dwcheck`, such as `.eh_frame`, is accepted only if its rows are also those that gimli reads.
+/// Checks the frame sections of a program, and returns those in which rows are then looked up. If
+/// all are accepted, it returns all. If `.debug_frame` is refused and `.eh_frame` is accepted, it
+/// returns only `.eh_frame`, and says so on standard error. In any other case, the inner error is
+/// the fault of the first section that is refused. If a section had to be rewritten for `dwcheck`,
+/// as `.eh_frame` is, its rows are also compared with gimli's, and a difference is an outer error.
 pub fn accepted_frames<'data>(
     path: &Path,
     program: &Program<'data>,
