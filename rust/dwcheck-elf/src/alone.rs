@@ -75,8 +75,8 @@ pub fn accepted_part(frames: &Frames<'_>, first: Fault) -> AcceptedPart {
     let mut left_out = 0;
     for record in all.iter().filter(is_left_out) {
         left_out += 1;
-        // The record becomes a CIE: its id, version 1, an empty augmentation string, alignment
-        // factors 1, return address register 0; then nops.
+        // The CIE or FDE becomes this CIE: its id, version 1, an empty augmentation string,
+        // alignment factors 1, return address register 0; then nops.
         let id = usize::from(record.offset_size());
         let body = bytes.get_mut(record.body..record.end).unwrap_or(&mut []);
         body.iter_mut().enumerate().for_each(|(place, byte)| {

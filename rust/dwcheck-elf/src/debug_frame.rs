@@ -36,7 +36,7 @@ pub struct Record {
     pub program: Option<Range<usize>>,
 }
 
-/// The kind of a record, and some of its fields.
+/// Whether a record is a CIE, an FDE or of length 0, and some of its fields.
 #[derive(Clone, Copy, Debug, PartialEq, Eq)]
 pub enum Kind {
     /// A record of length 0. DWARF has no such records, but some linkers leave them.

@@ -56,7 +56,7 @@ pub struct Frames<'data> {
 pub enum FramesError {
     /// The section can't be read from the file.
     Program(Name, ProgramError),
-    /// A record of `.eh_frame` has no counterpart in `.debug_frame`.
+    /// A CIE or FDE of `.eh_frame` has no counterpart in `.debug_frame`.
     Bridge(BridgeError),
     /// The section has 2^32 bytes or more.
     TooLong(Name),

@@ -21,8 +21,8 @@ pub struct Function<'data> {
     /// The end address of its section if that section has code, else the end address of the
     /// function.
     limit: u64,
-    /// Used if several symbols have the same name: those with the highest rank are preferred. A
-    /// function has a higher rank than a label. Within each of the two, global symbols are above
+    /// Says which symbols are used if several have the same name: those with the highest rank.
+    /// Functions rank above labels. Among functions, and among labels, global symbols rank above
     /// weak ones, and weak ones above local ones.
     rank: u8,
 }

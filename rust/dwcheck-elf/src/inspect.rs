@@ -47,8 +47,8 @@ pub struct Inspected<'data> {
 /// Whether a section was accepted.
 #[derive(Debug)]
 pub enum Verdict {
-    /// A well-formed frame section. If it was rewritten, `dwcheck`'s rows are equal to gimli's rows
-    /// of the original.
+    /// A well-formed frame section. If it was rewritten, `dwcheck`'s rows are equal to the rows
+    /// that gimli finds in the section before it was rewritten.
     Frames(Agreement),
     /// Well-formed location lists.
     Lists(Contents),

@@ -243,8 +243,8 @@ fn records_that_cannot_be_bridged() {
     assert_eq!(refused(&bytes), error(at as u64, at as u64 + 12, Reason::NegativeRange));
 }
 
-/// The comparison notices a changed range, a changed row, a changed field of a CIE, a record that
-/// is missing, and a record too many.
+/// The comparison notices a changed range, a changed row, a changed field of a CIE, a CIE or FDE
+/// that is missing, and one too many.
 #[test]
 fn changes_are_seen() {
     let folder = Folder::new("changes");

@@ -26,8 +26,8 @@ pub struct Registers {
     known: Vec<u8>,
 }
 
-/// Where `known` says whether a register is known: the index of the byte, and the mask of the bit
-/// in that byte.
+/// For a register, where `known` says whether it is known: the index of the byte, and the mask of
+/// the bit in that byte.
 fn flag(number: u16) -> (usize, u8) {
     (usize::from(number / 8), 1 << (number % 8))
 }

@@ -1,12 +1,13 @@
-//! Why a record of `.eh_frame` can't be rewritten as a record of `.debug_frame`.
+//! Why a CIE or FDE of `.eh_frame` can't be rewritten for `.debug_frame`.
 
 use crate::bytes::ReadError;
 use std::fmt;
 
-/// A record that has no counterpart in `.debug_frame`, or that can't be read.
+/// The first CIE or FDE of `.eh_frame` that has no counterpart in `.debug_frame`, or that can't be
+/// read.
 #[derive(Clone, Debug, PartialEq, Eq)]
 pub struct BridgeError {
-    /// The offset of the record in `.eh_frame`.
+    /// The offset in `.eh_frame` of the CIE or FDE.
     pub record: u64,
     /// The offset in `.eh_frame` of the field that can't be rewritten.
     pub field: u64,
@@ -14,10 +15,10 @@ pub struct BridgeError {
     pub reason: Reason,
 }
 
-/// Why a field of an `.eh_frame` record can't be rewritten for `.debug_frame`.
+/// Why a field of a CIE or FDE of `.eh_frame` can't be rewritten for `.debug_frame`.
 #[derive(Clone, Debug, PartialEq, Eq)]
 pub enum Reason {
-    /// The section or the record ends before the field does.
+    /// The section, or the CIE or FDE, ends before the field does.
     Truncated,
     /// A LEB128 number doesn't fit in 64 bits.
     LebRange,
@@ -70,8 +71,8 @@ impl Reason {
         }
     }
 
-    /// The error for this reason. `record` and `field` are the offsets in `.eh_frame` of a record
-    /// and of the field that can't be rewritten.
+    /// The error for this reason. `record` is the offset in `.eh_frame` of a CIE or FDE, and
+    /// `field` is the offset of the field that can't be rewritten.
     pub(crate) fn at(self, record: usize, field: usize) -> BridgeError {
         BridgeError { record: record as u64, field: field as u64, reason: self }
     }

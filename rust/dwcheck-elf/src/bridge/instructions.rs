@@ -166,8 +166,8 @@ impl Bridge<'_> {
                 operands => operands.map(|operands| skip(cursor, operands, self.section.target)),
             };
             if !matches!(read, Some(Ok(_))) {
-                // `dwcheck` refuses this instruction, so the instruction and the rest of its record
-                // are copied unchanged.
+                // `dwcheck` refuses this instruction, so the instruction and the rest of its CIE or
+                // FDE are copied unchanged.
                 self.bytes.extend_from_slice(whole.rest());
                 *cursor = whole;
                 cursor.take(cursor.rest().len() as u64).map_err(|error| (start, error.into()))?;

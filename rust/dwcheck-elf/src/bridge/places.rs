@@ -14,7 +14,7 @@ pub struct Record {
     pub kind: RecordKind,
 }
 
-/// Whether a record is a CIE or an FDE, and which addresses an FDE covers.
+/// Whether a part of a section is a CIE or an FDE. For an FDE, also which addresses it covers.
 #[derive(Clone, Copy, Debug, PartialEq, Eq)]
 pub enum RecordKind {
     /// A common information entry.

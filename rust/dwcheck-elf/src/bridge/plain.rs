@@ -6,8 +6,8 @@ use crate::debug_frame::{self, Kind};
 use crate::target::Target;
 use std::collections::HashMap;
 
-/// In a copy from which records are left out, the CIE pointer of an FDE whose own CIE pointer leads
-/// nowhere. It leads nowhere either.
+/// The CIE pointer that is written for an FDE whose own CIE pointer leads to no CIE, if records are
+/// left out of the copy. The written pointer leads to no CIE either.
 const NOWHERE: u64 = 0xffff_fffe;
 
 /// Copies a `.debug_frame` section for `dwcheck`, without the records of length 0.

@@ -1,4 +1,4 @@
-//! Reads the records of `.eh_frame` and writes those of `.debug_frame`.
+//! Reads the CIEs and FDEs of `.eh_frame`, and writes those of `.debug_frame`.
 
 use super::instructions::CfaKnown;
 use super::places::{Pair, Places, Record, RecordKind};

@@ -103,7 +103,7 @@ impl<'a> Memory<'a> {
     }
 
     /// Copies the bytes from an address on into `bytes`, from one block or several. Returns false
-    /// if one of the bytes isn't known. Those before it are then copied nevertheless.
+    /// if one of the bytes isn't known; a part of `bytes` may then have been overwritten.
     pub fn read(&self, address: u64, bytes: &mut [u8]) -> bool {
         let mut done = 0;
         while let Some(rest) = bytes.get_mut(done..).filter(|rest| !rest.is_empty()) {

@@ -216,8 +216,8 @@ where
         }
     }
 
-    /// Counts an FDE's rows. `None` if a row of gimli's and the one of `dwcheck`'s aren't equal, if
-    /// gimli can't read a row, or if a row's return address register isn't `register`.
+    /// Counts an FDE's rows. `None` if gimli can't read a row, if a row of gimli's differs from
+    /// `dwcheck`'s, or if the return address register of a row isn't `register`.
     fn count_equal(
         &self,
         mut table: UnwindTable<'_, '_, Bytes<'a>, Bounded>,

@@ -5,19 +5,18 @@ use dwcheck_elf::bridge::{bridge, Bridged, Options};
 use dwcheck_elf::program::Program;
 use dwcheck_elf::validate::{validate, Agreement};
 
-/// A record as `readelf --debug-dump=frames` shows it.
+/// A CIE or FDE as `readelf --debug-dump=frames` shows it.
 #[derive(Debug)]
 pub struct Shown {
     pub offset: u64,
-    /// If the record is an FDE: the offset of its CIE, its first address, and the address after its
-    /// last one.
+    /// For an FDE: the offset of its CIE, its first address, and the address after its last one.
     pub fde: Option<(u64, u64, u64)>,
-    /// If the record is a CIE: its augmentation string. Otherwise empty.
+    /// For a CIE, its augmentation string. For an FDE, empty.
     pub augmentation: String,
     pub lines: Vec<String>,
 }
 
-/// The records of one section as readelf shows them, without records of length 0.
+/// The CIEs and FDEs of one section as readelf shows them, without records of length 0.
 pub fn records(folder: &Folder, file: &str, section: &str) -> Vec<Shown> {
     let mut shown: Vec<Shown> = Vec::new();
     for line in part(&folder.run(&format!("readelf --debug-dump=frames {}", file)), section) {

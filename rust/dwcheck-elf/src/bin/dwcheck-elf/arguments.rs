@@ -158,7 +158,7 @@ pub struct LocsWords {
     pub base: String,
     /// An address, such as 0x1130, or a function, such as main, main+4 or 'twice(int)+4'
     pub address: String,
-    /// A state file: registers, memory and context
+    /// A state file: registers, memory, and the CFA, frame base and object address
     #[arg(long, value_name = "FILE")]
     pub state: Option<PathBuf>,
 }

@@ -16,8 +16,8 @@ use dwcheck_elf::validate::Agreement;
 use std::io::{self, Write};
 use std::path::Path;
 
-/// Checks each program in turn. If there are several, and one can't be read or checked, the others
-/// are checked nevertheless.
+/// Checks each program in turn. If there are several and one can't be read or checked, the others
+/// are still checked.
 pub fn check(words: &CheckWords, out: &mut impl Write) -> Result<Done, Failure> {
     let mut done = Done::Accepted;
     for path in &words.programs {

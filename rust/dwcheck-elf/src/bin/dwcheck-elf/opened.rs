@@ -68,8 +68,8 @@ fn note_eh_frame(path: &Path, defect: &Defect) {
     let _ = writeln!(io::stderr(), "dwcheck-elf: {}: {}", path.display(), note);
 }
 
-/// Writes a fault in two lines. The first says which CIE or FDE has the fault, and the fault's
-/// name. The second has the fault's offset, and the rule that the fault breaks.
+/// Writes a fault in two lines. The first says where it is, such as in which FDE, and gives its
+/// name. The second has its offset, and the rule that it breaks.
 pub fn write_defect(out: &mut impl Write, path: &Path, defect: &Defect) -> io::Result<()> {
     writeln!(out, "{}: {}", path.display(), defect)?;
     writeln!(out, "    at {:#x}: {}", defect.offset, defect.rule)

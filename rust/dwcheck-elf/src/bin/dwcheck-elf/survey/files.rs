@@ -21,7 +21,7 @@ const MAGIC: &[u8; 4] = b"\x7fELF";
 pub struct Files {
     /// The paths of the files, in the order in which they were found.
     pub paths: Vec<PathBuf>,
-    /// The number of further ELF files that have the same bytes as one of these.
+    /// The number of further ELF files, each with the same bytes as a file in `paths`.
     pub repeated: usize,
     /// Files and folders that can't be read, and why.
     pub unread: Vec<(PathBuf, String)>,
