@@ -91,7 +91,8 @@ pub trait RowSource<'a> {
 }
 
 /// Compares the rows of two sources one by one. Returns the number of equal rows, and whether both
-/// sources ended with the same error. `rows` is a buffer for one row of each source.
+/// sources ended with the same error. If rows differ, the error has the first such pair. `rows` is
+/// a buffer for one row of each source.
 pub fn compare_rows<'a, 'b>(
     section: &mut impl RowSource<'a>,
     bridged: &mut impl RowSource<'b>,

@@ -9,8 +9,8 @@ use dwcheck_elf::program::{Program, ProgramError, Section};
 use dwcheck_elf::validate::validate;
 use std::collections::HashMap;
 
-/// For each relocation of an FDE's initial location, the section and the offset that it refers to,
-/// as readelf shows them, in the order of the FDEs.
+/// What readelf shows for the relocations of the FDEs' initial locations, in the order of the FDEs:
+/// for each relocation, the section and the offset that it refers to.
 fn functions_of_relocations(folder: &Folder, file: &str, section: &str) -> Vec<(String, u64)> {
     let shown = folder.run(&format!("readelf -rW {}", file));
     let title = format!("'.rela{}'", section);

@@ -1,5 +1,5 @@
-//! Compares the frames of a core file's threads with those that gdb finds. The program `dwcheck`
-//! finds the frames, from the modules, registers and memory that this library reads.
+//! Compares the frames of a core file's threads with those that gdb finds. This library reads the
+//! modules, registers and memory. From these, the program `dwcheck` finds the frames.
 //!
 //! This needs the path of a built `dwcheck` in the environment variable DWCHECK. If it isn't set,
 //! the tests are skipped.

@@ -80,7 +80,7 @@ impl Process {
 
 impl Steps<'_> {
     /// The caller of the frame that is looked up at `address`. `None` if `address` is `None`, or if
-    /// no module has a row for it.
+    /// no module has a row for the address.
     fn caller(&self, address: Option<u64>) -> Result<Option<Caller>, Error> {
         let state = State {
             registers: &self.registers,

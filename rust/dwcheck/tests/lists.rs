@@ -20,8 +20,8 @@ fn at(section: &[u8], list: u32, base: u64, address: u64) -> Option<Vec<u64>> {
     Some(found.iter().map(|span| span.offset).collect())
 }
 
-/// For each expression that applies at an address, in the list at 0xc: its result, and its number
-/// of steps.
+/// For each expression of the list at 0xc that applies at an address: its result, and its number of
+/// steps.
 fn come_to(section: &[u8], base: u64, address: u64) -> Vec<(Outcome, u32)> {
     let lookup = Lookup {
         list: 0xc,

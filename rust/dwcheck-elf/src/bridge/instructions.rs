@@ -115,8 +115,8 @@ pub(crate) fn name_of(code: u8, machine: u16) -> Option<&'static str> {
     })
 }
 
-/// Whether the CFA has a rule: after the instructions so far, and in each state that
-/// `DW_CFA_remember_state` has remembered.
+/// Whether the CFA has a rule: now, after the instructions that were read so far, and in each state
+/// that `DW_CFA_remember_state` has remembered.
 #[derive(Clone, Debug, Default)]
 pub(super) struct CfaKnown {
     now: bool,

@@ -24,7 +24,7 @@ impl Thread {
     }
 }
 
-/// The entry in the tables below for a register that isn't read, because it has no DWARF number.
+/// In the tables below, this stands for a register that isn't read, because it has no DWARF number.
 const NO: u16 = u16::MAX;
 
 /// The DWARF numbers of the registers of x86-64, in the order in which a core file has them: r15 to

@@ -12,7 +12,8 @@ use dwcheck_elf::target::Target;
 use dwcheck_elf::text::{Offset, Outcomes};
 use std::io::Write;
 
-/// Shows each expression that the list has for the address, and the result of the expression.
+/// Shows each expression that the list has for the address, and the result of the expression. Shows
+/// `none` if there is no such expression, and `no list` if no list begins at the offset.
 pub fn locs(words: &LocsWords, out: &mut impl Write) -> Result<Done, Failure> {
     let data = read(&words.program)?;
     let program = program(&words.program, &data)?;

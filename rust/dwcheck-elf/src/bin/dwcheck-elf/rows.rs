@@ -78,7 +78,8 @@ fn write_rows(out: &mut impl Write, frames: &Frames<'_>, mut rows: DwcheckRows<'
     Ok(())
 }
 
-/// Shows the row of an address, from the first section that has such a row.
+/// Shows the row of an address, from the first section that has such a row. Shows `none` if no
+/// section has one.
 pub fn row(words: &RowWords, out: &mut impl Write) -> Result<Done, Failure> {
     let data = read(&words.program)?;
     let program = program(&words.program, &data)?;

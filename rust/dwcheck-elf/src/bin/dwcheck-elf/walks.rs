@@ -88,7 +88,8 @@ fn loaded<'a>(
     Ok(Ok(all))
 }
 
-/// What both commands share: reads and checks all files, and calls `ask`, which writes the answer.
+/// What `unwind` and `backtrace` share: reads and checks all files, and calls `ask`, which writes
+/// the answer.
 fn run<W: Write>(
     words: &UnwindWords,
     out: &mut W,
@@ -122,7 +123,8 @@ fn no_answer(error: Error) -> Failure {
     Failure::File(error.to_string())
 }
 
-/// Shows the caller of the frame at an address.
+/// Shows the caller of the frame at an address. Shows `none` if no module has a row for the
+/// address.
 pub fn unwind(words: &UnwindWords, out: &mut impl Write) -> Result<Done, Failure> {
     run(words, out, |loaded, address, file, out| {
         let blocks = file.blocks();
