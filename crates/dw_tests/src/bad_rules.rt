@@ -1,5 +1,5 @@
-//! Rules whose expressions are refused, each for another reason, and programs that have other
-//! faults besides: which fault is reported first.
+//! Tests of which fault is reported first if a rule's expression is refused. The expressions are
+//! refused for different reasons, and some of the programs have another fault as well.
 
 use crate::inputs::LITTLE;
 use dw_bytes::{Fault, FaultKind};

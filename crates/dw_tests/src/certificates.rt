@@ -1,5 +1,5 @@
-//! Checks of expressions: the depth and number of operations of those that are accepted, and the
-//! first fault of those that are refused.
+//! Checks of expressions: the depth (the greatest stack height) and the number of operations of
+//! those that are accepted, and the first fault of those that are refused.
 
 use crate::inputs::LITTLE;
 use dw_bytes::{Fault, FaultKind};
@@ -8,7 +8,8 @@ use dw_stack::{Kind, certify, check_expression};
 use std::alloc::{AllocError, Global};
 use std::process::Abort;
 
-/// The result of a check: an expression's depth and its number of operations, or its first fault.
+/// The result of a check: the greatest height of an expression's stack and its number of operations,
+/// or its first fault.
 pub(crate) type Verdict = Result<(u8, u32), Fault>;
 
 /// The result of checking the expression `bytes`.

@@ -60,8 +60,8 @@ fn rows_cover(
     Ok(())
 }
 
-/// Asserts that rows just before `start` and just after `end`, if there are any, don't overlap the
-/// addresses between.
+/// Asserts that the rows of the addresses `start` - 1 and `end`, if there are any, cover no address
+/// from `start` up to, not including, `end`.
 fn rows_end(rt: &impl Abort, frame: &CheckedFrame<'_>, start: u64, end: u64) {
     if let Some(row) = frame.row_for_address(end) {
         assert!(rt; row.start_address() >= end);

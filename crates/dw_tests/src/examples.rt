@@ -35,9 +35,10 @@ pub fn saved_offset(frame: &CheckedFrame<'_>, address: u64, register: u16) -> Op
 
 /// The value of a checked expression with given registers and memory, if it has a value.
 ///
-/// No test is needed here that the run ends within the expression's number of operations, and with
-/// the standard's value: `CheckedExpression` promises that. `None` means that the run needs
-/// something that isn't given, that it divides by zero, or that the expression is a location.
+/// `CheckedExpression` promises that the run takes no more steps than the expression has operations,
+/// and that it gives the standard's value, so this function needn't test either. `None` means that
+/// the run needs a register or memory that isn't known, that it divides by zero, or that the
+/// expression is a location.
 pub fn computed_value<R: Registers, M: Memory>(
     expression: &CheckedExpression<'_>,
     registers: &R,

@@ -198,10 +198,11 @@ fn reads_cies_of_older_versions(rt: HostRuntime) {
     assert_eq!(rt; first_cie(&FUNCTION, LITTLE).map(|found| found.0), Some(4));
 }
 
-/// Cuts the record at `start` at each byte of its header, and makes its length match. Returns the
-/// first size for which the fault isn't `Truncated` at the field that is cut, or `None` if there is
-/// no such size. `low` is the index of the length's least significant byte. `fields` has the
-/// offsets at which the length and each field of the header end.
+/// Cuts the record at offset `start` of the section short at each byte of its header, and adjusts
+/// its length field. Returns the first number of bytes left for which the fault isn't `Truncated` at
+/// the field that is cut, or `None` if there is no such number. `low` is the index in the record of
+/// the length's least significant byte. `fields` has the offsets in the record at which the length
+/// and each field of the header end.
 fn misjudged(
     section: &[u8],
     target: Target,
@@ -282,8 +283,8 @@ fn names_the_field_that_an_older_body_cuts_off(rt: HostRuntime) {
 
 #[test]
 fn a_column_has_a_byte_or_is_at_most_65535(rt: HostRuntime) {
-    // The version, the three bytes from the return address column on, and the column that they
-    // give, or its fault.
+    // The version, the three bytes from the return address column on, and the column that these
+    // bytes encode, or the fault of reading it.
     let columns: [(u8, [u8; 3], Result<u16, FaultKind>); 6] = [
         (1, [0xff, 0, 0], Ok(255)),
         (1, [0x80, 0x80, 4], Ok(128)),

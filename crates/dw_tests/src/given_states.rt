@@ -1,4 +1,5 @@
-//! Checks of expressions with states that the caller passes (`recheck`).
+//! Checks of expressions by `recheck`, to which the caller passes the state (the stack height and
+//! the like) before each operation.
 
 ghost use Rattle.std.specs.Prelude.{◌<◌, ◌^◌, length};
 
@@ -24,8 +25,8 @@ fn rechecked(
     Ok((checked.depth(), checked.operation_count()))
 }
 
-/// The states before operations with these offsets and stack heights. The mode of each is `Stack`,
-/// and no piece came before.
+/// The states before operations, made from the offset of each operation and the stack height before
+/// it. The mode of each state is `Stack`, and no piece came before.
 fn states_of(alloc: Global, numbers: &[(u32, u8)]) -> Result<Vec<State>, AllocError> {
     let mut states = Vec::new(alloc);
     for (offset, height) in numbers {
@@ -93,7 +94,7 @@ const REFUSED: [(&[u8], Kind, &[(u32, u8)], FaultKind, u32); 7] = [
         FaultKind::Mismatch,
         5,
     ),
-    // The state is checked before whether the kind allows the operation.
+    // The wrong state is reported, although the kind doesn't allow the operation either.
     (&[0x9c], Kind::FrameCfa, &[(0, 1)], FaultKind::CertState, 0),
 ];
 
@@ -159,8 +160,8 @@ impl Certified<'_> {
         assert_eq!(rt; found, refusal(fault, at));
     }
 
-    /// Asserts that the states are refused at the offset of state `i` if `other` takes that state's
-    /// place.
+    /// Asserts that if state `i` is replaced by `other`, the states are refused at the offset of the
+    /// original state `i`.
     fn refuses(
         &self,
         rt: &impl Abort,

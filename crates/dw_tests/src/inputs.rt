@@ -54,14 +54,14 @@ pub(crate) const ROUND: [u8; 56] = [
 ];
 
 /// A section with one list, at offset 0xc: the object is in register 0 for the first 0x10 addresses
-/// from the base on, and has the value 0 at all others.
+/// from the base address on, and has the value 0 at all others.
 pub(crate) const PAIR_AND_DEFAULT: [u8; 22] = [
     0x12, 0, 0, 0, 5, 0, 8, 0, 0, 0, 0, 0, 4, 0, 0x10, 1, 0x50, 5, 2, 0x30, 0x9f, 0,
 ];
 
-/// A section with one list, at offset 0xc, which sets the base to 0x2000. The object is in register
-/// 0 from 0x2000 to 0x2010, and in register 1 from 0x2008 to 0x2018. An entry with an empty range
-/// says register 2.
+/// A section with one list, at offset 0xc, which sets the base address to 0x2000. The object is in
+/// register 0 from 0x2000 to 0x2010, and in register 1 from 0x2008 to 0x2018. An entry for register
+/// 2 has an empty range.
 pub(crate) const OVERLAPPING: [u8; 58] = [
     0x36, 0, 0, 0, 5, 0, 8, 0, 0, 0, 0, 0, 6, 0, 0x20, 0, 0, 0, 0, 0, 0, 4, 0, 0x10, 1, 0x50, 8, 8,
     0x20, 0, 0, 0, 0, 0, 0, 0x10, 1, 0x51, 7, 0, 0x20, 0, 0, 0, 0, 0, 0, 0, 0x20, 0, 0, 0, 0, 0, 0,

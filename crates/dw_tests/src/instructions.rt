@@ -6,7 +6,7 @@ use dw_frame::{Entry, Program, entries, instruction};
 use std::alloc::Global;
 use std::process::Abort;
 
-/// A section of one FDE, whose program begins at 16.
+/// A section of one FDE, whose program begins at offset 16 of the section.
 fn section_with(alloc: Global, program: &[u8]) -> Option<Vec<u8>> {
     let length = u32::try_from(program.len().saturating_add(12)).ok()?;
     let mut section = length.to_be_bytes().to_vec(alloc).ok()?;

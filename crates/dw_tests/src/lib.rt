@@ -1,5 +1,5 @@
-//! Tests of the libraries, which use public calls alone. The tests of what the program `dwcheck`
-//! writes are in `texts`. `examples` has proved code that calls the libraries.
+//! Tests of the libraries, which call only public functions. The module `texts` tests what the
+//! program `dwcheck` writes. The module `examples` has proved code that calls the libraries.
 #![tactic(auto)]
 
 #[cfg(test)]

@@ -510,8 +510,9 @@ fn compile_of_many_lacks_memory(rt: HostRuntime) {
     is_made(&rt, Call::CompileOfMany);
 }
 
-/// Look-ups don't allocate: `bench/stress/refused_memory.py` sees that this test makes as many
-/// allocations as `check_of_expressions_lacks_memory`, which only checks the same sections.
+/// Look-ups don't allocate: `bench/stress/refused_memory.py` tests that this test makes as many
+/// allocations as `check_of_expressions_lacks_memory`, which checks the same sections and looks
+/// nothing up.
 #[test]
 fn look_ups_take_no_memory(rt: HostRuntime) {
     is_made(&rt, Call::LookUps);

@@ -43,7 +43,7 @@ fn checks_a_cie_and_its_fde(rt: HostRuntime) {
     assert_eq!(rt; judged(rt.alloc(), &section), Some((refused, refused)));
 }
 
-/// Addresses, and the addresses at which the row of each begins and ends; `None` if it has no row.
+/// Four addresses, each with where its row begins and ends, or `None` if the address has no row.
 type Ranges = [(u64, Option<(u64, u64)>); 4];
 
 /// Asserts that the row of each address has the given range, or that there is no row.
@@ -91,8 +91,8 @@ fn row_count(alloc: Global, section: &[u8]) -> Option<u32>
     Some(count)
 }
 
-/// Where the first two rows of the FDE of `address` end, and then where the first row ends when the
-/// same iterator is started again at that FDE.
+/// Where the first and the second row of the FDE that covers `address` end, and where the first row
+/// ends according to the same iterator after `rows_into` has reset it to that FDE.
 fn ends_at(frame: &CheckedFrame<'_>, address: u64) -> Option<(u64, u64, u64)> {
     let fde = frame.fde_for_address(address)?;
     let mut rows = frame.rows(&fde);
@@ -107,9 +107,9 @@ fn ends_at(frame: &CheckedFrame<'_>, address: u64) -> Option<(u64, u64, u64)> {
     }
 }
 
-/// The offsets of the CIE and the FDE of `address`, and where the row of `address` ends. After
-/// that, `other` is looked up with the same `UnwindTableRow`. The last number is where the row ends
-/// that it then holds.
+/// The offsets of the CIE and the FDE of `address`, and where the row of `address` ends. Then
+/// `other` is looked up with the same `UnwindTableRow`; the last number is where the row in that
+/// `UnwindTableRow` ends afterwards.
 fn places_at(frame: &CheckedFrame<'_>, address: u64, other: u64) -> Option<(u32, u32, u64, u64)> {
     let mut row = UnwindTableRow::empty();
     let (cie, fde) = frame.row_for_address_into(address, &mut row)?;

@@ -135,7 +135,8 @@ fn a_table_agrees_with_its_section_at_edges(rt: HostRuntime) -> Result<(), Alloc
     Ok(())
 }
 
-/// An address, and where its row begins and ends, with its return address register.
+/// An address, and where its row begins and ends, with the row's return address register. `None` if
+/// the address has no row.
 type Found = (u64, Option<(u64, u64, u16)>);
 
 /// Asserts that the table of a section gives these rows.
@@ -153,7 +154,8 @@ fn has_rows(rt: &impl Abort, alloc: Global, section: &[u8], target: Target, rows
     }
 }
 
-/// The CIE of `FUNCTION`, and an FDE of one row for each of these initial locations and ranges.
+/// The CIE of `FUNCTION`, and one FDE for each element of `ranges`, which is the FDE's initial
+/// location and address range. Each FDE has only one row.
 fn with_ranges(alloc: Global, ranges: &[(u64, u64)]) -> Result<Vec<u8>, AllocError> {
     let mut section = FUNCTION[..24].to_vec(alloc)?;
     for (initial, range) in ranges {
@@ -329,9 +331,9 @@ fn push_cfas(section: &mut Vec<u8>, high: u8) -> Result<(), AllocError> {
     Ok(())
 }
 
-/// The CIE of `FUNCTION`, and two FDEs of 385 rows, each of one address. In both, the CFA of the
-/// first row is that of the CIE; from the second row on, its offset from register 7 is 128, 129 and
-/// so on.
+/// The CIE of `FUNCTION`, and two FDEs of 385 rows. Each row covers one address. In both FDEs, the
+/// CFA of the first row is that of the CIE, and the CFAs of the following rows are register 7 plus
+/// 128, register 7 plus 129 and so on.
 fn with_many_rules(alloc: Global) -> Result<Vec<u8>, AllocError> {
     let mut section = FUNCTION[..24].to_vec(alloc)?;
     for high in [0x10, 0x20] {
@@ -344,7 +346,8 @@ fn with_many_rules(alloc: Global) -> Result<Vec<u8>, AllocError> {
     Ok(section)
 }
 
-/// The offset from register 7 of the CFA at an address. `None` if the CFA has another rule.
+/// The offset that the CFA at an address adds to register 7. `None` if the CFA has another rule, or
+/// the address has no row.
 fn cfa_offset(table: &UnwindTable, address: u64) -> Option<i64> {
     match table.row_for_address(address)?.cfa() {
         CfaRule::RegisterAndOffset {
@@ -372,8 +375,8 @@ fn a_table_keeps_hundreds_of_rules_apart(rt: HostRuntime) -> Result<(), Fault> {
     Ok(())
 }
 
-/// How many of the limits of 0, 1, up to `rooms` - 1 bytes are too small for the table of a
-/// section.
+/// Compiles the table of a section with a limit of 0 bytes, of 1 byte, and so on up to `rooms` - 1
+/// bytes. Returns how many of these limits are too small for the table.
 fn refusals(rt: &impl Abort, alloc: Global, frame: &CheckedFrame<'_>, rooms: usize) -> usize {
     let mut refused = 0usize;
     for room in 0..rooms {

@@ -6,9 +6,9 @@ use crate::texts::expressions::LOCATION_WITH_STATE;
 use std::alloc::{AllocError, Global};
 use std::process::Abort;
 
-/// Runs the command `words` with a file of the contents `content` and a state file of the contents
-/// `state`, and asserts the outcome. That is `taken` if `outcome` is the word `taken`, and
-/// `outcome` itself otherwise.
+/// Runs the command `words` with a file that contains `content` and a state file that contains
+/// `state`, and asserts the outcome. If `outcome` is the word `taken`, the expected outcome is the
+/// parameter `taken`; otherwise it is `outcome` itself.
 fn ends_so(
     rt: &(impl Abort + AllocGlobal),
     (words, content, taken): (&str, &str, &str),
@@ -70,9 +70,9 @@ keep 7/sp 7/bad/: state line 2
 keep 7/bad/sp 7/: state line 2
 ";
 
-/// State files that are accepted, written as `end_so` explains. A callee-saved register that is
-/// named again and a second stack pointer are skipped, even if the second stack pointer would
-/// contradict other lines.
+/// State files that are accepted, written as `end_so` explains. A line is ignored if it names a
+/// callee-saved register again, or names a second stack pointer, even if the second stack pointer
+/// would contradict other lines.
 const TAKEN: &str = "\
 keep 6: taken
 sp 7/: taken

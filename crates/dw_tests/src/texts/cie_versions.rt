@@ -44,8 +44,9 @@ row 0x0000000000001021..0x0000000000001022 cfa=r7+8 r16=[c-8]
 ";
 
 /// `FUNCTION` with another version in its CIE, and the first fault. Each line is `FILE: OUTCOME`,
-/// as `lines_come_to` explains. CIEs of versions 1 and 3 don't have two of the fields, so the
-/// program begins two bytes earlier. The last sections are one CIE in the 64-bit format.
+/// as `lines_come_to` explains. CIEs of versions 1 and 3 have no address_size and no
+/// segment_selector_size, so their program begins two bytes earlier. Each of the last sections is
+/// one CIE in the 64-bit format.
 const OTHER_VERSIONS: &str = "\
 14000000 ffffffff 00 00 08 00 01 78 10 0c0708 9001 00000000 {FDE} {PUSHES}: refused 4 Version frame 0x00000008
 14000000 ffffffff 01 00 08 00 01 78 10 0c0708 9001 00000000 {FDE} {PUSHES}: refused 13 NotInCie frame 0x0000000d

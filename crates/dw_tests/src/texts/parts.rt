@@ -4,19 +4,20 @@ use std::alloc::{AllocError, Global};
 
 /// Each line has a name and the text that it stands for.
 ///
-/// `CIE` has 24 bytes. So have `BARE_CIE`, whose instructions are all nops, and the CIEs of
-/// versions 1 and 3, whose return address column is 16 or 144. `LONG_CIE`, in the 64-bit format,
-/// has 32 bytes. `FDE` is the beginning of an FDE of 0x1000 to 0x1020; the FDE has 32 bytes, and
-/// only its program of eight bytes is left out. `FDE_AT_ZERO` is the same for 0 to 0x20. `FDE_AT`
-/// leaves out the addresses too. `PUSHES` and `RULES` are programs for `FDE`. In `RULES` the rules
-/// of two registers are expressions, the second of them empty.
+/// `CIE`, `BARE_CIE` and the CIEs of versions 1 and 3 have 24 bytes each. The instructions of
+/// `BARE_CIE` are all nops. The CIEs of versions 1 and 3 have the return address column 16 or 144.
+/// `LONG_CIE`, in the 64-bit format, has 32 bytes. `FDE` is the header of an FDE that covers 0x1000
+/// to 0x1020; a program of eight bytes must follow. `FDE_AT_ZERO` is the header of such an FDE for
+/// 0 to 0x20. `FDE_AT` is the header without the addresses. `PUSHES` and `RULES` are programs for
+/// `FDE`. In `RULES` the rules of two registers are expressions, the second of them empty.
 ///
 /// `PAIR_AND_DEFAULT` has a list at 0xc: the object is in register 0 for the first 0x10 addresses
-/// from the base on, and has the value 0 at all others. `OVERLAPPING` has a list at 0xc, which sets
-/// the base to 0x2000: the object is in register 0 from 0x2000 to 0x2010, and in register 1 from
-/// 0x2008 to 0x2018, and an entry with an empty range says register 2. `BIG_SHORT` is for
-/// `--big --addr4`. In its list, at 0xc, the object is in memory at register 13 plus 4 from 0x8000
-/// to 0x8010. `LONG` is a table in the 64-bit format with an empty list at 0x1c.
+/// from the base address on, and has the value 0 at all others. `OVERLAPPING` has a list at 0xc,
+/// which sets the base address to 0x2000: the object is in register 0 from 0x2000 to 0x2010, and in
+/// register 1 from 0x2008 to 0x2018, and an entry for register 2 has an empty range. `BIG_SHORT` is
+/// for `--big --addr4`. In its list, at 0xc, the addresses 0x8000 to 0x8010 have an expression by
+/// which the object is in memory, at the address register 13 plus 4. `LONG` is a table in the
+/// 64-bit format with an empty list at 0x1c.
 ///
 /// `STACK` is a state file for a walk over `FUNCTION` from 0x1010 to 0x1020. If `LAST_WORD` follows
 /// it, the walk reaches 0x2000 after that.
