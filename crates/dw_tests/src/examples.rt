@@ -35,10 +35,10 @@ pub fn saved_offset(frame: &CheckedFrame<'_>, address: u64, register: u16) -> Op
 
 /// The value of a checked expression with given registers and memory, if it has a value.
 ///
-/// `CheckedExpression` promises that the run takes no more steps than the expression has operations,
-/// and that it gives the standard's value, so this function needn't test either. `None` means that
-/// the run needs a register or memory that isn't known, that it divides by zero, or that the
-/// expression is a location.
+/// `CheckedExpression` promises that the run takes at most as many steps as the expression has
+/// operations, and that it gives the standard's value, so this function tests neither. `None` means
+/// that the run needs a register, memory or a value of the context that isn't known, that it divides
+/// by zero, or that the expression is a location.
 pub fn computed_value<R: Registers, M: Memory>(
     expression: &CheckedExpression<'_>,
     registers: &R,

@@ -82,8 +82,8 @@ ff: UnknownOperation 0
 9403: BadSize 0
 ";
 
-/// The operation that the hex `digits` encode, or the fault of decoding it, as text. `None` if there
-/// are more bytes after the operation.
+/// The operation that the hex `digits` encode, or the fault of decoding it, as text. `None` if more
+/// bytes follow the operation.
 fn shown(alloc: Global, digits: &str) -> Option<String> {
     let bytes = bytes_of(alloc, digits)?;
     if bytes.is_empty() || bytes.len() >= 16 {

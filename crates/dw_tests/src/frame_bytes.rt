@@ -199,10 +199,10 @@ fn reads_cies_of_older_versions(rt: HostRuntime) {
 }
 
 /// Cuts the record at offset `start` of the section short at each byte of its header, and adjusts
-/// its length field. Returns the first number of bytes left for which the fault isn't `Truncated` at
-/// the field that is cut, or `None` if there is no such number. `low` is the index in the record of
-/// the length's least significant byte. `fields` has the offsets in the record at which the length
-/// and each field of the header end.
+/// its length field. Returns the first number of bytes left for which the fault isn't `Truncated`
+/// at the field that is cut, or `None` if there is no such number. `low` is the index in the record
+/// of the length's least significant byte. `fields` has the offsets in the record at which the
+/// length and each field of the header end.
 fn misjudged(
     section: &[u8],
     target: Target,

@@ -160,7 +160,7 @@ impl Certified<'_> {
         assert_eq!(rt; found, refusal(fault, at));
     }
 
-    /// Asserts that if state `i` is replaced by `other`, the states are refused at the offset of the
+    /// Asserts that if `other` replaces state `i`, the states are refused at the offset of the
     /// original state `i`.
     fn refuses(
         &self,

@@ -85,9 +85,9 @@ fn takes_a_height_of_128_and_no_more(rt: HostRuntime) -> Result<(), AllocError> 
 }
 
 /// Locations and their outcomes. Each line is `HEX: OUTCOME`, or `HEX | STATE: OUTCOME` if there is
-/// a state file, as `evaluate_to` explains; `/` stands for the end of a line. Lines `keep` and `sp`,
-/// which describe an ABI, don't make a register's content known: register 6 stays unreadable if only
-/// they name it.
+/// a state file, as `evaluate_to` explains; `/` stands for the end of a line. Lines `keep` and `sp`
+/// in a state file, which describe an ABI, don't make a register's content known: register 6 stays
+/// unreadable if only these lines name it.
 const LOCATIONS: &str = "\
 32 33 22: address 0x0000000000000005/steps 3 depth 2
 31 32 28 0000: address 0x0000000000000001/steps 3 depth 2

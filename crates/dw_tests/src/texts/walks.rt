@@ -60,9 +60,9 @@ stop return unreadable
 
 /// Walks from address 3 in an FDE of 0 to 0x20. The first is endless: the CFA is always 15, and the
 /// return address always 7. Others return to 0. A return address is looked up by the address before
-/// it, so the return address 0 isn't covered, although an FDE covers 0. In the last walks the return
-/// address is undefined, or its expression divides by zero. Each paragraph is a line of files, a
-/// command line and its output, as `cases_come_to` explains.
+/// it, so the return address 0 isn't covered, although an FDE covers 0. In the last walks the
+/// return address is undefined, or its expression divides by zero. Each paragraph is a line of
+/// files, a command line and its output, as `cases_come_to` explains.
 const FROM_THREE: &str = "\
 {CIE} {FDE_AT_ZERO} 0f013f 141001 0000 | reg 7 0x10
 dwcheck backtrace --hex f 0x3 s 4
