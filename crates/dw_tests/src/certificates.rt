@@ -8,8 +8,8 @@ use dw_stack::{Kind, certify, check_expression};
 use std::alloc::{AllocError, Global};
 use std::process::Abort;
 
-/// The result of a check: an expression's greatest stack height and its number of operations, or its
-/// first fault.
+/// The result of a check: an expression's greatest stack height and its number of operations, or
+/// its first fault.
 pub(crate) type Verdict = Result<(u8, u32), Fault>;
 
 /// The result of checking the expression `bytes`.

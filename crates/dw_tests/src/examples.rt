@@ -37,8 +37,8 @@ pub fn saved_offset(frame: &CheckedFrame<'_>, address: u64, register: u16) -> Op
 ///
 /// `CheckedExpression` promises that the run takes at most as many steps as the expression has
 /// operations, and that it gives the standard's value, so this function tests neither. `None` means
-/// that the run needs a register, memory or a value of the context that isn't known, that it divides
-/// by zero, or that the expression is a location.
+/// that the run needs a register, memory or a value of the context that isn't known, that it
+/// divides by zero, or that the expression is a location.
 pub fn computed_value<R: Registers, M: Memory>(
     expression: &CheckedExpression<'_>,
     registers: &R,
