@@ -95,9 +95,9 @@ r14 unreadable
 return unreadable
 ";
 
-/// Malformed hex text is reported before a bad line of the state file, and that before a fault of
-/// the section. Each line is `FILE | STATE: OUTCOME`, as `lines_come_to` explains; `/` stands for
-/// the end of a line.
+/// Malformed hex text is reported first, then a bad line of the state file, then a fault of the
+/// section. Each line is `FILE | STATE: OUTCOME`, as `lines_come_to` explains; `/` stands for the
+/// end of a line.
 const IN_THEIR_ORDER: &str = "\
 f0ffff | reg 6 0x1: refused 1 Truncated frame 0x00000000
 f0ffffff | reg 6 0x1//reg 6/: state line 3

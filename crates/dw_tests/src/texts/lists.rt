@@ -113,9 +113,9 @@ const REFUSED: &str = "\
 080000: refused 1 Truncated lists 0x00000000
 ";
 
-/// Malformed hex text is reported before a bad line of the state file, and that before a fault of
-/// the section. Each line is `FILE | STATE: OUTCOME`, as `lines_come_to` explains; `/` stands for
-/// the end of a line.
+/// Malformed hex text is reported first, then a bad line of the state file, then a fault of the
+/// section. Each line is `FILE | STATE: OUTCOME`, as `lines_come_to` explains; `/` stands for the
+/// end of a line.
 const IN_THEIR_ORDER: &str = "\
 080000 | reg 1 0x1//reg 1/: state line 3
 08000 | reg 1 0x1//reg 1/: bad hex 0
