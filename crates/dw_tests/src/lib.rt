@@ -1,4 +1,4 @@
-//! Tests of the libraries, which call only public functions. The module `texts` tests what the
+//! Tests of the libraries through their public functions alone. The module `texts` tests what the
 //! program `dwcheck` writes. The module `examples` has proved code that calls the libraries.
 #![tactic(auto)]
 
