@@ -3,11 +3,11 @@
 use crate::texts::cases::{cases_come_to, lines_come_to};
 use std::alloc::AllocError;
 
-/// Callers: undefined rules; expression rules, one of which divides by zero; and an ABI (`keep`,
-/// `sp`) that gives rules to registers without a rule in the row. With 4-byte addresses, sums wrap
-/// modulo 2^32, and a word that runs past the last address is unreadable. Each paragraph is a line
-/// with a frame section and a state file, a command line and its output, as `cases_come_to`
-/// explains.
+/// Callers of frames where rules are undefined; where rules have expressions, one of which divides
+/// by zero; and where an ABI (`keep`, `sp`) gives rules to registers without a rule in the row.
+/// With 4-byte addresses, sums wrap modulo 2^32, and a word that runs past the last address is
+/// unreadable. Each paragraph is a line with a frame section and a state file, a command line and
+/// its output, as `cases_come_to` explains.
 const CALLERS: &str = "\
 {FUNCTION} | reg 6 0x7f00/mem 0x7f00 0080000000000000/mem 0x7f08 3412000000000000/
 dwcheck unwind --hex f 0x1010 s

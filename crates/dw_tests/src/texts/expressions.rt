@@ -247,9 +247,9 @@ fn names_the_first_fault_of_an_expression(rt: HostRuntime) -> Result<(), AllocEr
     comes_to(&rt, LOCATION, &pieces, fault)
 }
 
-/// State files with a malformed line. It is reported before the fault of the expression `12`, and
-/// after malformed hex text. Each line is `HEX | STATE: OUTCOME`, as `lines_come_to` explains; `/`
-/// stands for the end of a line.
+/// State files with a malformed line. Malformed hex text is reported first, then the malformed line
+/// of the state file, then the fault of the expression `12`. Each line is `HEX | STATE: OUTCOME`,
+/// as `lines_come_to` explains; `/` stands for the end of a line.
 const BAD_LINES: &str = "\
 12 | reg  7 0x1: state line 1
 12 | reg 7  0x1: state line 1

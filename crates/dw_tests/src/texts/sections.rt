@@ -7,9 +7,9 @@ use std::process::Abort;
 /// The command that shows the rows of a section, given as hex text.
 pub(crate) const ROWS: &str = "dwcheck rows --hex f";
 
-/// Sections and their rows: records, programs, expressions of rules, the 64-bit format, and two
-/// FDEs. The last cases look up single addresses in `FUNCTION`. Each paragraph is a line of files,
-/// a command line and its output, as `cases_come_to` explains.
+/// Sections and their rows. The cases cover records, programs, rules with expressions, the 64-bit
+/// format, and a section with two FDEs. The last cases look up single addresses in `FUNCTION`. Each
+/// paragraph is a line of files, a command line and its output, as `cases_come_to` explains.
 const SHOWN: &str = "\
 {FUNCTION}
 dwcheck rows --hex f
