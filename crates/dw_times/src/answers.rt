@@ -182,8 +182,9 @@ pub extern "C" fn bench_lists_answer(
     }
 }
 
-/// The checksum of what an expression means, or the number of its first fault. The expression is a
-/// location if `location` is true, and a register's rule otherwise.
+/// The checksum of an expression's operations and outcome, or the number of its first fault if the
+/// expression is refused. The expression is checked as a location if `location` is true, and as a
+/// register's rule otherwise.
 #[unsafe(no_mangle)]
 pub extern "C" fn bench_expression_answer(
     alloc: Global,

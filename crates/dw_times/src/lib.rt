@@ -198,8 +198,8 @@ fn number_of(answer: Answer) -> u64 {
     }
 }
 
-/// Finds the caller of the frame at each of `addresses`, `times` times, and returns a sum of their
-/// CFAs, return addresses and numbers of registers.
+/// Finds the caller of the frame at each of `addresses`, `times` times, and returns the sum of the
+/// callers' CFAs, return addresses and numbers of registers.
 fn callers_sum(checked: &Checked<'_>, addresses: &[u64], times: u32) -> u64 {
     let mut sum = 0u64;
     for _ in 0..times {

@@ -92,8 +92,8 @@ pub extern "C" fn bench_read_by_table(
     }
 }
 
-/// Finds the caller of the frame at each of `addresses`, `times` times, and returns a sum of their
-/// CFAs, return addresses and numbers of registers.
+/// Finds the caller of the frame at each of `addresses`, `times` times, and returns the sum of the
+/// callers' CFAs, return addresses and numbers of registers.
 fn callers_sum(table: &UnwindTable, addresses: &[u64], times: u32) -> u64 {
     let abi = Abi::none();
     let mut sum = 0u64;
@@ -134,8 +134,8 @@ fn add_row(mixed: &mut Mixed, row: &UnwindRow<'_, '_>) {
     }
 }
 
-/// Adds `address` to the checksum, and its row with the return address register, or that it has no
-/// row.
+/// Adds `address` to the checksum, and then the return address register and the row that covers
+/// `address`. If no row covers it, adds `u64::MAX` instead of these two.
 fn add_found(mixed: &mut Mixed, table: &UnwindTable, address: u64) {
     mixed.add(address);
     match table.row_and_return_register(address) {

@@ -19,9 +19,9 @@ enum Ending {
     Usage(Usage),
     /// An argument isn't UTF-8.
     NotUtf8,
-    /// This file can't be read.
+    /// The file with this name can't be read.
     CannotRead(String),
-    /// This file must be hex text and isn't.
+    /// The file with this name must be hex text and isn't.
     NotHex(String),
     /// The run ended in any other way, or memory ran out.
     Run(End),

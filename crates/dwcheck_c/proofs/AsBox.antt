@@ -1,5 +1,5 @@
--- The types of the proofs in held/: a box of a process, and `Parts` and `Held`, which own what that
--- box owns.
+-- The types that the proofs in held/ are about: `Box<Process>`, and the types `Parts` and `Held`,
+-- into which such a box is converted and which own the same memory.
 use mir.Syntax.{impl, tnil, dnil}
 use mathlib.Core.List.{[]}
 use denote.Signature.{Slot, plain}

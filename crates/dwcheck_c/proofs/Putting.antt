@@ -1,4 +1,5 @@
--- Elements that are written to slots one by one are in the slots as `put_into` says.
+-- Writing elements to slots one by one gives the same slots as `put_into`, which writes all of them.
+-- The slots are the elements of an array that C passes.
 use Rattle.std.proofs.Common.{◌≡◌, ℕ, suc, ◌+◌, ◌<◌, ◌≤◌, List, [], ◌∷◌, ◌++◌, length, map, take, append_assoc, length-append, refl, sym, ap, ◌∙◌, arith}
 use Rattle.std.specs.Prelude.{slice_set}
 use Rattle.std.proofs.Math.ListN.{get_or}
@@ -41,8 +42,9 @@ puts_from xs slots i d room =
     ap (λ n. slice_set (put_into (take i xs) slots) n (get_or xs i d)) many ∙ puts_next (take i xs) slots (get_or xs i d)
     ∙ ap (λ l. put_into l slots) (sym next)
 
--- If `all` is the elements that came, converted by `view`, followed by `left`, then this still
--- holds after the first element of `left` is moved to the end of those that came.
+-- Let `all` be the elements of `came`, each converted by `view`, followed by `left`, and let
+-- `view x` be the first element of `left`. Then `all` is also the elements of `came` and x, each
+-- converted by `view`, followed by the rest of `left`.
 pub comes : {X Y : Type 0} (view : X → Y) (came : List X) (x : X) (left rest all : List Y) → map view came ++ left ≡ all
     → left ≡ view x ∷ rest → map view (came ++ x ∷ []) ++ rest ≡ all
 comes view came x left rest all whole next =

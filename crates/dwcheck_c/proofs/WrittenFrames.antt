@@ -10,14 +10,16 @@ use Rattle.dwcheck_c.specs.Slots.{put_into}
 use Rattle.dwcheck_c.proofs.Putting.{puts_shown}
 use Rattle.dwcheck_c.specs.Frames.{AreWritten, cframe_of, stop_number}
 
--- A premise of the lemmas below: if a walk gives `frames` and then `next`, then it gives `frames`
--- with `next` at the end, and `next` is the frame that it has given last.
+-- A premise of the lemmas below: if a walk gives the list `frames`, and its next step gives the
+-- frame `next`, then the walk gives the list of `frames` followed by `next`, and its progress after
+-- that list is `has_given next`.
 abbrev pub GoesOn : CallerRelation → Type 0
 GoesOn u = (from : Progress) (frames : List WalkedFrame) (next : WalkedFrame) → GivesFrames u from frames
     → GivesFrame u (after from frames) next
     → GivesFrames u from (frames ++ next ∷ []) × (after from (frames ++ next ∷ []) ≡ has_given next)
 
--- the walk has given `count` frames, and they are written to the front of the slots
+-- the walk has given `count` frames, its progress is p, and the frames are written to the front of
+-- the slots, which were `old` before and are `new` now
 pub record UnderWay (u : CallerRelation) (begin : WalkedFrame) (p : Progress) (old new : List CFrame) (count : ℕ) : Type 0 where
   pub frames : List WalkedFrame
   pub given : GivesFrames u (about_to_give begin) frames

@@ -25,8 +25,8 @@ pub record ShowsCaller (caller : Caller) (out : CCaller) (old new : List CRegist
 pub record Unwinds (modules : Modules) (abi : Abi) (memory registers : ℕ → Option ℕ) (address : ℕ) (caller : Option Caller) : Type 0 where
   pub is : over_tables abi memory modules registers address caller
 
--- the frame at `address` has a caller, and `out` and the slots `new` are that caller, as
--- `ShowsCaller` says
+-- the frame at `address` has a caller, which is written to `out` and to the slots, as `ShowsCaller`
+-- says
 pub record IsCaller (modules : Modules) (abi : Abi) (memory registers : ℕ → Option ℕ) (address : ℕ) (out : CCaller)
     (old new : List CRegister) : Type 0 where
   pub caller : Caller

@@ -7,7 +7,8 @@ use Rattle.dwcheck_c.specs.declared.fault.CFault.{CFault}
 use Rattle.dwcheck_c.specs.declared.fault.TheConstants.{IN_FRAME, IN_LISTS, IN_EXPRESSION}
 use Rattle.dwcheck_c.specs.Faults.{cfault_of}
 
--- the number that C gets for the input that a fault's offset refers to
+-- the number that tells C which input the offset of a fault refers to: the frame section, the
+-- location lists, or the expression
 abbrev pub section_number : Section → ℕ
 section_number Frame = IN_FRAME
 section_number Lists = IN_LISTS

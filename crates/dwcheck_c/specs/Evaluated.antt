@@ -44,8 +44,8 @@ kind_of_location (InRegister r) = 5
 kind_of_location (HasValue v) = 6
 kind_of_location (HasBytes bs) = 7
 
--- what C gets as the `value` of a location: its address, its register, its value, or how many bytes
--- it has; 0 if the object is nowhere
+-- what C gets as the `value` of a location: its address, its register, its value, or the number of
+-- its bytes; 0 if the object has no location and no value
 abbrev pub number_of_location : LocationDescription → ℕ
 number_of_location Nowhere = 0
 number_of_location (AtAddress a) = a
@@ -118,8 +118,8 @@ pub record ShowsOutcome (outcome : Outcome) (steps n : ℕ) (out : CValue) (old_
   pub pieces : new_pieces ≡ put_into (map cpiece_of (pieces_of outcome)) old_pieces
   pub bytes : new_bytes ≡ put_into (bytes_of_outcome n outcome) old_bytes
 
--- running the expression as one of `kind` gives an outcome, and `out` and the slots have that
--- outcome, as `ShowsOutcome` says
+-- evaluating `expression` as an expression of kind `kind` gives an outcome, which is written to
+-- `out` and to the slots, as `ShowsOutcome` says
 pub record IsRunOf (kind : Kind) (target : Target) (expression : List ℕ) (state : CState) (context : CContext) (n : ℕ) (out : CValue)
     (old_pieces new_pieces : List CPiece) (old_bytes new_bytes : List ℕ) : Type 0 where
   pub outcome : Outcome

@@ -21,8 +21,8 @@ canswer_of undefined = canswer_by 2 0
 canswer_of unreadable = canswer_by 3 0
 canswer_of division_by_zero = canswer_by 4 0
 
--- C's struct for an answer, which is what is known of a number. If there is no answer, because no
--- FDE covers the address that was looked up, its kind is 0.
+-- C's struct for a CFA, a return address or the content of a register. None means that no FDE
+-- covers the address that was looked up; the struct's kind is then 0.
 abbrev pub optional_canswer : Option Answer → CAnswer
 optional_canswer None = canswer_by 0 0
 optional_canswer (Some answer) = canswer_of answer

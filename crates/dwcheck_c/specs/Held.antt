@@ -18,7 +18,8 @@ the_process = process.the_row
 abbrev pub process_coded : Coded (Option Modules)
 process_coded = coded_option the_process.coded
 
--- ownership of the box of modules at `at`; of nothing if there is no box
+-- ownership of the box at address `at`, which contains the modules; ownership of nothing if there
+-- are no modules
 abbrev pub held_if : Global → Ptr → Option Modules → Fml
 held_if alloc at None = ftrue
 held_if alloc at (Some m) = box_owns (ghosts.dealloc_token alloc) the_process at m

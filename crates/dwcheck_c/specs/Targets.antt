@@ -6,11 +6,11 @@ use Rattle.dw_bytes.specs.declared.target.Order.TheVariants.{Little, Big}
 use Rattle.dw_bytes.specs.declared.target.AddressSize.{AddressSize}
 use Rattle.dw_bytes.specs.declared.target.AddressSize.TheVariants.{Four, Eight}
 
--- a byte order by C's number: 0 is little, 1 is big
+-- the byte order that C's number stands for: 0 is little, 1 is big; None for any other number
 abbrev pub order_by : ℕ → Option Order
 order_by n = if n == 0 then Some Little else if n == 1 then Some Big else None
 
--- an address size by its number of bytes
+-- the address size of n bytes; None unless n is 4 or 8
 abbrev pub size_by : ℕ → Option AddressSize
 size_by n = if n == 4 then Some Four else if n == 8 then Some Eight else None
 

@@ -8,10 +8,10 @@ ghost use Rattle.dwcheck_c.specs.Frames.{canswer_of, cframe_by, optional_canswer
 
 use dw_unwind::{Answer, BriefFrame, Stop};
 
-/// What is known of a CFA, a return address or a register. `kind` says which of these holds. 0: no
-/// FDE covers the address that was looked up. 1: the number is `value`. 2: the number is undefined.
-/// 3: computing it requires a register or memory that isn't given, or memory past the greatest
-/// address. 4: computing it divides by zero. `value` is 0 unless `kind` is 1.
+/// A CFA, a return address or the content of a register, if it is known. `kind` says whether it is.
+/// 0: no FDE covers the address that was looked up. 1: it is known, and `value` is its value. 2: it
+/// is undefined. 3: computing it requires a register or memory that isn't given, or memory past the
+/// greatest address. 4: computing it divides by zero. `value` is 0 unless `kind` is 1.
 #[repr(C)]
 #[derive(Clone, Copy, Debug)]
 pub struct CAnswer {
@@ -64,8 +64,8 @@ pub(crate) fn shown_frame(frame: BriefFrame) -> CFrame
     }
 }
 
-/// The number that C gets for the reason why a walk ended. It is one of the constants
-/// `DWCHECK_STOP_` of c/include/dwcheck.h.
+/// The number that C gets for the reason why a walk ended. c/include/dwcheck.h defines these
+/// numbers as constants whose names begin with `DWCHECK_STOP_`.
 pub(crate) fn stop_code(stop: Stop) -> u32
     ensures { result ≡ stop_number stop }
 {

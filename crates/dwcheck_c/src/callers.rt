@@ -1,5 +1,5 @@
-//! C's structs for the caller of a frame and its registers: how a caller is found, and how it is
-//! written to them.
+//! C's structs for the caller of a frame and for a register of that caller. Functions that find a
+//! caller, and write it to these structs.
 
 ghost use Rattle.std.specs.Prelude.{◌≡◌, ◌≤◌, map, option_map};
 ghost use Rattle.dw_rows.specs.AbiViews.{roles_of};
@@ -26,7 +26,7 @@ pub struct CRegister {
 }
 
 /// A caller: its canonical frame address (CFA), its return address, and the number of registers
-/// that have a rule, from the row or from the ABI.
+/// for which the row or the ABI gives a rule.
 #[repr(C)]
 #[derive(Clone, Copy, Debug)]
 pub struct CCaller {

@@ -13,7 +13,8 @@ use dw_bytes::FaultKind;
 use dw_check::{Section, check};
 use std::alloc::Global;
 
-/// The number that C gets for the input that a fault's offset refers to.
+/// The number that tells C which input the offset of a fault refers to: the frame section, the
+/// location lists, or the expression.
 fn within(section: Section) -> u32
     ensures { result ≡ section_number section }
 {

@@ -21,8 +21,8 @@ use dw_ops::Expression;
 use dw_stack::{CheckedExpression, Kind, check_expression};
 use std::alloc::Global;
 
-/// Evaluates a checked expression, and writes the outcome with `write_outcome`, which says what `n`
-/// means.
+/// Evaluates a checked expression, and writes the outcome to `value`, `pieces` and `bytes`. If the
+/// outcome is in pieces, `bytes` gets the bytes of piece `n`, counted from 0.
 fn run(
     checked: &CheckedExpression<'_>,
     c: &CContext,

@@ -5,8 +5,9 @@ ghost use Rattle.dwcheck_c.specs.Faults.{cfault_of};
 
 use dw_bytes::Fault;
 
-/// The values of `CFault::within`. The fault's offset refers to the frame section, to the location
-/// lists, to the expression, or to the list of callee-saved registers of the ABI.
+/// The four values of `CFault::within`. They mean, in this order, that the fault's offset refers to
+/// the frame section, to the location lists, to the expression, or to the ABI's list of
+/// callee-saved registers.
 pub const IN_FRAME: u32 = 0;
 
 pub const IN_LISTS: u32 = 1;

@@ -7,8 +7,8 @@ use dw_process::Process;
 use std::alloc::Global;
 use std::mem::replace;
 
-/// A process, which is open or closed: a pointer to its modules, and a flag. A closed process has
-/// no modules. If all bytes of the struct are 0, the process is closed.
+/// A process: a pointer to its modules, and a flag that says whether it is open or closed. A closed
+/// process has no modules. If all bytes of the struct are 0, the process is closed.
 #[repr(C)]
 pub struct CProcess {
     pub(crate) held: Held,

@@ -1,4 +1,4 @@
-//! The pointer in C's struct for a process.
+//! The pointer to the modules of a process, which is a field of C's struct for a process.
 
 ghost use Rattle.std.specs.Prelude.{◌≡◌, None, Some, Option, IsSome};
 ghost use Rattle.dw_process.specs.Processes.{Modules};

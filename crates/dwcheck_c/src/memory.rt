@@ -50,8 +50,9 @@ impl<'m, 'a> Blocks<'m, 'a> {
         None
     }
 
-    /// The result of `read` if the first block contains all the bytes, and `None` otherwise. It is
-    /// tried first because the first block is usually the stack, and most reads are there.
+    /// Reads a number from the first block. `None` if that block doesn't contain all of its bytes.
+    /// `read` tries this first because the first block is usually the stack, and most reads are
+    /// there.
     #[inline(always)]
     fn read_first(&self, address: u64, size: u8, order: Order) -> Option<u64>
         requires size { IsSize size }
@@ -69,8 +70,8 @@ impl<'m, 'a> Blocks<'m, 'a> {
         block.read(address, size, order)
     }
 
-    /// The result of `read`, assembled byte by byte, since the bytes may be in different blocks.
-    /// `None` if no block contains one of them.
+    /// Reads a number byte by byte, since its bytes may be in different blocks. `None` if there is a
+    /// byte that no block contains.
     fn read_by_bytes(&self, address: u64, size: u8, order: Order) -> Option<u64>
         requires size { IsSize size }
         requires within { address + size ≤ 2 ^ 64 }

@@ -32,7 +32,8 @@ pub struct CRule {
 pub struct CRow {
     /// The load address of the module.
     pub load_address: u64,
-    /// The row covers the addresses as linked from `start` up to, not including, `end`.
+    /// The row covers the addresses from `start` up to, not including, `end`. Both are addresses as
+    /// linked, to which the load address isn't added yet.
     pub start: u64,
     pub end: u64,
     pub cfa: CRule,

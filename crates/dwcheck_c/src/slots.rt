@@ -1,4 +1,5 @@
-//! Fills slots, which are the elements of an array that C passes, from the front.
+//! Writes elements to slots. The slots are the elements of an array that C passes; they are filled
+//! from the front.
 
 ghost use Rattle.std.specs.Prelude.{◌≡◌, slice_set};
 ghost use Rattle.dwcheck_c.specs.Slots.{put_into};

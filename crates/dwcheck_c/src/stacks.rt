@@ -159,7 +159,7 @@ fn frames_of(
     )
 }
 
-/// Walks up a stack by `frames_of` with the modules of `process`. A closed process has no modules.
+/// Calls `frames_of` with the modules of `process`. A closed process has no modules.
 fn frames_in(
     alloc: Global,
     process: &mut CProcess,

@@ -9,7 +9,7 @@ pub const REFUSED: u32 = 1;
 /// Memory ran out.
 pub const NO_MEMORY: u32 = 2;
 
-/// The compiled rows of a section may take more than `room` bytes.
+/// `room`, the number of bytes that the compiled rows of a section may take, is or may be too small.
 pub const NO_ROOM: u32 = 3;
 
 /// The byte order or the address size is invalid.

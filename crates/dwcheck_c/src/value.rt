@@ -22,7 +22,7 @@ pub struct CValue {
     pub offset: u32,
     /// The number of operations that were reached.
     pub steps: u32,
-    /// The number of pieces.
+    /// The number of pieces; 0 unless `kind` is 8.
     pub count: u32,
 }
 
@@ -124,9 +124,9 @@ fn without_location(kind: u32, value: u64, offset: u32, steps: u32) -> CValue
     }
 }
 
-/// Writes an outcome to `out`, and its pieces to `pieces`, as many as fit. If a single location is
-/// given as bytes, or if piece `n` (counted from 0) is, these bytes are written to `bytes`, as many
-/// as fit.
+/// Writes an outcome to `out`, and its pieces to `pieces`, as many as fit. If the outcome is a
+/// sequence of bytes, writes these bytes to `bytes`, as many as fit. If the outcome is in pieces,
+/// and piece `n`, counted from 0, is a sequence of bytes, writes that piece's bytes to `bytes`.
 pub(crate) fn write_outcome(
     evaluation: &Evaluation<'_>,
     n: u32,

@@ -4,7 +4,7 @@ use Rattle.std.proofs.lemmas.List.{get_or-map, length-map}
 use Rattle.dw_frame.specs.Views.{fde_of}
 use Rattle.dw_times.proofs.answers.add_fdes.Goals as goal
 
--- `rows_into` requires an FDE of the section, and the FDE of this iteration is one
+-- `rows_into` requires an FDE of the section, and the loop takes its FDEs from the section
 pub rows_into-requires : goal.rows_into-requires
 rows_into-requires c =
     let items = c.fdes-fde-items.result.now in

@@ -1,5 +1,5 @@
--- A `Held` can be sent to another thread: the pointer, the memory that it points to, and the
--- modules there.
+-- A `Held` can be sent to another thread. The memory that its pointer points to, and the modules in
+-- that memory, go with it.
 use Rattle.std.specs.Prelude.{Option, None, Some}
 use mir.Raw.{raw}
 use denote.Memory.{lone}

@@ -1,4 +1,5 @@
--- `Held::of_parts` moves the pointer and the allocator, and what they own goes with them.
+-- `Held::of_parts` moves the pointer and the allocator from a `Parts` to a `Held`, which then owns
+-- what the `Parts` owned.
 use mathlib.Core.Path.{refl, sym, subst}
 use Rattle.std.specs.Prelude.{Some}
 use mathlib.Core.List.{List, [], ◌∷◌, ◌++◌}
