@@ -1,5 +1,5 @@
--- Writing elements to slots one by one gives the same slots as `put_into`, which writes all of them.
--- The slots are the elements of an array that C passes.
+-- Writing elements to slots one by one gives the same slots as `put_into`, which writes all of the
+-- elements. The slots are the elements of an array that C passes.
 use Rattle.std.proofs.Common.{◌≡◌, ℕ, suc, ◌+◌, ◌<◌, ◌≤◌, List, [], ◌∷◌, ◌++◌, length, map, take, append_assoc, length-append, refl, sym, ap, ◌∙◌, arith}
 use Rattle.std.specs.Prelude.{slice_set}
 use Rattle.std.proofs.Math.ListN.{get_or}

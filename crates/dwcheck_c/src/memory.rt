@@ -70,8 +70,8 @@ impl<'m, 'a> Blocks<'m, 'a> {
         block.read(address, size, order)
     }
 
-    /// Reads a number byte by byte, since its bytes may be in different blocks. `None` if there is a
-    /// byte that no block contains.
+    /// Reads a number byte by byte, since its bytes may be in different blocks. `None` if there is
+    /// a byte that no block contains.
     fn read_by_bytes(&self, address: u64, size: u8, order: Order) -> Option<u64>
         requires size { IsSize size }
         requires within { address + size ≤ 2 ^ 64 }

@@ -1,5 +1,5 @@
--- `Held::into_parts` moves the pointer and the allocator from a `Held` to a `Parts`, which then owns
--- what the `Held` owned.
+-- `Held::into_parts` moves the pointer and the allocator from a `Held` to a `Parts`, which then
+-- owns what the `Held` owned.
 use mathlib.Core.Path.{◌≡◌, refl, sym, subst}
 use Rattle.std.specs.Prelude.{Option, None, Some, IsSome}
 use Rattle.dw_process.specs.Processes.{Modules}
