@@ -261,7 +261,8 @@ pub extern "C" fn bench_evaluate(alloc: Global, bytes: &[u8], times: u32) -> u64
     }
 }
 
-/// Checks a register's expression `times` times, without making its certificate.
+/// Checks a register's expression `times` times. Makes no certificate, which would list the state
+/// before each operation.
 #[unsafe(no_mangle)]
 pub extern "C" fn bench_check_expression(alloc: Global, bytes: &[u8], times: u32) -> u64 {
     if bytes.len() >= 1 << 32 {
@@ -277,7 +278,8 @@ pub extern "C" fn bench_check_expression(alloc: Global, bytes: &[u8], times: u32
     sum
 }
 
-/// Checks a register's expression `times` times, and makes its certificate each time.
+/// Checks a register's expression `times` times, and each time makes its certificate, which lists
+/// the state before each operation.
 #[unsafe(no_mangle)]
 pub extern "C" fn bench_certify(alloc: Global, bytes: &[u8], times: u32) -> u64 {
     if bytes.len() >= 1 << 32 {

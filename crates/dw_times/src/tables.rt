@@ -147,8 +147,8 @@ fn add_found(mixed: &mut Mixed, table: &UnwindTable, address: u64) {
     }
 }
 
-/// The checksum of the rows at each of `addresses` in the compiled table of a section, or 0 if
-/// there is no table.
+/// The checksum of `addresses` and of the rows that cover them in the compiled table of a section.
+/// 0 if the section can't be compiled.
 #[unsafe(no_mangle)]
 pub extern "C" fn bench_table_answer(
     alloc: Global,

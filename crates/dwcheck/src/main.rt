@@ -94,8 +94,8 @@ fn file_content(
     }
 }
 
-/// The contents of each file of a request. Of a file, no more than `Request::needed_length` is
-/// read.
+/// The contents of each file of a request. At most as many bytes of a file are read as
+/// `Request::needed_length` says, or all of them if it gives `None`.
 fn file_contents(rt: &(impl Files + AllocGlobal), request: &Request) -> Result<Vec<Vec<u8>>, Ending>
     ensures { IfOk result (λ contents. vec_len contents ≡ length request.now.files) }
 {

@@ -10,11 +10,11 @@ use dw_eval::{Evaluation, Location, Outcome, Piece, PieceSize};
 
 /// The outcome of an expression. `kind` says which it is. 0: the value `value`. 1: the operation at
 /// `offset` reads a register, memory or a value of the context that isn't known, or reads memory
-/// past the greatest address. 2: the operation at `offset` divides by zero. With the other kinds the
-/// expression describes the location of an object. 3: the object has no location and no value. 4:
-/// it is in memory at the address `value`. 5: it is in register `value`. 6: it has no location, and
-/// its value is the number `value`. 7: it has no location, and its value is a sequence of `value`
-/// bytes. 8: it is in `count` pieces.
+/// past the greatest address. 2: the operation at `offset` divides by zero. With the other kinds
+/// the expression describes the location of an object. 3: the object has no location and no value.
+/// 4: it is in memory at the address `value`. 5: it is in register `value`. 6: it has no location,
+/// and its value is the number `value`. 7: it has no location, and its value is a sequence of
+/// `value` bytes. 8: it is in `count` pieces.
 #[repr(C)]
 #[derive(Clone, Copy, Debug)]
 pub struct CValue {
@@ -63,8 +63,8 @@ fn location_number(location: &Location<'_>) -> u64
     }
 }
 
-/// If an object's value is given as bytes, writes these bytes to `slots`, as many as fit. For any
-/// other location, nothing is written.
+/// If `location` gives an object's value as a sequence of bytes, writes these bytes to `slots`, as
+/// many as fit. Otherwise writes nothing.
 fn write_location(location: &Location<'_>, slots: &mut [u8])
     ensures { slots.new
         ≡ put_into (bytes_of_location (location_description_of location.now)) slots.old }
