@@ -1,5 +1,5 @@
-//! C's structs for the caller of a frame and for a register of that caller. Functions that find a
-//! caller, and write it to these structs.
+//! C's structs for the caller of a frame and for a register of that caller, and functions that find
+//! a caller and write it to these structs.
 
 ghost use Rattle.std.specs.Prelude.{◌≡◌, ◌≤◌, map, option_map};
 ghost use Rattle.dw_rows.specs.AbiViews.{roles_of};

@@ -22,8 +22,8 @@ use dw_stack::{CheckedExpression, Kind, check_expression};
 use std::alloc::Global;
 
 /// Evaluates a checked expression, and writes the outcome to `value`, `pieces` and `bytes`. If the
-/// outcome is in pieces, `bytes` gets the bytes of piece `n`, counted from 0, if its value is given
-/// as bytes.
+/// outcome is in pieces, `bytes` gets the bytes of piece `n`, counted from 0, if that piece's value
+/// is given as bytes.
 fn run(
     checked: &CheckedExpression<'_>,
     c: &CContext,
