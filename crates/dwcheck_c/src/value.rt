@@ -13,9 +13,9 @@ use dw_eval::{Evaluation, Location, Outcome, Piece, PieceSize};
 /// past the greatest address; or, with `steps` and `offset` 0, a register's rule is evaluated
 /// without a CFA. 2: the operation at `offset` divides by zero. With the other kinds the expression
 /// describes the location of an object. 3: the object has no location and no value. 4: it is in
-/// memory at the address `value`. 5: it is in register `value`. 6: it has no location, and its value
-/// is the number `value`. 7: it has no location, and its value is a sequence of `value` bytes. 8: it
-/// is in `count` pieces.
+/// memory at the address `value`. 5: it is in register `value`. 6: it has no location, and its
+/// value is the number `value`. 7: it has no location, and its value is a sequence of `value`
+/// bytes. 8: it is in `count` pieces.
 #[repr(C)]
 #[derive(Clone, Copy, Debug)]
 pub struct CValue {
@@ -126,10 +126,10 @@ fn without_location(kind: u32, value: u64, offset: u32, steps: u32) -> CValue
     }
 }
 
-/// Writes an outcome to `out`, and its pieces to `pieces`, as many as fit. If the value of an object
-/// is given as a sequence of bytes, writes these bytes to `bytes`, as many as fit. If the object is
-/// in pieces, writes the bytes of piece `n`, counted from 0, if that piece's value is given as
-/// bytes.
+/// Writes an outcome to `out`, and its pieces to `pieces`, as many as fit. If the value of an
+/// object is given as a sequence of bytes, writes these bytes to `bytes`, as many as fit. If the
+/// object is in pieces, writes the bytes of piece `n`, counted from 0, if that piece's value is
+/// given as bytes.
 pub(crate) fn write_outcome(
     evaluation: &Evaluation<'_>,
     n: u32,
