@@ -37,7 +37,7 @@ pub struct CRow {
     pub start: u64,
     pub end: u64,
     pub cfa: CRule,
-    /// The register of the return address.
+    /// The number of the return address register, which the CIE gives.
     pub return_register: u32,
     /// The number of registers that have a rule.
     pub count: u32,
