@@ -1,9 +1,11 @@
 #!/usr/bin/env python3
-"""Random expressions and state files: compares what the program writes with the model, models/expression_model.py.
+"""Runs `dwcheck eval` on random expressions and state files, and compares its output with what the
+model bench/models/expression_model.py gives.
 
     bench/comparisons/compare_expressions.py DWCHECK COUNT [SEED]        1,000 cases take at most 15 s
 
-Most expressions pass the check and have branches; the others are operations and bytes in any order.
+Most expressions are made to pass the check and have branches. The others are operations and bytes
+in random order.
 """
 import random
 
@@ -21,7 +23,8 @@ class Maker:
         self.random = random.Random(seed)
 
     def start(self, target=None):
-        """Chooses a kind at random, and a target unless one is given."""
+        """Chooses at random what the next expression is used for, and the byte order and address
+        size, unless `target` gives these two."""
         drawn = self.random.random() < 0.3, self.random.choice([4, 8])
         self.big, self.size = target or drawn
         self.kind = self.random.choice(["cfa", "register", "location", "location"])
@@ -49,7 +52,7 @@ class Maker:
         return (value % (1 << 8 * count)).to_bytes(count, "big" if self.big else "little")
 
     def push(self):
-        """An operation that needs nothing and pushes one entry."""
+        """An operation that takes nothing from the stack and pushes one entry."""
         width = self.random.choice([1, 2, 4, 8])
         shapes = [
             bytes([0x30 + self.random.randrange(32)]),
@@ -76,27 +79,27 @@ class Maker:
         ])
 
     def one(self):
-        """Operations that push one entry."""
+        """Operations that together push one entry, and need nothing on the stack before."""
         parts = [b"\x1f", b"\x20", b"\x19", b"\x96", b"\x12\x22", b"\x12\x1e", b"\x31\x24", b"\x23\x7f"]
         return self.push() + b"".join(self.random.choices(parts, k=self.random.randrange(3)))
 
     def read(self):
-        """Replaces the top entry by one read from memory, mostly at an address where the state may
-        have memory."""
+        """Operations that replace the top entry by one that is read from memory, mostly at an
+        address at which state() may put memory."""
         if self.random.random() < 0.1:
             return b"\x06"
         address = self.random.choice([b"\x30", b"\x31", b"\x37", b"\x4f", b"\x0a" + self.fixed(0x1000, 2)])
         return b"\x13" + address + self.random.choice([b"\x94\x01", b"\x94\x02", b"\x94\x04"])
 
     def diamond(self):
-        """A branch whose two paths meet, each with one more entry."""
+        """A branch whose two paths meet again. Each path pushes one entry."""
         way, other = self.one(), self.one()
         way += b"\x2f" + self.fixed(len(other), 2)
         condition = bytes([0x30 + self.random.randrange(2)])
         return condition + b"\x28" + self.fixed(len(way), 2) + way + other
 
     def good(self):
-        """An expression that passes the check, unless its stack exceeds the limit."""
+        """An expression that passes the check, unless its stack grows too high."""
         height = int(self.kind == "register")
         out = b""
         for _ in range(self.random.randrange(1, 16)):
@@ -111,7 +114,8 @@ class Maker:
         return out + (self.place(height) if self.kind == "location" else b"")
 
     def place(self, height):
-        """Operations that turn an expression with `height` entries into a location."""
+        """Operations to append to an expression that leaves `height` entries, so that it gives a
+        location."""
         if self.random.random() < 0.5:
             return self.random.choice([b"", b"\x9f"])
         out = b"\x13" * (height - 1) + self.random.choice([b"", b"\x9f"]) + b"\x93\x04"
@@ -127,8 +131,8 @@ class Maker:
         return out[:self.random.randrange(len(out) + 1)] if self.random.random() < 0.2 else out
 
     def state(self):
-        """A machine's registers, memory and context, and the lines of the state file that give
-        them."""
+        """Random registers, memory and context values, as the model takes them, and the text of the
+        state file that gives them."""
         top = 1 << 8 * self.size
         state = {"reg": {}, "mem": {}, "cfa": None, "frame": None, "object": None}
         lines = []

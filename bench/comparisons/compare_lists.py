@@ -1,9 +1,10 @@
 #!/usr/bin/env python3
-"""Random location lists, queries and state files: compares what the program writes with models/list_model.py.
+"""Runs `dwcheck locs` on random sections of location lists, and compares its output with what the
+model bench/models/list_model.py gives. The addresses to look up and the state files are random too.
 
     bench/comparisons/compare_lists.py DWCHECK COUNT [SEED]        1,000 cases take at most 25 s
 
-Most sections pass the check; some have a byte changed or are cut.
+Most sections pass the check. In some, a byte is changed, and some are cut short.
 """
 import with_models  # noqa: F401
 from compare_expressions import Maker
@@ -18,7 +19,8 @@ class ListMaker(Maker):
         self.near, self.starts, self.marks = 0x1000, [], [0, 1, (1 << 8 * self.size) - 1]
 
     def bounds(self):
-        """The bounds of a range: two numbers near each other, the second rarely below the first."""
+        """The bounds of a range: two addresses near each other. The second is rarely below the
+        first."""
         if self.random.random() < 0.2:
             self.near = self.random.choice([0, 0x1000, 0x7fffffff, (1 << 8 * self.size) - 0x20])
         low = self.near + self.random.randrange(0x18)
@@ -50,7 +52,8 @@ class ListMaker(Maker):
         return b"".join(entries) + (b"" if self.random.random() < 0.005 else b"\x00")
 
     def table(self, at):
-        """A table that begins at the offset `at` of the section, in the 32-bit or 64-bit format."""
+        """A table of location lists for offset `at` of the section, in the 32-bit or 64-bit
+        format."""
         wide = self.random.choice([4, 4, 8])
         lists = [self.list() for _ in range(self.random.randrange(1, 4) if self.random.random() < 0.9 else 0)]
         count = self.random.randrange(3) if lists else 0
@@ -79,8 +82,8 @@ class ListMaker(Maker):
         return out
 
     def query(self):
-        """The offset of a list, a base and an address, mostly such that an expression holds
-        there."""
+        """What to look up: the offset of a list, a base address, and an address, to which mostly
+        an expression of the list applies."""
         top = (1 << 8 * self.size) - 1
         base = self.random.choice([0, 0, 0x1000, top - 0x10, top])
         address = self.random.choice(self.marks) + self.random.choice([0, base, base]) + self.random.randrange(-1, 3)

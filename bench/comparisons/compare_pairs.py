@@ -1,11 +1,12 @@
 #!/usr/bin/env python3
-"""Random pairs of sections, state files and queries: compares what the program writes with models/pair_model.py.
+"""Runs dwcheck on random pairs of a frame section and a section of location lists, and compares its
+output with what the models in bench/models give. Addresses and state files are random too.
 
     bench/comparisons/compare_pairs.py DWCHECK COUNT [SEED]        1,000 cases take at most 40 s
 
-Each pair goes through `check`, and its sections through `unwind`, `row` and `locs`. Most sections
-pass the check, with expressions in rules; some have mistakes, or are changed or cut. Few state
-files have a malformed line.
+`check` is run on each pair, `unwind` and `row` on its frame section, and `locs` on its lists. Most
+sections pass the check, and have rules that are expressions. Others are made with mistakes, or have
+bytes changed, or are cut short. A few state files have a malformed line.
 """
 import re
 
@@ -17,8 +18,8 @@ from frame_model import answers
 from list_model import answer
 from pair_model import check_text, state_of, unwind_text
 
-# Expressions of rules that often have a value with the registers and memory of these cases: sums,
-# words of memory, and divisions by zero.
+# Expressions, in hex, for the rule of a CFA and for the rule of a register: sums, words of memory,
+# and divisions by zero. With the registers and memory that state_file() makes, most have a value.
 ANSWERED = {
     "cfa": ["7708", "7508", "7310", "7600", "7006", "75109404237f", "71081206", "720806", "8f08", "7408300622", "7130301b", "7430301d",
             "720873003f1a3b2a332422"],
@@ -33,7 +34,8 @@ BAD_LINES = [
 
 
 class PairMaker(SectionMaker):
-    """Makes frame sections, and location lists for the same target."""
+    """Makes frame sections, and sections of location lists with the same byte order and address
+    size."""
 
     def __init__(self, seed):
         super().__init__(seed)
@@ -74,13 +76,13 @@ class PairMaker(SectionMaker):
         return self.unsigned(len(held)) + held
 
     def beside(self, low, high):
-        """An address at a random distance from `low` to `high` - 1 from self.near, modulo 2^w.
-        Registers point near there."""
+        """The address self.near plus a random number from `low` to `high` - 1, modulo 2^w. Most
+        registers contain addresses near self.near."""
         return (self.near + self.random.randrange(low, high)) % (self.top + 1)
 
     def memory(self):
-        """A line of the state file with some bytes of memory. If they run past the last address, a
-        second line has the rest from 0 on."""
+        """A line of a state file that gives some bytes of memory. If the bytes run past the highest
+        address, a second line gives the rest, which begins at address 0."""
         about, most = self.random.choice([(0x200, 0x400), (0x200, 0x400), (0x80, 0x100), (0x20, 0x20), (8, 8)])
         address = self.beside(-about, about // 4)
         held = self.random.randbytes(self.random.randrange(most // 2, most))
@@ -94,8 +96,8 @@ class PairMaker(SectionMaker):
         return self.random.choice([*BAD_LINES, *past, *odd_but_good * 3])
 
     def state_file(self):
-        """A state file: registers that point near self.near, memory there, and now and then what
-        other expressions may need."""
+        """A state file with registers that contain addresses near self.near, memory there, and now
+        and then the lines of ListMaker's state() too."""
         lines = [f"reg {register} {self.beside(0, 0x40):#x}" for register in REGISTERS if self.chance(0.8)]
         for _ in range(self.random.choice([0, 1, 2, 3, 3])):
             lines += self.memory()
@@ -108,7 +110,8 @@ class PairMaker(SectionMaker):
 
 
 def kinds_of(command, text):
-    """The kinds under which a text is counted: each value of a caller, or how the text begins."""
+    """The kinds under which the output of a command is counted. For `unwind` there is one for each
+    value of the caller; for the others one that says how the output begins."""
     lines = [line.split(" 0x")[0] for line in text.splitlines()]
     if lines[0].startswith("dwcheck: state line"):
         return [f"{command}: state line"]

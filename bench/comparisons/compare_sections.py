@@ -1,11 +1,12 @@
 #!/usr/bin/env python3
-"""Random frame sections and addresses: compares what the program writes with models/frame_model.py.
+"""Runs dwcheck on random frame sections and addresses, and compares its output with what the model
+bench/models/frame_model.py gives.
 
     bench/comparisons/compare_sections.py DWCHECK COUNT [SEED]        1,000 cases take at most 15 s
 
-Each section goes through `rows`, and through `row` with one address. Half of the sections are made
-to pass the check, the others have mistakes here and there. Some of both have a few bytes changed,
-or are cut.
+`rows` is run on each section, and `row` on the section and one address. Half of the sections are
+made to pass the check; the others are made with mistakes here and there. In some sections of both
+kinds, a few bytes are changed afterwards, and some are cut short.
 """
 import with_models  # noqa: F401
 from compare_expressions import Maker
@@ -23,21 +24,24 @@ class SectionMaker(Maker):
         self.marks = [self.random.choice([0, 0x1000, self.top])]
 
     def slips(self):
-        """Whether to make a mistake here, which may turn out to be none."""
+        """Whether to choose something here that is probably a mistake. The choice is random, so now
+        and then it is correct all the same."""
         return self.random.random() < self.slip
 
     def chance(self, part):
         return self.random.random() < part
 
     def careless(self):
-        """Like slips(), but more often if the program has about as many rules as are allowed, so
-        that a fault may come with TooManyRules."""
+        """Whether to make a mistake here, as in slips(). It is more often true if the program has
+        about as many rules as are allowed, so that the fault TooManyRules may occur together with
+        another fault."""
         return self.slips() or self.many and self.chance(0.3)
 
     # Numbers.
 
     def padded(self, number, last):
-        """A LEB128 number, now and then with redundant bytes, or with more than are allowed."""
+        """A LEB128 number, now and then with redundant bytes at its end, sometimes more of them than
+        are allowed. `last` is the last redundant byte: 0, or 0x7f for a negative number."""
         if not self.chance(0.02):
             return number
         more = self.random.randrange(10 - len(number)) if len(number) < 10 else 0
@@ -62,11 +66,13 @@ class SectionMaker(Maker):
         return self.unsigned(self.random.choice([*range(12), *range(12), 31, 63, 64, 127, 128, 300, 65535]))
 
     def column(self, version):
-        """The return address column: a byte in version 1, a LEB128 number in later versions."""
+        """A CIE's return address register: a byte in version 1, and a LEB128 number in later
+        versions."""
         return bytes([self.random.choice([16, 14, 0, 127, 128, 255])]) if version == 1 else self.register()
 
     def factored(self, factor, signed):
-        """A number whose product with `factor` fits 64 signed bits, sometimes only just."""
+        """A factored offset: a number that the program multiplies by `factor`. The product fits 64
+        signed bits, sometimes only just; now and then it doesn't, as a mistake."""
         number = self.random.choice([0, 1, 2, 3, 8, 20, 0x1234])
         if self.chance(0.4 if self.many else 0.1):
             number = ((1 << 63) - self.random.randrange(2)) // max(abs(factor), 1) + self.random.randrange(2)
@@ -93,7 +99,7 @@ class SectionMaker(Maker):
         return self.unsigned(len(held)) + held
 
     def rules(self):
-        """Nearly as many rules as are allowed, or a few more."""
+        """Instructions that give rules to about as many registers as are allowed, which is 128."""
         first, count = self.random.choice([0, 5, 12, 20, 200]), self.random.randrange(120, 130)
         out = b"".join(b"\x07" + Maker.unsigned(self, first + i) for i in range(count))
         return out + b"".join(self.rule() for _ in range(4))
@@ -170,7 +176,7 @@ class SectionMaker(Maker):
         return b"\x06" + self.register()
 
     def wrong(self):
-        """Random bytes, or an instruction with two faults."""
+        """One or two bytes of which the first is random, or an instruction with two faults."""
         if self.chance(0.7):
             return bytes([self.random.getrandbits(8)]) + (b"\x01" if self.chance(0.5) else b"")
         code = self.random.choice([0x05, 0x09, 0x0c, 0x10, 0x11, 0x12, 0x14, 0x15, 0x16])
@@ -200,8 +206,8 @@ class SectionMaker(Maker):
         return code, self.random.choice([-8, -8, -4, -1, 1, 4, 0, (1 << 63) - 1, -1 << 63, self.random.getrandbits(62)])
 
     def cie(self):
-        """The bytes of a CIE after its id, and what its FDEs need: both factors, and the kind of
-        its CFA rule."""
+        """The bytes of a CIE after its id, and what its FDEs are made with: both alignment factors,
+        and the kind of the CFA's rule at the end of its program."""
         self.code, self.data = self.factors()
         self.common, self.cfa, self.saved, self.at, self.end = True, None, [], 0, 0
         version = self.random.choice([1, 1, 3, 3, 4, 4])
@@ -214,7 +220,7 @@ class SectionMaker(Maker):
         return bytes(head) + self.program(), (self.code, self.data, self.cfa)
 
     def fde(self, known, start, end):
-        """The bytes of an FDE after its CIE_pointer."""
+        """The bytes of an FDE after its CIE_pointer. `known` is what cie() returned for its FDEs."""
         self.code, self.data, self.cfa = known
         self.common, self.saved, self.at, self.end = False, [], start, end
         self.marks += [start, end, start + self.random.randrange(max(end - start, 1)), min(end, start + 4)]
@@ -226,7 +232,7 @@ class SectionMaker(Maker):
         return out
 
     def ranges(self, count):
-        """Some ranges of addresses, which rarely overlap."""
+        """`count` ranges of addresses, in random order. They rarely overlap."""
         low = self.random.choice([0, 0x1000, 0x1000, 0x7ffffff0, self.top - 0x60])
         found = []
         for _ in range(count):
@@ -283,7 +289,7 @@ class SectionMaker(Maker):
         return bytes(out)
 
     def address(self):
-        """An address, mostly at or near the beginning or end of a row."""
+        """An address to look up, mostly at or near the beginning or end of a row."""
         address = self.random.choice(self.marks) + self.random.choice([-1, 0, 0, 0, 1, 1, self.random.randrange(0x20)])
         return min(max(address, 0), self.top)
 

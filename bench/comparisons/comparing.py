@@ -1,25 +1,26 @@
-"""Shared by the comparing scripts: makes random cases, compares what the program writes for each
-with what is wanted, and counts.
+"""Shared by the scripts compare_*.py: makes random cases, compares what dwcheck writes for each with
+what it must write, and counts the cases by kind.
 
-A script calls compare(usage, make, case_of): `usage` is its usage text, make(seed) gives a maker of
-random things, and case_of(maker) gives the maker's next case.
+A script calls compare(usage, make, case_of). `usage` is its usage text. make(seed) returns a maker,
+which makes random sections, expressions and so on. case_of(maker) returns the maker's next case.
 """
 import collections
 import subprocess
 import sys
 import tempfile
 
-# A case. `files` has the contents of its files by name, `runs` has the runs of the program on these
-# files, and `kinds` has the kinds under which the case is counted.
+# A case. `files` has the contents of its files by name, `runs` the runs of dwcheck on these files,
+# and `kinds` the names under which the case is counted.
 Case = collections.namedtuple("Case", "files runs kinds")
-# A run of the program. `said` is printed if the output differs from what is wanted. `words` has the
-# program's arguments, except --big and --addr4, which check() adds; an argument that is a key of
-# `files` becomes that file's path. `wanted` is the output that the program must write.
+# A run of dwcheck. `wanted` is the output that dwcheck must write, and `said` is printed if the
+# output differs. `words` has dwcheck's arguments except --big and --addr4, which check() adds. An
+# argument that is a key of `files` is replaced by the path of that file.
 Run = collections.namedtuple("Run", "said words wanted")
 
 
 def refusal(text):
-    """The kind of a text that is a refusal, or None."""
+    """If a text says that the input is refused, "refused" and the name of the fault; otherwise
+    None."""
     return " ".join(text.split()[:3:2]) if text.startswith("refused") else None
 
 

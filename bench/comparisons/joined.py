@@ -1,9 +1,9 @@
-"""Joins the sections of several modules into one section with addresses as loaded, so that it can
-be walked without load addresses.
+"""Joins the frame sections of several modules into one frame section whose addresses are as loaded.
+A walk over this section without load addresses is the same as a walk over the modules.
 
-joined(sections, loads, big, size) rewrites the addresses of each section's FDEs and set_loc
-instructions, and concatenates the sections. It returns None if the result isn't equivalent: if a
-range wraps past the top address, or ranges of two modules overlap.
+joined(sections, loads, big, size) adds each module's load address to the addresses in its FDEs and
+set_loc instructions, and concatenates the sections. It returns None if the joined section wouldn't
+be equivalent: if a range runs past the highest address, or if ranges of two modules overlap.
 """
 import with_models  # noqa: F401
 from frame_model import body, checked, instruction, reader
@@ -14,8 +14,9 @@ def numbered(value, size, big):
 
 
 def moved_record(section, at, load, before, big, size):
-    """The record at offset `at` with addresses as loaded, and the offset of the next record.
-    `before` is the number of bytes that will precede its section."""
+    """A copy of the CIE or FDE at offset `at`, for the joined section, and the offset of the next
+    CIE or FDE. The copy of an FDE has addresses as loaded. Its CIE_pointer grows by `before`, the
+    number of bytes that precede the module's section in the joined one."""
     top = 1 << 8 * size
     begin, end, wide = body(section, at, big, size)
     out, fields = bytearray(section[at:end]), reader(section[:end], begin, big, size)
@@ -46,7 +47,8 @@ def moved(section, load, before, big, size):
 
 
 def ranges(section, load, big, size):
-    """The ranges of a section's FDEs as loaded."""
+    """The address ranges of a section's FDEs, as loaded. The end of a range that runs past the
+    highest address is above it."""
     for described, _, _ in checked(section, big, size)[1]:
         start = (described["start"] + load) % (1 << 8 * size)
         yield start, start + described["end"] - described["start"]

@@ -1,5 +1,5 @@
-"""Checks location lists and looks addresses up in them, according to docs/PROFILE.md alone, in
-plain Python: nothing here was taken from the program.
+"""A model of how dwcheck checks location lists and looks addresses up in them, in Python. It was
+written from docs/PROFILE.md alone; nothing in it was taken from dwcheck's code.
 
 answer(section, offset, base, address, big, size, state) gives the text that `dwcheck locs` must
 write.
@@ -22,8 +22,9 @@ def reader(data, at, big, size):
 
 
 def entry(fields, has_default, big, size):
-    """The code of the next entry, its two operands, and its expression; None for those that it
-    doesn't have."""
+    """Reads the next entry. Returns its code, its first and second operand, and its expression. An
+    operand or expression that this kind of entry doesn't have is None. `has_default` says whether
+    the list already has a default location."""
     at, code = fields.at, fields.fixed(1)
     if code not in (END, PAIR, DEFAULT, BASE, START_END, START_LENGTH):
         raise Fault(51, at)
@@ -49,7 +50,8 @@ def entry(fields, has_default, big, size):
 
 
 def body(section, at, big, size):
-    """Where the body of a table or a record begins and ends, and the size of offsets in it."""
+    """Reads the length at the beginning of a table, a CIE or an FDE. Returns the offsets where what
+    follows the length begins and ends, and the size of an offset (4 or 8 bytes)."""
     fields = reader(section, at, big, size)
     length, wide = fields.fixed(4), 4
     if 0xfffffff0 <= length < 0xffffffff:
@@ -64,8 +66,8 @@ def body(section, at, big, size):
 
 
 def table(section, at, big, size):
-    """The lists of the table at offset `at`, by the offset of each list, and the offset where the
-    table ends."""
+    """Reads the table at offset `at`. Returns the entries of each list by the list's offset, and
+    the offset where the table ends."""
     begin, end, wide = body(section, at, big, size)
     fields, lists = reader(section[:end], begin, big, size), {}
     for number, count, value in [(50, 2, 5), (6, 1, size), (7, 1, 0)]:
@@ -91,7 +93,8 @@ def table(section, at, big, size):
 
 
 def holding(entries, base, address):
-    """The expressions of a list that hold at an address, in order."""
+    """The expressions of a list that apply at an address, in the order of the list. `base` is the
+    unit's base address."""
     found, otherwise = [], []
     for code, first, second, expression in entries:
         if code == BASE:
@@ -108,8 +111,8 @@ def holding(entries, base, address):
 
 
 def checked(section, big, size):
-    """The number of tables, and the lists by their offsets, in the order of the section. Raises the
-    first fault."""
+    """Checks a section. Returns the number of its tables, and the entries of each list by the
+    list's offset, in the order of the section. Raises the first fault."""
     at, tables, lists = 0, 0, {}
     while at < len(section):
         more, at = table(section, at, big, size)

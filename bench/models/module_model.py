@@ -1,15 +1,16 @@
 #!/usr/bin/env python3
-"""Walks through a process of several modules: nothing here was taken from the program.
+"""A model of how dwcheck walks through a process of several modules, in Python. Nothing in it was
+taken from dwcheck's code.
 
-A module is a section and a load address. The first module is FRAME's, with the load address of
+A module is a frame section and a load address. The first module is FRAME with the load address of
 --load; then come those of --module in their order. The module of an address is the first with an
 FDE that covers the address minus the load address, modulo 2^w. ADDRESS, the addresses of frames,
-CFAs and registers are as loaded; what an expression pushes by DW_OP_addr and the text of `row` are
-as linked. Frame 0 is looked up at its address, each later frame at its address minus 1, unless that
-is negative. The other models do the rest.
+CFAs and contents of registers are as loaded. What an expression pushes by DW_OP_addr is as linked,
+and so are the addresses that `row` prints. Frame 0 is looked up at its address, and each later
+frame at its address minus 1; a later frame at address 0 has no row. The other models do the rest.
 
-Run as a program, the model answers like `dwcheck`, so that bench/walk/modules.sh can compare it
-with gdb; a walk takes seconds:
+Run as a program, the model takes these words of `dwcheck` and writes what `dwcheck` must write, so
+bench/walk/modules.sh can compare it with gdb. A walk takes seconds.
 
     bench/models/module_model.py backtrace FRAME ADDRESS STATE LIMIT [--load 0xL] [--module 0xL=FILE].. [--big] [--addr4]
     bench/models/module_model.py unwind FRAME ADDRESS STATE [..]
@@ -29,8 +30,8 @@ def as_linked(address, load, size):
 
 
 def module_of(modules, address, size):
-    """The number of the first module that has a row for `address`, and the row with its CIE; or
-    None."""
+    """The number (from 0) of the first module that has a row for `address`, and a pair of the CIE
+    and the row; or None if no module has a row."""
     for number, (found, load) in enumerate(modules):
         place = row_at(found, as_linked(address, load, size))
         if place is not None:
@@ -39,8 +40,9 @@ def module_of(modules, address, size):
 
 
 def rows_in_modules(modules, size):
-    """A function that finds the row of an address among modules. A module is a pair: the FDEs that
-    a check found, and a load address."""
+    """A function that returns the CIE and the row of an address in the first module that has a row
+    for it, or None. A module is a pair: the FDEs that checked() of frame_model.py returns, and a
+    load address."""
     def find(address):
         hit = module_of(modules, address, size) if address >= 0 else None
         return hit and hit[1]
@@ -61,8 +63,8 @@ def row_text(module, address, size):
 
 
 def judged(sections, big, size):
-    """The FDEs that were found in each section, or the fault of the first section that is
-    refused."""
+    """Checks the sections. Returns a list of each section's FDEs, or the fault of the first section
+    that is refused."""
     try:
         return [checked(section, big, size)[1] for section in sections]
     except Fault as fault:

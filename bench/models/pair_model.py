@@ -1,5 +1,6 @@
-"""Checks two sections together, and finds callers, according to docs/PROFILE.md alone: nothing here
-was taken from the program.
+"""A model of how dwcheck checks a frame section and a section of location lists together, and of
+how it finds a frame's caller, in Python. It was written from docs/PROFILE.md alone; nothing in it
+was taken from dwcheck's code.
 
 check_text(frame, lists, big, size) gives the text that `dwcheck check` must write, and
 unwind_text(frame, address, state, big, size) the text of `dwcheck unwind`. state_of(content, size)
@@ -44,8 +45,9 @@ def check_text(frame, lists, big, size):
 # Callers.
 
 class Caller:
-    """The caller by a row, for given registers and memory. An answer is a number, or a text such as
-    "unreadable" if there is none."""
+    """The caller of a frame whose address a row covers. `state` has the frame's registers, memory
+    and ABI. The answer for the CFA or a register is a number, or if it can't be found, a text that
+    says why, such as "unreadable"."""
 
     def __init__(self, row, state, big, size):
         _, _, cfa, self.rules = row
@@ -77,8 +79,8 @@ class Caller:
             return "unreadable"
 
     def value(self, expression, cfa):
-        """The value of an expression with the given CFA (or None) and no other context, or why
-        there is none."""
+        """The value of an expression, or why it has none. `cfa` is a number or None; the frame
+        base and the object aren't known."""
         context = {"cfa": cfa, "frame": None, "object": None}
         (said, *held), _ = outcome_of(expression, self.given | context, self.big, self.size)
         return held[0] if said == "value" else said
@@ -110,7 +112,8 @@ def unwind_text(frame, address, state, big, size):
 
 
 def caller_text(place, state, big, size):
-    """The text of the caller by a row and its CIE. `place` is None if there is no row."""
+    """The text that `dwcheck unwind` must write for a frame. `place` is the CIE and the row of the
+    frame's address, or None if no row covers it."""
     if place is None:
         return "none\n"
     common, row = place
@@ -131,7 +134,7 @@ MAX_KEPT = 127
 
 
 def state_of(content, size):
-    """What the lines of a state file give, or the number of the first malformed one."""
+    """What a state file says, or the number (from 1) of the first line that isn't allowed."""
     state = {"reg": {}, "mem": {}, "cfa": None, "frame": None, "object": None, "keep": [], "sp": None}
     for number, line in enumerate(content.split(b"\n"), 1):
         if line and not added(state, line, 1 << 8 * size):
@@ -140,8 +143,8 @@ def state_of(content, size):
 
 
 def added(state, line, top):
-    """Adds what a line gives, unless an earlier line gave it. Returns whether the line is
-    accepted."""
+    """Adds to `state` what a line says. If several lines give the same register, byte or value, the
+    first one counts. `top` is 2^w. Returns whether the line is allowed."""
     number = rb"0x([0-9a-fA-F]{1,16})"
     if parsed := re.fullmatch(rb"reg ([0-9]{1,5}) " + number, line):
         register, value = int(parsed[1]), int(parsed[2], 16)
@@ -164,7 +167,7 @@ def added(state, line, top):
 
 
 def kept(state, register):
-    """Makes a register callee-saved, if it isn't yet. Returns whether that is allowed."""
+    """Makes a register callee-saved, unless it is already. Returns whether that is allowed."""
     if register in state["keep"]:
         return True
     state["keep"].append(register)
@@ -172,7 +175,8 @@ def kept(state, register):
 
 
 def pointed(state, register):
-    """Makes a register the stack pointer, unless there is one. Returns whether that is allowed."""
+    """Makes a register the stack pointer, unless an earlier line named one. Returns whether that is
+    allowed."""
     if state["sp"] is not None:
         return True
     state["sp"] = register

@@ -1,10 +1,11 @@
-"""Walks up the stack according to docs/PROFILE.md alone: nothing here was taken from the program.
+"""A model of how dwcheck walks up the stack, in Python. It was written from docs/PROFILE.md alone;
+nothing in it was taken from dwcheck's code.
 
 backtrace_text(frame, address, state, limit, big, size) gives the text that `dwcheck backtrace` must
-write, and limit_of(word) the limit that a word stands for. The other models read sections, rows,
-expressions, single callers and state files. A walk takes a function that returns an address's row
-with its CIE, or None: rows_in(found) makes one for a section, rows_in_modules of module_model.py
-for several.
+write, and limit_of(word) the number that the word LIMIT of a command line stands for. The other
+models read sections and state files, and find the caller of a single frame. A walk is given a
+function that returns the CIE and the row of an address, or None if no row covers it. rows_in(found)
+makes this function for one section, and rows_in_modules of module_model.py for several modules.
 """
 import re
 
@@ -16,15 +17,16 @@ MAX_LIMIT = 65535
 
 
 def limit_of(word):
-    """The number of a word of one to five digits, or None if it is no such word or above
-    MAX_LIMIT."""
+    """The number that a word stands for; or None if the word isn't one to five digits, or if the
+    number is above MAX_LIMIT."""
     limit = int(word) if re.fullmatch("[0-9]{1,5}", word, re.ASCII) else MAX_LIMIT + 1
     return limit if limit <= MAX_LIMIT else None
 
 
 class Frame:
-    """A frame: its number, its address and its registers. If a row covers it, it also has a caller,
-    and the address to which it returns or why that isn't known."""
+    """A frame: its number, its address, and the registers and memory in `state`. If a row covers
+    the frame, `caller` is its caller, and `returns` its return address or a text that says why that
+    isn't known. Otherwise both are None."""
 
     def __init__(self, find, number, address, state, big, size):
         self.number, self.address, self.state, self.big, self.size = number, address, state, big, size
@@ -37,14 +39,13 @@ class Frame:
             self.returns = self.caller.answer(common["return"])
 
     def why_last(self):
-        """Why no frame comes after this one, or None."""
+        """Why the walk ends with this frame; None if it continues."""
         if self.caller is None:
             return "not covered"
         return f"return {self.returns}" if isinstance(self.returns, str) else None
 
     def next(self, find):
-        """The frame of the caller. A register is known there only if the caller's answer for it is
-        a number."""
+        """The frame of the caller. A register is known in it only if its value could be found."""
         answers = {register: self.caller.answer(register) for register in self.caller.named()}
         contents = {register: answer for register, answer in answers.items() if not isinstance(answer, str)}
         return Frame(find, self.number + 1, self.returns, self.state | {"reg": contents}, self.big, self.size)
@@ -55,12 +56,13 @@ class Frame:
 
 
 def rows_in(found):
-    """A function that finds the row of an address in a section as linked."""
+    """A function that returns the CIE and the row of an address, or None. `found` are the FDEs of
+    one section, whose load address is 0."""
     return lambda address: row_at(found, address)
 
 
 def walk(find, address, state, limit, big, size):
-    """At most `limit` frames, and why there are no more."""
+    """The frames of a walk, the innermost first and at most `limit`, and why there are no more."""
     frames = []
     while len(frames) < limit:
         frames.append(frames[-1].next(find) if frames else Frame(find, 0, address, state, big, size))

@@ -1,13 +1,16 @@
 #!/usr/bin/env python3
-"""Compares the walks of a stopped program with gdb's.
+"""Checks that dwcheck's walks up the stack of a stopped program agree with gdb's.
 
     bench/walk/compare.py DWCHECK SECTION FOLDER [NAME=SECTION]..
 
-FOLDER has what stops.py wrote. NAME is the file of a further module; if there are any, stops.py has
-also written the load addresses of these modules and of the program. With the whole stack, each
-frame of the program must have gdb's address and CFA, and then comes the first address outside the
-program; the caller's registers must be gdb's too. With only the top of the stack, the frames must
-be the first of these, and fewer only if the copy of the stack ends.
+The first SECTION is a file with the program's .debug_frame section. FOLDER has the files that
+stops.py wrote. For each library that belongs to the program, NAME is its file name and SECTION a
+file with its .debug_frame section; then FOLDER also has the file `loads` with the load addresses.
+
+At each stop, dwcheck walks twice. With the whole stack, each frame in the program and its libraries
+must have the address and CFA that gdb gives, and no row may cover the first frame outside them. The
+registers of frame 0's caller must be gdb's too. With a copy of only the top of the stack, dwcheck
+must find the same frames from the innermost on. It may find fewer only if the copy ends too early.
 """
 import collections
 import glob
@@ -24,7 +27,8 @@ def lines_of(program, words):
 
 
 def read(path):
-    """Reads gdb's frames, and the registers of the first caller."""
+    """Reads gdb's frames (address, CFA, and whether the frame is in the program), and the registers
+    of frame 1 by name."""
     with open(path, encoding="ascii") as file:
         lines = [line.split() for line in file]
     frames = [(int(line[0], 16), int(line[1], 16), line[2] == "1") for line in lines if line[0].startswith("0x")]
@@ -32,8 +36,8 @@ def read(path):
 
 
 def wanted(frames):
-    """The lines that are wanted for the frames in the program, and for the first frame after
-    them."""
+    """The lines that dwcheck must print for the frames in the program, and for the first frame
+    outside it if there is one."""
     inside = next((i for i, (_, _, is_inside) in enumerate(frames) if not is_inside), len(frames))
     lines = [f"frame {i} 0x{address:016x} cfa value 0x{cfa:016x}" for i, (address, cfa, _) in enumerate(frames[:inside])]
     return lines + [f"frame {inside} 0x{address:016x} none" for address, _, _ in frames[inside:inside + 1]]
@@ -44,7 +48,8 @@ def differ(path, want, got):
 
 
 def options(folder, named):
-    """The options that give load addresses."""
+    """dwcheck's options --load and --module for the program and its libraries. There are none if
+    the program has no libraries."""
     if not named:
         return []
     with open(os.path.join(folder, "loads"), encoding="ascii") as file:
@@ -55,7 +60,7 @@ def options(folder, named):
 
 
 def compare(program, section, path, counts, more):
-    """Compares the walks of one stop."""
+    """Compares both walks from one stop with gdb's frames, which are in the file `path`."""
     stem = path.removesuffix(".frames")
     frames, registers = read(path)
     start, want = hex(frames[0][0]), wanted(frames)

@@ -1,5 +1,5 @@
-/* The program of targets.py: frames of several kinds on a target without a C library. It is
-   stopped in the innermost one. */
+/* The program that targets.py compiles for each target. It needs no C library. It makes frames of
+   several kinds, and is stopped in the function `innermost`. */
 typedef int (*callback)(int);
 
 #define APART __attribute__((noinline))

@@ -1,6 +1,6 @@
-/* The library of modules.sh: six frames of several kinds, the innermost of which calls back. Its
-   functions aren't called through the procedure linkage table, whose entries have no FDE in
-   .debug_frame. */
+/* The library that modules.sh compiles. A call of through_library makes six frames of several
+   kinds. The innermost, of `each`, calls back into the program. The functions don't call one
+   another through the procedure linkage table, because its entries have no FDE in .debug_frame. */
 #include "process.h"
 #include <alloca.h>
 
@@ -8,7 +8,7 @@ static volatile int sink;
 
 APART static void touch(volatile char *bytes, int at) { bytes[at] = (char)at; sink += bytes[at]; }
 
-/* calls back, once for each value */
+/* calls `call`, which is a function of the program, once for each value */
 APART static int each(const int *values, int count, callback call)
 {
     int sum = 0;

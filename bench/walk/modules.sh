@@ -1,21 +1,24 @@
 #!/usr/bin/env bash
-# Compares walks through two modules with gdb's: a position-independent program (PIE) and a library
-# that calls back, some six frames each, compiled by gcc, and by clang if it is installed, at six
-# levels of optimization, on x86-64. It takes two minutes, and needs gdb with Python.
-#     bench/walk/modules.sh DWCHECK [STOPS]
-# Load addresses come from gdb, and each must agree with the addresses that `nm` and gdb give for a
-# symbol. DWCHECK may be bench/models/module_model.py, the model of such walks.
+# Checks on x86-64 that dwcheck's walks through two modules agree with gdb's. A position-independent
+# program (PIE) calls a library, and the library calls back into the program. Both are compiled by
+# gcc, and by clang if it is installed, with six choices of flags.
+#     bench/walk/modules.sh DWCHECK [STOPS]        two minutes; 100 STOPS if not given
+# This needs gdb with Python. gdb gives the load addresses; each must be the difference between the
+# addresses that gdb and `nm` give for a symbol. DWCHECK may also be bench/models/module_model.py,
+# the model of such walks in Python.
 set -eu
 program=$(realpath "$1") stops=${2:-100}
 here=$(cd "$(dirname "$0")" && pwd)
 work=$(mktemp -d)
 trap 'rm -rf "$work"' EXIT
 
-linked() { # a symbol and its address as linked
+linked() { # FILE SYMBOL: prints the symbol's address as linked
     nm "$1" | sed -n "s/^0*\([0-9a-f]*\) [Tt] $2\$/0x\1/p"
 }
 
-compiled() { # a compiler and its flags; each section in a file of its own
+# COMPILER FLAG..: compiles the program and the library, and writes the .debug_frame section and a
+# symbol of each to files.
+compiled() {
     rm -rf "${work:?}"/* && mkdir "$work/stops"
     flags=(-g -gdwarf-5 -fno-asynchronous-unwind-tables -fno-unwind-tables)
     "$@" "${flags[@]}" -shared -fPIC "$here/library.c" -o "$work/libbeside.so"

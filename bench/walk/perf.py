@@ -1,11 +1,13 @@
 #!/usr/bin/env python3
-"""Walks from the samples of a program that perf recorded with `--call-graph dwarf`: registers and a copy of the top of the stack.
+"""Checks that dwcheck's walks agree with perf's, from samples that `perf record --call-graph dwarf`
+wrote to DATA. Each sample has the registers and a copy of the top of the stack.
 
     bench/walk/perf.py DWCHECK SECTION DATA START END [FOLDER]
 
-START and END are where the program's own code begins and ends. Frames there must be those that perf
-finds in the same sample, as far as both walks go. dwcheck may find fewer only if the copy of the
-stack ends. FOLDER keeps the state files.
+SECTION is a file with the program's .debug_frame section. The program's own code begins at address
+START and ends at END, both in hex. In this range, both walks must find the same frames, as far as
+both go. dwcheck may find fewer than perf only if the copy of the stack ends too early. dwcheck's
+state files stay in FOLDER; without FOLDER they are deleted.
 """
 import collections
 import itertools
@@ -16,7 +18,7 @@ import tempfile
 
 from compare import lines_of
 
-# perf's names of the registers, in the order of DWARF's register numbers.
+# perf's names of the registers, in the order of DWARF's register numbers for x86-64.
 NAMES = ["AX", "DX", "CX", "BX", "SI", "DI", "BP", "SP", *(f"R{i}" for i in range(8, 16)), "IP"]
 ABI = "".join(f"keep {number}\n" for number in [3, 6, 12, 13, 14, 15]) + "sp 7\n"
 
@@ -26,8 +28,8 @@ def output_of(words):
 
 
 def samples(dump):
-    """The registers (by perf's names) and the copy of the stack of each sample in perf's dump of
-    its data."""
+    """For each sample in what `perf script -D` writes: the registers by perf's names, and the bytes
+    that were copied from the stack."""
     for event in dump.split("raw event: size ")[1:]:
         if copied := re.search(r"ustack: size ([0-9]+), offset (0x[0-9a-f]+)", event):
             held = b"".join(bytes.fromhex(line) for line in re.findall(r"^\.  [0-9a-f]{4,}:  ((?:[0-9a-f]{2} )+)", event, re.MULTILINE))
@@ -37,8 +39,8 @@ def samples(dump):
 
 
 def chains(shown):
-    """The addresses of perf's frames of each sample, relative to the mapping of the file. That of a
-    caller is its return address minus 1."""
+    """For each sample, the addresses of the frames that perf found, the innermost first, relative
+    to where the file is mapped. For a caller, perf gives the return address minus 1."""
     return [[int(line, 16) for line in sample.split()] for sample in shown.strip().split("\n\n")]
 
 
@@ -48,7 +50,7 @@ def state(registers, held):
 
 
 def compare(program, section, path, registers, chain, inside):
-    """Compares the walks of a sample, and returns what is counted."""
+    """Compares dwcheck's walk from a sample with perf's. Returns what to add to the counts."""
     *frames, stop = lines_of(program, ["backtrace", section, hex(registers["IP"]), path, "200"])
     walk = [int(line.split()[2], 16) - (i > 0) for i, line in enumerate(frames) if not line.endswith("none")]
     theirs = list(itertools.takewhile(inside, (address - chain[0] + registers["IP"] for address in chain)))

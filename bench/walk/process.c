@@ -1,5 +1,6 @@
-/* The program of modules.sh. Six of its frames call a library, whose six frames call back six
-   more of this program. It is stopped in the innermost frame. */
+/* The program that modules.sh compiles. gdb stops it in `innermost`. Then the stack has six frames
+   of this program (from `main` to `first`), six of the library, and six more of this program (from
+   `called` to `innermost`). */
 #include "process.h"
 #include <alloca.h>
 

@@ -1,5 +1,5 @@
-/* Shared by the two modules of modules.sh: the program process.c, and library.c, a library that
-   calls back. */
+/* Declarations for both files that modules.sh compiles: process.c, a program, and library.c, a
+   library that the program calls and that calls back into the program. */
 #ifndef PROCESS_H
 #define PROCESS_H
 
@@ -11,7 +11,7 @@
 
 typedef int (*callback)(int);
 
-/* Makes six frames, the innermost of which calls `call`. */
+/* Makes six frames. The innermost calls `call`. */
 int through_library(int n, callback call);
 
 #endif

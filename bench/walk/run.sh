@@ -1,7 +1,8 @@
 #!/usr/bin/env bash
-# Compares walks of a stopped program with gdb's, and walks from perf's samples of the program with
-# perf's: on x86-64, compiled by gcc, and by clang if it is installed, at several levels of
-# optimization. It needs gdb with Python; without perf the second half is left out.
+# Checks on x86-64 that dwcheck's walks up the stack of a stopped program agree with gdb's, and that
+# its walks from perf's samples of the program agree with perf's. The program is compiled by gcc,
+# and by clang if it is installed, with six choices of flags. This needs gdb with Python. If perf
+# can't record, the comparison with perf is left out.
 #     bench/walk/run.sh DWCHECK [STOPS]        two minutes with 20 STOPS; 250 if not given
 set -eu
 program=$(realpath "$1") stops=${2:-250}
@@ -9,7 +10,7 @@ here=$(cd "$(dirname "$0")" && pwd)
 work=$(mktemp -d)
 trap 'rm -rf "$work"' EXIT
 
-compiled() { # a compiler and its flags; the section in a file of its own
+compiled() { # COMPILER FLAG..: compiles the program, and writes its .debug_frame section to a file
     rm -rf "${work:?}"/* && mkdir "$work/stops"
     "$@" -no-pie -g "$here/walk.c" -o "$work/walk"
     objcopy --dump-section ".debug_frame=$work/walk.frame" "$work/walk" /dev/null
@@ -22,7 +23,7 @@ beside_gdb() {
     echo "$*, gdb: $said"
 }
 
-beside_perf() { # perf itself reads .eh_frame
+beside_perf() { # perf unwinds by .eh_frame, so the program gets both sections
     compiled "$@" -DBOTH_SECTIONS
     perf record -q -F 999 -e cpu-clock:u --call-graph dwarf,16384 -o "$work/data" "$work/walk" 2000000
     read -r start size < <(readelf -SW "$work/walk" | sed -n 's/.* \.text *PROGBITS *\([0-9a-f]*\) [0-9a-f]* \([0-9a-f]*\).*/\1 \2/p')

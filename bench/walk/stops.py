@@ -1,16 +1,20 @@
-"""For gdb: stops a program in `innermost` and then after each further instruction, and writes what it has there.
+"""A script for gdb. It stops a program at the start of the function `innermost`, and then again
+after each instruction. At each stop it writes the registers, the stack and gdb's frames to files.
 
     STOPS=N FOLDER=F [MODULES=SYMBOLS] gdb --batch --nx -x stops.py PROGRAM
 
-For stop number I these files are written. I.state: the registers, and the whole stack from the red
-zone on. I.top: the registers, and only the first 8,192 bytes of the stack from the stack pointer
-on. I.frames: gdb's frames, each with its address, its CFA, and 1 if it is in the program, else 0;
-then the stack pointer and the callee-saved registers of frame 1. If gdb can't read the memory that
-a frame needs, there is only I.failed.
+There are N stops, or fewer if the program leaves its own files earlier. The files of stop number I
+(from 0) are written to the folder F:
 
-SYMBOLS is a file that says which files make up the program, if it isn't only the executable. Each
-line has the name of a file, a symbol in it, and the symbol's address as linked. Then the file
-`loads` gets each file's name and its load address, which is taken from the process's mappings.
+I.state   the registers, and the whole stack from 128 bytes below the stack pointer (the red zone)
+I.top     the registers, and only 8,192 bytes of the stack from the stack pointer on
+I.frames  a line for each frame that gdb finds: its address, its CFA, and 1 if it is in the program,
+          else 0; then the callee-saved registers and the stack pointer of frame 1
+I.failed  gdb's error if gdb can't read memory that it needs; then the other three are not written
+
+If libraries count as part of the program, SYMBOLS is a file with a line for the executable and one
+for each library: the name of the file, a symbol in it, and the symbol's address as linked. Then
+F/loads gets a line with each file's name and its load address, taken from the process's mappings.
 """
 import os
 import re
@@ -18,7 +22,7 @@ import traceback
 
 import gdb
 
-# gdb's names of the registers, in the order of DWARF's register numbers.
+# gdb's names of the registers, in the order of DWARF's register numbers for x86-64.
 NAMES = ["rax", "rdx", "rcx", "rbx", "rsi", "rdi", "rbp", "rsp", *(f"r{i}" for i in range(8, 16)), "rip"]
 KEPT, POINTER = [3, 6, 12, 13, 14, 15], 7
 RED_ZONE, COPIED, LINE, PAGE = 128, 8192, 1024, 4096
@@ -29,7 +33,7 @@ def contents(frame, numbers):
 
 
 def stack(start):
-    """All bytes from an address on, until memory can't be read."""
+    """The bytes from an address up to the first that can't be read."""
     held, at = b"", start
     while True:
         count = PAGE - at % PAGE
@@ -41,7 +45,8 @@ def stack(start):
 
 
 def state(registers, start, held):
-    """The text of a state file: the ABI, the registers, and the memory from an address on."""
+    """The text of a state file: the ABI, the registers, and the bytes `held` from the address
+    `start` on."""
     lines = [f"keep {number}" for number in KEPT] + [f"sp {POINTER}"]
     lines += [f"reg {number} {content:#x}" for number, content in registers.items()]
     lines += [f"mem {start + i:#x} {held[i:i + LINE].hex()}" for i in range(0, len(held), LINE)]
@@ -49,8 +54,8 @@ def state(registers, start, held):
 
 
 def frames():
-    """gdb's frames, except those of inlined functions and tail calls, which have no frame of their
-    own."""
+    """gdb's frames, the innermost first. Frames of inlined functions and of tail calls are left
+    out, because they have no frame of their own on the stack."""
     frame = gdb.newest_frame()
     while frame is not None:
         if frame.type() not in (gdb.INLINE_FRAME, gdb.TAILCALL_FRAME):
@@ -59,7 +64,7 @@ def frames():
 
 
 def base(frame):
-    """The address that gdb gives for a frame; on x86-64 it is the CFA."""
+    """The address that `info frame` shows for a frame. On x86-64 it is the CFA."""
     frame.select()
     return re.search("frame at (0x[0-9a-f]+)", gdb.execute("info frame", to_string=True))[1]
 
@@ -70,8 +75,8 @@ def name_at(address):
 
 
 def loads(symbols):
-    """The load address of each file, which is where its first mapping begins. Raises an error if
-    the file's symbol isn't at its linked address plus that."""
+    """The name and load address of each file. The load address is where the file's first mapping
+    begins. Raises an error if the file's symbol isn't at its address as linked plus this."""
     mappings = re.findall(r"^\s*(0x[0-9a-f]+) .* /.*/([^/\s]+)$", gdb.execute("info proc mappings", to_string=True), re.MULTILINE)
     for name, symbol, linked in symbols:
         load = min(int(start, 16) for start, file in mappings if file == name)
@@ -121,6 +126,6 @@ def main():
 
 try:
     main()
-except Exception:  # gdb would end with status 0
+except Exception:  # without this, gdb would end with status 0
     traceback.print_exc()
     gdb.execute("quit 1")

@@ -1,12 +1,17 @@
 #!/usr/bin/env python3
-"""Compares walks of programs for nine targets with gdb's, under qemu: the address and the CFA of each frame of gdb's.
+"""Checks that dwcheck's walks agree with gdb's on nine targets: the address and the CFA of each
+frame that gdb finds.
 
     bench/walk/targets.py DWCHECK [TARGET]..        ten seconds
 
-clang compiles freestanding.c, qemu runs it, gdb stops it in its innermost function and after each of the next instructions,
-and tools/gdb_state.py writes the state file, with the target's lines `keep` and `sp`, and says how to run the program. It
-needs Debian's clang, lld, llvm, qemu-user, gdb-multiarch and binutils-s390x-linux-gnu. mips isn't among them: LLVM's CIEs
-for it begin with DW_CFA_def_cfa_register, which is CfaNotRegister.
+Without a TARGET, all nine are tried. clang compiles freestanding.c for the target, and qemu runs
+the program. gdb stops it in its innermost function, and again after each of the next instructions.
+At each stop, tools/gdb_state.py writes a state file with the target's ABI (the lines `keep` and
+`sp`), and prints the command that runs dwcheck on it.
+
+This needs Debian's clang, lld, llvm, qemu-user, gdb-multiarch and binutils-s390x-linux-gnu. mips
+isn't among the targets: LLVM's CIEs for mips begin with DW_CFA_def_cfa_register before any rule for
+the CFA, so dwcheck refuses them with the fault CfaNotRegister.
 """
 import os
 import re
@@ -19,8 +24,8 @@ STATE_TOOL = os.path.join(os.path.dirname(os.path.dirname(HERE)), "tools", "gdb_
 STOPS, PORT, LIMIT = 20, 1300, 40
 LLD = "ld.lld"
 
-# For each target: clang's name of it with further flags of clang, qemu's name of it, and the
-# linker.
+# For each target: clang's name for the target and further flags for clang, qemu's name for the
+# target, and the linker.
 TARGETS = {
     "x86-64": (["x86_64-linux-gnu"], "x86_64", LLD),
     "i386": (["i386-linux-gnu"], "i386", LLD),
@@ -64,7 +69,8 @@ def build(folder, names, linker):
 
 
 def stop(folder, emulator):
-    """Lets gdb stop the program STOPS times, and write a state file and its frames at each stop."""
+    """Lets gdb stop the program STOPS times. At each stop, gdb writes a state file, and a file with
+    the dwcheck command and gdb's frames."""
     with open(f"{folder}/stops.py", "w", encoding="ascii") as file:
         file.write(IN_GDB.format(port=PORT, stops=STOPS))
     with subprocess.Popen([f"qemu-{emulator}", "-g", str(PORT), "./walk"], cwd=folder, stderr=subprocess.DEVNULL) as running:
@@ -78,7 +84,8 @@ def stop(folder, emulator):
 
 
 def compare(program, folder, number):
-    """The number of gdb's frames at a stop. They must be the first of dwcheck's."""
+    """Returns the number of frames that gdb found at a stop. Ends with an error unless dwcheck's
+    walk begins with the same frames."""
     with open(f"{folder}/{number}.frames", encoding="ascii") as file:
         command, *lines = file.read().splitlines()
     wanted = [tuple(int(word, 16) for word in line.split()) for line in lines]

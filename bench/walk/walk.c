@@ -1,5 +1,6 @@
-/* A program with frames of many kinds, to be stopped in the innermost one. It calls no function
-   of another library before it exits. */
+/* The program that run.sh compiles. It makes frames of many kinds, and gdb stops it in `innermost`,
+   the function of the innermost frame. Until it exits, it calls no function of a library, except
+   atol if it has an argument. */
 #include <alloca.h>
 #include <stdlib.h>
 
@@ -68,7 +69,7 @@ APART int large(int n)
     return chosen(n) + bytes[50 * n];
 }
 
-/* calls the function that is passed */
+/* calls `call` once for each value */
 APART int each(const int *values, int count, callback call)
 {
     int sum = 0;
@@ -91,7 +92,7 @@ APART void last(int n)
     finish(n);
 }
 
-/* the argument, if there is one, is the number of calls before the last */
+/* the argument, if there is one, says how often recursive() is called before last() is */
 int main(int argc, char **argv)
 {
     for (long i = argc > 1 ? atol(argv[1]) : 0; i > 0; i--)
