@@ -19,7 +19,7 @@ from list_model import answer
 from pair_model import check_text, state_of, unwind_text
 
 # Expressions, in hex, for the rule of a CFA and for the rule of a register: sums, words of memory,
-# and divisions by zero. With the registers and memory that state_file() makes, most have a value.
+# and divisions by zero. With the registers and memory of state_file(), they often have a value.
 ANSWERED = {
     "cfa": ["7708", "7508", "7310", "7600", "7006", "75109404237f", "71081206", "720806", "8f08", "7408300622", "7130301b", "7430301d",
             "720873003f1a3b2a332422"],

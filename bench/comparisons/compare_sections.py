@@ -40,8 +40,8 @@ class SectionMaker(Maker):
     # Numbers.
 
     def padded(self, number, last):
-        """A LEB128 number, now and then with redundant bytes at its end, sometimes more of them than
-        are allowed. `last` is the last redundant byte: 0, or 0x7f for a negative number."""
+        """A LEB128 number, now and then with redundant bytes at its end, sometimes more of them
+        than are allowed. `last` is the last redundant byte: 0, or 0x7f for a negative number."""
         if not self.chance(0.02):
             return number
         more = self.random.randrange(10 - len(number)) if len(number) < 10 else 0
@@ -220,7 +220,7 @@ class SectionMaker(Maker):
         return bytes(head) + self.program(), (self.code, self.data, self.cfa)
 
     def fde(self, known, start, end):
-        """The bytes of an FDE after its CIE_pointer. `known` is what cie() returned for its FDEs."""
+        """The bytes of an FDE after its CIE_pointer. `known` is what cie() returned for FDEs."""
         self.code, self.data, self.cfa = known
         self.common, self.saved, self.at, self.end = False, [], start, end
         self.marks += [start, end, start + self.random.randrange(max(end - start, 1)), min(end, start + 4)]

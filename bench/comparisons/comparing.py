@@ -1,5 +1,5 @@
-"""Shared by the scripts compare_*.py: makes random cases, compares what dwcheck writes for each with
-what it must write, and counts the cases by kind.
+"""Shared by the scripts compare_*.py: makes random cases, compares what dwcheck writes for each
+with what it must write, and counts the cases by kind.
 
 A script calls compare(usage, make, case_of). `usage` is its usage text. make(seed) returns a maker,
 which makes random sections, expressions and so on. case_of(maker) returns the maker's next case.

@@ -1,8 +1,10 @@
-"""Random processes of one to five modules, with registers and memory in which walks go from module to module.
+"""Makes random processes of one to five modules, each with registers and memory such that walks go
+from one module to another.
 
-All modules are for one target and use the same few registers. Their load addresses place them
-apart, overlapping, one just after another, across the top address, or anywhere. Some sections cover
-no address, are empty or refused, or are shared with another module.
+All modules of a process have the same byte order and address size, and use the same few registers.
+By their load addresses they are apart, overlap, follow one another without a gap, run past the
+highest address, or are anywhere. Some sections are empty, cover no address, or are refused, and
+some modules have the same section.
 """
 import with_models  # noqa: F401
 from module_model import rows_in_modules
@@ -11,7 +13,8 @@ from walks import BAD_ADDRESSES
 
 
 class Module:
-    """A section and its load address, and how both are passed to the program."""
+    """A section and its load address, and how both are passed to dwcheck: the name and contents of
+    the section's file, and the word for the load address."""
 
     def __init__(self, section, load, name):
         self.section, self.load, self.name = section, load, name
@@ -34,8 +37,8 @@ class ModuleMaker(WalkMaker):
         return ranges
 
     def block(self, kind):
-        """An expression, now and then with DW_OP_addr: an address on the stack, or a number that is
-        added to a register."""
+        """An expression. Now and then it has a DW_OP_addr that pushes an address on the stack, or a
+        number to add to a register."""
         if not self.chance(0.1):
             return super().block(kind)
         breg = bytes([0x70 + self.random.choice([self.pointer, self.based])]) + bytes([self.size * self.random.randrange(1, 7)])
@@ -58,12 +61,13 @@ class ModuleMaker(WalkMaker):
     # The load addresses.
 
     def spans(self):
-        """The ranges of the section that was made last, without empty ones."""
+        """The ranges of the FDEs of the section that was made last, without empty ranges. If there
+        are none, a range that stands for them."""
         made = [pair for pair in self.made if pair[0] < pair[1]]
         return made or [(0x1000, 0x1010)]
 
     def process(self):
-        """A process: a list of modules, the first of which is that of FRAME."""
+        """A process: a list of modules. The section of the first is dwcheck's argument FRAME."""
         process, spans = [], []
         count = self.random.choice([1, 1, 2, 2, 2, 3, 3, 4, 5])
         for number in range(count):
@@ -85,8 +89,8 @@ class ModuleMaker(WalkMaker):
         return super().fde(known, start, end)
 
     def load(self, number, count, span, process, spans):
-        """A load address, not yet modulo 2^w, for the next module. Its ranges are `span`; `process`
-        and `spans` are the modules so far and their ranges."""
+        """A load address, not yet modulo 2^w, for module `number` of `count`, whose FDEs have the
+        ranges `span`. `process` has the modules made before, and `spans` the ranges of each."""
         low, high = self.random.choice(span)
         if self.is_apart:
             part = (self.top + 1) // count
@@ -113,13 +117,13 @@ class ModuleMaker(WalkMaker):
     # The walk.
 
     def dream_in(self, modules):
-        """The address, registers and memory of a walk through modules, each of which is a pair:
-        what the model found in its section, and its load address."""
+        """The address, registers and memory of a walk through modules. Each module is a pair: its
+        FDEs as the model found them, and its load address."""
         rows = [[(low + load, high + load) for *_, rows in found for low, high, *_ in rows] for found, load in modules]
         return self.dream([some for some in rows if some], rows_in_modules(modules, self.size))
 
     def inside(self, beyond):
-        """An address in a row of any module, plus `beyond`."""
+        """A random address in a row of any module, plus `beyond`."""
         low, high = self.random.choice(self.random.choice(self.rows))
         return (self.random.choice([low, high - 1, self.random.randrange(low, high)]) + beyond) % (self.top + 1)
 
@@ -139,8 +143,8 @@ class ModuleMaker(WalkMaker):
         return text[:at] + self.random.choice([b"0", b"g", b"0g", b"0x", b"\x00", b"\xff"]) + text[at:]
 
     def dress(self, process):
-        """Writes load addresses as words and, in some processes, sections as hex text. Some of them
-        are made wrong."""
+        """Chooses the words for the load addresses, and in some processes writes the sections as
+        hex text. Some words and texts are made wrong, and some files are to be missing."""
         is_hex, is_odd = self.chance(0.1), self.chance(0.03)
         texts = {module.name: self.hex_text(module.section) for module in process}
         spoilt = {name: self.spoilt(text) for name, text in texts.items() if is_hex and self.chance(0.05)}

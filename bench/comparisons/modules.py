@@ -1,15 +1,19 @@
 #!/usr/bin/env python3
-"""Random walks through one to five modules: compares what `backtrace`, `unwind` and `row` write with models/module_model.py.
+"""Runs dwcheck's `backtrace`, `unwind` and `row` on random processes of one to five modules, and
+compares the output with what the model bench/models/module_model.py gives.
 
     bench/comparisons/modules.py DWCHECK COUNT [SEED] [--jobs N] [--first N]               50,000 walks take some four minutes with --jobs 4
     bench/comparisons/modules.py DWCHECK COUNT [SEED] [--jobs N] [--first N] --reference   the model alone, beside a program without --load and --module
 
-Each case is a process: sections and load addresses, an address, a state file and a limit. The cases
-don't depend on the number of jobs. Each case that differs is shown with its number, and the exit
-status is then 1; --first N with a COUNT of 1 runs case N again. With --reference, the model of
-modules must give what the model of one section gives for FRAME alone at load address 0; and if no
-range wraps or overlaps another module's, the program is run over one section that joined.py makes
-of all. At the end come counts of what the cases contained.
+Each case is a process (frame sections with load addresses), an address, a state file and a limit.
+The cases don't depend on the number of jobs. Each case that differs is shown with its number, and
+then the exit status is 1. --first N with a COUNT of 1 runs case N again.
+
+With --reference, the model of modules is checked instead. For FRAME alone at load address 0, it
+must give what the model of one section gives. If joined.py can join the sections of all modules
+into one section, dwcheck must give for this section what the model gives for the modules.
+
+At the end come counts of what the cases contained.
 """
 import argparse
 import collections
@@ -30,14 +34,14 @@ from walk_model import limit_of, walk
 from walks import FAR, address_word, ended, is_address, kinds_of, limit_word
 
 BAD = ("", "dwcheck: bad argument\n", 2)
-# The program may refuse a bad load address with either of two messages, so None stands for any
-# message.
+# How dwcheck ends if a load address is malformed. It may write either of two messages, so None
+# stands for any message.
 BAD_LOAD = ("", None, 2)
 
 
 class Case:
-    """A process and a query: files by name, what the model found in each module's section, and the
-    words of the query."""
+    """A process with a state file and the words ADDRESS and LIMIT. `found` has each module's FDEs,
+    or the fault of the first section that is refused; `state` has what the state file says."""
 
     def __init__(self, maker):
         self.big, self.size, self.top = maker.big, maker.size, maker.top
@@ -58,7 +62,7 @@ class Case:
         return f"big {self.big}, {self.size} bytes\n{sections}\nstate\n{self.content.decode()}"
 
     def wanted(self, command):
-        """What the program must write and how it must end: output, errors, status."""
+        """How dwcheck must end: its standard output, its standard error and its exit status."""
         is_good = all(module.is_good_load for module in (self.process if command != "row" else self.process[:1]))
         if not is_good:
             return BAD_LOAD
@@ -67,8 +71,9 @@ class Case:
         return self.row() if command == "row" else self.files_refused() or self.answer(command)
 
     def files_refused(self):
-        """How the run must end because of a bad file, or None. In this order: a file that can't be
-        read, FRAME, the state file, other sections."""
+        """How dwcheck must end because of a bad file, or None if there is none. In this order: a
+        file that can't be read, a FRAME that isn't hex text, a malformed state file, and another
+        section that isn't hex text."""
         first, *others = self.process
         missing = [module for module in self.process if module.is_missing]
         if missing:
@@ -101,8 +106,8 @@ class Case:
 
 
 def written(case, folder):
-    """Writes the files of a case into the folder, which is emptied first, and puts the folder into
-    their names."""
+    """Empties the folder, writes the files of a case into it, and puts the folder before the names
+    of the modules' files."""
     for entry in os.scandir(folder):
         os.remove(entry)
     for module in case.process:
@@ -115,12 +120,13 @@ def written(case, folder):
 
 
 def option(maker, name, value):
-    """The words of an option with its value: two words, or one with `=`."""
+    """An option with its value, as two words or as one word with `=`."""
     return [name, value] if maker.chance(0.7) else [f"{name}={value}"]
 
 
 def words_of(maker, case, command, folder):
-    """The words of a command line. Options are at any place; those of modules keep their order."""
+    """The words of a command line. Options are put at random places; the options --module keep
+    their order."""
     first, *others = case.process
     positional = [first.name, case.address] + [f"{folder}/s"] * (command != "row") + [case.limit] * (command == "backtrace")
     options = [["--big"]] * case.big + [["--addr4"]] * (case.size == 4) + [["--hex"]] * first.is_hex
@@ -147,7 +153,7 @@ def is_same(want, got):
 
 
 def beside_program(program, number, maker, case, folder):
-    """How the program's answer differs from what is wanted, or None."""
+    """How dwcheck ends otherwise than it must, or None if it doesn't."""
     written(case, folder)
     for command in ["backtrace", "unwind"] + ["row"] * maker.chance(0.2):
         words, want = words_of(maker, case, command, folder), case.wanted(command)
@@ -160,8 +166,8 @@ def beside_program(program, number, maker, case, folder):
 # The output that the models give.
 
 def texts_alone(case):
-    """The texts for FRAME alone: by the models of one section, and by the model of modules with
-    FRAME as the only module, at 0."""
+    """The texts of `backtrace` and `unwind` for FRAME alone, twice: by the models of one section,
+    and by the model of modules, with FRAME as the only module at load address 0."""
     section, address = case.process[0].section, int(case.address, 16)
     target = case.big, case.size
     found = judged([section], *target)
@@ -174,8 +180,9 @@ def texts_alone(case):
 
 
 def beside_reference(program, number, case, folder):
-    """How the model of modules differs from the model of one section, or from the program over one
-    section joined from all modules, or None; and what was compared."""
+    """Compares the model of modules with the models of one section, and, if the modules' sections
+    can be joined into one section, with dwcheck on that section. Returns how they differ, or None,
+    and what was compared."""
     if not is_address(case.address, case.top) or isinstance(case.state, int) or limit_of(case.limit) is None:
         return None, []
     alone, among = texts_alone(case)
@@ -201,13 +208,15 @@ def beside_reference(program, number, case, folder):
 # What occurred in the cases.
 
 def look_ups(text):
-    """The addresses at which the frames of a walk are looked up."""
+    """The address at which each frame of a walk is looked up: for frame 0 its address, for the
+    others their address minus 1."""
     addresses = [int(line.split()[2], 16) for line in text.splitlines() if line.startswith("frame")]
     return [address - (number > 0) for number, address in enumerate(addresses)]
 
 
 def kinds_of_walk(case, text):
-    """The kinds under which a walk through modules is counted."""
+    """The kinds under which a walk through modules is counted. Each is there as often as it
+    occurs."""
     hits = [module_of(case.modules, address, case.size) if address >= 0 else None for address in look_ups(text)]
     numbers = [hit[0] for hit in hits if hit]
     kinds = ["frames in a module that isn't FRAME's" for number in numbers if number > 0]
@@ -238,8 +247,8 @@ def kinds_of_case(case):
 
 
 def compare(given, first, count, step):
-    """Runs the cases from number `first` on, `step` apart, `count` numbers in all. Returns counts,
-    and the cases that differ."""
+    """Runs every `step`-th of the `count` cases from number `first` on. Returns counts, and texts
+    that show the cases that differ."""
     counts, different = collections.Counter(), []
     with tempfile.TemporaryDirectory() as folder:
         for number in range(first, first + count, step):

@@ -1,10 +1,9 @@
-"""Makes random frame sections, and state files with registers and memory in which walks go on for
-some frames.
+"""Makes random frame sections, and for each a state file with which a walk has several frames.
 
-A section is made first. Then a walk through it is made up ("dreamt"): whenever it needs a register
-or a word of memory that has no content yet, a content is chosen so that the walk goes on, until it
-has enough frames. These contents are written into a state file; some of them are left out or
-changed.
+The section is made first. Then the model walks, with registers and memory that have no contents at
+first. Whenever the walk needs a register or a word of memory without contents, these are chosen
+such that the walk continues, until it has enough frames. At the end the contents are written to a
+state file; now and then some are left out or changed.
 """
 import with_models  # noqa: F401
 from compare_pairs import PairMaker
@@ -17,8 +16,8 @@ BAD_LINES = [
 
 
 class Dreamt(dict):
-    """Contents of registers by number, or of memory by address. A content that is looked up for the
-    first time is made by `make`; None means that there is none."""
+    """The contents of registers by number, or of memory by address. When a register or an address
+    is looked up for the first time, `make` chooses its content. None means that it isn't known."""
 
     def __init__(self, make):
         super().__init__()
@@ -34,8 +33,8 @@ class Dreamt(dict):
 
 
 class WalkMaker(PairMaker):
-    """Makes sections, queries and state files. A target has few registers, so that rules and CFAs
-    often use the same ones."""
+    """Makes sections, addresses and state files. Each case uses few registers, so that different
+    rules often use the same register."""
 
     def start(self):
         super().start()
@@ -59,12 +58,14 @@ class WalkMaker(PairMaker):
         return self.unsigned(self.random.choice([*self.pool, *self.pool, self.returns, 300]))
 
     def small(self, sign):
-        """A factored offset for a word near the CFA, mostly on the side that `sign` says."""
+        """A factored offset that leads from the CFA to a word near it, mostly below the CFA if
+        `sign` is -1, or above it if `sign` is 1."""
         offset = sign * self.size * self.random.choice([1, 1, 2, 2, 3, 4, 6]) + (self.random.randrange(-4, 4) if self.chance(0.05) else 0)
         return offset // self.data
 
     def offset(self, packed, register):
-        """An instruction whose rule is a word, or a number, near the CFA."""
+        """An instruction that gives a register the rule "saved at CFA + offset" (if `packed` is
+        0x80) or "is CFA + offset" (if it is 0x14), with a small offset."""
         value = self.small(-1 if self.chance(0.85) else 1)
         if packed == 0x80 and register < 64 and value >= 0 and self.chance(0.8):
             return bytes([0x80 + register]) + self.unsigned(value)
@@ -81,8 +82,8 @@ class WalkMaker(PairMaker):
         return bytes([code]) + self.unsigned(register) + (self.register() if code == 0x09 else b"")
 
     def rule(self):
-        """A rule for one of the target's registers. That of the return address register is mostly a
-        word on the stack."""
+        """An instruction that gives a rule to one of the registers in use. The return address
+        register and the first three of self.pool are mostly saved on the stack."""
         register = self.random.choice([*self.pool[1:], self.based, self.returns, 300 if self.chance(0.2) else self.third])
         if register in (self.returns, *self.pool[:3]) and self.chance(0.9):
             return self.rule_of(register, "offset")
@@ -90,7 +91,8 @@ class WalkMaker(PairMaker):
         return self.rule_of(register, self.random.choices(kinds, [6, 3, 2, 3, 1, 3, 2])[0])
 
     def rules(self):
-        """As many rules as are allowed beside those of the target's few registers."""
+        """Instructions that give rules to 128 registers, as many as are allowed, including all that
+        are in use."""
         few = {*self.pool, self.returns, 300}
         numbers = [number for number in range(self.random.choice([0, 1000]), 1200) if number not in few][:128 - len(few)]
         kinds = ["same_value", "undefined", "val_offset"]
@@ -108,8 +110,8 @@ class WalkMaker(PairMaker):
         return self.cfa_register(kind, register, count) + saved
 
     def cfa_register(self, kind, register, count):
-        """An instruction that sets the CFA to a register and an offset, or changes one of the
-        two."""
+        """An instruction that sets the register and the offset of the CFA's rule, or only one of
+        them."""
         if kind == 0x12 and count % self.data == 0:
             return b"\x12" + self.unsigned(register) + self.number_of(count // self.data)
         if kind in (0x0d, 0x0e):
@@ -117,8 +119,8 @@ class WalkMaker(PairMaker):
         return b"\x0c" + self.unsigned(register) + self.unsigned(count)
 
     def block(self, kind):
-        """An expression that uses the target's registers, now and then any that passes the
-        check."""
+        """An expression that uses the registers in use; or now and then one that PairMaker
+        makes."""
         if self.chance(0.08):
             return super().block(kind)
         breg = bytes([0x70 + self.random.choice(self.pool)]) + self.number_of(self.size * self.random.randrange(-2, 8))
@@ -137,8 +139,8 @@ class WalkMaker(PairMaker):
         return self.unsigned(len(held)) + held
 
     def program(self):
-        """A program. That of a CIE mostly also says where the return address is, and what the stack
-        pointer becomes."""
+        """A program. That of a CIE mostly begins with the CFA's rule, a rule for the return address
+        register, and rules for the first three registers of self.pool."""
         out = b""
         if self.common:
             out += self.cfa_rule() if self.cfa is None and self.chance(0.95) else b""
@@ -149,7 +151,7 @@ class WalkMaker(PairMaker):
         return out + super().program()
 
     def ranges(self, count):
-        """Ranges of FDEs, mostly at least one that isn't empty."""
+        """Ranges for FDEs. Mostly at least one isn't empty."""
         ranges = super().ranges(count)
         while self.chance(0.97) and not any(low < high for low, high in ranges):
             ranges = super().ranges(self.random.randrange(1, 7))
@@ -158,7 +160,7 @@ class WalkMaker(PairMaker):
     # The walk.
 
     def names(self):
-        """The callee-saved registers of the ABI, and its stack pointer or None."""
+        """A random ABI: its callee-saved registers, and its stack pointer or None."""
         kind = self.random.choice(["whole", "whole", "whole", "no pointer", "none", "odd"])
         kept = [register for register in self.pool[1:] if self.chance(0.8)] + [self.returns] * self.chance(0.4)
         if kind == "odd" or self.many:
@@ -168,8 +170,8 @@ class WalkMaker(PairMaker):
         return list(dict.fromkeys(register for register in kept if register != pointer)) * (kind != "none"), pointer
 
     def dream(self, ranges, find):
-        """The address, registers and memory of a walk of some frames. `ranges` are those of the
-        rows; `find` finds the row of an address."""
+        """The address, registers and memory of a walk of up to 40 frames. `ranges` are the ranges
+        of all rows, and find(address) returns the CIE and the row of an address, or None."""
         self.rows = ranges
         address = start = self.inside(0) if self.rows and self.chance(0.97) else self.random.choice([0, 1, self.top, self.address()])
         contents, memory = Dreamt(self.new_register), Dreamt(self.new_word)
@@ -184,7 +186,9 @@ class WalkMaker(PairMaker):
         return start, first, memory
 
     def onward(self, place, contents, memory, purpose):
-        """The address to which a frame returns, if it returns, and the registers of its caller."""
+        """The return address of a frame, or None if it can't be found, and the registers of its
+        caller. `place` is the CIE and the row of the frame. `purpose` says what the content of the
+        return address is chosen for."""
         common, row = place
         state = {"reg": contents, "mem": memory, "keep": self.kept, "sp": self.stack_pointer}
         self.purpose = "stack"
@@ -197,18 +201,20 @@ class WalkMaker(PairMaker):
         return None if isinstance(returns, str) else returns, held
 
     def inside(self, beyond):
-        """An address in a row, plus `beyond`."""
+        """A random address in a row, plus `beyond`."""
         low, high = self.random.choice(self.rows)
         return self.random.choice([low, high - 1, self.random.randrange(low, high)]) + beyond
 
     def place(self):
-        """An address on the stack, mostly above all that were used so far."""
+        """An address on the stack, mostly above all those that were used before."""
         if self.chance(0.95):
             self.near = min(self.near + self.size * self.random.choice([1, 2, 4, 8]), self.top - 0x10)
         return self.near
 
     def content(self):
-        """A content that is made up for self.purpose; None means that there is none."""
+        """A content for a register or a word of memory. self.purpose says what it is for: "return"
+        (a return address), "stack" (mostly an address on the stack), or "end" (such that the walk
+        probably ends). None means that it isn't known."""
         if self.purpose == "end" or self.chance(0.01):
             return self.random.choice([None, None, 0, self.top, self.number() % (self.top + 1)])
         if self.purpose == "return" and self.rows:
@@ -229,8 +235,8 @@ class WalkMaker(PairMaker):
     # The state file.
 
     def memory_lines(self, memory):
-        """Lines of the state file with the memory. Consecutive bytes are in one line, which is now
-        and then split."""
+        """Lines of the state file that give the memory. A line has consecutive bytes. Now and then
+        such bytes are split into several lines."""
         lines, run, start = [], b"", 0
         for address in sorted(address for address, byte in memory.items() if byte is not None and address <= self.top):
             if run and (address != start + len(run) or self.chance(0.03)):
@@ -241,7 +247,8 @@ class WalkMaker(PairMaker):
         return lines + [f"mem {start:#x} {run.hex()}"] * bool(run)
 
     def naming_lines(self):
-        """Lines that give the ABI, some of them twice, which changes nothing."""
+        """Lines of the state file that give the ABI. Now and then some registers are named twice as
+        callee-saved, or a later line names another stack pointer; neither changes the ABI."""
         kept = [f"keep {register}" for register in self.kept]
         again = self.random.choices(kept, k=self.random.randrange(3)) if kept and self.chance(0.3) else []
         lines = kept + again
@@ -254,15 +261,16 @@ class WalkMaker(PairMaker):
         return lines
 
     def bad_lines(self):
-        """Lines that mostly include a bad one: malformed, or contradicting the ABI's lines."""
+        """Lines to add to the state file. Mostly one is malformed, contradicts the lines of the
+        ABI, or names one callee-saved register too many."""
         clash = [f"sp {register}" for register in self.kept[:1]] + [f"keep {self.stack_pointer or 0}"]
         more = [f"keep {register}" for register in range(self.random.choice([200, 60000]), 65536)[:MAX_KEPT + 1 - len(self.kept)]]
         good = ["frame 0x10", "object 0x1", "", "cfa 0x7"]
         return self.random.choice([clash[:1], clash[-1:], more, more[1:], [self.random.choice(BAD_LINES)], good])
 
     def changed_lines(self, lines):
-        """The lines, with a few left out. Often a line is added that gives a register or an address
-        again, with another content."""
+        """The lines, with a few left out. Often a line is added that gives another content to a
+        register or an address for which there already is a line."""
         lines = [line for line in lines if not self.chance(0.02)]
         if lines and self.chance(0.5):
             name, place, *held = self.random.choice(lines).split()

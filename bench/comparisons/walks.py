@@ -1,12 +1,13 @@
 #!/usr/bin/env python3
-"""Random walks: compares what `backtrace` and `unwind` write of them, and how they end, with models/walk_model.py.
+"""Runs `dwcheck backtrace` and `dwcheck unwind` on random frame sections and state files, and
+compares the output and the exit status with what the model bench/models/walk_model.py gives.
 
     bench/comparisons/walks.py DWCHECK COUNT [SEED] [--jobs N] [--first N]        50,000 walks take some four minutes with --jobs 4
 
 Each case is a section, an address, a state file and a limit. The cases don't depend on the number
-of jobs. A case that differs is shown with its number, and --first N starts with case N. Some state
-files go to `eval` and `locs` too, which check all their lines. At the end come counts: how the
-walks ended, how long they were, and what else they contained.
+of jobs. The first case that differs is shown with its number; --first N starts with case N. `eval`
+and `locs` are run on some of the state files too, because they also check all lines. At the end
+come counts: how the walks ended, how long they were, and what kinds of CFAs their frames had.
 """
 import argparse
 import collections
@@ -22,8 +23,7 @@ from pair_model import refused_text, state_of, unwind_text
 from walk_maker import WalkMaker
 from walk_model import limit_of, rows_in, walk, walk_text
 
-# The greatest number of frames for which a walk is followed in order to choose a limit near its
-# length.
+# To choose a limit near the length of a walk, the model first walks at most this many frames.
 FAR = 60
 BAD_LIMITS = ["65536", "99999", "000001", "0x1", "", " 1", "1 ", "+1", "1_0", "\u0661"]
 BAD_ADDRESSES = ["0x", "1000", "0X1000", "0x00000000000001000", "0x1g", ""]
@@ -33,7 +33,7 @@ EXPRESSIONS = [bytes.fromhex("7708"), bytes.fromhex("720806"), bytes.fromhex("12
 
 
 def limit_word(maker, length):
-    """A LIMIT, mostly near the length of the walk or far above it."""
+    """The word LIMIT for a walk of `length` frames, mostly near that length or far above it."""
     if maker.chance(0.01):
         return maker.random.choice(BAD_LIMITS)
     if maker.chance(0.0015):
@@ -54,8 +54,8 @@ def is_address(word, top):
 
 
 def made(maker):
-    """A section, what the model found in it or its fault, the words ADDRESS and LIMIT, and a state
-    file."""
+    """Makes a case: a section, the FDEs that the model found in it, the section's fault, the words
+    ADDRESS and LIMIT, and a state file. Either the FDEs or the fault are None."""
     maker.start()
     section = maker.section()
     try:
@@ -70,8 +70,8 @@ def made(maker):
 
 
 def wanted(maker, case):
-    """What `backtrace` and `unwind` must write and how they must end: output, errors and status of
-    each."""
+    """How `backtrace` and `unwind` must end: for each its standard output, its standard error and
+    its exit status."""
     section, found, fault, address, limit, content = case
     bad, target = ("", "dwcheck: bad argument\n", 2), (maker.big, maker.size)
     if not is_address(address, maker.top):
@@ -90,8 +90,8 @@ def wanted(maker, case):
 
 
 def others(maker, expression, content):
-    """What `eval` of an expression and `locs` of an empty section must write with the state
-    file."""
+    """How `eval` of an expression and `locs` of an empty section must end with the state file, in
+    the same form as wanted() gives it."""
     state = state_of(content, maker.size)
     if isinstance(state, int):
         return (("", f"dwcheck: state line {state}\n", 2),) * 2
@@ -111,7 +111,8 @@ def differs(said, words, want, got):
 
 
 def kinds_of(text, errors):
-    """The kinds under which a walk is counted: its end, its length, and what its frames have."""
+    """The kinds under which a walk is counted: why it ended, its length, and for each frame
+    whether its CFA has a value."""
     if errors:
         return [errors.rstrip("\n0123456789 ")]
     if text.startswith("refused"):
@@ -128,7 +129,8 @@ def length_of(count):
 
 
 def compared(program, seed, number, folder):
-    """The kinds under which a case is counted, or a text that says how it differs."""
+    """Makes and runs a case. Returns the kinds under which it is counted, or a text that says how
+    dwcheck's output differs."""
     maker = WalkMaker(f"{seed} {number}")
     case = made(maker)
     section, _, _, address, limit, content = case
@@ -154,8 +156,8 @@ def compared(program, seed, number, folder):
 
 
 def compare(program, seed, first, count, step):
-    """Runs every `step`-th case from number `first` on. Returns counts, and the first case that
-    differs."""
+    """Runs every `step`-th of the `count` cases from number `first` on, up to the first that
+    differs. Returns counts, and a text that shows the case that differs, or None."""
     counts = collections.Counter()
     with tempfile.TemporaryDirectory() as folder:
         for number in range(first, first + count, step):

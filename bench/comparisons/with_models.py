@@ -1,4 +1,4 @@
-"""Import this module before those of bench/models: it makes them importable from here."""
+"""Adds bench/models to the module search path. Import this before a module of that folder."""
 import os
 import sys
 
