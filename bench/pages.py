@@ -1,26 +1,32 @@
 #!/usr/bin/env python3
-"""Runs each command that the pages show, and compares what it writes with what the page says it writes.
+"""Runs each command that the documentation shows, and compares its output with what the page shows.
 
     bench/pages.py DWCHECK [--elf DWCHECK_ELF] [--slow] [--write] [PAGE]..
 
-A PAGE is a Markdown file; without one, README.md and each page of docs/ and rust/dwcheck-elf/ that
-has sessions. A session is an indented block with lines that begin with `$ `; a command that ends
-with a backslash goes on in the next line. All sessions of a page run in one shell, in a folder that
-is empty at first, with the programs on the PATH and $REPO naming this repository. Each page that
-differs is shown, and the exit status is then 1. Without --slow it takes less than a minute.
+A PAGE is a Markdown file. If none is given, all pages with sessions are taken from the top of the
+repository, docs/, rust/dwcheck-elf/ and tools/. A session is an indented block with lines that
+begin with `$ `, which are commands; a command that ends with a backslash continues in the next
+line. All sessions of a page run in one shell, in a folder that is empty at first. DWCHECK and
+DWCHECK_ELF are on the PATH as dwcheck and dwcheck-elf, and $REPO is the path of this repository.
+All differences are shown, and if there are any, the exit status is 1. Without --slow this takes
+less than a minute.
 
-    $ cat FILE          where FILE isn't there yet, it is written as the page shows it
-    ...                 a line that stands for any lines
-    <!-- needs: W.. --> to the next heading: left out where one of these programs isn't there (perf: can't record), as are
-                        all sessions with dwcheck-elf without --elf
-    <!-- slow -->       to the next heading: run in the repository, and only with --slow, since it proves or builds
-    ```c                a block that begins with `#include <dwcheck.h>` is compiled with that header
+    $ cat FILE          if FILE doesn't exist yet, it is first written with what the page shows
+    ...                 this line stands for any number of lines of output
+    <!-- needs: W.. --> sessions from here to the next heading are left out if one of the programs W
+                        isn't installed (perf: or can't record)
+    <!-- slow -->       sessions from here to the next heading run in the repository, and only with
+                        --slow, because they prove or build
+    ```c                a block that begins with `#include <dwcheck.h>` is compiled, not run
 
-Addresses of stacks and libraries differ between machines, and so do perf's counts: they are compared as one word (VARYING). --write puts what
-the commands write into the pages, where it differs: read the difference before you commit it.
+Sessions with dwcheck-elf are left out without --elf. Addresses of stacks and libraries, and counts
+that perf gives, differ from run to run; they aren't compared (see VARYING). --write replaces the
+output in the pages by what the commands wrote, where it differs. Read the changes before you commit
+them.
 
-What is written depends on compilers. The pages have what Debian 12 writes, with: gcc g++ clang lld llvm binutils gdb
-gdb-multiarch elfutils linux-perf golang-go gcc-aarch64-linux-gnu gcc-arm-linux-gnueabihf qemu-user.
+The output depends on compilers. The pages show that of Debian 12 with these packages: gcc g++ clang
+lld llvm binutils gdb gdb-multiarch elfutils linux-perf golang-go gcc-aarch64-linux-gnu
+gcc-arm-linux-gnueabihf qemu-user.
 """
 import argparse
 import os
@@ -33,18 +39,18 @@ import tempfile
 TOP = os.path.dirname(os.path.dirname(os.path.abspath(__file__)))
 INDENT = "    "
 ELF = "dwcheck-elf"
-# The path that the pages show in the place of the session's folder.
+# The path that the pages show instead of the path of the folder in which sessions run.
 SHOWN_FOLDER = "/home/user/session"
-# Words that differ from run to run: addresses of stacks and libraries of x86-64 programs, of stacks
-# of Go's threads, and of aarch64 and arm programs under qemu; numbers of threads; and perf's
-# counts.
+# Words that differ from run to run, in this order: addresses of stacks and libraries of x86-64
+# programs; stack addresses of Go programs; addresses of aarch64 and of arm programs under qemu;
+# numbers of threads; and counts that depend on what perf recorded.
 VARYING = re.compile(r"0x(0*7f[0-9a-f]{9,10}|0*c000[0-9a-f]{6}|0*5502[0-9a-f]{6}|3[ef][0-9a-f]{6})\b"
                      r"|(?<=thread )[0-9]+|\b[0-9]+(?= (?:samples|frames|of which perf|stop not))")
 
 
 class Command:
-    """A command, the output that the page shows for it, and the lines of the page with that
-    output."""
+    """A command, the output that the page shows for it, and the lines of the page where that
+    output begins and ends."""
 
     def __init__(self, text, begin):
         self.text, self.begin, self.wanted = text, begin, []
@@ -55,20 +61,22 @@ class Command:
 
 
 class Session:
-    """The commands of one block, with the heading above it, the programs that it needs, and whether
-    it is slow."""
+    """A session: the commands of one block, the heading above the block, the programs that the
+    commands need, and whether the page marks it as slow."""
 
     def __init__(self, heading, needs, is_slow):
         self.heading, self.needs, self.is_slow, self.commands = heading, needs, is_slow, []
 
     def all_needs(self):
-        """The programs that the session needs, including dwcheck-elf, which pages don't name."""
+        """The programs that the session needs: those that the page lists, and dwcheck-elf if a
+        command begins with it."""
         is_elf = any(command.text.startswith(ELF + " ") for command in self.commands)
         return self.needs + [ELF] * is_elf
 
 
 def sessions(lines):
-    """The sessions of a page. A block ends at a line that is neither indented nor empty."""
+    """The sessions in the lines of a page. A session's block ends before the next line that is
+    neither indented nor empty."""
     heading, needs, is_slow, session, goes_on = "", [], False, None, False
     for number, line in enumerate(lines):
         if not line.startswith(INDENT):
@@ -96,7 +104,7 @@ def sessions(lines):
 
 
 class Shell:
-    """A shell that runs one command after the other."""
+    """A shell process that runs one command after another."""
 
     MARK = "end of the command"
 
@@ -106,7 +114,7 @@ class Shell:
         self.process = subprocess.Popen(["bash"], cwd=folder, env=environment, text=True, errors="replace", **streams)
 
     def run(self, text):
-        """Runs a command, and returns what it writes, as lines."""
+        """Runs a command, and returns the lines that it writes."""
         self.process.stdin.write(f"{{ {text}\n}} < /dev/null\nprintf '\\n{self.MARK}\\n'\n")
         self.process.stdin.flush()
         written = []
@@ -130,7 +138,8 @@ def comparable(line):
 
 
 def matches(wanted, written):
-    """Whether the lines written are those of the page, in which `...` stands for any lines."""
+    """Whether a command wrote the lines that the page shows. There, a line `...` stands for any
+    number of lines."""
     if "..." not in wanted:
         return [*map(comparable, wanted)] == [*map(comparable, written)]
     before = wanted.index("...")
@@ -155,8 +164,8 @@ def is_there(program):
 
 
 def run_command(shell, command):
-    """Runs a command, and returns what it writes. For `cat FILE`, a file that doesn't exist is
-    first created as the page shows it."""
+    """Runs a command, and returns the lines that it writes. If the command is `cat FILE` and FILE
+    doesn't exist, it is first created with the lines that the page shows."""
     name = re.fullmatch(r"cat ([\w.-]+)( +#.*)?", command.text)
     if name and not os.path.exists(os.path.join(shell.folder, name[1])):
         with open(os.path.join(shell.folder, name[1]), "w", encoding="utf-8") as file:
@@ -165,20 +174,22 @@ def run_command(shell, command):
 
 
 def c_blocks(lines):
-    """Each block of C that uses the library: its line in the page, and its text."""
+    """For each block of C that begins with `#include <dwcheck.h>`: the number of the line where it
+    begins, and its text."""
     text = "\n".join(lines)
     for found in re.finditer(r"^```c\n(#include <dwcheck.h>\n.*?)^```$", text, re.MULTILINE | re.DOTALL):
         yield text[:found.start()].count("\n") + 1, found[1]
 
 
 def complaints(block):
-    """The compiler's messages for a block of C."""
+    """The lines of the compiler's messages for a block of C."""
     words = ["cc", "-fsyntax-only", "-Wall", "-Wextra", "-I", os.path.join(TOP, "c", "include"), "-x", "c", "-"]
     return subprocess.run(words, input=block, text=True, capture_output=True, check=False).stderr.splitlines()
 
 
 class Page:
-    """A page, and the commands whose output differs from the page."""
+    """A page, and what was found when its sessions were run: the commands whose output differs, the
+    sessions that were left out, and the blocks of C that don't compile."""
 
     def __init__(self, path):
         self.path, self.name = path, os.path.relpath(path, TOP)
@@ -188,7 +199,8 @@ class Page:
         self.count, self.differing, self.left_out, self.refused = 0, [], [], []
 
     def run(self, environment, is_slow):
-        """Runs all sessions that can be run."""
+        """Runs the sessions of the page, except those that need a program that isn't there, and
+        slow ones unless `is_slow`. Compiles the blocks of C."""
         with tempfile.TemporaryDirectory(prefix="pages-") as folder:
             shell, slow_shell = Shell(folder, environment), Shell(TOP, environment)
             for session in self.sessions:
@@ -206,7 +218,7 @@ class Page:
         self.refused = [(line, said) for line, block in c_blocks(self.lines) for said in complaints(block)]
 
     def show(self):
-        """Prints what differs, and counts."""
+        """Prints the differences, the number of commands, and what was left out."""
         for command, written in self.differing:
             print(f"{self.name}:{command.begin}: $ {command.text}")
             print("".join(f"  page     {line}\n" for line in trimmed(command.wanted)), end="")
@@ -218,7 +230,7 @@ class Page:
             print(f"{self.name}: left out: {heading}")
 
     def write(self):
-        """Replaces what differs in the page by what was written."""
+        """Replaces the output in the page by what the commands wrote, where it differs."""
         for command, written in reversed(self.differing):
             empty = command.wanted[len(trimmed(command.wanted)):]
             self.lines[command.begin:command.end] = [(INDENT + line).rstrip() for line in trimmed(written)] + empty

@@ -1,10 +1,11 @@
 #!/usr/bin/env python3
-"""Lists where a crate's proofs name lemmas of another crate's proofs, and what each rests on.
+"""Lists the lemmas that a crate's proofs import from another crate's proofs, and checks that each is
+covered by a law.
 
-A proof file can't call a function, so it cites the lemma that proves a law. For each such lemma
-this prints the law whose proof cites it, or the line of docs/DECISIONS.md ("Lemmas without a law")
-that says why it has none. It ends with status 1 if a lemma has neither, or if that list holds a
-lemma that nothing names any more.
+A proof file can't call a function, so where it needs a law of another crate, it imports the lemma
+that proves the law. For each imported lemma this prints the law whose proof imports it too, or says
+that docs/DECISIONS.md lists it under "Lemmas without a law". The exit status is 1 if there is a
+lemma for which neither is true, or if that list has a lemma that no proof imports.
 
 usage: bench/proof_imports.py [REPOSITORY]
 """
@@ -18,8 +19,8 @@ LISTED = re.compile(r"^\| `(dw_\w+)\.(\w+)` \| ([^|]*) \|", re.MULTILINE)
 
 
 def imports(crate):
-    """What the proofs of a crate import from proofs: for each name the file, and the crate and
-    module that the name is from."""
+    """What the proofs of a crate import from proofs, of this or other crates. For each imported
+    name: the importing file, the crate and the module that it is from, and the name."""
     for path in sorted((crate / "proofs").rglob("*.antt")):
         for owner, module, names in USE.findall(path.read_text()):
             for name in names.split(","):
@@ -27,7 +28,8 @@ def imports(crate):
 
 
 def laws(crates):
-    """For each lemma that a law's proof cites: its crate, module and name, and the law."""
+    """For each lemma that the proof of a law imports from its own crate: the law, by the crate, the
+    module and the name of the lemma."""
     found = {}
     for crate in crates:
         for path, owner, module, name in imports(crate):
@@ -38,7 +40,7 @@ def laws(crates):
 
 
 def listed(text):
-    """The lemmas that docs/DECISIONS.md lists, by crate and module."""
+    """The names of the lemmas that docs/DECISIONS.md lists, by crate and module."""
     section = text.split(HEADING, 1)[1].split("\n## ", 1)[0] if HEADING in text else ""
     found = {}
     for crate, module, names in LISTED.findall(section):

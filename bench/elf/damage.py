@@ -3,11 +3,12 @@
 
     bench/elf/damage.py DWCHECK_ELF COUNT SEED [--jobs N] [--kinds elf,core]
 
-COUNT files of each kind are made of a few that gcc and gdb make: bytes are changed in headers, in
-sections and anywhere, and some files are cut. Each run must end by itself within 60 seconds, with a
-status of its own, and without a panic; a survey must have a line of JSON for each file. ELF files
-go through `survey --all --lists` in folders of 250, and some of them through `check`, `rows` and
-`row` too; core files through `stack`. It needs gcc, gdb and binutils.
+gcc makes a few ELF files, and gdb a core file. From these, COUNT files of each kind are made: bytes
+are changed in headers, in sections and anywhere, and some files are cut short. `survey` is run on
+folders of 250 ELF files, and `check`, `rows`, `row` and `locs` on every 50th file. `stack` is run
+on each core file. Each run must end within 60 seconds, with an exit status that dwcheck-elf
+documents, and without a panic. A survey must write a line of JSON for each different file that
+still begins as an ELF file does, and one line of totals. This needs gcc, gdb and binutils.
 """
 import argparse
 import json
@@ -30,14 +31,15 @@ __attribute__((noinline)) int deep(int n) {
 }
 int main(int argc, char **argv) { return deep(argc + 3); }
 """
-# Flags that keep gcc from writing kinds of entries in location lists that dwcheck refuses.
+# Flags with which gcc writes no location list entries of the kinds that dwcheck refuses.
 PLAIN = "-O2 -g -gdwarf-5 -gno-variable-location-views -fno-var-tracking-assignments -fvar-tracking -fno-var-tracking-uninit"
 IN_A_FOLDER = 250
 ODD = [0, 1, 0x7F, 0x80, 0xFF, 0xFE, 0x10, 0x9B, 0x2E, 0x0D]
 
 
 def run(words, folder, statuses, timeout=60):
-    """Runs the program. Returns the run, and what is wrong with how it ended, or None."""
+    """Runs a command. Returns the finished run, and a text that says what is wrong with how it
+    ended, or None. The run is None if it took too long."""
     try:
         ran = subprocess.run(words, cwd=folder, capture_output=True, timeout=timeout)
     except subprocess.TimeoutExpired:
@@ -48,7 +50,7 @@ def run(words, folder, statuses, timeout=60):
 
 
 def made(folder):
-    """Makes the files that are changed later: ELF files, and a core file."""
+    """Makes the files from which the changed files are made: ELF files, and a core file."""
     with open(os.path.join(folder, "a.c"), "w") as file:
         file.write(SOURCE)
     lines = [
@@ -70,8 +72,8 @@ def made(folder):
 
 
 def sections(bytes_of_file):
-    """The ranges of the file that are changed most often: the ELF header, the section headers, and
-    small sections."""
+    """The ranges of an ELF file's bytes that are changed most often: the ELF header, the section
+    headers, and each section of less than 20,000 bytes."""
     offset = int.from_bytes(bytes_of_file[40:48], "little")
     count = int.from_bytes(bytes_of_file[60:62], "little")
     found = [(0, 64), (offset, offset + 64 * count)]
@@ -84,7 +86,8 @@ def sections(bytes_of_file):
 
 
 def changed(numbers, original, ranges):
-    """A copy with some bytes changed, mostly in one of the ranges; now and then it is also cut."""
+    """A copy of a file's bytes in which some are changed, mostly in one of the ranges. Now and then
+    it is also cut short."""
     copy = bytearray(original)
     for _ in range(numbers.choice([1, 1, 2, 3, 8])):
         begin, end = numbers.choice(ranges) if numbers.random() < 0.9 else (0, len(copy))
@@ -105,8 +108,8 @@ def changed(numbers, original, ranges):
 
 
 def elf_files(program, made_elf, work, seed, count):
-    """Runs the program on a folder of changed ELF files. Returns counts of the results, and the
-    problems."""
+    """Runs dwcheck-elf on a folder of `count` changed ELF files. Returns counts of the results, and
+    the runs that didn't end as they should."""
     numbers = random.Random(seed)
     folder = tempfile.mkdtemp(dir=work)
     all_ranges = {name: sections(original) for name, original in made_elf.items()}
@@ -138,7 +141,8 @@ def elf_files(program, made_elf, work, seed, count):
 
 
 def core_files(program, core, work, seed, count):
-    """Runs the program on changed core files, one after another."""
+    """Runs dwcheck-elf on `count` changed core files, one after another. Returns the same as
+    elf_files()."""
     numbers = random.Random(seed)
     header = int.from_bytes(core[32:40], "little")
     table = (header, header + 56 * int.from_bytes(core[56:58], "little"))

@@ -1,11 +1,12 @@
 #!/usr/bin/env python3
-"""Compares the rows that dwcheck-elf prints of ELF files with readelf's.
+"""Checks that dwcheck-elf prints the same rows for ELF files as readelf.
 
     bench/elf/rows.py DWCHECK_ELF ROWS FILE_OR_FOLDER ..
 
-Files of x86-64 are compared until there were ROWS rows: for each FDE the range, and for each row the address, the CFA's
-rule and each register's. Each file is compared once, by its contents. readelf shows an expression as `exp` or `vexp`
-alone. It needs binutils.
+Files for x86-64 are compared until ROWS rows were equal: of each FDE the address range, and of each
+row the address where it begins, the CFA's rule and the registers' rules. Of files with the same
+contents only one is compared. The bytes of expressions aren't compared, because readelf shows only
+`exp` or `vexp` for an expression. This needs binutils.
 """
 import hashlib
 import os
@@ -24,13 +25,14 @@ def name_of(register):
 
 
 def rule_by_readelf(text):
-    """A register's rule in readelf's output, in the form that rule_by_dwcheck gives; None for
-    undefined."""
+    """Converts a register's rule from readelf's output. `undefined`, which readelf writes as `u`,
+    becomes None."""
     return None if text == "u" else text
 
 
 def rule_by_dwcheck(text):
-    """A register's rule as readelf would show it."""
+    """Converts a register's rule from dwcheck-elf's output to the text that readelf writes for this
+    rule. `undefined` becomes None."""
     if text == "u":
         return None
     if text.startswith("[expr("):
@@ -52,8 +54,8 @@ def cfa_by_dwcheck(text):
 
 
 def by_dwcheck(program, path):
-    """The FDEs of a file by section, as dwcheck-elf prints them: a list of ranges with their rows.
-    None if the file is refused."""
+    """What dwcheck-elf prints for a file: by the name of each section, a list of its FDEs, each
+    with its range and its rows. None if the file is refused."""
     ran = subprocess.run([program, "rows", path], capture_output=True, text=True, errors="replace")
     if ran.returncode != 0:
         print(f"{path}: status {ran.returncode}: {(ran.stdout + ran.stderr).splitlines()[:1]}")
@@ -76,9 +78,10 @@ def by_dwcheck(program, path):
 
 
 def by_readelf(path):
-    """The FDEs of a file by section, as readelf prints them. readelf prints a row for each advance;
-    if several have the same address, the last one counts. For an FDE without instructions it prints
-    no row: the row is that of its CIE."""
+    """What readelf prints for a file: by the name of each section, a list of its FDEs, each with
+    its range, its rows and its CIE's rows. readelf prints a row for each advance of the location;
+    of rows with the same address, only the last is returned. For an FDE without instructions
+    readelf prints no row; then compare() takes the CIE's."""
     command = ["readelf", "--debug-dump=frames-interp", "--wide", path]
     shown = subprocess.run(command, capture_output=True, text=True, errors="replace").stdout
     sections, fdes, rows, columns, cies = {}, None, None, [], {}
@@ -108,8 +111,9 @@ def by_readelf(path):
 
 
 def compare(path, ours, theirs):
-    """The number of rows that are equal, and of rows that differ. An FDE without addresses has no
-    rows."""
+    """Compares the FDEs of a file. Returns the number of rows in FDEs all of whose rows are equal,
+    and the number of other FDEs. A section whose FDEs have different ranges in the two outputs
+    counts as one FDE. An FDE with an empty range has no rows."""
     equal = differ = 0
     for section, fdes in ours.items():
         others = theirs.get(section, [])

@@ -1,9 +1,10 @@
 #!/usr/bin/env python3
-"""Makes the tables of docs/SURVEY.md: what the ELF files of a machine hold, by architecture.
+"""Prints the tables of docs/SURVEY.md: how many sections, FDEs and rows the ELF files on a machine
+have, by architecture, and which sections dwcheck-elf refuses.
 
-    bench/elf/survey.py DWCHECK_ELF PATH ..          as bench/elf/survey.py build/dwcheck-elf /usr
+    bench/elf/survey.py DWCHECK_ELF PATH ..        for example: build/dwcheck-elf /usr
 
-The libraries of other architectures come from Debian's cross packages:
+For docs/SURVEY.md, the libraries of other architectures were installed from Debian's packages:
     apt-get install $(apt-cache search --names-only '^(libstdc\\+\\+6|libgfortran5|libc6(\\.1)?)-.*-cross$' | cut -d' ' -f1)
 """
 import json
@@ -38,8 +39,8 @@ def main():
             counts["accepted" if section["accepted"] else "refused"] += 1
             counts["fdes"] += section.get("fdes", 0)
             counts["rows"] += section.get("rows", 0)
-            # The text of an overlap names another FDE in each case, so it is left out, and overlaps
-            # are counted together.
+            # The text of each Overlap fault names a different FDE. It is left out, so that a
+            # section's overlaps are counted together.
             told = [(fault["fault"], fault["fault"] != "Overlap" and fault["what"]) for fault in section.get("faults", [])]
             for (fault, what), count in Counter(told).items():
                 times = f", {count:,} times" if count > 1 else ""

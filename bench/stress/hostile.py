@@ -1,10 +1,12 @@
 #!/usr/bin/env python3
-"""Runs the program as a user would, on files, words and standard output that are not as they should be.
+"""Runs dwcheck with files, arguments and standard outputs that are wrong, missing or too large, and
+checks that it ends as docs/OUTPUT.md says.
 
     bench/stress/hostile.py DWCHECK        a minute
 
-It prints each run that ends otherwise than docs/OUTPUT.md says, in its status, its line on standard error or its text, and then ends
-with status 1. The largest file is sparse, but the program reads it whole: that run needs 6 GiB of free memory, and is left out with less.
+Each run whose exit status, line on standard error or output is different is printed, and then the
+exit status is 1. dwcheck reads one sparse file of more than 4 GiB, for which 6 GiB of memory must
+be free. With less free memory, that run is left out.
 """
 import os
 import resource
@@ -37,7 +39,8 @@ frame 1 0x0000000000001020 cfa value 0x0000000000007f50
 frame 2 0x0000000000002000 none
 stop not covered
 """
-# A section in which a frame at address 7 has a caller at address 7, whatever the state file says.
+# A section with an FDE with an expression that makes each return address 7. A walk by it never ends
+# by itself: each caller is a frame at address 7 again, whatever the state file says.
 ROUND = bytes.fromhex(CIE + "1c0000000000000000000000000000002000000000000000" + "0f013f1410010000")
 WALK = ["backtrace", "frame", "0x1010", "state", "9"]
 LONGEST = ["backtrace", "round", "0x3", "empty", "65535"]
@@ -55,8 +58,8 @@ wrong = []
 
 
 def judge(said, found, wanted):
-    """Prints how a run ended if it isn't as wanted: the text, the line on standard error, and the
-    status."""
+    """Prints how a run ended if it should have ended otherwise. `found` and `wanted` are the output,
+    the line on standard error, and the exit status; `said` describes the run."""
     if found != wanted:
         wrong.append(said)
         print(f"{said}\n  wanted {wanted}\n  found  {found}")
@@ -72,7 +75,7 @@ def run(program, words, **how):
 
 
 def try_files(program):
-    """Files that can't be read, and some that can."""
+    """Runs with files that can't be read, and with some unusual ones that can."""
     for name in ("missing", "folder", "", "frame/under", "n" * 300, "loop"):
         for words in (
             ["rows", name], ["check", "frame", name], ["unwind", "frame", "0x1000", name], ["eval", "cfa", name, "--state", "missing"],
@@ -97,7 +100,7 @@ def try_files(program):
 
 
 def try_words(program):
-    """Words that aren't UTF-8, and words that ask for nothing."""
+    """Runs with arguments that aren't UTF-8, and with arguments that make no valid command."""
     judge("a word that isn't UTF-8", run(program, ["rows", b"\xff"]), ("", "error: invalid UTF-8 was detected in one or more arguments\n", 2))
     for words in (
         [], ["rows"], ["columns", "frame"], ["rows", "frame", "frame"], ["--help"], ["eval", "foo"], ["backtrace"], ["backtrace", "--help"],
@@ -108,8 +111,8 @@ def try_words(program):
 
 
 def try_walks(program):
-    """Wrong words, state files and sections of a walk. Mostly what would be checked later is wrong
-    too, so the first error must be reported."""
+    """Walks with a wrong argument, state file or section. In most of them several things are wrong,
+    and dwcheck must report the one that it checks first."""
     for limit_word in BAD_LIMITS:
         judge(f"a limit {limit_word[:9]!r}", run(program, ["backtrace", "missing", "0x0", "missing", limit_word]), ("", "dwcheck: bad argument\n", 2))
     for address in ("", "0x", "1010", "0X10", "0x" + "0" * 17):
@@ -129,7 +132,8 @@ def try_walks(program):
 
 
 def try_modules(program):
-    """Modules that are named wrongly, missing, refused, or many."""
+    """Walks with modules whose options are malformed, whose files are missing or refused, and with
+    many modules."""
     for options in (
         ["--load", ""], ["--load", "1"], ["--load", "0x" + "0" * 17], ["--addr4", "--load", "0x100000000"], ["--module", "0x10"], ["--module", "0x10="],
         ["--module", "=frame"], ["--module", "10=frame"], ["--addr4", "--module", "0x100000000=frame"], ["--module", "0x0=frame", "--module", "x=frame"],
@@ -153,8 +157,8 @@ def try_modules(program):
 
 
 def try_changed_sections(program):
-    """Walks over a section that is cut to each length, or has one byte changed. Each must end at
-    once, with an allowed result."""
+    """Walks over a section that is cut after any number of bytes, or in which any one byte is
+    changed. Each walk must end at once, with an allowed result."""
     for length in range(len(FRAME) + 1):
         with open("changed", "wb") as file:
             file.write(FRAME[:length])
@@ -172,7 +176,8 @@ def try_changed_sections(program):
 
 
 def try_outputs(program, big):
-    """Standard output that accepts nothing, is closed, or is closed early."""
+    """Runs whose standard output accepts no bytes, is closed from the start, or is closed while
+    dwcheck still writes."""
     with open("/dev/full", "wb") as full:
         judge("/dev/full", run(program, ["rows", "frame"], stdout=full), ("", CANNOT_WRITE, 3))
         judge("/dev/full, for a refusal", run(program, ["rows", "cut"], stdout=full), ("", CANNOT_WRITE, 3))
@@ -204,7 +209,8 @@ def feed(name, pieces):
 
 
 def try_pipes(program):
-    """Named pipes, fed a byte at a time or not at all."""
+    """Runs that read their files from named pipes or standard input, a byte at a time, all at once,
+    or without any bytes."""
     for pieces, text in (([FRAME[i:i + 1] for i in range(len(FRAME))], ROWS), ([FRAME], ROWS), ([], "")):
         feeder = threading.Thread(target=feed, args=("pipe", pieces))
         feeder.start()
@@ -231,7 +237,8 @@ def free_memory():
 
 
 def try_long_files(program):
-    """Files that don't fit into memory, and one that is longer than a section may be."""
+    """Runs with files that don't fit into memory, and with one that is longer than a section may
+    be."""
     with open("long", "wb") as file:
         file.truncate(2 ** 27)
     for words in (

@@ -1,18 +1,25 @@
 #!/usr/bin/env python3
-"""Refuses each request for memory in turn, in the tests of refused memory and in the program.
+"""Lets each request for memory fail in turn, in tests and in dwcheck, and checks that every run ends
+as it should.
 
     bench/stress/refused_memory.py TESTS DWCHECK
 
-TESTS is the test program that `rt test` leaves, crates/dw_tests/out/dw_tests_tests; DWCHECK is the
-program. It needs cc and glibc.
+TESTS is the test program that `rt test` makes: crates/dw_tests/out/dw_tests_tests. This needs cc and
+glibc.
 
-A library that is loaded before the C library refuses the Nth request. Each test of `refused_memory`
-must pass for every N from 1 until no request is refused: either the call reports that memory ran
-out, or it does without that request and its answer is right. For example, the check of lists and
-`certify` do without it if a fast path lacks memory: then the general path does all the work. Each
-line of output says how many requests were done without. Each run of the program must end with its
-usual text, or with status 3, the line "out of memory" and a prefix of its text. If its text is the
-line of a refusal, that prefix must be empty.
+A library that is loaded before the C library lets the Nth call of malloc or realloc fail. N goes
+from 1 up to the number of calls.
+
+For every N, each test of the module `refused_memory` must pass: either the tested function reports
+that memory ran out, or it manages without that memory and its result is right. For example, the
+check of lists and `certify` manage without it if a fast path lacks memory, because then the general
+path does all the work.
+
+For every N, each run of dwcheck must end as usual, or with status 3, the line "out of memory" and
+the first part of its usual output, which may be empty. It must be empty if the usual output says
+that the input is refused.
+
+Each line of output says how many requests there were, and how many of them weren't needed.
 """
 import os
 import subprocess
@@ -54,8 +61,8 @@ WITHOUT = "done without"
 
 
 def run(library, words, number, folder):
-    """What a run whose Nth request is refused writes to standard output and standard error, its
-    status, and whether a request was refused."""
+    """Runs a command in which request `number` for memory fails. Returns its standard output, its
+    standard error, its exit status, and whether there was such a request."""
     reading, writing = os.pipe()
     surroundings = {**os.environ, "LD_PRELOAD": library, "REFUSED": str(number), "REFUSED_TO": str(writing)}
     ended = subprocess.run(words, cwd=folder, env=surroundings, pass_fds=[writing], capture_output=True, check=False)
@@ -65,8 +72,8 @@ def run(library, words, number, folder):
 
 
 def each(library, words, folder, judge):
-    """Refuses each request of a command in turn. Returns the number of requests, and how many of
-    them the command did without."""
+    """Runs a command again and again; in each run the next request for memory fails. judge() checks
+    how a run ended. Returns the number of requests, and how many of them weren't needed."""
     number, without = 1, 0
     while True:
         *ended, refused = run(library, words, number, folder)

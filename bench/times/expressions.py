@@ -1,17 +1,17 @@
 #!/usr/bin/env python3
-"""Writes an expression, or a state file, of a shape and a size.
+"""Writes an expression or a state file of a given shape and size, to be timed.
 
     bench/times/expressions.py SHAPE N > FILE
 
-sums        N additions to a constant
-branches    N branches, each of which takes one of two paths
-one_target  N branches, 8,000 at a time to one operation
-reads       N reads of the word at 0x1000
-words       a state file of N lines, each of four bytes
+sums        an expression: a constant, and N additions to it
+branches    an expression of N branches, each of which skips the next operation or not
+one_target  an expression of N branches, groups of 8,000 of which lead to the same operation
+reads       an expression that reads the word at 0x1000 N times
+words       a state file of N lines, each of which gives four bytes of memory
 backwards   the lines of `words`, the highest address first
-again       a state file of N lines, each of the same four bytes of memory
-bytes       a state file of one line of N bytes
-registers   a state file of N lines of registers
+again       a state file of N lines, each of which gives the same four bytes of memory
+bytes       a state file of one line, which gives N bytes of memory
+registers   a state file of N lines, each of which gives a register
 """
 import sys
 

@@ -1,12 +1,14 @@
 #!/usr/bin/env python3
-"""Times `dwcheck check` on the frame sections of a machine's programs and libraries, one process each, beside gimli.
+"""Times `dwcheck check` and gimli on the frame sections of all programs and libraries in folders.
 
     bench/times/machine.py DWCHECK DEBUG_FRAME BESIDE FOLDER ..        some minutes
 
-DEBUG_FRAME is the example of that name of rust/dwcheck-elf: it rewrites a file's `.eh_frame` section as `.debug_frame`. BESIDE is
-the program that bench/beside_gimli/run.sh builds; `BESIDE rows SECTION` runs all rows by gimli and checks nothing. Every
-ELF file of x86-64 below the FOLDERs is taken once. Both programs read the same rewritten sections, in turn, with their output
-thrown away. What a process takes before it reads anything is measured on an empty section, and subtracted.
+DEBUG_FRAME is the program that rust/dwcheck-elf builds from its example of that name; it rewrites a
+file's `.eh_frame` section as `.debug_frame`. BESIDE is the program that bench/beside_gimli/run.sh
+builds; `BESIDE rows SECTION` lets gimli compute all rows, and checks nothing. Each ELF file for
+x86-64 in the FOLDERs and the folders below them is taken once, and its section is read by one
+process of each program. The output is thrown away. The time that a process needs to start is
+measured with an empty section, and subtracted.
 """
 import os
 import resource
@@ -20,7 +22,8 @@ X86_64 = b"\x3e\x00"
 
 
 def programs(folders):
-    """The ELF files of x86-64 below some folders, without links to others."""
+    """The paths of the ELF files for x86-64 in some folders and below. Symbolic links are left
+    out."""
     for folder in folders:
         for top, _, names in os.walk(folder):
             for name in sorted(names):
@@ -34,7 +37,8 @@ def programs(folders):
 
 
 def rewritten(debug_frame, folders, into):
-    """Files with the rewritten section of each program that has one."""
+    """Rewrites the `.eh_frame` section of each program that has one. Returns the paths of the
+    files with the rewritten sections."""
     for number, path in enumerate(programs(folders)):
         out = os.path.join(into, f"{number}.frame")
         made = subprocess.run([debug_frame, path, out], stdout=subprocess.DEVNULL, stderr=subprocess.DEVNULL)
@@ -43,7 +47,8 @@ def rewritten(debug_frame, folders, into):
 
 
 def processor_time(commands):
-    """Seconds that some processes take in their own code, one after the other."""
+    """Runs some commands one after another. Returns the seconds of processor time that they take
+    in total."""
     begun = resource.getrusage(resource.RUSAGE_CHILDREN)
     for command in commands:
         subprocess.run(command, stdout=subprocess.DEVNULL, stderr=subprocess.DEVNULL)

@@ -1,5 +1,6 @@
 #!/usr/bin/env python3
-"""Writes a program in C whose frames gcc describes with expressions: N functions, most with locals that need a realigned stack.
+"""Writes a C program whose frames gcc describes with expressions. It has N functions, most of them
+with local variables for which the stack must be realigned.
 
     bench/times/programs.py N > FILE.c
     gcc -g -gdwarf-5 -O2 -fno-inline -fno-asynchronous-unwind-tables -fno-unwind-tables -Wa,--gdwarf-cie-version=4 FILE.c -o PROGRAM
@@ -12,8 +13,8 @@ volatile int sink;
 void use(void *p, int n);
 void use(void *p, int n) { sink = n + *(volatile char *)p; }
 """
-# What follows the name of a function: its parameters and its body. The functions take these in
-# turn.
+# Parameters and bodies of functions. The first function gets the first of these, the second the
+# second, and so on; after the last comes the first again.
 BODIES = [
     "(int n, int a, int b, int c, int d, int e, int g) {{ _Alignas(32) char x[64]; x[0] = n; use(x, n + g); return x[1] + {i}; }}",
     "(int n, ...) {{ va_list v; va_start(v, n); _Alignas(64) char x[128]; x[0] = n; use(x, va_arg(v, int)); va_end(v); return x[0] + {i}; }}",

@@ -1,5 +1,6 @@
 #!/usr/bin/env python3
-"""Writes a raw .debug_frame or .debug_loclists section (little-endian, addresses of 8 bytes) of a shape and a size.
+"""Writes a raw .debug_frame or .debug_loclists section (little-endian, addresses of 8 bytes) of a
+given shape and size, to be timed.
 
     bench/times/sections.py SHAPE N > FILE
 
@@ -7,40 +8,41 @@ Frames:
 ordinary        N FDEs, each with the six instructions of a function with a frame pointer
 descending      the FDEs of `ordinary`, the highest address first
 shuffled        the FDEs of `ordinary`, in random order
-empty           N FDEs with empty ranges at one address
+empty           N FDEs with empty ranges, all at the same address
 overlap         N FDEs, the last of which shares an address with the first
 nested          N FDEs, each within the one before it
-long_cie        N FDEs under one CIE whose program has 100 KB
-longest_cie     N FDEs under one CIE whose program has 4 MB
-two_cies        N FDEs under two CIEs with programs of 100 KB, in turn
-full_cie        N FDEs under one CIE that leaves 128 rules
+long_cie        N FDEs with one CIE whose program has 100 KB
+longest_cie     N FDEs with one CIE whose program has 4 MB
+two_cies        N FDEs and two CIEs with programs of 100 KB; the FDEs name the CIEs in turn
+full_cie        N FDEs with one CIE whose program gives rules to 128 registers
 many_cies       N CIEs, and an FDE for each
-full_cies       N CIEs that leave 128 rules each, and an FDE for each
+full_cies       N CIEs whose programs give rules to 128 registers each, and an FDE for each
 remember        one FDE with N pairs of remember_state and restore_state
 remember_full   one FDE with N pairs of remember_state and restore_state, each saving 128 rules
 remembers       one FDE with N remember_state instructions
 rows            one FDE with N rows of 128 rules
-rule_sets       one FDE with N rows, each with another CFA
-registers       N CIEs, each with another return address register, and an FDE for each
-ends            FDEs at both ends of the addresses and in the middle, whatever N is
+rule_sets       one FDE with N rows, each with a different CFA
+registers       N CIEs, each with a different return address register, and an FDE for each
+ends            FDEs at the lowest and highest addresses and in the middle; N isn't used
 nops            one FDE with N nops
 expression      one FDE with an expression of N bytes
-cie_expression  10,000 FDEs under a CIE with an expression of N bytes
+cie_expression  10,000 FDEs with one CIE that has an expression of N bytes
 shown           one FDE with an expression of 1,000 bytes for the CFA, and N rows
 branches        one FDE with an expression of N branches, which has 2^N paths
-one_target      one FDE with an expression of N branches, 8,000 at a time to one operation
-targets         one FDE with an expression of N branches, each to another operation, far away
+one_target      one FDE with an expression of N branches, groups of 8,000 of which lead to the same
+                operation
+targets         one FDE with an expression of N branches, each to a different operation, far away
 expressions     N FDEs with 20 expressions each
-block           one FDE whose expression is said to have 2^32 - 1 bytes, and has N
+block           one FDE with an expression whose length field says 2^32 - 1, but that has N bytes
 
 Lists:
-lists           N lists of one entry
-empty_lists     N lists of no entry
+lists           N lists of one entry each
+empty_lists     N lists without entries
 entries         one list of N entries
-tables          N tables of no list
-array           an array of N offsets of one list
-count           a table of N bytes that is said to have 2^32 - 1 offsets
-sizes           N lists of one piece of 2^32 - 1 bytes
+tables          N tables without lists
+array           an array of N offsets, all of the same list
+count           a table with N bytes after its header, which says that there are 2^32 - 1 offsets
+sizes           N lists, each with one expression for a piece of 2^32 - 1 bytes
 """
 import random
 import struct
@@ -48,7 +50,7 @@ import sys
 
 CIE_PROGRAM = bytes.fromhex("0c07089001")
 FUNCTION = bytes.fromhex("410e108602430d060320000c0708")
-# A CIE's program with a rule for 128 registers, one of which is the return address register.
+# A CIE's program that gives rules to 128 registers, among them the return address register.
 FULL = bytes.fromhex("0c07089001") + b"".join(bytes([0x08, r]) for r in range(127) if r != 16) + bytes.fromhex("08ff01")
 
 
@@ -73,7 +75,7 @@ def uleb(n):
 
 
 def functions(places, pointer=0):
-    """An ordinary FDE for each number in `places`: number i begins at 0x1000 + 64 * i."""
+    """An FDE for each number in `places`. That of number i begins at address 0x1000 + 64 * i."""
     return b"".join(fde(pointer, 0x1000 + 64 * i, 64) for i in places)
 
 
@@ -83,7 +85,7 @@ def each_cie(n, program):
 
 
 def registers(n):
-    """N CIEs, each with another return address register, and an FDE for each."""
+    """N CIEs, each with a different return address register, and an FDE for each."""
     section = b""
     for k in range(n):
         offset = len(section)
@@ -108,7 +110,7 @@ LONGEST = CIE_PROGRAM + b"\x08\x03" * 2097152
 
 
 def cfa_is(expression):
-    """A CIE, and an FDE whose CFA is this expression."""
+    """A CIE, and an FDE that gives the CFA by this expression."""
     return cie() + fde(0, 0x1000, 64, b"\x0f" + uleb(len(expression)) + expression)
 
 
@@ -117,8 +119,8 @@ def sums(size):
 
 
 def one_target(n):
-    """Groups of at most 8,000 pairs of lit0 and bra. All branches of a group lead to its last
-    operation, a nop."""
+    """An expression of N pairs of lit0 and bra, in groups of at most 8,000 pairs. A group ends with
+    a nop, to which all its branches lead."""
     groups = []
     for start in range(0, n, 8000):
         count = min(8000, n - start)
@@ -127,8 +129,8 @@ def one_target(n):
 
 
 def targets(n):
-    """N pairs of lit0 and bra. Each branch leads 32,764 bytes further, or to the end if that is
-    nearer."""
+    """An expression of N pairs of lit0 and bra. Each branch leads 32,764 bytes further, or to the
+    end of the expression if that is nearer."""
     size = 4 * n
     return b"\x77\x00" + b"".join(b"\x30\x28" + struct.pack("<h", min(32764, size - 4 * (i + 1))) for i in range(n))
 

@@ -1,10 +1,12 @@
 #!/usr/bin/env python3
-"""Times the program on made sections and expressions, and prints the tables of docs/PERFORMANCE.md.
+"""Times dwcheck on generated sections and expressions, and prints the tables of
+docs/PERFORMANCE.md.
 
     bench/times/times.py DWCHECK [BESIDE]        15 s without BESIDE
 
-With BESIDE, the program that bench/beside_gimli/run.sh builds, the sections are also given to readelf, llvm-dwarfdump and gimli,
-each for at most 100 seconds and 8 GB. It needs GNU time on the PATH, and as and objcopy for the others' object files.
+BESIDE is the program that bench/beside_gimli/run.sh builds. If it is given, readelf, llvm-dwarfdump
+and gimli read the sections too. Each run is killed after 100 seconds, and may use 8 GB. This needs
+GNU time on the PATH, and with BESIDE also as, objcopy, readelf and llvm-dwarfdump.
 """
 import os
 import subprocess
@@ -14,7 +16,7 @@ import tempfile
 from expressions import text
 from sections import FRAMES, section
 
-# What is timed: the command, the shape of the section, and its size.
+# What is timed: the command of dwcheck, and the shape and the size that sections.py takes.
 SECTIONS = [
     ("rows", "ordinary", 10000), ("rows", "ordinary", 60000), ("rows", "descending", 60000), ("rows", "shuffled", 60000),
     ("rows", "empty", 60000), ("rows", "overlap", 60000), ("check", "nested", 60000),
@@ -49,7 +51,8 @@ def saved(folder, name, content):
 
 
 def timed(words):
-    """The seconds and peak memory of a run, by GNU time, and whether it was killed."""
+    """Runs a command under GNU time. Returns a text with its seconds and its peak memory, and
+    whether it was killed."""
     limited = ["prlimit", f"--as={8 << 30}", "timeout", "100", *words]
     run = subprocess.run(["time", "-f", "%x %e %M", *limited], stdout=subprocess.DEVNULL, stderr=subprocess.PIPE, text=True, check=False)
     status, seconds, kilobytes = run.stderr.split()[-3:]
@@ -58,7 +61,8 @@ def timed(words):
 
 
 def others(folder, beside, path, frames):
-    """The times and peak memory of readelf, llvm-dwarfdump and gimli for the section."""
+    """The cells of a table's line with the times and the peak memory of readelf, llvm-dwarfdump and
+    gimli for the section in the file `path`."""
     name = ".debug_frame" if frames else ".debug_loclists"
     empty, whole = os.path.join(folder, "empty.o"), os.path.join(folder, "whole.o")
     subprocess.run(["as", "-o", empty, "/dev/null"], check=True)

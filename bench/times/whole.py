@@ -1,11 +1,13 @@
 #!/usr/bin/env python3
-"""Times `dwcheck check` on frames and lists of real programs, and readelf on the frames alone,
-alternately.
+"""Times `dwcheck check` on a large frame section and a large section of location lists, made from
+sections of real programs; and in turn with it, readelf on the frame section alone.
 
     bench/times/whole.py DWCHECK FRAME_BYTES LISTS_BYTES SECTION ..        some seconds
 
-Sections are raw and little-endian with addresses of 8 bytes, those of lists with names that end with .lists. They are put one
-after the other, again and again, as long as one fits into that number of bytes, each copy of an FDE at addresses of its own.
+Each SECTION is raw and little-endian, with addresses of 8 bytes: .debug_loclists if its name ends
+with .lists, else .debug_frame. The large frame section has at most FRAME_BYTES, and the large
+section of lists at most LISTS_BYTES. They are made of copies of the SECTIONs, until no further copy
+fits. In each copy of a frame section, the FDEs have different addresses.
 """
 import os
 import resource
@@ -19,7 +21,7 @@ RUNS = 7
 
 
 def records(section):
-    """The records of a section, each with its offset."""
+    """The offset and the bytes of each CIE and FDE of a frame section."""
     at = 0
     while at < len(section):
         length = 4 + struct.unpack_from("<I", section, at)[0]
@@ -28,7 +30,8 @@ def records(section):
 
 
 def moved(section, offset, distance):
-    """A copy of a section for another offset, with `distance` added to its addresses."""
+    """A copy of a frame section, to be put at `offset` of a larger one. The FDEs' CIE_pointers grow
+    by `offset`, and their initial locations by `distance`."""
     parts = []
     for _, record in records(section):
         pointer, start = struct.unpack_from("<IQ", record, 4)
@@ -39,8 +42,8 @@ def moved(section, offset, distance):
 
 
 def chosen(sections, size):
-    """The sections in turn, again and again, while one of them fits into what is left of `size`
-    bytes."""
+    """The sections in turn, again and again, without those that don't fit into what is left of
+    `size` bytes. It ends when none of them fits."""
     left, place = size, 0
     while any(len(section) <= left for section in sections):
         section = sections[place % len(sections)]
@@ -68,8 +71,8 @@ def seconds_of(words):
 
 
 def megabytes_of(words):
-    """The peak memory of a run in MB. It is that of the largest child process so far, so call this
-    before any larger child runs."""
+    """Runs a command, and returns its peak memory in MB. What is measured is the peak of all child
+    processes so far, so no child that needs more memory may run before."""
     subprocess.run(words, stdout=subprocess.DEVNULL, check=True)
     return resource.getrusage(resource.RUSAGE_CHILDREN).ru_maxrss / 1024
 

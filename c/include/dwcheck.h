@@ -121,7 +121,7 @@ typedef struct { void *opaque; uint64_t opaque_open; } dwcheck_process;
    checks and compiles.
    Returns DONE; REFUSED with the first fault of the section; NO_MEMORY; NO_ROOM; BAD_TARGET; or
    TOO_LONG. Only DONE changes the process, and only REFUSED writes `fault`. The call takes
-   O(n log n) time for n bytes of programs and rows. */
+   O(n log n) time, where n is the number of bytes of the section's programs and of its rows. */
 uint32_t dwcheck_process_add(dwcheck_process *process, const uint8_t *frame, size_t frame_length, uint32_t order,
                              uint32_t address_size, uint64_t load_address, size_t room, dwcheck_fault *fault);
 
@@ -142,8 +142,9 @@ void dwcheck_process_close(dwcheck_process *process);
 
 /* ---- the row of an address ----------------------------------------------------------------------------------------- */
 
-/* How to find the value of register `reg` in the caller. The values of `kind` are below. If it is
-   one of the last two, the expression begins at `offset` in the section and has `length` bytes. */
+/* How to find the value of register `reg` in the caller. The values of `kind` are below. If `kind`
+   is one of the last two, the expression begins at `offset` in the section and has `length`
+   bytes. */
 enum {
     DWCHECK_RULE_UNDEFINED = 1,     /* the value isn't available */
     DWCHECK_RULE_SAME_VALUE = 2,    /* the value that the register has now */
@@ -301,8 +302,8 @@ typedef struct { uint64_t value; uint32_t kind, size, bit_offset, is_bits; } dwc
    DWCHECK_LOCATION_BYTES, or if piece `n` (counted from 0) is, these bytes go into `bytes`, as many
    as fit. Returns DONE; REFUSED with the first fault of the expression; NO_MEMORY; BAD_TARGET;
    TOO_LONG; or BAD_KIND. Only DONE writes `value`, `pieces` and `bytes`, and only REFUSED writes
-   `fault`. The call allocates memory only if the expression has more than 16 operations and
-   branches or is refused, and frees the memory. */
+   `fault`. The call allocates memory only if the expression has more than 16 operations and also
+   either has branches or is refused, and frees the memory. */
 uint32_t dwcheck_evaluate(const uint8_t *expression, size_t expression_length, uint32_t order, uint32_t address_size,
                           uint32_t kind, const dwcheck_context *context, const dwcheck_state *state, uint32_t n,
                           dwcheck_value *value, dwcheck_piece *pieces, size_t pieces_length, uint8_t *bytes,
