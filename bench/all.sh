@@ -1,22 +1,25 @@
 #!/usr/bin/env bash
-# Runs each comparison briefly: random input against the models; walks of real programs against gdb
-# and perf, and for nine targets under qemu; bad input; and the commands in the pages. If
-# DWCHECK_ELF is given, its rows are compared with readelf's, and it reads damaged files. For each
-# comparison it prints whether it passed and how long it took; if one fails, its output is in the
-# file that is named. It takes eight minutes on a busy machine, and needs the packages that pages.py
-# and walk/targets.py name.
-#     bench/all.sh DWCHECK [DWCHECK_ELF]
-# LIBRARY=crates/dw_times/out/libdw_times.a adds a comparison with libunwind (`rt lib` in
-# crates/dw_times makes the file). TESTS=crates/dw_tests/out/dw_tests_tests adds runs in which each
-# request for memory is refused (`rt test` in crates/dw_tests makes the file). SEED chooses the
-# random cases, 1 if not given; COUNT is the number of cases of each kind, 2000 if not given.
+# Runs each comparison in this folder briefly. dwcheck's output for random input is compared with the
+# models in bench/models, and its walks up the stacks of real programs with gdb's and perf's, and on
+# nine targets under qemu with gdb's. Bad input is tried, and the commands that the documentation
+# shows. If DWCHECK_ELF is given, the rows that it prints are compared with readelf's, and it reads
+# damaged files. For each comparison, a line says whether it passed and how long it took. If one
+# fails, the line names the file that has its output.
+#     bench/all.sh DWCHECK [DWCHECK_ELF]        eight minutes on a busy machine
+# This needs the packages that pages.py and walk/targets.py name. These variables may be set:
+#     LIBRARY  crates/dw_times/out/libdw_times.a, which `rt lib` in crates/dw_times makes: then walks
+#              are compared with libunwind's too
+#     TESTS    crates/dw_tests/out/dw_tests_tests, which `rt test` in crates/dw_tests makes: then
+#              there are also runs in which each request for memory fails in turn
+#     SEED     a number that chooses the random cases; 1 if not set
+#     COUNT    the number of random cases of each kind; 2000 if not set
 set -u
 program=$(realpath "$1") elf=${2:+$(realpath "$2")} seed=${SEED:-1} count=${COUNT:-2000}
 here=$(cd "$(dirname "$0")" && pwd)
 work=$(mktemp -d)
 passed=0 failed=0
 
-run() { # a name and a command
+run() { # NAME COMMAND..: runs a command, and prints a line about it that begins with the name
     name=$1
     shift
     begun=$SECONDS

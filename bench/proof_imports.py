@@ -1,11 +1,11 @@
 #!/usr/bin/env python3
-"""Lists the lemmas that a crate's proofs import from another crate's proofs, and checks that each is
-covered by a law.
+"""Lists the lemmas that a crate's proofs import from another crate's proofs, and checks that each
+is covered by a law.
 
 A proof file can't call a function, so where it needs a law of another crate, it imports the lemma
 that proves the law. For each imported lemma this prints the law whose proof imports it too, or says
-that docs/DECISIONS.md lists it under "Lemmas without a law". The exit status is 1 if there is a
-lemma for which neither is true, or if that list has a lemma that no proof imports.
+that docs/DECISIONS.md lists it under "Lemmas without a law". The exit status is 1 if neither is
+true of a lemma, or if that list has a lemma that has a law or that no other crate's proof imports.
 
 usage: bench/proof_imports.py [REPOSITORY]
 """

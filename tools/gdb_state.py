@@ -1,21 +1,24 @@
 #!/usr/bin/env python3
-"""Writes the state file of the thread that gdb has stopped, for `dwcheck unwind` and `dwcheck backtrace`.
+"""A script for gdb that writes the state file of a stopped thread, for `dwcheck unwind` and
+`dwcheck backtrace`.
 
     gdb -batch -x STOP -x tools/gdb_state.py -ex 'dwcheck-state state' PROGRAM
 
-STOP is a gdb script that stops the program; in a session of gdb, `source tools/gdb_state.py` adds the command:
+STOP is a gdb script that stops the program. In an interactive session of gdb,
+`source tools/gdb_state.py` adds the command:
 
     dwcheck-state FILE [BYTES]
 
-FILE gets the lines `keep` and `sp` of the target (tools/abi), the registers by DWARF's numbers, and
-the red zone with the stack above it: BYTES of the stack, or as much of 256 KiB as gdb can read.
-Then the command prints what to run next, with the load address of each module: a command of the
-target's objcopy for each module that has a .debug_frame section, `dwcheck backtrace` for these
-modules, and `dwcheck-elf backtrace` for all modules.
+It writes to FILE the lines `keep` and `sp` of the target (from tools/abi), the registers by DWARF's
+numbers, and the stack: 128 bytes below the stack pointer (the red zone), and BYTES from the stack
+pointer on, or 256 KiB if BYTES isn't given; less if gdb can't read that much. Then it prints the
+commands to run next: for each module that has a .debug_frame section, the target's objcopy, which
+copies the section to a file; `dwcheck backtrace` for these modules; and `dwcheck-elf backtrace` for
+all modules. The commands contain the modules' load addresses.
 
-Targets: x86-64, x32, i386, aarch64, arm, powerpc, powerpc64, s390x, riscv, mips. On another machine's program use
-gdb-multiarch, for example with `qemu-aarch64 -g 1234 PROGRAM`. This script isn't proved. --help
-prints this text.
+Targets: x86-64, x32, i386, aarch64, arm, powerpc, powerpc64, s390x, riscv, mips. For a program of
+another machine use gdb-multiarch, for example with `qemu-aarch64 -g 1234 PROGRAM`. This script
+isn't proved. --help prints this text.
 """
 import os
 import re
@@ -30,43 +33,45 @@ except ImportError:
     sys.exit(0 if sys.argv[1:] in ([], ["--help"], ["-h"]) else 2)
 
 ABI_FOLDER = os.path.join(os.path.dirname(os.path.abspath(__file__)), "abi")
-# How many bytes below the stack pointer are written too. A function may still use what it has
-# popped, and x86-64 has its red zone there.
+# How many bytes below the stack pointer are written too. x86-64 has its red zone there, and a
+# function of any target may still use what it has popped from the stack.
 RED_ZONE = 128
 MOST_STACK = 1 << 18
 PAGE = 4096
 BYTES_IN_LINE = 1024
 
-# gdb's names of registers, in groups. Each group has DWARF's number of its first register, and
-# gdb's names of its registers in the order of DWARF's numbers.
+# gdb's names of registers, in groups of consecutive DWARF numbers. A group is a pair: the DWARF
+# number of its first register, and the names of its registers in order.
 X86_64 = [(0, "rax rdx rcx rbx rsi rdi rbp rsp r8 r9 r10 r11 r12 r13 r14 r15 rip".split())]
 POWERPC = [(0, [f"r{i}" for i in range(32)]), (65, ["lr"])]
 MIPS_TEMPORARIES = {4: "t0 t1 t2 t3 t4 t5 t6 t7", 8: "a4 a5 a6 a7 t0 t1 t2 t3"}
 
 
 def mips(size):
-    """The names for mips. Those of registers 8 to 15 depend on the ABI."""
+    """gdb's names of the registers of mips. Those of registers 8 to 15 depend on the ABI, which
+    depends on the size of an address."""
     names = f"zero at v0 v1 a0 a1 a2 a3 {MIPS_TEMPORARIES[size]} s0 s1 s2 s3 s4 s5 s6 s7 t8 t9 k0 k1 gp sp s8 ra"
     return [(0, names.split())]
 
 
 class Target:
-    """A target: its file in tools/abi, gdb's names of its registers, which of them is the stack
-    pointer, and Debian's name of the target, with which the names of its binutils begin."""
+    """A target: the name of its file in tools/abi, gdb's names of its registers, gdb's name of the
+    stack pointer, and Debian's name for the target, with which the names of its binutils begin."""
 
     def __init__(self, abi, registers, pointer, debian):
         self.abi, self.registers, self.pointer, self.debian = abi, registers, pointer, debian
 
     def objcopy(self):
-        """The objcopy that reads the target's files: this machine's own if it does."""
+        """The name of an objcopy that reads the target's files. This is the machine's own objcopy
+        if that can read them."""
         cpu, machine = self.debian.split("-")[0], os.uname().machine
         is_own = cpu == machine or (cpu, machine) == ("i686", "x86_64")
         return "objcopy" if is_own else f"{self.debian}-objcopy"
 
 
 def target_of(architecture, size, is_big):
-    """The target for gdb's name of an architecture, the size of an address in bytes, and whether it
-    is big-endian."""
+    """The target that gdb calls `architecture`. `size` is the number of bytes of an address, and
+    `is_big` says whether the byte order is big-endian."""
     name, wide = architecture.lower(), "64" if size == 8 else ""
     if name.startswith(("i386:x86-64", "i386:x64-32")):
         return Target("x86-64", X86_64, "rsp", "x86_64-linux-gnu")
@@ -89,20 +94,20 @@ def target_of(architecture, size, is_big):
 
 
 def word_of(value, size):
-    """The content of a register as a number below 2^w, where w is 8 * `size`."""
+    """The content of a register, taken modulo 2^w, where w is 8 * `size`."""
     return int(value) & ((1 << 8 * size) - 1)
 
 
 def address_size():
-    """The size of the program's pointers in bytes. On x32 they are shorter than registers. gdb is
-    asked in C, because not every language has `void *`."""
+    """The number of bytes of a pointer in the program. On x32 pointers are shorter than registers.
+    The language is set to C for this, because not every language has `void *`."""
     said = gdb.execute("with language c -- output sizeof(void *)", to_string=True)
     return int(re.match(r"\d+", said)[0])
 
 
 def read_stack(start, most):
-    """At most `most` bytes from an address on, until memory can't be read. They are read a page at
-    a time."""
+    """The bytes from the address `start` up to the first that can't be read, at most `most`. They
+    are read a page at a time."""
     held = b""
     while len(held) < most:
         at = start + len(held)
@@ -126,13 +131,13 @@ def register_lines(frame, target, size):
 
 
 def memory_lines(start, held):
-    """The `mem` lines for bytes from an address on."""
+    """The `mem` lines for the bytes `held`, which begin at the address `start`."""
     for at in range(0, len(held), BYTES_IN_LINE):
         yield f"mem {start + at:#x} {held[at:at + BYTES_IN_LINE].hex()}"
 
 
 class ElfFile:
-    """An ELF file's entry point, and the address of each section by name."""
+    """What is needed of an ELF file: its entry point, and the address of each section by name."""
 
     def __init__(self, path):
         with open(path, "rb") as file:
@@ -149,8 +154,8 @@ class ElfFile:
         self.addresses = {self.name(data, text + name): address for name, address, _ in sections}
 
     def section(self, data, at):
-        """The offset of a section's name in the string table, the section's address, and its offset
-        in the file."""
+        """Reads a section header at offset `at` of the file. Returns the offset of the section's
+        name in the string table, the section's address, and its offset in the file."""
         if self.is_wide:
             name, _, _, address, offset = struct.unpack_from(self.order + "IIQQQ", data, at)
         else:
@@ -163,14 +168,14 @@ class ElfFile:
 
 
 def program_load(elf):
-    """The load address of the executable: its entry point as loaded, which the kernel passes, minus
-    its entry point as linked."""
+    """The load address of the executable: its entry point as loaded, from the auxiliary vector,
+    minus its entry point as linked. 0 if gdb doesn't show the auxiliary vector."""
     found = re.search(r"^9 +AT_ENTRY .*?(0x[0-9a-f]+|\d+)$", gdb.execute("info auxv", to_string=True), re.MULTILINE)
     return int(found[1], 0) - elf.entry if found else 0
 
 
 def library_loads():
-    """Each shared library's path, and the address of its .text section as loaded."""
+    """For each shared library: its path, and the address of its .text section as loaded."""
     lines = gdb.execute("info sharedlibrary", to_string=True).splitlines()
     for found in (re.match(r"(0x[0-9a-f]+) +0x[0-9a-f]+ +(?:Yes|No)(?: \(\*\))? +(.+)$", line) for line in lines):
         if found:
@@ -178,7 +183,8 @@ def library_loads():
 
 
 class Module:
-    """A file of the process, its load address, and whether it has a .debug_frame section."""
+    """An ELF file of the process: its load address, whether it has a .debug_frame section, its path
+    and the name of the file for that section, both quoted for a shell."""
 
     def __init__(self, path, elf, load):
         self.load, self.has_frame = load, ".debug_frame" in elf.addresses
@@ -187,7 +193,8 @@ class Module:
 
 
 def modules():
-    """The program, and then those of its shared libraries whose files can be read."""
+    """The modules of the process: the executable, and then each shared library whose file can be
+    read."""
     program = gdb.current_progspace().filename
     elf = ElfFile(program)
     yield Module(program, elf, program_load(elf))
@@ -200,7 +207,8 @@ def modules():
 
 
 def walk(program, flags, files, state, address):
-    """The command for a walk over some modules, each given with the file that names it."""
+    """The command that walks from `address`. `files` has a pair for each module: the module, and
+    the file that the command names for it."""
     words = [program, "backtrace", *flags]
     for number, (module, file) in enumerate(files):
         if number > 0:
@@ -211,8 +219,8 @@ def walk(program, flags, files, state, address):
 
 
 def next_commands(state, address, size, is_big, objcopy):
-    """The commands that dump sections and walk over them, and the command that walks over the files
-    themselves."""
+    """The commands to run next: those that copy the sections to files, the one that walks with
+    these files, and the one that walks with the ELF files."""
     flags = ["--big"] * is_big + ["--addr4"] * (size == 4)
     found = list(modules())
     framed = [module for module in found if module.has_frame]
@@ -228,7 +236,8 @@ class WriteState(gdb.Command):
 
     dwcheck-state FILE [BYTES]
 
-    BYTES is how much of the stack, 262144 if not given. What it prints are the commands that walk from there."""
+    BYTES is how much of the stack is written, 262144 if not given. Then the commands that walk from
+    the selected frame are printed."""
 
     def __init__(self):
         super().__init__("dwcheck-state", gdb.COMMAND_DATA, gdb.COMPLETE_FILENAME)

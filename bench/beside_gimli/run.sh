@@ -1,18 +1,18 @@
 #!/usr/bin/env bash
-# Compares dwcheck's libraries with gimli 0.27, in one process. Nothing is written into the
-# checkout.
-#   bench/beside_gimli/run.sh times SECTION ..   processor times of both, the least of several runs,
-#                                                and their ratio
-#   bench/beside_gimli/run.sh read SECTION       only gimli reads all rows or entries, so that its
-#                                                process can be timed
+# Builds a program that calls dwcheck's libraries and gimli 0.27, and runs it to compare their speed
+# or their results. Nothing is written into the checkout.
+#   bench/beside_gimli/run.sh times SECTION ..   prints the processor times of both, each the least
+#                                                of several runs, and their ratio
+#   bench/beside_gimli/run.sh read SECTION       lets only gimli read all rows or list entries, so
+#                                                that the process can be timed
 #   bench/beside_gimli/run.sh differ FRAMES LISTS EXPRESSIONS SEED SECTION ..
-#                                                makes this many random cases of each kind from
-#                                                the sections, reads them with both, and counts the
-#                                                results; compares also the rows of the compiled tables
-#                                                of the accepted cases and of the sections
+#                                                makes this many random cases of each kind from the
+#                                                sections, reads them with both, and counts the
+#                                                differences; for the sections and for accepted
+#                                                cases also compares the rows in compiled tables
 # Sections are raw and little-endian with addresses of 8 bytes: .debug_loclists if the name ends
-# with .lists, else .debug_frame. WORK=FOLDER keeps what was built. It needs gcc, cargo and Debian's
-# librust-gimli-dev (apt-get install librust-gimli-dev).
+# with .lists, else .debug_frame. What is built stays in the folder WORK if this variable is set. This
+# needs gcc, cargo and Debian's librust-gimli-dev (apt-get install librust-gimli-dev).
 set -eu
 here=$(cd "$(dirname "$0")" && pwd)
 checkout=$(cd "$here" && git rev-parse --show-toplevel)

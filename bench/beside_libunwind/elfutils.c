@@ -1,5 +1,5 @@
-/* A walk by elfutils' dwfl_getthread_frames. It reads .eh_frame of the files that this process
-   has mapped, and gets the registers and the stack through the callbacks below. */
+/* Walks with elfutils' dwfl_getthread_frames. elfutils reads .eh_frame of the files that this
+   process has mapped, and gets the registers and the stack through the callbacks below. */
 #define _GNU_SOURCE
 #include "elfutils.h"
 #include <elfutils/libdwfl.h>
@@ -11,7 +11,7 @@ typedef struct {
     size_t room, count;
 } Found;
 
-/* Gives elfutils the only thread. */
+/* Gives elfutils one thread, and then no more. */
 static pid_t next_thread(Dwfl *dwfl, void *start, void **thread)
 {
     (void)dwfl;
@@ -28,7 +28,7 @@ static bool get_thread(Dwfl *dwfl, pid_t tid, void *start, void **thread)
     return true;
 }
 
-/* Reads eight bytes of the copied stack. */
+/* Reads eight bytes from the copy of the stack. Returns false if they aren't all in the copy. */
 static bool read_memory(Dwfl *dwfl, Dwarf_Addr address, Dwarf_Word *word, void *arg)
 {
     const WalkStart *start = arg;

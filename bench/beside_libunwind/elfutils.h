@@ -1,4 +1,4 @@
-/* elfutils' walk of the stack that dwcheck walks too. */
+/* Walks with elfutils up the same stack as dwcheck. */
 #ifndef ELFUTILS_H
 #define ELFUTILS_H
 
@@ -6,10 +6,11 @@
 
 typedef struct Dwfl Dwfl;
 
-/* Opens the files that this process has mapped. NULL on failure. `start` must exist until
-   elfutils_end. */
+/* Lets elfutils open the files that this process has mapped. Returns NULL on failure. `start` must
+   exist until elfutils_end is called. */
 Dwfl *elfutils_begin(const WalkStart *start);
-/* Walks, writes the addresses of the frames, and returns their number. */
+/* Walks, and writes the addresses of the frames, the innermost first, at most `room`. Returns how
+   many there are. */
 size_t elfutils_walk(Dwfl *dwfl, uint64_t *addresses, size_t room);
 void elfutils_end(Dwfl *dwfl);
 

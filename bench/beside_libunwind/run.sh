@@ -1,15 +1,18 @@
 #!/usr/bin/env bash
-# Compares walks by dwcheck's compiled tables with libunwind's, in one process: addresses and CFAs
-# must agree, and nanoseconds per frame are printed. The stack is 600 frames deep; a third of the
-# frames belong to a shared library that calls back. unw_step caches what it found for an address.
-# unw_backtrace caches in addition where the frame of a return address has saved its registers, so
-# that it needs no rules. The comparison takes some seconds once crates/dw_times is built.
-#   bench/beside_libunwind/run.sh [SECTION]..    each SECTION, a raw .debug_frame, is a further
-#                                                module that every look-up searches first
-# PREFIX=FOLDER, where `make install` put libdwcheck, times its dwcheck_backtrace and dwcheck_row_at
-# too. If Debian's libdw-dev is installed, elfutils' dwfl_getthread_frames is timed on the same
-# stack. WORK=FOLDER keeps what was built; LIBRARY=FILE is linked instead of crates/dw_times. It
-# needs x86-64, gcc and Debian's libunwind-dev (apt-get install libunwind-dev).
+# Compares walks by dwcheck's compiled tables with libunwind's, in one process. The frames' addresses
+# and CFAs must agree, and the nanoseconds per frame are printed. The stack is 600 frames deep. A
+# third of the frames belong to a shared library that calls back into the program. libunwind's
+# unw_step caches what it found for an address. unw_backtrace also caches where the frame with a
+# given return address saves its registers, so it needs no rules the next time.
+#   bench/beside_libunwind/run.sh [SECTION]..    some seconds once crates/dw_times is built
+# Each SECTION is a raw .debug_frame section. It becomes another module, which every look-up searches
+# before the modules of the program. If Debian's libdw-dev is installed, elfutils'
+# dwfl_getthread_frames is timed on the same stack. These variables may be set:
+#   PREFIX   the folder to which `make install` installed libdwcheck: then dwcheck_backtrace and
+#            dwcheck_row_at are timed too
+#   WORK     a folder; what is built stays there
+#   LIBRARY  a file to link instead of building crates/dw_times
+# This needs x86-64, gcc and Debian's libunwind-dev (apt-get install libunwind-dev).
 set -eu
 here=$(cd "$(dirname "$0")" && pwd)
 checkout=$(cd "$here" && git rev-parse --show-toplevel)

@@ -1,4 +1,4 @@
-/* The shared library that walks.c calls. */
+/* The shared library that walks.c calls, and that calls back. */
 #include "walks.h"
 
 static volatile int sink;

@@ -1,9 +1,10 @@
-/* Times a walk up a deep stack by bench_walk and by libunwind, in one process, and compares the
-   addresses and CFAs of all frames that both have.
+/* Walks up a deep stack of this process with dwcheck's libraries (bench_walk) and with libunwind.
+   Times both, and compares the addresses and CFAs of the frames.
        walks OWN LIBRARY [SECTION]..
-   OWN and LIBRARY are the .debug_frame sections of this program and of libthrough.so. Each further
-   SECTION becomes a module in front of both. Nothing in this process is at its load address, so
-   each look-up searches it first, in vain. The exit status is 1 if a frame differs. */
+   OWN and LIBRARY are files with the .debug_frame sections of this program and of libthrough.so.
+   Each SECTION becomes a module before these two. Its load address is one at which this process has
+   nothing, so each look-up searches this module first and finds nothing. The exit status is 1 if a
+   frame differs. */
 #define _GNU_SOURCE
 #define UNW_LOCAL_ONLY
 #include "walks.h"
@@ -34,8 +35,8 @@ static double now(void)
     return (double)t.tv_sec * 1e9 + (double)t.tv_nsec;
 }
 
-/* The address where the first mapping of a file begins, or, if `is_end`, where the last mapping
-   with that name ends. */
+/* The address where the first mapping of a file begins; or if `is_end` is true, the address where
+   its last mapping ends. 0 if there is none. */
 static uint64_t mapping(const char *name, bool is_end)
 {
     FILE *maps = fopen("/proc/self/maps", "r");
@@ -50,7 +51,8 @@ static uint64_t mapping(const char *name, bool is_end)
     return at;
 }
 
-/* Walks by libunwind, and returns the number of frames. */
+/* Walks with libunwind. Writes each frame's address and stack pointer to `addresses` and
+   `pointers`, and returns the number of frames. */
 static int stepped(unw_context_t *context)
 {
     unw_cursor_t cursor;
@@ -64,8 +66,8 @@ static int stepped(unw_context_t *context)
     return count;
 }
 
-/* The number of dwcheck's frames that differ from libunwind's. The CFA of a frame is the stack
-   pointer of its caller. */
+/* Of `ours` frames that dwcheck found, the number that differ from the `theirs` frames that
+   libunwind found. A frame's CFA must be the stack pointer that libunwind gives for the caller. */
 static uint64_t differing(uint64_t ours, uint64_t theirs)
 {
     uint64_t different = 0;
@@ -82,8 +84,9 @@ static uint64_t differing(uint64_t ours, uint64_t theirs)
 
 static double least(double one, double other) { return one < other ? one : other; }
 
-/* Nanoseconds per frame: the time of one walk is subtracted from that of many, because each call
-   also checks the sections and compiles their tables. */
+/* The nanoseconds that dwcheck needs per frame. Each call of bench_walk also checks the sections
+   and compiles their tables. To leave that out, the time of a call that walks once is subtracted
+   from the time of a call that walks several times. */
 static double time_of_ours(const LoadedSection *first, size_t count, WalkStart *start, WalkEnd *end)
 {
     double once = 1e30, more = 1e30;
@@ -127,7 +130,7 @@ static double time_of_backtrace(void)
 
 static size_t section_count;
 
-/* Copies the registers in the order of DWARF's numbers. */
+/* Copies a context's registers to `contents`, in the order of DWARF's numbers. */
 static void read_registers(const unw_context_t *context, uint64_t contents[17])
 {
     static const int order[17] = {REG_RAX, REG_RDX, REG_RCX, REG_RBX, REG_RSI, REG_RDI, REG_RBP, REG_RSP, REG_R8,
@@ -136,8 +139,8 @@ static void read_registers(const unw_context_t *context, uint64_t contents[17])
         contents[i] = (uint64_t)context->uc_mcontext.gregs[order[i]];
 }
 
-/* The number of frames of dwcheck's walk, after comparing them with libunwind's; 0 if a section
-   is refused. */
+/* Compares dwcheck's walk with libunwind's, and prints the times of both. Returns the number of
+   dwcheck's frames, or 0 if a section is refused. */
 static uint64_t compared(const char *said, const LoadedSection *first, size_t count, WalkStart *start, unw_context_t *context)
 {
     WalkEnd end = {0, 0};
@@ -157,7 +160,7 @@ static uint64_t compared(const char *said, const LoadedSection *first, size_t co
 }
 
 #ifdef WITH_ELFUTILS
-/* Times elfutils' walk of the same stack, which must have the addresses of dwcheck's. */
+/* Times elfutils' walk up the same stack. It must find frames with the same addresses as dwcheck. */
 static void by_elfutils(const WalkStart *start, uint64_t our_count)
 {
     static uint64_t found[PLACES];
@@ -180,8 +183,8 @@ static void by_elfutils(const WalkStart *start, uint64_t our_count)
 #endif
 
 #ifdef THROUGH_C
-/* Prints nanoseconds per row, for the frames in one module: by the library, reading all rules,
-   and through libdwcheck. */
+/* For the frames in one module, prints the nanoseconds that it takes to get the row with all its
+   rules, first with dwcheck's libraries and then with dwcheck_row_at of libdwcheck. */
 static void rows_through_c(const LoadedSection *module, uint64_t frame_count)
 {
     enum { TIMES = 200, RULES = 128 };
@@ -215,8 +218,8 @@ static void rows_through_c(const LoadedSection *module, uint64_t frame_count)
     dwcheck_process_close(&process);
 }
 
-/* Times the walk through libdwcheck, as a C program would make it. It must have the frames of
-   the library's walk. */
+/* Times the walk with dwcheck_backtrace of libdwcheck, as a C program would call it. It must find
+   the same frames as bench_walk. */
 static void through_c(const LoadedSection *first, size_t count, const WalkStart *start)
 {
     static const uint8_t known[] = {0xff, 0xff, 0x01};
@@ -246,8 +249,8 @@ static void through_c(const LoadedSection *first, size_t count, const WalkStart 
 }
 #endif
 
-/* Runs in the innermost frame. It walks a copy of the stack, since a walk itself writes on the
-   stack. */
+/* Runs all walks; its own frame is the innermost. dwcheck and elfutils walk a copy of the stack,
+   because a walk itself writes to the stack. */
 static __attribute__((noinline)) int measured(void)
 {
     static unw_context_t context;

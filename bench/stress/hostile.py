@@ -39,8 +39,8 @@ frame 1 0x0000000000001020 cfa value 0x0000000000007f50
 frame 2 0x0000000000002000 none
 stop not covered
 """
-# A section with an FDE with an expression that makes each return address 7. A walk by it never ends
-# by itself: each caller is a frame at address 7 again, whatever the state file says.
+# A section whose only FDE covers addresses 0 to 0x1f, and whose rules make every return address 7,
+# whatever the state file says. So only the limit ends a walk.
 ROUND = bytes.fromhex(CIE + "1c0000000000000000000000000000002000000000000000" + "0f013f1410010000")
 WALK = ["backtrace", "frame", "0x1010", "state", "9"]
 LONGEST = ["backtrace", "round", "0x3", "empty", "65535"]
@@ -58,8 +58,8 @@ wrong = []
 
 
 def judge(said, found, wanted):
-    """Prints how a run ended if it should have ended otherwise. `found` and `wanted` are the output,
-    the line on standard error, and the exit status; `said` describes the run."""
+    """Prints how a run ended if it should have ended otherwise. `found` and `wanted` are the
+    output, the line on standard error, and the exit status; `said` describes the run."""
     if found != wanted:
         wrong.append(said)
         print(f"{said}\n  wanted {wanted}\n  found  {found}")

@@ -1,11 +1,11 @@
 #!/usr/bin/env python3
-"""Lets each request for memory fail in turn, in tests and in dwcheck, and checks that every run ends
-as it should.
+"""Lets each request for memory fail in turn, in tests and in dwcheck, and checks that every run
+ends as it should.
 
     bench/stress/refused_memory.py TESTS DWCHECK
 
-TESTS is the test program that `rt test` makes: crates/dw_tests/out/dw_tests_tests. This needs cc and
-glibc.
+TESTS is the test program that `rt test` makes: crates/dw_tests/out/dw_tests_tests. This needs cc
+and glibc.
 
 A library that is loaded before the C library lets the Nth call of malloc or realloc fail. N goes
 from 1 up to the number of calls.

@@ -1,9 +1,9 @@
-"""Compares the frames that `stack` printed with gdb's. gdb runs this file, and stops the program in
-`printed`.
+"""A script for gdb. It runs the example program `stack`, stops it in the function `printed`, and
+checks that the frames that the program printed are those that gdb finds.
 
-gdb's level 0 is `printed` itself, and its level 1 is frame 0. The address of frame 0 isn't
-compared, because the function has gone on since its registers were taken. The last frame has no
-canonical frame address if no module covers it.
+gdb's level 0 is the frame of `printed`, which `stack` didn't print. gdb's level 1 is frame 0 of
+`stack`. Its address isn't compared, because the function has run on since it took its registers. If
+no module covers the last frame, `stack` prints no canonical frame address for it.
 """
 import re
 import sys
@@ -14,7 +14,7 @@ LINE = re.compile(r"frame (\d+) (0x[0-9a-f]{16})(?: cfa (0x[0-9a-f]{16}))?$")
 
 
 def level(number):
-    """The address and the canonical frame address of one of gdb's levels."""
+    """The address and the canonical frame address of the frame at a level in gdb."""
     gdb.execute("frame %d" % number, to_string=True)
     text = gdb.execute("info frame", to_string=True)
     cfa = re.search(r"frame at (0x[0-9a-f]+)", text).group(1)
@@ -22,7 +22,8 @@ def level(number):
 
 
 def compare(path):
-    """The number of frames, all of which must be gdb's; exits at the first frame that isn't."""
+    """Compares the frames in the file `path` with gdb's. Exits at the first that differs; otherwise
+    returns their number."""
     frames = [m.groups() for m in map(LINE.match, open(path)) if m]
     for number, address, cfa in frames:
         pc, at = level(int(number) + 1)

@@ -1,4 +1,4 @@
-/* The modules of this process, and the registers of x86-64. */
+/* Finds the modules of this process, and prepares a state for a walk on x86-64. */
 #define _GNU_SOURCE
 #include "modules.h"
 
@@ -12,7 +12,7 @@
 #include <sys/stat.h>
 #include <unistd.h>
 
-/* The bytes of a mapped file, or of a part of it. */
+/* The bytes of a file that is mapped into memory, or of a part of this file. */
 struct file {
     const unsigned char *bytes;
     size_t length;
@@ -30,13 +30,13 @@ static struct file map_file(const char *name) {
     return file;
 }
 
-/* Whether a range is inside a file. */
+/* Whether `length` bytes from `offset` on are inside the file. */
 static int is_inside(const struct file *file, uint64_t offset, uint64_t length) {
     return offset <= file->length && length <= file->length - offset;
 }
 
-/* The .debug_frame section of an ELF file of the process's own class (32 or 64 bits); empty if
-   there is none, or if it is compressed. */
+/* The bytes of an ELF file's .debug_frame section; none if the file has no such section, or if the
+   section is compressed. The file must be of the same class (32 or 64 bits) as this process. */
 static struct file frame_section(const struct file *file) {
     const struct file none = {(const unsigned char *)"", 0};
     const ElfW(Ehdr) *header = (const void *)file->bytes;
@@ -57,7 +57,7 @@ static struct file frame_section(const struct file *file) {
     return none;
 }
 
-/* The process that modules are added to, and the number added. */
+/* The process to which modules are added, and how many were added. */
 struct adding {
     dwcheck_process *process;
     int count;
@@ -66,7 +66,8 @@ struct adding {
 static int add_module(struct dl_phdr_info *info, size_t size, void *data) {
     (void)size;
     struct adding *adding = data;
-    /* dl_iterate_phdr gives the program an empty name, and the vDSO a name without a file. */
+    /* For the executable, dl_iterate_phdr gives an empty name. For the vDSO it gives a name that
+       isn't a file's, so it is left out. */
     struct file file = map_file(info->dlpi_name[0] ? info->dlpi_name : "/proc/self/exe");
     if (file.bytes == NULL) return 0;
     struct file section = frame_section(&file);

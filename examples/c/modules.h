@@ -1,4 +1,5 @@
-/* Shared by both examples: the modules of this process, and the registers of x86-64. */
+/* Shared by both examples: finds the modules of this process, and prepares a state for a walk on
+   x86-64. */
 #ifndef MODULES_H
 #define MODULES_H
 
@@ -7,16 +8,18 @@
 #include <stdint.h>
 #include <ucontext.h>
 
-/* DWARF's register numbers of x86-64: 0 to 15, and 16, which is the return address. */
+/* The number of registers: on x86-64, DWARF's register numbers are 0 to 15 for the general-purpose
+   registers, and 16 for the return address. */
 enum { REGISTERS = 17 };
 
-/* Adds each ELF file that the loader has mapped and that has a .debug_frame section. Returns the number added. */
+/* Adds to the process each ELF file that the loader has mapped and that has a .debug_frame section.
+   Returns how many were added. Prints a line for each file that the library refuses. */
 int add_modules(dwcheck_process *process);
 
-/* Copies a context's registers in DWARF's order. */
+/* Copies the registers of a context to `registers`, in the order of DWARF's numbers. */
 void copy_registers(const ucontext_t *context, uint64_t registers[REGISTERS]);
 
-/* The state with these registers, one block of memory, and the ABI of x86-64. */
+/* A state with these registers, this block of memory, and the ABI of x86-64. */
 dwcheck_state state_of(const uint64_t registers[REGISTERS], const dwcheck_block *stack);
 
 /* The address after the last byte of the calling thread's stack. */

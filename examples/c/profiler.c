@@ -1,6 +1,6 @@
-/* A small sampling profiler. A signal handler copies the registers and the top of the stack; the
-   main thread walks these copies and counts the stacks. At the end the hottest stacks are
-   printed. */
+/* An example program: a small sampling profiler. A signal handler copies the registers and the top
+   of the stack of the thread that is profiled. The main thread walks these copies, and counts how
+   often each stack occurs. At the end it prints the stacks that occurred most often. */
 #define _GNU_SOURCE
 #include "modules.h"
 
@@ -44,7 +44,7 @@ static void on_profile(int signal, siginfo_t *info, void *context) {
     }
 }
 
-/* ---- a program to profile: most of its time is spent in `square_roots`, called by `often` */
+/* ---- the code to profile: it spends most of its time in `square_roots`, called by `often` */
 
 static volatile double sink;
 __attribute__((noinline)) double square_roots(int count) {
@@ -88,8 +88,8 @@ static void count_stack(const uint64_t *frames, size_t length) {
     stack->length = length, stack->count = 1;
 }
 
-/* The first address of the function that contains `address`, so that samples at different
-   instructions of a function count as one stack. */
+/* The first address of the function that contains `address`. Stacks are counted by functions, so
+   that samples at different instructions of the same functions count as one stack. */
 static uint64_t function_of(uint64_t address) {
     Dl_info info;
     return dladdr((void *)(uintptr_t)address, &info) && info.dli_saddr ? (uintptr_t)info.dli_saddr : address;
@@ -133,7 +133,7 @@ int main(void) {
     sigset_t profile;
     sigemptyset(&profile);
     sigaddset(&profile, SIGPROF);
-    pthread_sigmask(SIG_BLOCK, &profile, NULL); /* only the worker is interrupted */
+    pthread_sigmask(SIG_BLOCK, &profile, NULL); /* so the signal interrupts only the worker */
     pthread_t worker;
     if (pthread_create(&worker, NULL, work, NULL) != 0) return 1;
     struct itimerval every = {{0, 1000}, {0, 1000}};

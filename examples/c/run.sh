@@ -1,9 +1,9 @@
 #!/bin/sh
-# Builds both examples and runs them. The frames that `stack` prints are compared with gdb's in the
-# same process, and the hottest stack that `profiler` prints must contain `often`.
+# Builds both examples and runs them. The frames that `stack` prints must be those that gdb finds in
+# the same process. The hottest stack that `profiler` prints must contain the function `often`.
 # usage: examples/c/run.sh
-# pkg-config finds the library, unless DWCHECK_FLAGS gives it, for example
-# DWCHECK_FLAGS="-Iinclude libdwcheck.a".
+# The compiler's flags for the library are taken from pkg-config, or from DWCHECK_FLAGS if it is set,
+# for example DWCHECK_FLAGS="-Iinclude libdwcheck.a".
 # The examples are built without .eh_frame tables, so that they have a .debug_frame section.
 set -eu
 here=$(cd "$(dirname "$0")" && pwd)
@@ -12,7 +12,7 @@ trap 'rm -rf "$out"' EXIT
 library=${DWCHECK_FLAGS:-$(pkg-config --cflags --libs dwcheck)}
 build="-std=gnu11 -Wall -Wextra -Werror -O2 -g -fno-asynchronous-unwind-tables -fno-optimize-sibling-calls -rdynamic"
 for program in stack profiler; do
-    # $build and $library are lists of words.
+    # $build and $library aren't quoted, because each is a list of words.
     "${CC:-cc}" $build "$here/$program.c" "$here/modules.c" $library -pthread -ldl -o "$out/$program"
 done
 if ! gdb -q -batch -ex "set \$written = \"$out/frames\"" -x "$here/compare.py" "$out/stack" > "$out/gdb" 2>&1; then

@@ -1,5 +1,5 @@
-/* Prints its own stack from a deep call: one line per frame, with its address and its canonical
-   frame address. */
+/* An example program that prints its own stack from a deep call: a line for each frame, with the
+   frame's address and canonical frame address. */
 #define _GNU_SOURCE
 #include "modules.h"
 
@@ -12,7 +12,7 @@ enum { DEPTH = 40, FRAMES = 100 };
 static const char *const stops[] = {"limit", "not covered", "return undefined", "return unreadable",
                                     "return division by zero"};
 
-/* A function for a debugger's breakpoint. It is called after everything is printed. */
+/* Does nothing. It is called after all frames are printed, so that a debugger can stop here. */
 __attribute__((noinline)) void printed(void) { __asm__ volatile(""); }
 
 __attribute__((noinline)) static void print_stack(dwcheck_process *process) {
@@ -37,7 +37,7 @@ __attribute__((noinline)) static void print_stack(dwcheck_process *process) {
     printed();
 }
 
-/* Calls itself `depth` times, so that the stack is deep. */
+/* Calls itself `depth` times, and then prints the stack. */
 __attribute__((noinline)) static int deep(dwcheck_process *process, int depth) {
     if (depth == 0) print_stack(process);
     else deep(process, depth - 1);

@@ -1,4 +1,5 @@
-/* Two threads: one is in a callback of the C library's qsort, the other aborts in a deep call. */
+/* The program whose core file the example reads. It has two threads: one is in a callback of the C
+   library's qsort when the other aborts in a deep call. */
 #include <pthread.h>
 #include <stdlib.h>
 #include <unistd.h>

@@ -1,8 +1,10 @@
 #!/usr/bin/env bash
-# Builds the crash reporter, makes a core file of a program with two threads, prints the threads'
-# stacks, and compares the addresses of all frames with those of elfutils' eu-stack.
-# usage: examples/rust/run.sh        pkg-config finds libdwcheck, or DWCHECK_LIB_DIR names its folder
-# It needs cargo, gcc, gdb, elfutils and the packages that rust/cargo.sh names.
+# Builds the crash reporter, makes a core file of a program with two threads, and lets the crash
+# reporter print the threads' stacks. All frames must have the addresses that elfutils' eu-stack
+# finds.
+# usage: examples/rust/run.sh
+# libdwcheck is searched for in the folder DWCHECK_LIB_DIR, or if that isn't set, with pkg-config.
+# This needs cargo, gcc, gdb, elfutils and the packages that rust/cargo.sh names.
 set -euo pipefail
 here=$(cd "$(dirname "$0")" && pwd)
 work=$(mktemp -d)
@@ -15,7 +17,7 @@ cd "$work"
 gdb --batch -ex 'set startup-with-shell off' -ex run -ex 'gcore core' ./crash < /dev/null > gdb.log 2>&1
 "${CARGO_TARGET_DIR:-$here/target}/release/stack" crash core | tee ours
 
-addresses() { # the threads and the addresses of their frames, a line each
+addresses() { # FILE: prints a line for each thread, and one for the address of each of its frames
     awk 'tolower($1) ~ /^(thread|tid)$/ { print "thread", $2 + 0 } /^#/ { print $2 }' "$1"
 }
 addresses ours > ours.addresses

@@ -1,5 +1,5 @@
-//! A crash reporter: prints the innermost frames of each thread of a core file, with the names of
-//! functions.
+//! An example: a crash reporter. For each thread in a core file, it prints the innermost frames with
+//! the names of their functions.
 //!
 //!     stack PROGRAM CORE
 //!
