@@ -1,14 +1,14 @@
 #!/usr/bin/env bash
-# Runs each comparison in this folder briefly. dwcheck's output for random input is compared with the
-# models in bench/models, and its walks up the stacks of real programs with gdb's and perf's, and on
-# nine targets under qemu with gdb's. Bad input is tried, and the commands that the documentation
-# shows. If DWCHECK_ELF is given, the rows that it prints are compared with readelf's, and it reads
-# damaged files. For each comparison, a line says whether it passed and how long it took. If one
-# fails, the line names the file that has its output.
+# Runs each comparison in this folder briefly. dwcheck's output for random input is compared with
+# the models in bench/models, and its walks up the stacks of real programs with gdb's and perf's,
+# and on nine targets under qemu with gdb's. Bad input is tried, and the commands that the
+# documentation shows. If DWCHECK_ELF is given, the rows that it prints are compared with readelf's,
+# and it reads damaged files. For each comparison, a line says whether it passed and how long it
+# took. If one fails, the line names the file that has its output.
 #     bench/all.sh DWCHECK [DWCHECK_ELF]        eight minutes on a busy machine
 # This needs the packages that pages.py and walk/targets.py name. These variables may be set:
-#     LIBRARY  crates/dw_times/out/libdw_times.a, which `rt lib` in crates/dw_times makes: then walks
-#              are compared with libunwind's too
+#     LIBRARY  crates/dw_times/out/libdw_times.a, which `rt lib` in crates/dw_times makes: then
+#              walks are compared with libunwind's too
 #     TESTS    crates/dw_tests/out/dw_tests_tests, which `rt test` in crates/dw_tests makes: then
 #              there are also runs in which each request for memory fails in turn
 #     SEED     a number that chooses the random cases; 1 if not set

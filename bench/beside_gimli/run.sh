@@ -11,8 +11,8 @@
 #                                                differences; for the sections and for accepted
 #                                                cases also compares the rows in compiled tables
 # Sections are raw and little-endian with addresses of 8 bytes: .debug_loclists if the name ends
-# with .lists, else .debug_frame. What is built stays in the folder WORK if this variable is set. This
-# needs gcc, cargo and Debian's librust-gimli-dev (apt-get install librust-gimli-dev).
+# with .lists, else .debug_frame. If the variable WORK names a folder, what is built stays there.
+# This needs gcc, cargo and Debian's librust-gimli-dev (apt-get install librust-gimli-dev).
 set -eu
 here=$(cd "$(dirname "$0")" && pwd)
 checkout=$(cd "$here" && git rev-parse --show-toplevel)

@@ -1,12 +1,12 @@
 #!/usr/bin/env bash
-# Compares walks by dwcheck's compiled tables with libunwind's, in one process. The frames' addresses
-# and CFAs must agree, and the nanoseconds per frame are printed. The stack is 600 frames deep. A
-# third of the frames belong to a shared library that calls back into the program. libunwind's
-# unw_step caches what it found for an address. unw_backtrace also caches where the frame with a
-# given return address saves its registers, so it needs no rules the next time.
+# Compares walks by dwcheck's compiled tables with libunwind's, in one process. The addresses and
+# CFAs of the frames must agree, and the nanoseconds per frame are printed. The stack is 600 frames
+# deep. A third of the frames belong to a shared library that calls back into the program.
+# libunwind's unw_step caches what it found for an address. unw_backtrace also caches where the
+# frame with a given return address saves its registers, so it needs no rules the next time.
 #   bench/beside_libunwind/run.sh [SECTION]..    some seconds once crates/dw_times is built
-# Each SECTION is a raw .debug_frame section. It becomes another module, which every look-up searches
-# before the modules of the program. If Debian's libdw-dev is installed, elfutils'
+# Each SECTION is a raw .debug_frame section. It becomes another module, which every look-up
+# searches before the modules of the program. If Debian's libdw-dev is installed, elfutils'
 # dwfl_getthread_frames is timed on the same stack. These variables may be set:
 #   PREFIX   the folder to which `make install` installed libdwcheck: then dwcheck_backtrace and
 #            dwcheck_row_at are timed too

@@ -160,7 +160,7 @@ static uint64_t compared(const char *said, const LoadedSection *first, size_t co
 }
 
 #ifdef WITH_ELFUTILS
-/* Times elfutils' walk up the same stack. It must find frames with the same addresses as dwcheck. */
+/* Times elfutils' walk up the same stack. Its frames must have the same addresses as dwcheck's. */
 static void by_elfutils(const WalkStart *start, uint64_t our_count)
 {
     static uint64_t found[PLACES];

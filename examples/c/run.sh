@@ -2,8 +2,8 @@
 # Builds both examples and runs them. The frames that `stack` prints must be those that gdb finds in
 # the same process. The hottest stack that `profiler` prints must contain the function `often`.
 # usage: examples/c/run.sh
-# The compiler's flags for the library are taken from pkg-config, or from DWCHECK_FLAGS if it is set,
-# for example DWCHECK_FLAGS="-Iinclude libdwcheck.a".
+# The flags with which the compiler finds the library come from pkg-config, or from DWCHECK_FLAGS if
+# it is set, for example DWCHECK_FLAGS="-Iinclude libdwcheck.a".
 # The examples are built without .eh_frame tables, so that they have a .debug_frame section.
 set -eu
 here=$(cd "$(dirname "$0")" && pwd)

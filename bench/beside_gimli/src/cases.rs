@@ -1,13 +1,14 @@
-//! Random cases made from real sections: a few records or lists, encoded for a target, with some
-//! bytes changed. Some programs begin with instructions that come near a limit of docs/PROFILE.md.
+//! Makes random cases from real sections. A case is a section with a few CIEs and FDEs or lists, or
+//! an expression, encoded for a byte order and an address size, and then some bytes are changed.
+//! Some programs begin with instructions that come near one of the limits in docs/PROFILE.md.
 
 use crate::encoded::{Encoded, little, push_uleb, uleb};
 use crate::limits;
 use crate::random::Random;
 use crate::target::Target;
 
-/// A generated section. `inner` has the ranges of bytes of its programs and expressions, in which a
-/// change tests most.
+/// A generated section or expression. `inner` has the ranges of bytes of programs, list entries and
+/// expressions, where a changed byte tests most.
 pub struct Case {
     pub bytes: Vec<u8>,
     inner: Vec<(usize, usize)>,
@@ -27,15 +28,15 @@ impl Case {
         }
     }
 
-    /// A case that is only an expression.
+    /// A case with these bytes, all of which are most worth changing.
     pub fn of(bytes: Vec<u8>) -> Self {
         let mut case = Case::new();
         case.push_inner(&bytes);
         case
     }
 
-    /// Changes some bytes, or none. Most of the changed bytes are in programs and expressions.
-    /// Returns whether the case is changed at all.
+    /// Changes some bytes, or none. Most of the changed bytes are in the ranges `inner`. Returns
+    /// whether the case is different afterwards.
     pub fn change(&mut self, random: &mut Random) -> bool {
         let before = self.bytes.clone();
         let count = *random.of(&[0, 1, 1, 1, 1, 2, 2, 2, 3, 5]);
@@ -72,12 +73,12 @@ struct Fde {
     program: Encoded,
 }
 
-/// The records of real sections.
+/// The CIEs and FDEs of real sections.
 #[derive(Default)]
 pub struct Frames {
     cies: Vec<Cie>,
     fdes: Vec<Fde>,
-    /// Indexes of FDEs that have an expression, in their own program or in their CIE's.
+    /// The places in `fdes` of FDEs with an expression in their own program or in their CIE's.
     with_expressions: Vec<usize>,
 }
 
@@ -87,9 +88,10 @@ fn factors(body: &[u8]) -> Option<usize> {
 }
 
 impl Frames {
-    /// Adds the records of a little-endian section with addresses of 8 bytes. A CIE is left out if
-    /// it has a version other than 4, an augmentation, or a program with an unknown opcode, and so
-    /// are its FDEs. An FDE is left out too if its program has an unknown opcode.
+    /// Adds the CIEs and FDEs of a little-endian section with addresses of 8 bytes. A CIE is left
+    /// out if its version isn't 4, or if it has an augmentation or a program with an unknown
+    /// opcode; its FDEs are left out too. An FDE is also left out if its own program has an unknown
+    /// opcode.
     pub fn add(&mut self, section: &[u8]) {
         let mut cies = Vec::new();
         let mut at = 0;
@@ -146,8 +148,8 @@ impl Frames {
     }
 }
 
-/// Appends a record, in the 64-bit format if `wide` is true: its length, then the bytes `head` of
-/// its header, then its program.
+/// Appends a CIE or an FDE: its length, then the bytes `head`, which are its fields before the
+/// program, then its program. It is in the 64-bit format if `wide` is true.
 fn push_record(case: &mut Case, wide: bool, target: Target, head: &[u8], program: &[u8]) {
     let length = (head.len() + program.len()) as u64;
     if wide {
@@ -193,14 +195,14 @@ enum Operands {
     Length(u64, u64),
 }
 
-/// The lists of real sections.
+/// The location lists of real sections.
 #[derive(Default)]
 pub struct Lists {
     lists: Vec<Vec<Entry>>,
 }
 
-/// The first entry of the bytes, and its length in bytes. `None` if the kind of entry isn't known,
-/// or an operation of its expression.
+/// The list entry at the start of `bytes`, and its length in bytes. `None` if its kind isn't known,
+/// or if its expression has an unknown operation.
 fn entry(bytes: &[u8]) -> Option<(Entry, usize)> {
     let code = *bytes.first()?;
     let (operands, mut at) = match code {
@@ -288,7 +290,7 @@ impl Lists {
         case.bytes.extend(body.bytes);
     }
 
-    /// The bytes of one to three expressions of lists, one after the other.
+    /// The bytes of one to three expressions of list entries, one after another.
     pub fn expression(&self, random: &mut Random, target: Target) -> Vec<u8> {
         let mut bytes = Vec::new();
         for _ in 0..1 + random.below(3) {

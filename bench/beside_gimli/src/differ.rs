@@ -1,8 +1,8 @@
-//! The differential run: random cases are read by dwcheck's libraries and by gimli.
+//! Reads random cases with dwcheck's libraries and with gimli, and compares the results.
 //!
-//! If dwcheck accepts a case, gimli must read the same, so whatever gimli can't read must be
-//! refused by dwcheck. If dwcheck refuses a case that gimli reads, that is no difference, since
-//! gimli checks little.
+//! If dwcheck accepts a case, gimli must be able to read it, with the same result. If dwcheck
+//! refuses a case that gimli reads, that isn't counted as a difference, because gimli checks
+//! little.
 
 use crate::cases::{Case, Frames, Lists, made_expression};
 use crate::limits;
@@ -21,8 +21,8 @@ struct Counts {
     /// For each fault number: how many cases dwcheck refused, and how many of these gimli reads.
     refused: BTreeMap<u64, (u64, u64)>,
     differences: u64,
-    /// Differences that aren't counted as such, since gimli may shift by a greater count than
-    /// dwcheck (see `may_shift_further`).
+    /// How many expressions have different results that aren't counted as differences, because
+    /// gimli may shift by a greater count than dwcheck (see `may_shift_further`).
     shifts: u64,
 }
 
@@ -61,8 +61,8 @@ impl Counts {
     }
 }
 
-/// Compares one random case of a frame section. If it is accepted, the rows that its compiled table
-/// gives are compared too.
+/// Makes a random frame section, and compares what both read. If dwcheck accepts it, the rows in
+/// its compiled table are compared with gimli's too.
 fn frame_case(frames: &Frames, random: &mut Random, target: Target, counts: &mut Counts, tables: &mut Counts) {
     let mut case = frames.case(random, target);
     let changed = case.change(random);
@@ -73,8 +73,8 @@ fn frame_case(frames: &Frames, random: &mut Random, target: Target, counts: &mut
     }
 }
 
-/// Compares the rows that the compiled table of an accepted section gives at both ends of each FDE,
-/// inside each FDE, and at some other addresses.
+/// Compares the rows in the compiled table of an accepted section with gimli's rows: at both ends
+/// of each FDE, inside each FDE, and at some other addresses.
 fn table_case(case: &Case, random: &mut Random, target: Target, changed: bool, counts: &mut Counts) {
     let read = meaning::Rows::read(&case.bytes, target);
     let mut addresses = vec![0, random.next() & target.greatest(), target.greatest()];
@@ -115,8 +115,8 @@ fn expression_case(lists: &Lists, random: &mut Random, target: Target, counts: &
     counts.add("expressions", &case, target, changed, ours, meaning::expression_answer(&case.bytes, kind, target));
 }
 
-/// Runs the given number of cases of frames, lists and expressions; each kind takes the four
-/// targets in turn. Returns whether there is no difference.
+/// Compares the given numbers of random frame sections, sections of lists, and expressions. The
+/// cases of each kind take the four targets in turn. Returns whether there is no difference.
 pub fn run(sections: &[(String, Vec<u8>)], frame_count: u64, list_count: u64, expression_count: u64, seed: u64) -> bool {
     let (mut frames, mut lists) = (Frames::default(), Lists::default());
     for (name, section) in sections {

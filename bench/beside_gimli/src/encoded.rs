@@ -1,5 +1,5 @@
-//! Programs and expressions of real sections, split into parts. The parts whose encoding depends on
-//! the target are separate, so that they can be encoded for another target.
+//! Splits the programs and expressions of real sections into parts, such that they can be encoded
+//! for another byte order and address size.
 
 use crate::target::Target;
 
@@ -8,10 +8,10 @@ use crate::target::Target;
 enum Part {
     /// Bytes that are the same for every target.
     Bytes(Vec<u8>),
-    /// A number, and how many bytes it has.
+    /// A number that isn't an address, and its size in bytes.
     Fixed(u64, usize),
     Address(u64),
-    /// An expression with its length before it.
+    /// An expression that is the operand of an instruction. Its length comes before it.
     Block(Encoded),
 }
 
@@ -20,9 +20,9 @@ pub struct Encoded {
     parts: Vec<Part>,
 }
 
-/// The operands of a call frame instruction, one letter or digit for each: `a` is an address, a
-/// digit is a number of that many bytes, `u` is a LEB128 number, and `b` is an expression with its
-/// length before it. `None` if the opcode isn't known.
+/// The kinds of the operands of a call frame instruction, one letter or digit for each: `a` is an
+/// address, a digit is a number of that many bytes, `u` is a LEB128 number, and `b` is an
+/// expression with its length before it. `None` if the opcode isn't known.
 fn instruction_operands(code: u8) -> Option<&'static str> {
     Some(match code {
         0x40..=0x7f | 0xc0..=0xff => "",
@@ -40,8 +40,8 @@ fn instruction_operands(code: u8) -> Option<&'static str> {
     })
 }
 
-/// The operands of an operation, in the letters that `instruction_operands` explains. In addition,
-/// `i` is a LEB128 length followed by that many bytes. `None` if the opcode isn't known.
+/// The kinds of the operands of an operation, in the letters of `instruction_operands`. In
+/// addition, `i` is a LEB128 length followed by that many bytes. `None` if the opcode isn't known.
 fn operation_operands(code: u8) -> Option<&'static str> {
     Some(match code {
         0x03 => "a",
@@ -58,7 +58,8 @@ fn operation_operands(code: u8) -> Option<&'static str> {
     })
 }
 
-/// An unsigned LEB128 number, and its length in bytes. `None` if it has more than nine bytes.
+/// The unsigned LEB128 number at the start of `bytes`, and its length in bytes. `None` if it has
+/// more than nine bytes or doesn't end.
 pub fn uleb(bytes: &[u8]) -> Option<(u64, usize)> {
     let mut number = 0;
     for (place, byte) in bytes.iter().take(9).enumerate() {
@@ -85,13 +86,14 @@ pub fn little(bytes: &[u8], size: usize) -> Option<u64> {
 }
 
 impl Encoded {
-    /// Splits a little-endian program with addresses of 8 bytes. `None` if an opcode isn't known.
+    /// Splits a little-endian program with addresses of 8 bytes. `None` if an opcode isn't known,
+    /// or if an operand isn't complete.
     pub fn program(bytes: &[u8]) -> Option<Self> {
         Self::read(bytes, instruction_operands)
     }
 
     /// Splits a little-endian expression with addresses of 8 bytes. `None` if an opcode isn't
-    /// known.
+    /// known, or if an operand isn't complete.
     pub fn expression(bytes: &[u8]) -> Option<Self> {
         Self::read(bytes, operation_operands)
     }
@@ -134,7 +136,7 @@ impl Encoded {
         })
     }
 
-    /// Whether a program has an expression.
+    /// Whether this is a program in which an instruction has an expression.
     pub fn has_expression(&self) -> bool {
         self.parts.iter().any(|part| matches!(part, Part::Block(_)))
     }

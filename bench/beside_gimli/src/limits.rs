@@ -1,4 +1,5 @@
-//! Programs and expressions that come near a limit of docs/PROFILE.md, or exceed it by a little.
+//! Makes programs and expressions that come near one of the limits in docs/PROFILE.md, or exceed it
+//! by a little.
 
 use crate::encoded::push_uleb;
 use crate::random::Random;
@@ -17,8 +18,8 @@ fn push_sleb(bytes: &mut Vec<u8>, mut number: i64) {
     bytes.push(number as u8 & 0x7f);
 }
 
-/// The beginning of an FDE's program: nested remember_state instructions, offsets that nearly don't
-/// fit in 64 bits, or rules of many registers.
+/// The beginning of an FDE's program, with one of these: many nested remember_state instructions,
+/// offsets that only just fit in 64 bits, or rules for many registers.
 pub fn program(random: &mut Random) -> Vec<u8> {
     match random.below(3) {
         0 => remembered(random),
@@ -95,8 +96,8 @@ fn many_rules(random: &mut Random) -> Vec<u8> {
     bytes
 }
 
-/// An expression with a high stack, with branches over operations that push and pop, or with many
-/// pieces.
+/// An expression with one of these: many entries on the stack, branches over operations that push
+/// and pop, or many pieces.
 pub fn expression(random: &mut Random, target: Target) -> Vec<u8> {
     match random.below(3) {
         0 => high(random),
@@ -105,7 +106,8 @@ pub fn expression(random: &mut Random, target: Target) -> Vec<u8> {
     }
 }
 
-/// Pushes nearly as many entries as are allowed, or a few more, and takes some of them off again.
+/// An expression that pushes about as many entries as are allowed, sometimes a few more, and then
+/// pops some of them.
 fn high(random: &mut Random) -> Vec<u8> {
     let mut bytes = vec![0x31, 0x32];
     for _ in 2..near(random, 128) {
@@ -122,7 +124,8 @@ fn high(random: &mut Random) -> Vec<u8> {
     bytes
 }
 
-/// Operations that together leave the stack height as it was, or, now and then, change it.
+/// A few operations that together leave the number of stack entries as it was; now and then some
+/// that change it.
 fn body(random: &mut Random) -> Vec<u8> {
     let mut bytes = Vec::new();
     for _ in 0..random.below(4) {
@@ -134,8 +137,8 @@ fn body(random: &mut Random) -> Vec<u8> {
     bytes
 }
 
-/// Branches that skip a few operations, or that choose between two groups of them. Some lead to
-/// other bytes.
+/// An expression with branches that skip a few operations, or that choose between two groups of
+/// operations. Some branches lead to another byte, not always the start of an operation.
 fn branching(random: &mut Random, target: Target) -> Vec<u8> {
     let mut bytes = vec![0x35];
     for _ in 0..1 + random.below(4) {
@@ -153,7 +156,7 @@ fn branching(random: &mut Random, target: Target) -> Vec<u8> {
     bytes
 }
 
-/// A number of pieces of every kind that is near the limit, or exceeds it by a little.
+/// An expression with about as many pieces as are allowed, sometimes a few more, of every kind.
 fn pieces(random: &mut Random) -> Vec<u8> {
     let mut bytes = Vec::new();
     for _ in 0..near(random, 32) {

@@ -1,11 +1,13 @@
-//! Compares dwcheck's libraries with gimli, in one process.
-//!   beside times SECTION ..
-//!   beside differ FRAMES LISTS EXPRESSIONS SEED SECTION ..    makes this many cases of each kind
-//!                                                             from the sections
-//!   beside rows SECTION     only gimli reads all rows of a frame section
-//!   beside read SECTION     only gimli reads all rows and rules, or entries, and all expressions
-//! A section is raw and little-endian with addresses of 8 bytes: `.debug_loclists` if its name ends
-//! with `.lists`, else `.debug_frame`.
+//! Calls dwcheck's libraries and gimli in one process, to compare their speed or their results.
+//!   beside times SECTION ..     times both
+//!   beside differ FRAMES LISTS EXPRESSIONS SEED SECTION ..
+//!                               makes this many random cases of each kind from the sections, and
+//!                               compares what both read
+//!   beside rows SECTION         lets only gimli compute all rows of a frame section
+//!   beside read SECTION         lets only gimli read all rows and rules, or all entries of lists,
+//!                               and all expressions
+//! A SECTION is a raw, little-endian section with addresses of 8 bytes: `.debug_loclists` if its
+//! name ends with `.lists`, else `.debug_frame`.
 
 mod cases;
 mod differ;

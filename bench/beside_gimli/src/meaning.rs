@@ -1,5 +1,5 @@
-//! Checksums of what gimli reads from a section or an expression. They equal those of
-//! crates/dw_times if gimli and dwcheck read the same.
+//! Checksums of what gimli reads from a section or an expression. crates/dw_times makes checksums
+//! of what dwcheck reads in the same way, so they are equal if both read the same.
 
 use crate::random::Random;
 use crate::target::Target;
@@ -13,7 +13,7 @@ use gimli::{
 type Bytes<'a> = EndianSlice<'a, RunTimeEndian>;
 type Frame<'a> = DebugFrame<Bytes<'a>>;
 
-/// The same checksum as `Mixed` of crates/dw_times.
+/// A checksum of numbers, made in the same way as by `Mixed` in crates/dw_times.
 #[derive(Default)]
 struct Mixed {
     number: u64,
@@ -43,7 +43,7 @@ impl Mixed {
     }
 }
 
-/// Storage for gimli with room for every expression and row that `dwcheck` accepts.
+/// Storage for gimli that is large enough for every expression and row that dwcheck accepts.
 struct Places;
 
 impl<R: Reader> EvaluationStorage<R> for Places {
@@ -119,7 +119,8 @@ fn other(operation: Operation<Bytes<'_>>) -> Parts {
     }
 }
 
-/// Adds the number of operations to the checksum, and each operation with its offset.
+/// Adds to the checksum the number of an expression's operations, and each operation with its
+/// offset.
 fn add_operations(mixed: &mut Mixed, expression: Expression<Bytes<'_>>, target: Target) -> Result<(), Error> {
     let mut found = Vec::new();
     let mut operations = expression.operations(target.encoding());
@@ -176,8 +177,8 @@ fn add_pieces(mixed: &mut Mixed, pieces: &[Piece<Bytes<'_>>], kind: Kind, target
     Ok(())
 }
 
-/// Adds the outcome of an expression to the checksum. It is evaluated on the machine of
-/// crates/dw_times: register N contains N + 7, and each byte of memory is 0x5a.
+/// Evaluates an expression, and adds its outcome to the checksum. The registers and the memory are
+/// those that crates/dw_times uses: register N contains N + 7, and each byte of memory is 0x5a.
 fn add_value(mixed: &mut Mixed, expression: Expression<Bytes<'_>>, kind: Kind, target: Target) -> Result<(), Error> {
     let mut evaluation = Evaluation::<_, Places>::new_in(expression.0, target.encoding());
     evaluation.set_object_address(0x3000);
@@ -222,8 +223,8 @@ fn add_expression(
     mixed.add(expression.0.offset_from(section) as u64);
     add_operations(mixed, expression, target)?;
     if expression.0.is_empty() && kind == Kind::Location {
-        // An empty location. gimli would report an empty stack here, and its users don't evaluate
-        // such expressions.
+        // An empty location means that the object was optimized away. gimli would report an empty
+        // stack, so its users don't evaluate an empty location either.
         mixed.add(2);
         mixed.add(1);
         return Ok(());
@@ -271,7 +272,7 @@ fn add_row(mixed: &mut Mixed, section: Bytes<'_>, row: &UnwindTableRow<Bytes<'_>
     }
 }
 
-/// Appends the expressions of a program to `found`, each with its kind.
+/// Appends the expressions in a program's instructions to `found`, each with its kind.
 fn expressions_of<'a>(
     mut instructions: gimli::CallFrameInstructionIter<'_, Bytes<'a>>,
     found: &mut Vec<(Kind, Expression<Bytes<'a>>)>,
@@ -298,7 +299,7 @@ fn add_cie(mixed: &mut Mixed, cie: &CommonInformationEntry<Bytes<'_>>) {
     );
 }
 
-/// Adds an FDE and its rows to the checksum, except rows that cover no address.
+/// Adds an FDE and its rows to the checksum. Rows that cover no address are left out.
 fn add_fde(mixed: &mut Mixed, frame: &Frame<'_>, section: Bytes<'_>, fde: &FrameDescriptionEntry<Bytes<'_>>) -> Result<(), Error> {
     mixed.add(fde.offset() as u64);
     mixed.add_three(fde.cie().offset() as u64, fde.initial_address(), fde.len());
@@ -359,8 +360,8 @@ fn covering<'a>(frame: &Frame<'a>) -> Result<Vec<FrameDescriptionEntry<Bytes<'a>
     Ok(fdes)
 }
 
-/// Adds an address to the checksum, and its row with the return address register of the row's CIE,
-/// or that it has no row.
+/// Adds an address to the checksum; then the return address register of its CIE and its row, or
+/// `u64::MAX` if the address has no row.
 fn add_found(
     mixed: &mut Mixed,
     frame: &Frame<'_>,
@@ -424,21 +425,21 @@ impl<'a> Rows<'a> {
     }
 }
 
-/// An entry of a location list that has an expression.
+/// An entry of a location list, of a kind that has an expression.
 struct Entry<'a> {
-    /// A base address, and the beginning and end of the range relative to it. If the base address
-    /// is `None`, it is that of the unit. A default location has no range.
+    /// A base address, and the beginning and the end of the range relative to the base address. A
+    /// base address `None` stands for that of the unit. The whole is `None` for a default location.
     range: Option<(Option<u64>, u64, u64)>,
     expression: Expression<Bytes<'a>>,
 }
 
-/// A list, and its offset in the section.
+/// A location list: its offset in the section, and its entries that have an expression.
 struct List<'a> {
     at: usize,
     entries: Vec<Entry<'a>>,
 }
 
-/// Reads the list at an offset. Returns the offset of the byte after it, and the list.
+/// Reads the list at an offset. Returns the offset just after the list, and the list.
 fn list<'a>(lists: &LocationLists<Bytes<'a>>, section: Bytes<'a>, at: usize, target: Target) -> Result<(usize, List<'a>), Error> {
     let mut raw = lists.raw_locations(LocationListsOffset(at), target.encoding())?;
     let (mut end, mut base, mut entries) = (at, None, Vec::new());
@@ -509,8 +510,8 @@ impl<'a> Lists<'a> {
             .collect()
     }
 
-    /// The checksum of the lists: of the expressions that apply at each of these addresses, for a
-    /// unit with the base address `unit`, and of all expressions.
+    /// The checksum of the lists. It contains, for each list, the expressions that apply at each of
+    /// these addresses in a unit with the base address `unit`; and then all expressions.
     pub fn answer(&self, unit: u64, addresses: &[u64]) -> Result<u64, Error> {
         let mut mixed = Mixed::default();
         for list in &self.lists {
@@ -544,9 +545,10 @@ impl<'a> Lists<'a> {
     }
 }
 
-/// Whether the results of gimli and dwcheck may differ because an expression has a shift and
-/// addresses have four bytes. dwcheck's stack entries are then below 2^32. gimli may keep a greater
-/// shift count, from a longer constant or from `not`, and then shifts all bits out.
+/// Whether an expression has a shift and addresses have four bytes. Then the results of dwcheck and
+/// gimli may differ: dwcheck takes each stack entry modulo 2^32, but gimli may keep a greater
+/// number, from a longer constant or from `not`, and as the count of a shift this shifts all bits
+/// out.
 pub fn may_shift_further(bytes: &[u8], target: Target) -> bool {
     let mut operations = Expression(EndianSlice::new(bytes, target.order())).operations(target.encoding());
     let mut shifts = false;
@@ -556,8 +558,8 @@ pub fn may_shift_further(bytes: &[u8], target: Target) -> bool {
     target.small && shifts
 }
 
-/// The checksum of an expression's meaning, or gimli's error if it can't read or run the
-/// expression.
+/// The checksum of an expression's operations and outcome, or gimli's error if it can't read or
+/// evaluate the expression.
 pub fn expression_answer(bytes: &[u8], kind: Kind, target: Target) -> Result<u64, Error> {
     let section = EndianSlice::new(bytes, target.order());
     let mut mixed = Mixed::default();

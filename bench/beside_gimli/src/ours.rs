@@ -1,5 +1,6 @@
-//! The exports of crates/dw_times, which call dwcheck's libraries. A section or an expression is
-//! passed to them as a pointer and a length.
+//! Calls the functions that crates/dw_times exports; those call dwcheck's libraries. A section or
+//! an expression is passed as a pointer and a length. Where this file doesn't say what a function
+//! returns, it is a sum of the results, so that the compiler can't leave out any of the work.
 
 
 type Start = *const u8;
@@ -31,22 +32,23 @@ unsafe extern "C" {
     fn bench_expression_answer(bytes: Start, n: usize, big: bool, small: bool, location: bool) -> u64;
 }
 
-/// The number of FDEs of a section, or 0 if the section is refused.
+/// Checks a frame section. Returns the number of its FDEs, or 0 if it is refused.
 pub fn check(section: &[u8]) -> usize {
     unsafe { bench_check(section.as_ptr(), section.len()) }
 }
 
-/// The number of expressions of a section of lists, or 0 if the section is refused.
+/// Checks a section of location lists. Returns the number of its expressions, or 0 if it is
+/// refused.
 pub fn check_lists(section: &[u8]) -> usize {
     unsafe { bench_check_lists(section.as_ptr(), section.len()) }
 }
 
-/// Checks a section, and gets all rows, with a new iterator for each FDE.
+/// Checks a section, and gets all rows from iterators, a new one for each FDE.
 pub fn rows(section: &[u8]) -> u64 {
     unsafe { bench_rows(section.as_ptr(), section.len()) }
 }
 
-/// Checks a section, and gets all rows, with one iterator that is reset for each FDE.
+/// Checks a section, and gets all rows from one iterator, which is reset for each FDE.
 pub fn rows_again(section: &[u8]) -> u64 {
     unsafe { bench_rows_again(section.as_ptr(), section.len()) }
 }
@@ -77,34 +79,38 @@ pub fn unwind_by_table(section: &[u8], addresses: &[u64], times: u32) -> u64 {
     unsafe { bench_unwind_by_table(section.as_ptr(), section.len(), addresses.as_ptr(), addresses.len(), times) }
 }
 
-/// The checksum of the rows of these addresses in a section's compiled table, or 0 if the section
-/// is refused.
+/// The checksum of the rows that a section's compiled table has for these addresses, or 0 if the
+/// section is refused.
 pub fn table_answer(section: &[u8], big: bool, small: bool, addresses: &[u64]) -> u64 {
     unsafe { bench_table_answer(section.as_ptr(), section.len(), big, small, addresses.as_ptr(), addresses.len()) }
 }
 
-/// Checks a register's expression once, and evaluates it `times` times.
+/// Checks the expression of a register's rule once, and evaluates it `times` times.
 pub fn evaluate(bytes: &[u8], times: u32) -> u64 {
     unsafe { bench_evaluate(bytes.as_ptr(), bytes.len(), times) }
 }
 
-/// Checks a register's expression `times` times, without making its certificate.
+/// Checks the expression of a register's rule `times` times. Only whether it is accepted is found
+/// out, without the certificate that `certify` makes.
 pub fn check_expression(bytes: &[u8], times: u32) -> u64 {
     unsafe { bench_check_expression(bytes.as_ptr(), bytes.len(), times) }
 }
 
-/// Checks a register's expression `times` times, and makes its certificate each time.
+/// Checks the expression of a register's rule `times` times. Each time its certificate is made,
+/// which has the state of the stack at each operation.
 pub fn certify(bytes: &[u8], times: u32) -> u64 {
     unsafe { bench_certify(bytes.as_ptr(), bytes.len(), times) }
 }
 
-/// The checksum of a frame section, or the number of its first fault.
+/// The checksum of what a frame section contains, or the number of its first fault. The highest bit
+/// is set only in a checksum.
 pub fn frame_answer(section: &[u8], big: bool, small: bool) -> u64 {
     unsafe { bench_frame_answer(section.as_ptr(), section.len(), big, small) }
 }
 
-/// The checksum of a section of lists and of the expressions that apply at some addresses, or the
-/// number of its first fault.
+/// The checksum of what a section of location lists contains and of the expressions that apply at
+/// some addresses, or the number of the section's first fault. The highest bit is set only in a
+/// checksum. `base` is the base address of the unit.
 pub fn lists_answer(section: &[u8], big: bool, small: bool, base: u64, addresses: &[u64]) -> u64 {
     unsafe {
         let (start, n) = (section.as_ptr(), section.len());
@@ -112,8 +118,9 @@ pub fn lists_answer(section: &[u8], big: bool, small: bool, base: u64, addresses
     }
 }
 
-/// The checksum of the meaning of an expression, or the number of its first fault. The expression
-/// is a location if `location` is true, and a register's rule otherwise.
+/// The checksum of an expression's operations and outcome, or the number of its first fault. The
+/// highest bit is set only in a checksum. The expression is a location if `location` is true, and a
+/// register's rule otherwise.
 pub fn expression_answer(bytes: &[u8], big: bool, small: bool, location: bool) -> u64 {
     unsafe { bench_expression_answer(bytes.as_ptr(), bytes.len(), big, small, location) }
 }

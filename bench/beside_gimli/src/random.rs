@@ -1,4 +1,4 @@
-//! Pseudo-random numbers, which are always the same for the same seed.
+//! Pseudo-random numbers. The same seed always gives the same numbers.
 
 pub struct Random {
     state: u64,

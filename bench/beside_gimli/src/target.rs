@@ -17,7 +17,7 @@ pub const TARGETS: [Target; 4] = [
 ];
 
 impl Target {
-    /// The number of bytes of an address.
+    /// The size of an address in bytes.
     pub fn size(self) -> u8 {
         if self.small { 4 } else { 8 }
     }

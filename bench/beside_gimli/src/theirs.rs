@@ -1,4 +1,5 @@
-//! The work that is timed, done with gimli. Unlike dwcheck, gimli checks nothing before it reads.
+//! What is timed with gimli: reading rows, lists and operations, and evaluating expressions. Unlike
+//! dwcheck, gimli doesn't check a section before it reads it.
 
 use crate::random::Random;
 use gimli::{
@@ -48,15 +49,15 @@ fn rows(frame: &DebugFrame<Bytes<'_>>) -> u64 {
     sum
 }
 
-/// The sum of the end addresses of all rows of a section, for a process that does nothing else.
+/// The sum of the end addresses of all rows of a section. For a process that does nothing else.
 pub fn all_rows(bytes: &[u8]) -> u64 {
     let mut frame = DebugFrame::new(bytes, LittleEndian);
     frame.set_address_size(8);
     rows(&frame)
 }
 
-/// The first address, the end and the offset of each FDE that covers an address, in order of
-/// address. gimli leaves such an index to its user.
+/// An index of the FDEs whose range isn't empty, in order of address: for each its first address,
+/// the end of its range, and its offset. gimli has no such index, so its users make one.
 fn index(frame: &DebugFrame<Bytes<'_>>) -> Vec<(u64, u64, usize)> {
     let mut index = Vec::new();
     each_fde(frame, |fde| {
@@ -68,7 +69,7 @@ fn index(frame: &DebugFrame<Bytes<'_>>) -> Vec<(u64, u64, usize)> {
     index
 }
 
-/// The end address of the row of an address. The FDE is found with the index.
+/// Finds the FDE of an address with the index, and the row of the address. Returns the row's end.
 fn look_up<'a>(
     frame: &DebugFrame<Bytes<'a>>,
     index: &[(u64, u64, usize)],
@@ -84,7 +85,7 @@ fn look_up<'a>(
     row.expect("a row").end_address()
 }
 
-/// A section that gimli reads, and the index of its FDEs that `index` makes.
+/// A frame section for gimli, and the index of its FDEs.
 pub struct Section<'a> {
     frame: DebugFrame<Bytes<'a>>,
     index: Vec<(u64, u64, usize)>,

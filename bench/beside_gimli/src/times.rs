@@ -1,4 +1,4 @@
-//! Times dwcheck's libraries and gimli, and prints both times in nanoseconds, with their ratio.
+//! Times dwcheck's libraries and gimli, and prints both times in nanoseconds and their ratio.
 
 use crate::{ours, theirs};
 use std::collections::HashMap;
@@ -10,7 +10,7 @@ unsafe extern "C" {
     fn clock_gettime(clock: i32, time: &mut Time) -> i32;
 }
 
-/// The C library's `timespec`: seconds and nanoseconds.
+/// The C library's `struct timespec`: seconds and nanoseconds.
 #[repr(C)]
 #[derive(Default)]
 struct Time(i64, i64);
@@ -29,8 +29,8 @@ fn time_of<T>(work: impl FnOnce() -> T) -> f64 {
     now() - start
 }
 
-/// The least time of `ours` and that of `theirs`, over several runs of each. The runs alternate, so
-/// that other work on the machine affects both.
+/// Runs `ours` and `theirs` several times, and returns the least time of each. The runs alternate,
+/// so that other work on the machine affects both.
 fn least_of_both<T, U>(runs: usize, mut ours: impl FnMut() -> T, mut theirs: impl FnMut() -> U) -> (f64, f64) {
     (0..runs).fold((f64::MAX, f64::MAX), |least, _| {
         (least.0.min(time_of(&mut ours)), least.1.min(time_of(&mut theirs)))
@@ -74,8 +74,8 @@ fn frame(name: &str, bytes: &[u8]) {
     table(name, bytes, &section, &addresses, check);
 }
 
-/// The result of the C library's `mallinfo2`. The number at index 4 is how many bytes in use are in
-/// separate mappings, and the number at index 7 how many other bytes are in use.
+/// The C library's `struct mallinfo2`. The number at index 4 is how many bytes are allocated in
+/// mappings of their own, and the number at index 7 how many other bytes are allocated.
 #[repr(C)]
 struct MallocInfo([usize; 10]);
 
@@ -83,14 +83,14 @@ unsafe extern "C" {
     fn mallinfo2() -> MallocInfo;
 }
 
-/// The number of bytes that the main thread has allocated.
+/// The number of bytes that are allocated in the main thread's heap and in mappings.
 fn allocated() -> usize {
     let found = unsafe { mallinfo2() };
     found.0[4] + found.0[7]
 }
 
-/// The number of bytes that `work` has allocated for most of the time while it runs. Bytes that
-/// were allocated before it aren't counted.
+/// Runs `work`, and meanwhile looks again and again how many bytes are allocated. Returns the
+/// number that was seen most often, minus the bytes that were allocated before.
 fn held_by<T>(work: impl FnOnce() -> T) -> usize {
     let before = allocated();
     let done = AtomicBool::new(false);
@@ -111,8 +111,8 @@ fn held_by<T>(work: impl FnOnce() -> T) -> usize {
     })
 }
 
-/// Times the compiled table of a section. The checked section is dropped before the first look-up
-/// in the table.
+/// Times how a section's table is compiled, and look-ups in it. The checked section is freed before
+/// the first look-up. `check` is the time of the check alone.
 fn table(name: &str, bytes: &[u8], section: &theirs::Section<'_>, addresses: &[u64], check: f64) {
     const TIMES: u32 = 40;
     let each = |many: f64, once: f64| (many - once) / f64::from(TIMES) / addresses.len() as f64;
@@ -140,7 +140,8 @@ fn lists(name: &str, bytes: &[u8]) {
     line(&format!("{name}: check; gimli reads entries and operations"), check, Some(read));
 }
 
-/// The time of one of many repetitions of `work`. What it does only once isn't counted.
+/// The time of one repetition, where work(n) does something once and then repeats something else n
+/// times. What it does once isn't counted.
 fn each(work: impl Fn(u32) -> u64) -> f64 {
     const TIMES: u32 = 20_000;
     (least(9, || work(TIMES + 1)) - least(9, || work(1))) / f64::from(TIMES)

@@ -1,5 +1,5 @@
-//! An example: a crash reporter. For each thread in a core file, it prints the innermost frames with
-//! the names of their functions.
+//! An example: a crash reporter. For each thread in a core file, it prints the innermost frames
+//! with the names of their functions.
 //!
 //!     stack PROGRAM CORE
 //!
