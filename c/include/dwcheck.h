@@ -10,8 +10,8 @@
      during the call. A value that a pointer without const points to overlaps no other argument.
      Values that pointers to const point to may overlap each other. A pointer that comes with a
      length points to that many elements. If the length is 0, the pointer may be any address except
-     NULL, and NULL too where the macros at the end of this header are used. No other pointer may be
-     NULL, such as `fault`, `count`, `stop`, `size`, `row`, `state` and `context`.
+     NULL; with the macros at the end of this header, it may also be NULL. Pointers without a length,
+     such as `fault`, `count`, `stop`, `size`, `row`, `state` and `context`, are never NULL.
    - A process (dwcheck_process) is passed to only one call at a time. To move a process, copy the
      structure and set the old one to DWCHECK_CLOSED. A process has to be closed if a module was
      added to it, or if dwcheck_process_share made it from an open process, even if its modules have
@@ -204,7 +204,7 @@ typedef struct {
 
 /* What is known of a CFA, a return address or a register. */
 enum {
-    DWCHECK_NOT_COVERED = 0,     /* only in the last frame of a walk: no FDE covers it */
+    DWCHECK_NOT_COVERED = 0,     /* no row covers the frame, which is the last of a walk */
     DWCHECK_VALUE = 1,           /* it is `value`, below 2^w */
     DWCHECK_UNDEFINED = 2,       /* its value isn't available */
     DWCHECK_UNREADABLE = 3,      /* it needs a register or memory that isn't known, or memory past
@@ -235,7 +235,7 @@ typedef struct { uint64_t address; dwcheck_answer cfa; } dwcheck_frame;
 
 /* Why a walk ends. */
 enum {
-    DWCHECK_STOP_LIMIT = 0,            /* `frames` has no room for more */
+    DWCHECK_STOP_LIMIT = 0,            /* `frames` is full */
     DWCHECK_STOP_NOT_COVERED = 1,      /* no module has a row for the last frame */
     /* The return address of the last frame is undefined. Either the row's rule says so, and then
        the walk is complete (DWARF 5, section 6.4.4); or neither the row nor `kept` names the return
@@ -272,8 +272,8 @@ typedef struct {
     uint32_t has_cfa, has_frame_base, has_object, reserved;
 } dwcheck_context;
 
-/* The outcome of an expression. `value` is 0 for kinds whose comment doesn't mention it. `steps`
-   is the number of operations that were reached, including one that failed. */
+/* The outcome of an expression. `kind` is one of these. `value` is 0 for kinds whose comment doesn't
+   mention it. `steps` is the number of operations that were reached, including one that failed. */
 enum {
     DWCHECK_IS_VALUE = 0,                 /* `value`, for the rule of a CFA or register */
     /* The operation at `offset` needs a register, memory or a context value that isn't known, or

@@ -1,5 +1,5 @@
-/* Tests each call with accepted input and with edge cases. It prints each failure, and a last
-   line. */
+/* Tests each call of the library with ordinary input and with edge cases. Prints a line for each
+   failure, and at the end a line with counts. */
 #include "dwcheck.h"
 #include <dlfcn.h>
 #include <pthread.h>
@@ -8,7 +8,7 @@
 #include <string.h>
 
 static long until = -1, asked, held;
-#ifdef REFUSING /* can refuse any allocation, and counts allocations, blocks in use and bytes */
+#ifdef REFUSING /* counts allocations, blocks in use and bytes, and can make any allocation fail */
 static long given;
 void *malloc(size_t n) {
     static void *(*real)(size_t);
@@ -47,11 +47,11 @@ static int wrong;
 static const uint8_t good[] = {
     0x14, 0, 0, 0, 0xff, 0xff, 0xff, 0xff, 4, 0, 8, 0, 1, 0x78, 16, 0x0c, 7, 8, 0x90, 1, 0, 0, 0, 0,
     0x14, 0, 0, 0, 0, 0, 0, 0, 0, 0x10, 0, 0, 0, 0, 0, 0, 0, 1, 0, 0, 0, 0, 0, 0};
-/* like `good` with 4-byte addresses, the return address register 8 and the CFA r4+4 */
+/* the same with 4-byte addresses, return address register 8, CFA r4+4 and r8 at c-4 */
 static const uint8_t four[] = {
     0x14, 0, 0, 0, 0xff, 0xff, 0xff, 0xff, 4, 0, 4, 0, 1, 0x7c, 8, 0x0c, 4, 4, 0x88, 1, 0, 0, 0, 0,
     0x0c, 0, 0, 0, 0, 0, 0, 0, 0, 0x10, 0, 0, 0, 1, 0, 0};
-/* `good` with the most significant byte first */
+/* the same as `good`, in big-endian byte order */
 static const uint8_t big[] = {
     0, 0, 0, 0x14, 0xff, 0xff, 0xff, 0xff, 4, 0, 8, 0, 1, 0x78, 16, 0x0c, 7, 8, 0x90, 1, 0, 0, 0, 0,
     0, 0, 0, 0x14, 0, 0, 0, 0, 0, 0, 0, 0, 0, 0, 0x10, 0, 0, 0, 0, 0, 0, 0, 1, 0};
@@ -133,7 +133,7 @@ static void walks(void) {
     IS(walk(&p, 0x810, 8, 2), DWCHECK_DONE); IS(count, 3); IS(stop, DWCHECK_STOP_NOT_COVERED);
     IS(frames[0].cfa.value, 0x7f10); IS(frames[0].cfa.kind, DWCHECK_VALUE); IS(frames[1].address, 0x71f000001020);
     IS(frames[1].cfa.value, 0x7f18); IS(frames[2].address, 0x55005); IS(frames[2].cfa.kind, DWCHECK_NOT_COVERED);
-    memset(frames, 0x55, sizeof frames); /* more frames than slots: nothing is written after them */
+    memset(frames, 0x55, sizeof frames); /* fewer slots than frames: nothing is written after the slots */
     IS(walk(&p, 0x810, 2, 2), DWCHECK_DONE); IS(count, 2); IS(stop, DWCHECK_STOP_LIMIT); IS(frames[2].address, 0x5555555555555555);
     IS(dwcheck_row_at(&p, 0x71f0000010ff, &row, rules, 4), DWCHECK_DONE); IS(row.load_address, 0x71f000000000);
     IS(row.start, 0x1000); IS(row.end, 0x1100); IS(row.cfa.kind, DWCHECK_RULE_VAL_OFFSET); IS(row.cfa.reg, 7); IS(row.cfa.offset, 8);
@@ -161,14 +161,14 @@ static void walks(void) {
     IS(walk(&p, 0x810, 8, 2), DWCHECK_DONE); IS(count, 1); IS(stop, DWCHECK_STOP_RETURN_UNREADABLE); IS(frames[0].cfa.kind, DWCHECK_UNREADABLE);
     known[0] = 0x80;
     s = state(2);
-    s.known_length = 0; /* more registers than known bits */
+    s.known_length = 0; /* `contents` has registers for which `known` has no bits */
     IS(dwcheck_backtrace(&p, 0x810, &s, frames, 8, &count, &stop, &fault), DWCHECK_DONE); IS(count, 1); IS(stop, DWCHECK_STOP_RETURN_UNREADABLE);
     s = state(2);
-    s.contents_length = 7; /* more bits than registers */
+    s.contents_length = 7; /* `known` has bits for which `contents` has no registers */
     IS(dwcheck_backtrace(&p, 0x810, &s, frames, 8, &count, &stop, &fault), DWCHECK_DONE); IS(count, 1);
     blocks[0].length = 15; /* the last byte of the return address is missing */
     IS(walk(&p, 0x810, 8, 2), DWCHECK_DONE); IS(count, 1); IS(stop, DWCHECK_STOP_RETURN_UNREADABLE); IS(frames[0].cfa.kind, DWCHECK_VALUE);
-    blocks[0].length = 12; /* a word in two blocks, the second of which overlaps the first */
+    blocks[0].length = 12; /* a word whose bytes are in two blocks, which overlap */
     blocks[1].base = 0x7f0a; blocks[1].bytes = (uint8_t *)words + 10; blocks[1].length = 22;
     s = state(2);
     s.blocks_length = 2;
@@ -194,7 +194,7 @@ static void walks(void) {
     dwcheck_process_close(&p);
 }
 
-/* after a module is added, its section's bytes aren't needed */
+/* after a module is added, the bytes of its section may be overwritten */
 static void own_bytes(void) {
     dwcheck_process p = DWCHECK_CLOSED;
     dwcheck_row row;
@@ -239,7 +239,7 @@ static void threads(void) {
 
 static long memory(void) {
     long m, left, before = held;
-    for (m = 0;; m++) { /* refuses each allocation of two adds and a share in turn */
+    for (m = 0;; m++) { /* each allocation of two adds and a share fails in turn */
         dwcheck_process p = DWCHECK_CLOSED, q = DWCHECK_CLOSED;
         dwcheck_row row;
         uint32_t first, second, third;
@@ -274,7 +274,7 @@ static uint32_t evaluate(const char *expression, size_t length, uint32_t kind, u
 }
 
 static void expressions(void) {
-    char branches[305] = {0x31, 0x28, 0x01, 0x00}; /* lit1, bra over one operation, and many nops */
+    char branches[305] = {0x31, 0x28, 0x01, 0x00}; /* lit1, a bra over one nop, many nops, and lit3 */
     long before, m, left;
     uint32_t got;
     memset(branches + 4, 0x96, sizeof branches - 5);
@@ -313,7 +313,7 @@ static void expressions(void) {
     before = asked;
     IS(evaluate("\x53\x93\x04", 3, DWCHECK_LOCATION, 0), DWCHECK_DONE);
     IS(asked - before, 0);
-    for (m = 0;; m++) { /* refuses each allocation of an expression that branches in turn */
+    for (m = 0;; m++) { /* each allocation for the expression with the branch fails in turn */
         until = m;
         got = evaluate(branches, sizeof branches, DWCHECK_LOCATION, 0);
         left = until;
@@ -327,8 +327,8 @@ static void expressions(void) {
     IS(value.kind, DWCHECK_LOCATION_ADDRESS); IS(value.value, 3);
 }
 
-/* one table; its list, at 0xc, has register 0 from the base up to, not including, the base +
-   0x10, and the value 0 elsewhere */
+/* A table with one list, at offset 0xc. At addresses from the base address up to, but not
+   including, the base address + 0x10, the object is in register 0; elsewhere its value is 0. */
 static const uint8_t lists[] = {0x12, 0, 0, 0, 5, 0, 8, 0, 0, 0, 0, 0, 4, 0, 0x10, 1, 0x50, 5, 2, 0x30, 0x9f, 0};
 static dwcheck_location locations[2];
 static uint32_t look_up(size_t length, uint32_t list, uint64_t address, size_t n) {
@@ -353,19 +353,19 @@ static void location_lists(void) {
     IS(look_up(sizeof lists - 1, 0xc, 0x1005, 2), DWCHECK_REFUSED); IS(fault.within, DWCHECK_IN_LISTS); IS(fault.number, 1); IS(count, 99);
     IS(look_up((size_t)1 << 32, 0xc, 0x1005, 2), DWCHECK_TOO_LONG);
     IS(dwcheck_locations(lists, sizeof lists, 0, 7, &lookup, locations, 2, &count, &fault), DWCHECK_BAD_TARGET);
-    for (m = 0;; m++) { /* each allocation is refused in turn */
+    for (m = 0;; m++) { /* each allocation fails in turn */
         until = m;
         got = look_up(sizeof lists, 0xc, 0x1005, 2);
         left = until;
         until = -1;
-        IS(got == DWCHECK_DONE || got == DWCHECK_NO_MEMORY, 1); /* some allocations can fail without harm */
+        IS(got == DWCHECK_DONE || got == DWCHECK_NO_MEMORY, 1); /* some may fail without harm */
         if (got == DWCHECK_DONE) IS(locations[0].offset, 0x10);
         if (left >= 0) break;
     }
 }
 
-/* a 4-byte word that goes past 2^32 - 1 is unreadable, although the block goes on after that
-   address */
+/* a word that extends past the highest 4-byte address, 2^32 - 1, is unreadable, although the block
+   contains the bytes after that address */
 static void reads_past_the_top(void) {
     static const uint8_t word[8] = {1, 2, 3, 4, 5, 6, 7, 8};
     static const uint8_t at_the_top[] = {0x0c, 0xfc, 0xff, 0xff, 0xff, 0x06}, past_it[] = {0x0c, 0xfd, 0xff, 0xff, 0xff, 0x06};
@@ -378,8 +378,8 @@ static void reads_past_the_top(void) {
     IS(value.kind, DWCHECK_IS_UNREADABLE); IS(value.offset, 5);
 }
 
-/* writes the CIE of `good` with these instructions, and its FDE, to `section`; returns the
-   length */
+/* Writes to `section` the CIE of `good`, but with these instructions as its program, and the FDE of
+   `good`. Returns the length of the section. */
 static size_t section_with(const char *instructions, size_t length, uint8_t *section) {
     memcpy(section, good, 15);
     memcpy(section + 15, instructions, length);
@@ -388,8 +388,8 @@ static size_t section_with(const char *instructions, size_t length, uint8_t *sec
     return 39 + length;
 }
 
-/* DWARF 5, 6.4.2: def_cfa; undefined r3; same_value r6; register r8 in r9; expression r10: lit8, minus; val_expression r11:
-   lit8, plus; val_offset r12; offset r16 */
+/* A rule of each kind (DWARF 5, 6.4.2): def_cfa; undefined r3; same_value r6; register r8 in r9;
+   expression r10: lit8, minus; val_expression r11: lit8, plus; val_offset r12; offset r16. */
 static void rules_of_each_kind(void) {
     dwcheck_process p = DWCHECK_CLOSED;
     uint8_t section[80];
@@ -422,7 +422,7 @@ static void ends_of_walks(void) {
     walk_of("\x0c\x07\x08\x07\x10", 5, 2); IS(stop, DWCHECK_STOP_RETURN_UNDEFINED); IS(count, 1); IS(frames[0].cfa.value, 0x7f10);
     /* val_expression r16: lit1, lit0, div */
     walk_of("\x0c\x07\x08\x16\x10\x03\x31\x30\x1b", 9, 2); IS(stop, DWCHECK_STOP_RETURN_DIVISION_BY_ZERO); IS(count, 1);
-    /* no rule for r16: the return address is known only if the ABI has r16 as callee-saved */
+    /* no rule for r16: the return address is known only if r16 is callee-saved */
     contents[16] = 0x55005; known[2] = 1;
     walk_of("\x0c\x07\x08", 3, 2); IS(stop, DWCHECK_STOP_RETURN_UNDEFINED); IS(count, 1);
     kept[1] = 16;
@@ -475,7 +475,7 @@ static void last_remove_frees_the_table(void) {
     dwcheck_process_close(&q);
 }
 
-/* 1,000 FDEs, each of 0x100 addresses */
+/* dwcheck_process_share allocates little, although the table is large: 1,000 FDEs */
 static void share_copies_no_table(void) {
     static uint8_t many[24 + 24 * 1000];
     dwcheck_process p = DWCHECK_CLOSED, q = DWCHECK_CLOSED;
@@ -511,7 +511,7 @@ static void names(void) {
     IS(dwcheck_version(), DWCHECK_VERSION);
 }
 
-/* passes NULL and length 0 for every array that may be empty */
+/* NULL with length 0 may be passed for every array */
 static void nothing(void) {
     dwcheck_process p = DWCHECK_CLOSED;
     dwcheck_state none;

@@ -1,7 +1,8 @@
 #!/bin/sh
-# Builds the C cases with the static library (crates/dwcheck_c, made by `rt lib`) and runs them. The
-# header is compiled as C11 and as C++17; passing a pointer of a wrong type must be an error in
-# both. The cases also run under sanitizers, and under valgrind if it is installed.
+# Builds the tests in cases.c with the static library that `rt lib` makes in crates/dwcheck_c, and
+# runs them. They run plainly, with sanitizers, and under valgrind if it is installed. Before that,
+# the header is compiled as C11 and as C++17; in both, passing a pointer of a wrong type must be an
+# error.
 set -eu
 here=$(cd "$(dirname "$0")" && pwd)
 top=$(dirname "$(dirname "$here")")
@@ -25,13 +26,13 @@ for language in c c++; do
         exit 1
     fi
 done
-build() { # NAME, then flags
+build() { # NAME FLAG..: builds the tests as the program NAME
     name=$1; shift
     cc -std=gnu11 -D_GNU_SOURCE $strict -O2 -g "$@" "$here/cases.c" "$library" "$kit/c/liblibc_c.a" -o "$out/$name" -pthread -ldl
 }
 build refusing -DREFUSING
 "$out/refusing"
-# AddressSanitizer and ThreadSanitizer see only the C side.
+# The sanitizers check only the C code of the tests, because only that is compiled with them.
 for sanitizers in address,undefined thread; do
     build sanitized "-fsanitize=$sanitizers" && "$out/sanitized"
 done
