@@ -42,8 +42,8 @@ build/libdwcheck_c.a: FORCE | build
 	(cd crates/dwcheck_c && rt lib) >build/log 2>&1 || { tail -n 5 build/log >&2; exit 1; }
 	cp crates/dwcheck_c/out/libdwcheck_c.a $@
 
-# libdwcheck.a joins two archives: the library that rt made, and the kit's liblibc_c.a, a few lines of
-# C through which the library calls malloc and free.
+# libdwcheck.a joins two archives: the library that rt made, and the kit's liblibc_c.a, a few lines
+# of C through which the library calls malloc and free.
 build/libdwcheck.a: build/libdwcheck_c.a
 	rm -f $@
 	printf 'create $@\naddlib $<\naddlib $(kit)c/liblibc_c.a\nsave\nend\n' | $(AR) -M
@@ -56,8 +56,9 @@ build/dwcheck.pc: c/dwcheck.pc.in FORCE | build
 	sed -e 's|@PREFIX@|$(PREFIX)|' -e 's|@LIBDIR@|$(LIBDIR)|' -e 's|@INCLUDEDIR@|$(INCLUDEDIR)|' \
 	    -e 's|@VERSION@|$(version)|' $< >$@
 
-# The beginning of a command that runs cargo for dwcheck-elf; cargo's arguments must follow. If cargo
-# or a package is missing, the command prints what is missing, and succeeds without running cargo.
+# The beginning of a command that runs cargo for dwcheck-elf; cargo's arguments must follow. If
+# cargo or a package is missing, the command prints what is missing, and succeeds without running
+# cargo.
 elf = missing=$$(rust/cargo.sh packages | tr '\n' ' '); \
     if [ -n "$$missing" ]; then echo "dwcheck-elf is left out: it needs $$missing"; exit 0; fi; \
     cd rust/dwcheck-elf && \

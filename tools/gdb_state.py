@@ -11,10 +11,10 @@ STOP is a gdb script that stops the program. In an interactive session of gdb,
 
 It writes to FILE the lines `keep` and `sp` of the target (from tools/abi), the registers by DWARF's
 numbers, and the stack: 128 bytes below the stack pointer (the red zone), and BYTES from the stack
-pointer on, or 256 KiB if BYTES isn't given; less if gdb can't read that much. Then it prints the
-commands to run next: for each module that has a .debug_frame section, the target's objcopy, which
-copies the section to a file; `dwcheck backtrace` for these modules; and `dwcheck-elf backtrace` for
-all modules. The commands contain the modules' load addresses.
+pointer on. If BYTES isn't given, it writes 256 KiB in all. It writes less if gdb can't read that
+much. Then it prints the commands to run next: for each module that has a .debug_frame section, the
+target's objcopy, which copies the section to a file; `dwcheck backtrace` for these modules; and
+`dwcheck-elf backtrace` for all modules. The commands contain the modules' load addresses.
 
 Targets: x86-64, x32, i386, aarch64, arm, powerpc, powerpc64, s390x, riscv, mips. For a program of
 another machine use gdb-multiarch, for example with `qemu-aarch64 -g 1234 PROGRAM`. This script
@@ -236,8 +236,8 @@ class WriteState(gdb.Command):
 
     dwcheck-state FILE [BYTES]
 
-    BYTES is how much of the stack is written, 262144 if not given. Then the commands that walk from
-    the selected frame are printed."""
+    BYTES is how much of the stack is written from the stack pointer on; about 256 KiB if not given.
+    Then the commands that walk from the selected frame are printed."""
 
     def __init__(self):
         super().__init__("dwcheck-state", gdb.COMMAND_DATA, gdb.COMPLETE_FILENAME)

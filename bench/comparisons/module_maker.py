@@ -130,7 +130,7 @@ class ModuleMaker(WalkMaker):
     def address(self):
         return (super().address() + self.random.choice(self.loads)) % (self.top + 1)
 
-    # How the walk is passed to the program.
+    # How the walk is passed to dwcheck.
 
     def hex_text(self, section):
         digits = "".join(self.random.choice([f"{byte:02x}", f"{byte:02X}"]) for byte in section)

@@ -71,7 +71,7 @@ def judged(sections, big, size):
         return fault
 
 
-# The program.
+# The command line.
 
 def content_of(path):
     with open(path, "rb") as file:

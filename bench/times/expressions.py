@@ -4,7 +4,7 @@
     bench/times/expressions.py SHAPE N > FILE
 
 sums        an expression: a constant, and N additions to it
-branches    an expression of N branches, each of which skips the next operation or not
+branches    an expression of N branches, each over one operation
 one_target  an expression of N branches, groups of 8,000 of which lead to the same operation
 reads       an expression that reads the word at 0x1000 N times
 words       a state file of N lines, each of which gives four bytes of memory

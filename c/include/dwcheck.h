@@ -10,8 +10,8 @@
      during the call. A value that a pointer without const points to overlaps no other argument.
      Values that pointers to const point to may overlap each other. A pointer that comes with a
      length points to that many elements. If the length is 0, the pointer may be any address except
-     NULL; with the macros at the end of this header, it may also be NULL. Pointers without a length,
-     such as `fault`, `count`, `stop`, `size`, `row`, `state` and `context`, are never NULL.
+     NULL; with the macros at the end of this header, it may also be NULL. Pointers without a
+     length, such as `fault`, `count`, `stop`, `size`, `row`, `state` and `context`, are never NULL.
    - A process (dwcheck_process) is passed to only one call at a time. To move a process, copy the
      structure and set the old one to DWCHECK_CLOSED. A process has to be closed if a module was
      added to it, or if dwcheck_process_share made it from an open process, even if its modules have
@@ -115,10 +115,10 @@ typedef struct { void *opaque; uint64_t opaque_open; } dwcheck_process;
    other module, 0. `room` is the number of bytes that the table may take; SIZE_MAX sets no bound.
    The table of a compiler's section takes some 1.5 times the section's length; that of a hostile
    section may take 700 times the section's length or more. In the table, rows may share their
-   rules. The call may return NO_ROOM although the table would fit thanks to this sharing. It never
-   does if the table would fit even without sharing, in 80 bytes, plus 80 for each FDE and each row,
-   plus 16 for each rule of a row. `room` doesn't bound the memory that the call uses while it
-   checks and compiles.
+   rules. Without sharing, the table would take 80 bytes, plus 80 for each FDE and each row, plus 16
+   for each register's rule in a row. If `room` is at least that much, the call never returns
+   NO_ROOM. If `room` is less, the call may return NO_ROOM although the table would fit thanks to
+   sharing. `room` doesn't bound the memory that the call uses while it checks and compiles.
    Returns DONE; REFUSED with the first fault of the section; NO_MEMORY; NO_ROOM; BAD_TARGET; or
    TOO_LONG. Only DONE changes the process, and only REFUSED writes `fault`. The call takes
    O(n log n) time, where n is the number of bytes of the section's programs and of its rows. */
@@ -204,7 +204,7 @@ typedef struct {
 
 /* What is known of a CFA, a return address or a register. */
 enum {
-    DWCHECK_NOT_COVERED = 0,     /* no row covers the frame, which is the last of a walk */
+    DWCHECK_NOT_COVERED = 0,     /* no FDE covers the frame, which is the last of a walk */
     DWCHECK_VALUE = 1,           /* it is `value`, below 2^w */
     DWCHECK_UNDEFINED = 2,       /* its value isn't available */
     DWCHECK_UNREADABLE = 3,      /* it needs a register or memory that isn't known, or memory past
@@ -272,8 +272,9 @@ typedef struct {
     uint32_t has_cfa, has_frame_base, has_object, reserved;
 } dwcheck_context;
 
-/* The outcome of an expression. `kind` is one of these. `value` is 0 for kinds whose comment doesn't
-   mention it. `steps` is the number of operations that were reached, including one that failed. */
+/* The outcome of an expression. `kind` is one of these. `value` is 0 for kinds whose comment
+   doesn't mention it. `steps` is the number of operations that were reached, including one that
+   failed. */
 enum {
     DWCHECK_IS_VALUE = 0,                 /* `value`, for the rule of a CFA or register */
     /* The operation at `offset` needs a register, memory or a context value that isn't known, or

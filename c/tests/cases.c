@@ -133,7 +133,7 @@ static void walks(void) {
     IS(walk(&p, 0x810, 8, 2), DWCHECK_DONE); IS(count, 3); IS(stop, DWCHECK_STOP_NOT_COVERED);
     IS(frames[0].cfa.value, 0x7f10); IS(frames[0].cfa.kind, DWCHECK_VALUE); IS(frames[1].address, 0x71f000001020);
     IS(frames[1].cfa.value, 0x7f18); IS(frames[2].address, 0x55005); IS(frames[2].cfa.kind, DWCHECK_NOT_COVERED);
-    memset(frames, 0x55, sizeof frames); /* fewer slots than frames: nothing is written after the slots */
+    memset(frames, 0x55, sizeof frames); /* fewer slots than frames: only the slots are written */
     IS(walk(&p, 0x810, 2, 2), DWCHECK_DONE); IS(count, 2); IS(stop, DWCHECK_STOP_LIMIT); IS(frames[2].address, 0x5555555555555555);
     IS(dwcheck_row_at(&p, 0x71f0000010ff, &row, rules, 4), DWCHECK_DONE); IS(row.load_address, 0x71f000000000);
     IS(row.start, 0x1000); IS(row.end, 0x1100); IS(row.cfa.kind, DWCHECK_RULE_VAL_OFFSET); IS(row.cfa.reg, 7); IS(row.cfa.offset, 8);
@@ -274,7 +274,7 @@ static uint32_t evaluate(const char *expression, size_t length, uint32_t kind, u
 }
 
 static void expressions(void) {
-    char branches[305] = {0x31, 0x28, 0x01, 0x00}; /* lit1, a bra over one nop, many nops, and lit3 */
+    char branches[305] = {0x31, 0x28, 0x01, 0x00}; /* lit1, bra over one nop, many nops, lit3 */
     long before, m, left;
     uint32_t got;
     memset(branches + 4, 0x96, sizeof branches - 5);
