@@ -24,8 +24,8 @@ that perf gives, differ from run to run; they aren't compared (see VARYING). --w
 output in the pages by what the commands wrote, where it differs. Read the changes before you commit
 them.
 
-The output depends on compilers. The pages show that of Debian 12 with these packages: gcc g++ clang
-lld llvm binutils gdb gdb-multiarch elfutils linux-perf golang-go gcc-aarch64-linux-gnu
+The output depends on compilers. The pages show the output on Debian 12 with these packages: gcc g++
+clang lld llvm binutils gdb gdb-multiarch elfutils linux-perf golang-go gcc-aarch64-linux-gnu
 gcc-arm-linux-gnueabihf qemu-user.
 """
 import argparse

@@ -1,5 +1,5 @@
 """Joins the frame sections of several modules into one frame section whose addresses are as loaded.
-A walk over this section without load addresses is the same as a walk over the modules.
+A walk with this section, at load address 0, is the same as a walk with the modules.
 
 joined(sections, loads, big, size) adds each module's load address to the addresses in its FDEs and
 set_loc instructions, and concatenates the sections. It returns None if the joined section wouldn't

@@ -71,9 +71,9 @@ class Case:
         return self.row() if command == "row" else self.files_refused() or self.answer(command)
 
     def files_refused(self):
-        """How dwcheck must end because of a bad file, or None if there is none. In this order: a
-        file that can't be read, a FRAME that isn't hex text, a malformed state file, and another
-        section that isn't hex text."""
+        """How dwcheck must end because of a bad file, or None if there is none. It reports the
+        first that it finds of these, in this order: a file that can't be read, a FRAME that isn't
+        hex text, a malformed state file, and another section that isn't hex text."""
         first, *others = self.process
         missing = [module for module in self.process if module.is_missing]
         if missing:
@@ -215,8 +215,8 @@ def look_ups(text):
 
 
 def kinds_of_walk(case, text):
-    """The kinds under which a walk through modules is counted. Each is there as often as it
-    occurs."""
+    """The kinds under which a walk through modules is counted. The list has a kind once for each
+    time that it occurs in the walk."""
     hits = [module_of(case.modules, address, case.size) if address >= 0 else None for address in look_ups(text)]
     numbers = [hit[0] for hit in hits if hit]
     kinds = ["frames in a module that isn't FRAME's" for number in numbers if number > 0]

@@ -1,9 +1,9 @@
 """Makes random frame sections, and for each a state file with which a walk has several frames.
 
 The section is made first. Then the model walks, with registers and memory that have no contents at
-first. Whenever the walk needs a register or a word of memory without contents, these are chosen
-such that the walk continues, until it has enough frames. At the end the contents are written to a
-state file; now and then some are left out or changed.
+first. Whenever the walk needs a register or a word of memory that has no content yet, a content is
+chosen with which the walk continues, until it has enough frames. At the end the contents are
+written to a state file; now and then some are left out or changed.
 """
 import with_models  # noqa: F401
 from compare_pairs import PairMaker
@@ -188,7 +188,7 @@ class WalkMaker(PairMaker):
     def onward(self, place, contents, memory, purpose):
         """The return address of a frame, or None if it can't be found, and the registers of its
         caller. `place` is the CIE and the row of the frame. `purpose` says what the content of the
-        return address is chosen for."""
+        return address is chosen for (see content())."""
         common, row = place
         state = {"reg": contents, "mem": memory, "keep": self.kept, "sp": self.stack_pointer}
         self.purpose = "stack"
@@ -235,8 +235,8 @@ class WalkMaker(PairMaker):
     # The state file.
 
     def memory_lines(self, memory):
-        """Lines of the state file that give the memory. A line has consecutive bytes. Now and then
-        such bytes are split into several lines."""
+        """Lines of the state file that give the memory: one for each run of consecutive bytes.
+        Now and then a run is split into several lines."""
         lines, run, start = [], b"", 0
         for address in sorted(address for address, byte in memory.items() if byte is not None and address <= self.top):
             if run and (address != start + len(run) or self.chance(0.03)):

@@ -10,7 +10,7 @@ I.state   the registers, and the whole stack from 128 bytes below the stack poin
 I.top     the registers, and only 8,192 bytes of the stack from the stack pointer on
 I.frames  a line for each frame that gdb finds: its address, its CFA, and 1 if it is in the program,
           else 0; then the callee-saved registers and the stack pointer of frame 1
-I.failed  gdb's error if gdb can't read memory that it needs; then the other three are not written
+I.failed  gdb's error if gdb can't read memory that it needs; then only this file is written
 
 If libraries count as part of the program, SYMBOLS is a file with a line for the executable and one
 for each library: the name of the file, a symbol in it, and the symbol's address as linked. Then
