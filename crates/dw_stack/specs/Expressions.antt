@@ -17,8 +17,8 @@ use Rattle.dw_stack.specs.Machine.{RunsWell}
 abbrev pub reading_at : Target → List ℕ → ℕ → ReadPosition
 reading_at target bytes at = section_from target bytes at
 
--- operations_in gives the operations that the bytes encode, up to the first that can't be read.
--- reading_fault gives the fault of that first one, or None if all can be read.
+-- operations_in gives the operations that the bytes encode, up to the first operation that can't be
+-- read. reading_fault gives the fault of reading that operation, or None if all can be read.
 abbrev pub operations_in : Target → List ℕ → List Placed
 operations_in target bytes = values_in (operations_of (record { target = target; position = 0; rest = bytes }))
 
@@ -44,7 +44,7 @@ IsDepthOf kind target bytes depth = IsDepth kind (operations_in target bytes) (l
 abbrev pub RunsWellWithin : Kind → Target → List ℕ → ℕ → Type 0
 RunsWellWithin kind target bytes depth = RunsWell kind (operations_in target bytes) (length bytes) depth
 
--- states are passed to be checked (see `recheck`), and there are not as many as operations
+-- states are passed to be checked (see `recheck`), and their number isn't the number of operations
 abbrev pub IsOtherCount : Target → List ℕ → Option (List State) → Type 0
 IsOtherCount target bytes None = ⊥
 IsOtherCount target bytes (Some given) = ¬ (length given ≡ length (operations_in target bytes))

@@ -26,7 +26,7 @@ Given ops len given k s = Keeps given k (at_offset (place ops len k) s)
 
 -- ---- the checks of one operation
 
--- the checks of an operation, in order, if all paths reach it with the same state
+-- the checks that are made of an operation, in this order, once all paths to it have the same state
 abbrev pub judgements : List FaultKind
 judgements = fault.NotInFrame ∷ fault.NotAlone ∷ fault.Underflow ∷ fault.TooDeep ∷ fault.TooManyPieces ∷ fault.Backward
     ∷ fault.TargetNotStart ∷ []
@@ -41,8 +41,8 @@ abbrev pub is_start : List Placed → ℕ → Option ℕ → Bool
 is_start ops len None = true
 is_start ops len (Some t) = (len == t) || list_any (λ (x : Placed). x.0 == t) ops
 
--- whether an operation with effect e passes the check named by the fault, in state s, after this
--- number of pieces; true for the checks of branch targets, which `passes` adds
+-- whether an operation with effect e passes the check named by the fault, in state s, if `pieces`
+-- piece operations come before it; true for the checks of branch targets, which `passes` adds
 abbrev pub suits : Kind → ℕ → StackEffect → StackState → FaultKind → Bool
 suits kind pieces e s fault.NotInFrame = has_operation kind e
 suits kind pieces e s fault.NotAlone = stands_alone e.role s.mode s.height

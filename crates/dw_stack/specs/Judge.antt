@@ -19,8 +19,8 @@ pub record IsEffectAt (ops : List Placed) (k : ℕ) (e : StackEffect) : Type 0 w
   pub stands : slice_get ops k ≡ Some placed
   pub is : e ≡ effect_of placed.1
 
--- an operation with effect e is allowed in state s, if this number of pieces come before it, and
--- `height` is the stack height after the operation
+-- an operation with effect e is allowed in state s if `pieces` piece operations come before it, and
+-- `height` is the stack height after the operation, before a piece clears the stack
 pub record Suits (kind : Kind) (e : StackEffect) (pieces : ℕ) (s : StackState) (height : ℕ) : Type 0 where
   pub allowed : IsAllowed kind e
   pub alone : StandsAlone e.role s.mode s.height
@@ -48,8 +48,8 @@ TargetIs ops len k (Some z) (Some j) = TargetPlace ops len k z j
 TargetIs ops len k None (Some j) = ⊥
 TargetIs ops len k (Some z) None = ⊥
 
--- the operation numbered k passes all checks in state s, and `out` is what follows for the
--- operations that may run next
+-- the operation numbered k passes all checks in state s, and `out` has the state after it and says
+-- which operations may run next
 pub record Judged (kind : Kind) (ops : List Placed) (len k pieces : ℕ) (s : StackState) (out : OutState) : Type 0 where
   pub placed : Placed
   pub stands : slice_get ops k ≡ Some placed

@@ -1,6 +1,6 @@
 -- The paths through an expression, the states on them, and when an expression is good: nothing goes
--- wrong on any path. That a path only goes forward, and that both ways of a branch count as paths
--- whatever the value, are rules of this checker.
+-- wrong on any path. Two rules are this checker's own: a path only goes forward, and both ways of a
+-- conditional branch count as paths, whatever value is on the stack.
 use Rattle.std.specs.Prelude.{◌≡◌, ℕ, ℤ, pos, negsuc, zero, suc, ◌+◌, ◌==◌, ◌<◌, ◌≤◌, ◌⊎◌, Bool, true, false, List, [], ◌∷◌, length, take}
 use Rattle.std.specs.Prelude.{count_by, IsTrue, Option, Some, None, slice_get}
 use Rattle.dw_ops.specs.Operations.{Operation}
@@ -40,9 +40,9 @@ abbrev pub branch_target : ℕ → ℤ → Option ℕ
 branch_target next (pos n) = Some (next + n)
 branch_target next (negsuc n) = None
 
--- jump_target gives the branch target of an operation if the next operation is at offset `next`;
--- branch_target_of gives that of the operation numbered k. Both give None if the operation isn't a
--- branch, or if it branches backward.
+-- jump_target gives the branch target of an operation if the next operation is at offset `next`.
+-- branch_target_of gives the branch target of the operation numbered k. Both give None if the
+-- operation isn't a branch, or if it branches backward.
 abbrev pub jump_target : ℕ → Option ℤ → Option ℕ
 jump_target next None = None
 jump_target next (Some z) = branch_target next z
@@ -50,7 +50,7 @@ jump_target next (Some z) = branch_target next z
 abbrev pub branch_target_of : List Placed → ℕ → ℕ → StackEffect → Option ℕ
 branch_target_of ops len k e = jump_target (place ops len (k + 1)) e.jump
 
--- t is the offset of an operation after the one numbered k, or the end of the expression
+-- t is the offset of an operation with a number above k, or the end of the expression
 pub record IsTarget (ops : List Placed) (len k t : ℕ) : Type 0 where
   pub number : ℕ
   pub later : k < number

@@ -19,9 +19,9 @@ start_of FrameRegister = record { height = 1; mode = mode.Stack; pieced = false 
 start_of Location = record { height = 0; mode = mode.Stack; pieced = false }
 
 -- After an operation that names a register or a value, only a piece may follow. An operation that
--- names a register or bytes needs an empty stack; stack_value takes the top, whatever is below. A
--- piece needs exactly what it ends, and nothing else: a register or value that was named, one
--- address on the stack, or nothing.
+-- names a register or bytes needs an empty stack; stack_value takes the top, whatever is below.
+-- Before a piece there may be only the location or value of that piece: a register or value that
+-- was named, one address on the stack, or nothing.
 abbrev pub stands_alone : Role → Mode → ℕ → Bool
 stands_alone role.Piece mode.AfterPiece h = true
 stands_alone role.Piece mode.Stack h = nat_le h 1

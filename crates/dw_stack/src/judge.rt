@@ -18,7 +18,7 @@ pub const MAX_HEIGHT: u16 = 128;
 /// The greatest number of piece operations that an expression may have.
 pub const MAX_PIECES: usize = 32;
 
-/// What checking an operation gives for the operations that may run after it.
+/// The result of checking an operation: the state after it, and which operations may run next.
 #[derive(Clone, Copy)]
 pub struct OutState {
     /// The state after the operation.
@@ -29,8 +29,8 @@ pub struct OutState {
     pub piece: bool,
     /// Whether the run may go to the next operation without a branch: false only for `DW_OP_skip`.
     pub falls_through: bool,
-    /// The index of the operation that this one may branch to. If this one may branch to the end,
-    /// the number of all operations. `None` if this one isn't a branch.
+    /// The index of the operation at the branch target, or the number of all operations if the
+    /// branch target is the end. `None` if the operation isn't a branch.
     pub target: Option<usize>,
 }
 
@@ -48,7 +48,7 @@ fn effect_at(operations: &[(u32, Operation<'_>)], i: usize) -> StackEffect
 
 /// Checks whether an operation with effect `effect` is allowed in state `state`, if `pieces` piece
 /// operations come before it. Returns the stack height after the operation, before a piece clears
-/// the stack.
+/// the stack. Doesn't check the target of a branch.
 #[inline(always)]
 pub fn suits(
     kind: Kind,

@@ -20,7 +20,8 @@ pub enum Kind {
     Location,
 }
 
-/// What the operations of a path have named since the last piece as the object's location or value.
+/// What a path has named as the object's location or value since its most recent piece operation,
+/// or since the start if it has none.
 #[derive(Clone, Copy, Debug, PartialEq, Eq)]
 pub enum Mode {
     /// Nothing; there may be entries on the stack.
@@ -40,7 +41,7 @@ pub struct State {
     pub offset: u32,
     /// The number of entries on the stack, including the CFA with which a register rule starts.
     pub height: u8,
-    /// What the path has named since its last piece.
+    /// What the path has named since its most recent piece operation.
     pub mode: Mode,
     /// Whether the path already has a piece operation.
     pub pieced: bool,

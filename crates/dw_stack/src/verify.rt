@@ -17,7 +17,7 @@ use dw_bytes::{Fault, FaultKind};
 use dw_ops::{Expression, operations};
 use std::alloc::Global;
 
-/// The fault that `recheck` returns, which has the type of other faults.
+/// The fault that `recheck` returns: an ordinary `Fault`.
 pub type CertFault = Fault;
 
 /// Whether `given` has exactly `count` states; true if `given` is `None`.
@@ -148,9 +148,10 @@ pub fn check_expression<'a>(
 ///
 /// An error is the first fault; the numbers in parentheses are those of `FaultKind`. The whole
 /// expression is read first. Then there must be as many states as operations (70, at 0). Then
-/// everything is checked as in `certify`, with one more check after that for two different states
-/// (37): the state in `states` must be the one that the paths have (71, at the operation). Time and
-/// memory are as for `certify`. Laws say that there is at most one first fault
+/// everything is checked as in `certify`, and one check is added. If all paths reach an operation
+/// with the same state, `states` must have that state for the operation (71, at the operation's
+/// offset); this is checked right after 37. Time and memory are as for `certify`, and `Memory` is
+/// at 0 here too. Laws say that there is at most one first fault
 /// (`first_faults_are_unique`), none if the expression is good and the states are right
 /// (`good_expressions_have_no_fault`), and one otherwise (`every_expression_has_a_verdict`).
 pub fn recheck<'a>(
