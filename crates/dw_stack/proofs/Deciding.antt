@@ -101,8 +101,8 @@ answered_no : (b : Bool) (f : FaultKind) (at : ℕ) (rest : List Question) → b
     → first_no (else_fault b f at ∷ rest) ≡ Some (fault_of f at)
 answered_no b f at rest is = ap (λ (c : Bool). first_no (else_fault c f at ∷ rest)) is
 
--- the first question about an operation that is answered with no is that of the first check that
--- the operation fails
+-- if each check in a list is asked as a question, the first question answered with no gives the
+-- fault of the first check that fails
 first_no-map : (p : FaultKind → Bool) (at : ℕ) (fs : List FaultKind)
     → first_no (map (λ f. else_fault (p f) f at) fs) ≡ option_map (λ f. fault_of f at) (find (λ f. not (p f)) fs)
 first_no-map p at [] = refl
@@ -143,8 +143,8 @@ same_placed t at s = elim (same_tells (stack_of t) s) [
   ]
 ]
 
--- either the state passed for an operation is right or none was passed, or states were passed and
--- that one is wrong
+-- either the caller passed no states or the right state for this operation, or the caller passed
+-- states and has no right state for this operation
 given_tells : (ops : List Placed) (len : ℕ) (given : Option (List State)) (k : ℕ) (s : StackState)
     → Given ops len given k s ⊎ ((Given ops len given k s → ⊥) × (given ≡ None → ⊥))
 given_tells ops len None k s = inl tt

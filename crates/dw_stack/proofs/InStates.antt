@@ -1,5 +1,5 @@
--- The states that `states_to` computes for an operation are those with which paths through the
--- operations before it reach it.
+-- The states that `states_to` computes for an operation are exactly the states with which earlier
+-- operations lead to it.
 use Rattle.std.proofs.Common.{◌≡◌, ◌∙◌, ℕ, ℤ, negsuc, zero, suc, ◌+◌, ◌≤◌, ◌<◌, ◌⊎◌, Bool, true, false, eqb, List, [], ◌∷◌, ◌++◌, length}
 use Rattle.std.proofs.Common.{map, Option, Some, None, refl, sym, ap, subst, inl, inr, arith, IsTrue, eq-eqb}
 use Rattle.std.specs.Prelude.{slice_get, if◌then◌else◌}

@@ -167,7 +167,8 @@ module _ (kind : Kind) (ops : List Placed) (len k pieces : ℕ) (s : StackState)
       stacked_passed (has_operation kind e) (stands_alone e.role s.mode s.height) _ _ few branch fits.allowed fits.alone
       (le-leb e.needs s.height fits.needs) (le-leb (height_after e s) MAX_HEIGHT low) (few_passes (is_piece e.role) pieces fits.few)
 
-  -- an operation that passes all checks is allowed, and has a target if it branches
+  -- an operation that passes all checks is allowed (`Suits`); if it is a branch, it isn't backward
+  -- and leads to the start of an operation or to the end
   pub all_passed : first_failed (passes kind ops len k pieces e s) ≡ None → Suits kind e pieces s (height_after e s)
       × (is_ahead (place ops len (k + 1)) e.jump ≡ true) × (is_start ops len (jump_target (place ops len (k + 1)) e.jump) ≡ true)
   all_passed is =
@@ -225,8 +226,8 @@ module _ (kind : Kind) (ops : List Placed) (len k pieces : ℕ) (s : StackState)
             (subst (λ (d : StackEffect). TargetIs ops len k d.jump target) at.is is);
       }
 
--- if paths reach an operation with only one state, the first check that the operation fails is the
--- fault of its step
+-- if the table has one known state for an operation, and the state that the caller passed for it,
+-- if any, is the same, then the first check that the operation fails is the fault of its step
 pub step_objects : (kind : Kind) (ops : List Placed) (len : ℕ) (given : Option (List State)) (i pieces : ℕ) (old : List InState)
     (f : FaultKind) (s : StackState) → slice_index_or old i Unreached ≡ Known s → Given ops len given i s
     → Objects kind ops len i pieces s f → StepObjects kind ops len given i pieces old f

@@ -10,7 +10,7 @@ use Rattle.dw_stack.specs.States.{start_of}
 use Rattle.dw_stack.specs.Paths.{place, IsLaidOut, Leads, Edge, Follows, Reaches}
 use Rattle.dw_stack.proofs.Places.{place_inj}
 
--- the last edge of a path
+-- a path to offset b and state g, as its last edge and the path before that edge
 pub record LastEdge (kind : Kind) (ops : List Placed) (len b : ℕ) (g : StackState) : Type 0 where
   pub a : ℕ
   pub h : StackState
@@ -59,8 +59,7 @@ module _ (kind : Kind) (ops : List Placed) (len : ℕ) where
   pub last_edge : (b : ℕ) (g : StackState) → Reaches kind ops len b g → ((0 ≡ b) × (start_of kind ≡ g)) ⊎ LastEdge kind ops len b g
   last_edge b g r = last_from r.path 0 (start_of kind) b g at_start r.follows
 
--- b, the end of an edge, is the offset of an operation after the one numbered k, or the end of the
--- expression
+-- b is the offset of an operation with a number above k, or the end of the expression
 pub record Lands (ops : List Placed) (len k b : ℕ) : Type 0 where
   pub number : ℕ
   pub later : k < number
@@ -96,7 +95,8 @@ module _ (kind : Kind) (ops : List Placed) (len : ℕ) (laid : IsLaidOut ops len
         | inr before ↦ extend kind ops len before.last.a before.last.h b h before.last.reached before.last.edge
       ]
 
-  -- each path to an operation has a last edge from an operation before it, or is at the start
+  -- a path to the operation numbered i, or to the end, has no edge, or its last edge is from an
+  -- operation with a lower number
   pub comes_from_reaches : (i : ℕ) (h : StackState) → i ≤ length ops → Reaches kind ops len (place ops len i) h
       → Comes kind ops len i (place ops len i) h
   comes_from_reaches i h le r =

@@ -135,7 +135,7 @@ module _ (kind : Kind) (ops : List Placed) (len : ℕ) (laid : IsLaidOut ops len
   ahead_of k x (pos n) stands jump = (n, refl)
   ahead_of k x (negsuc n) stands jump = absurd (good.ahead k (negsuc n) x stands jump refl)
 
-  -- a branch leads a run to the offset to which it leads paths
+  -- if an operation lets a run jump to offset b, its branch target on a path is b
   target_is : (k b : ℕ) (x : Placed) (o : Option ℤ) → slice_get ops k ≡ Some x → (effect_of x.1).jump ≡ o
       → JumpsTo o (place ops len (k + 1)) b → jump_target (place ops len (k + 1)) o ≡ Some b
   target_is k b x None stands jump to = absurd to
@@ -293,7 +293,8 @@ module _ (kind : Kind) (ops : List Placed) (len : ℕ) (laid : IsLaidOut ops len
   answer_of m c t (Ok new) is = inr (inl (go_to m c new t (jumps t.placed.1 c.stack) is refl (branches t.placed.1 c.stack)))
   answer_of m c t (Err why) is = inr (inr (why, record { meets = t; answered = is }))
 
-  -- if a path reaches an operation, everything that the operation needs is there
+  -- if a path reaches an operation with a state, a configuration that is there and agrees with that
+  -- state has everything that the operation needs
   pub meets_at : (c : Configuration) (s : StackState) → Reaches kind ops len c.offset s → Agrees s c → (k : ℕ) (x : Placed)
       → slice_get ops k ≡ Some x → x.0 ≡ c.offset → Meets ops c
   meets_at c s there agrees k x stands at =
@@ -501,7 +502,7 @@ module _ (kind : Kind) (ops : List Placed) (len : ℕ) (laid : IsLaidOut ops len
   unfolding Stands
   run_stands m n c d s run = run_follows m n c d (starts c s) run
 
-  -- a run that is at an operation is as the certificate's state for that operation says
+  -- if a run is at an operation, it agrees with the certificate's state for that operation
   pub as_certified : (states : List State) → AreStates kind ops len states → (m : Meaning) (c d : Configuration) (n k : ℕ) → Starts kind c
       → Run m ops len n c d → k < length ops → d.offset ≡ place ops len k
       → (s : StackState) × (slice_get states k ≡ Some (at_offset d.offset s)) × Agrees s d

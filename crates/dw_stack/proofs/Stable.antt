@@ -70,7 +70,7 @@ found_stable : (o : Option State) (t : State) → ∥ o ≡ Some t ∥₁ → o 
 found_stable None t h = absurd (∥∥₁_elim h ⊥_prop (λ e. cc))
 found_stable (Some s) t h = ap (λ (x : State). Some x) (located_stable s t (∥∥₁_elim h ∥∥₁_prop (λ e. ∣ same_Some s t e ∣₁)))
 
--- states are those of the operations if `∥ AreStates .. ∥₁` holds
+-- `AreStates` holds if `∥ AreStates .. ∥₁` holds
 pub states_stable : (kind : Kind) (ops : List Placed) (len : ℕ) (states : List State) → ∥ AreStates kind ops len states ∥₁
     → AreStates kind ops len states
 states_stable kind ops len states h = record {

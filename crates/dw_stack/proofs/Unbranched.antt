@@ -1,5 +1,5 @@
--- Expressions without branches: paths reach each operation with only one state, the one after the
--- operation before it.
+-- Expressions without branches: the only state with which paths reach an operation is the state
+-- after the operation before it.
 use Rattle.std.proofs.Common.{◌≡◌, ◌∙◌, ℕ, ℤ, zero, suc, ◌+◌, ◌<◌, ◌≤◌, Bool, true, false, cond, List, [], ◌∷◌, ◌++◌, length, get_or}
 use Rattle.std.proofs.Common.{get_or-set_same, get_or-set_other, length-append, Option, Some, None, Ok, refl, sym, ap, subst, arith}
 use Rattle.std.specs.Prelude.{slice_get, slice_set, replicate, max, ◌==◌}
@@ -128,8 +128,8 @@ module _ (kind : Kind) (ops : List Placed) (len : ℕ) (laid : IsLaidOut ops len
         passes = record { mid = new; next = receives; target = refl };
       }
 
--- the bytes of an expression before the offset `at` were read as `count` operations; if all
--- operations of the expression are laid out in order, these were checked (`Straight`)
+-- The bytes of an expression before the offset `at` were read as `count` operations. If all
+-- operations of the expression are laid out in order, `Straight` holds for those `count` operations.
 pub record JudgedSoFar (kind : Kind) (e : Expression) (at count : ℕ) (state : StackState) (depth pieces : ℕ)
     (states : List State) : Type 0 where
   pub within : at ≤ length (bytes_of e)
@@ -216,7 +216,7 @@ module _ (kind : Kind) (e : Expression) (at count : ℕ) (state : StackState) (d
   all : count ≡ length (operations_in (target_of e) (bytes_of e))
   all = sym j.count_is ∙ ap length (sym (append-nil j.before) ∙ (ap (λ l. j.before ++ values_in l) (sym no_more) ∙ j.parts))
 
-  -- the states that were collected are those of all paths
+  -- `states` has the states with which paths reach the operations
   pub states_judged : AreStatesOf kind (target_of e) (bytes_of e) states
   states_judged =
       let s = j.straight laid_all in

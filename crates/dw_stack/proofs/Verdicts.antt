@@ -62,7 +62,7 @@ module _ (kind : Kind) (ops : List Placed) (len : ℕ) (laid : IsLaidOut ops len
   fine_objection f k x s fine o = let yes = fine_passes f k x s fine in cc
 
   module _ (given : Option (List State)) where
-    -- the operation numbered i, in state s, passed the check that is named by its fault
+    -- the operation numbered i passes, in state s, the check that the fault names
     Passes : ℕ → StackState → FaultKind → Type 0
     Passes i s fault.Unreachable = Reaches kind ops len (place ops len i) s
     Passes i s fault.Mismatch = (t : StackState) → Reaches kind ops len (place ops len i) t → t ≡ s
@@ -76,14 +76,15 @@ module _ (kind : Kind) (ops : List Placed) (len : ℕ) (laid : IsLaidOut ops len
         let within = slice_get_within ops k x s in
         place_inj ops len laid k i (omega arith) le (place_of_some ops len k x s ∙ e ∙ at)
 
-    -- an objection still holds if equal values replace the operation's number and the state
+    -- a check that fails still fails if equal values replace the operation's number and the state
     moved : (f : FaultKind) (k i : ℕ) (x : Placed) (t s : StackState) → k ≡ i → t ≡ s → Objection kind ops len k (pieces_before ops k) x t f
         → Objection kind ops len i (pieces_before ops i) x s f
     moved f k i x t s ek es o =
         subst (λ (n : ℕ). Objection kind ops len n (pieces_before ops n) x s f) ek
         (subst (λ (y : StackState). Objection kind ops len k (pieces_before ops k) x y f) es o)
 
-    -- a check that an operation passed doesn't refuse at the operation's offset
+    -- if the operation numbered i passes Unreachable, Mismatch and the check f in state s, f doesn't
+    -- refuse at the operation's offset
     pass_refuses : (f : FaultKind) (i : ℕ) (s : StackState) (a : ℕ) → i ≤ length ops → a ≡ place ops len i → Passes i s fault.Unreachable
         → Passes i s fault.Mismatch → Passes i s f → Refuses kind ops len given f a → ⊥
     unfolding Passes
@@ -112,7 +113,8 @@ module _ (kind : Kind) (ops : List Placed) (len : ℕ) (laid : IsLaidOut ops len
     accepted_passes fault.EndsEmpty i s lt a = lt
     accepted_passes f i s lt a = λ x e o. fine_objection f i x s (a.fine x e) o
 
-    -- each operation that was checked has a state, which was accepted
+    -- after the pass has checked i operations, each of them has its state in `states`, and is
+    -- `Accepted` (Walks.antt) in that state
     pub state_of : (i : ℕ) (states : List State) (in_states : List InState) (depth pieces k : ℕ)
         → Walked kind ops len given i states in_states depth pieces → k < i
         → (s : StackState) × (slice_get states k ≡ Some (at_offset (place ops len k) s)) × Accepted kind ops len given k s
@@ -145,8 +147,8 @@ module _ (kind : Kind) (ops : List Placed) (len : ℕ) (laid : IsLaidOut ops len
           pass_refuses f p.0 h.0 a p.1 (sym p.2) (accepted_passes fault.Unreachable p.0 h.0 lt' h.2)
           (accepted_passes fault.Mismatch p.0 h.0 lt' h.2) (accepted_passes f p.0 h.0 lt' h.2) r
 
-      -- a check that refuses at the operation numbered i is the first fault, if no earlier check
-      -- refuses there
+      -- if f refuses at the operation numbered i, or at the end, and no check with a lower rank
+      -- refuses there, f is the first fault
       first_here : (f : FaultKind) (a : ℕ) → i ≤ length ops → a ≡ place ops len i → Refuses kind ops len given f a
           → ((g : FaultKind) → rank g < rank f → Refuses kind ops len given g a → ⊥) → IsFirstFault kind ops len given f a
       first_here f a le at r here = record {
@@ -157,8 +159,8 @@ module _ (kind : Kind) (ops : List Placed) (len : ℕ) (laid : IsLaidOut ops len
         ];
       }
 
-      -- the first fault is at the operation numbered i if one state reaches that operation, f
-      -- refuses there, and all checks before f are passed
+      -- If the table has one known state for the operation numbered i, f refuses at the operation's
+      -- offset, and the operation passes all checks with a lower rank, then f is the first fault.
       one_fault : (f : FaultKind) (s : StackState) → i < length ops → get_or in_states i Unreached ≡ Known s
           → (Reaches kind ops len (place ops len i) s → Refuses kind ops len given f (place ops len i))
           → ((g : FaultKind) → rank g < rank f → Passes i s fault.Unreachable → Passes i s fault.Mismatch → Passes i s g)
@@ -177,8 +179,8 @@ module _ (kind : Kind) (ops : List Placed) (len : ℕ) (laid : IsLaidOut ops len
       before_state fault.Mismatch s lt u m = m
       before_state _ s lt u m = absurd (omega (arith, lt))
 
-      -- if f is the first of the checks of the operation alone that fails, all checks before f are
-      -- passed
+      -- if the operation passes Unreachable, Mismatch and CertState, and f is the first of its other
+      -- checks that fails (first_failed), it passes all checks that come before f
       before_local : (f g : FaultKind) (x : Placed) (s : StackState) → i < length ops → slice_get ops i ≡ Some x
           → first_failed (passes kind ops len i (pieces_before ops i) (effect_of x.1) s) ≡ Some f → rank g < rank f
           → Passes i s fault.Unreachable → Passes i s fault.Mismatch → Given ops len given i s → Passes i s g
@@ -193,7 +195,8 @@ module _ (kind : Kind) (ops : List Placed) (len : ℕ) (laid : IsLaidOut ops len
           subst (λ (z : Placed). Objection kind ops len i (pieces_before ops i) z s g) (same_Some y x (sym e ∙ stands)) o in
           cc
 
-      -- a check of the operation alone that fails in state s refuses at the operation's offset
+      -- if the operation fails the check f in state s (Objection), and a path reaches the operation
+      -- with s, then f refuses at the operation's offset
       local_refuses : (f : FaultKind) (x : Placed) (s : StackState) → slice_get ops i ≡ Some x
           → Objection kind ops len i (pieces_before ops i) x s f → Reaches kind ops len (place ops len i) s
           → Refuses kind ops len given f (place ops len i)
@@ -213,7 +216,7 @@ module _ (kind : Kind) (ops : List Placed) (len : ℕ) (laid : IsLaidOut ops len
           (failed (passes kind ops len i (pieces_before ops i) (effect_of o.placed.1) s) judgements f first))
           (λ g less u m. before_local f g o.placed s lt o.stands first less u m is)
 
-      -- the fault with which a step stops is the first fault
+      -- if a step of the pass reports the fault f, f is the first fault
       pub step_fault : (f : FaultKind) → i < length ops → StepObjects kind ops len given i pieces in_states f
           → IsFirstFault kind ops len given f (place ops len i)
       unfolding Passes
@@ -319,7 +322,7 @@ module _ (kind : Kind) (ops : List Placed) (len : ℕ) (laid : IsLaidOut ops len
       end_described = subst (λ (n : ℕ). Describes (get_or in_states (length ops) Unreached)
           (Comes kind ops len n (place ops len (length ops)))) all (w.described (length ops) (omega arith) (omega arith))
 
-      -- some path reaches the end
+      -- the table's entry for the end isn't `Unreached`, because some path reaches the end
       pub end_not_nothing : get_or in_states (length ops) Unreached ≡ Unreached → ⊥
       end_not_nothing e =
           let r = end_reached i (length ops) refl all states in_states depth pieces w in
@@ -364,7 +367,7 @@ module _ (kind : Kind) (ops : List Placed) (len : ℕ) (laid : IsLaidOut ops len
           below_empty fault.EndsEmpty less r = omega (arith, less)
           below_empty _ less r = no_operation_at_end r.0 r.1 r.3 r.4
 
-      -- each operation has a state, which was accepted
+      -- each operation has its state in `states`, and is `Accepted` (Walks.antt) in that state
       accepted_at : (k : ℕ) (x : Placed) → slice_get ops k ≡ Some x
           → (s : StackState) × (slice_get states k ≡ Some (at_offset (place ops len k) s)) × Accepted kind ops len given k s
       accepted_at k x s = state_of i states in_states depth pieces k w (omega (arith, slice_get_within ops k x s))
@@ -431,7 +434,8 @@ module _ (kind : Kind) (ops : List Placed) (len : ℕ) (laid : IsLaidOut ops len
             (elim t [ inl same ↦ inl same | inr u ↦ inr (u.0, u.1, u.2, u.3, u.4, u.5, omega (arith, slice_get_within ops u.0 u.1 u.3)) ]);
       }
 
--- good operations have no fault, as long as the states that the caller passed, if any, are right
+-- if operations are good (`IsGood`), no check refuses at any offset, as long as the states that the
+-- caller passed, if any, are right
 pub good_refuses : (kind : Kind) (ops : List Placed) (len : ℕ) → IsLaidOut ops len → (given : Option (List State))
     → ((k : ℕ) (x : Placed) (s : StackState) → slice_get ops k ≡ Some x → Reaches kind ops len x.0 s → Given ops len given k s)
     → IsGood kind ops len → (f : FaultKind) (a : ℕ) → Refuses kind ops len given f a → ⊥

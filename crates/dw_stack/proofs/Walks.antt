@@ -38,7 +38,8 @@ pub record Fine (kind : Kind) (ops : List Placed) (len k : ℕ) (x : Placed) (s 
   pub ahead : (z : ℤ) → (effect_of x.1).jump ≡ Some z → branch_target (place ops len (k + 1)) z ≡ None → ⊥
   pub target : (t : ℕ) → branch_target_of ops len k (effect_of x.1) ≡ Some t → IsTarget ops len k t
 
--- the operation numbered k was checked in state s, the only state that paths have there
+-- s is the only state with which paths reach the operation numbered k, and the operation passes all
+-- checks in it
 pub record Accepted (kind : Kind) (ops : List Placed) (len : ℕ) (given : Option (List State)) (k : ℕ) (s : StackState) : Type 0 where
   pub reached : Reaches kind ops len (place ops len k) s
   pub one : (t : StackState) → Reaches kind ops len (place ops len k) t → t ≡ s
@@ -67,7 +68,7 @@ pub record Walked (kind : Kind) (ops : List Placed) (len : ℕ) (given : Option 
   pub counted : pieces ≡ pieces_before ops i
   pub few : pieces ≤ MAX_PIECES
 
--- an element of a list that was extended at its end by one element
+-- if h is added at the end of a list, an element of the new list is in the old list or is h
 pub get_push : (hs : List State) (h : State) (k : ℕ) (g : State) → slice_get (hs ++ h ∷ []) k ≡ Some g
     → (slice_get hs k ≡ Some g) ⊎ ((k ≡ length hs) × (h ≡ g))
 get_push [] h zero g e = inr (refl, same_Some h g e)
@@ -81,12 +82,12 @@ get_push (x ∷ hs) h (suc k) g e =
 
 module _ (kind : Kind) (ops : List Placed) (len : ℕ) (laid : IsLaidOut ops len) (given : Option (List State)) (i pieces : ℕ)
     (h : StackState) (out : OutState) (lt : i < length ops) (j : Judged kind ops len i pieces h out) where
-  -- the operation numbered i leads to the one numbered n, with state g
+  -- the operation numbered i leads to the operation numbered n, or to the end, with state g
   Goes : ℕ → StackState → Type 0
   Goes n g = Leads ops len i (effect_of j.placed.1) (place ops len n) × (g ≡ out.state)
 
-  -- the states to which the first i + 1 operations lead are those to which the first i operations
-  -- lead, and the one after the operation numbered i
+  -- if one of the first i + 1 operations leads to the operation numbered n with state g, then one of
+  -- the first i operations does, or the operation numbered i does
   comes_more : ((g : StackState) → Reaches kind ops len (place ops len i) g → g ≡ h) → (n : ℕ) (g : StackState)
       → Comes kind ops len (i + 1) (place ops len n) g → Comes kind ops len i (place ops len n) g ⊎ Goes n g
   unfolding Goes

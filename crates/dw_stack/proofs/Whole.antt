@@ -25,7 +25,7 @@ pub same_count : (target : Target) (bytes : List ℕ) (given : Option (Bor (List
 same_count target bytes None n is same other = other
 same_count target bytes (Some states) n is same other = other (same ∙ is)
 
--- what holds for operations and a length that are equal to those of the bytes
+-- `ops` and `len` are equal to the operations and the length of bytes that can be read
 module _ (kind : Kind) (target : Target) (bytes : List ℕ) (ops : List Placed) (len : ℕ) (read : reading_fault target bytes ≡ None)
     (are : ops ≡ operations_in target bytes) (long : len ≡ length bytes) where
   pub laid_for : IsLaidOut ops len
