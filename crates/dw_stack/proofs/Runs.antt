@@ -52,8 +52,7 @@ branches (bra z) s = either (not (eqb (entry s 0) 0))
 branches (skip z) s = (z, refl)
 branches _ s = refl
 
--- for each role: after an operation, the run's stack height and whether it has pieces are as the
--- next state says
+-- for each role: after an operation, the run's stack height is as the next state says
 height_behind : (r : Role) (new rest : List ℕ) (b : Bool)
     → length (stack_after r new rest) ≡ (next_mode r (length rest + length new) b).height
 height_behind role.Piece new rest b = refl

@@ -129,7 +129,7 @@ module _ (kind : Kind) (ops : List Placed) (len : ℕ) (laid : IsLaidOut ops len
       }
 
 -- The bytes of an expression before the offset `at` were read as `count` operations. If all
--- operations of the expression are laid out in order, `Straight` holds for those `count` operations.
+-- operations of the expression are laid out in order, `Straight` holds for the first `count`.
 pub record JudgedSoFar (kind : Kind) (e : Expression) (at count : ℕ) (state : StackState) (depth pieces : ℕ)
     (states : List State) : Type 0 where
   pub within : at ≤ length (bytes_of e)

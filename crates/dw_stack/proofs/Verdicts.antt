@@ -83,8 +83,8 @@ module _ (kind : Kind) (ops : List Placed) (len : ℕ) (laid : IsLaidOut ops len
         subst (λ (n : ℕ). Objection kind ops len n (pieces_before ops n) x s f) ek
         (subst (λ (y : StackState). Objection kind ops len k (pieces_before ops k) x y f) es o)
 
-    -- if the operation numbered i passes Unreachable, Mismatch and the check f in state s, f doesn't
-    -- refuse at the operation's offset
+    -- if the operation numbered i passes Unreachable, Mismatch and the check f in state s, f
+    -- doesn't refuse at the operation's offset
     pass_refuses : (f : FaultKind) (i : ℕ) (s : StackState) (a : ℕ) → i ≤ length ops → a ≡ place ops len i → Passes i s fault.Unreachable
         → Passes i s fault.Mismatch → Passes i s f → Refuses kind ops len given f a → ⊥
     unfolding Passes
@@ -179,8 +179,8 @@ module _ (kind : Kind) (ops : List Placed) (len : ℕ) (laid : IsLaidOut ops len
       before_state fault.Mismatch s lt u m = m
       before_state _ s lt u m = absurd (omega (arith, lt))
 
-      -- if the operation passes Unreachable, Mismatch and CertState, and f is the first of its other
-      -- checks that fails (first_failed), it passes all checks that come before f
+      -- if the operation passes Unreachable, Mismatch and CertState, and f is the first of its
+      -- other checks that fails (first_failed), it passes all checks that come before f
       before_local : (f g : FaultKind) (x : Placed) (s : StackState) → i < length ops → slice_get ops i ≡ Some x
           → first_failed (passes kind ops len i (pieces_before ops i) (effect_of x.1) s) ≡ Some f → rank g < rank f
           → Passes i s fault.Unreachable → Passes i s fault.Mismatch → Given ops len given i s → Passes i s g

@@ -86,8 +86,8 @@ module _ (kind : Kind) (ops : List Placed) (len : ℕ) (laid : IsLaidOut ops len
   Goes : ℕ → StackState → Type 0
   Goes n g = Leads ops len i (effect_of j.placed.1) (place ops len n) × (g ≡ out.state)
 
-  -- if one of the first i + 1 operations leads to the operation numbered n with state g, then one of
-  -- the first i operations does, or the operation numbered i does
+  -- if one of the first i + 1 operations leads to the operation numbered n with state g, then one
+  -- of the first i operations does, or the operation numbered i does
   comes_more : ((g : StackState) → Reaches kind ops len (place ops len i) g → g ≡ h) → (n : ℕ) (g : StackState)
       → Comes kind ops len (i + 1) (place ops len n) g → Comes kind ops len i (place ops len n) g ⊎ Goes n g
   unfolding Goes
