@@ -67,7 +67,7 @@ framed-only r format body after h =
 abbrev body-at : Target → ℕ → List ℕ → ReadPosition
 body-at target at bytes = record { target = target; position = at; rest = bytes }
 
--- the bytes of a body are those of the section from the body's start up to its end
+-- the bytes of a body are the section's bytes from the body's start up to its end
 body-is : (section bytes rest : List ℕ) (first end : ℕ) → end ≡ first + length bytes → drop first section ≡ bytes ++ rest
     → drop first (take end section) ≡ bytes
 body-is section bytes rest first end long parts =

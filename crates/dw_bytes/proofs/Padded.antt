@@ -92,7 +92,7 @@ sixteens : (k : ℕ) → 0 < 16 ^ k
 sixteens zero = omega arith
 sixteens (suc k) = omega (arith, pow-suc 16 k, sixteens k)
 
--- the last k hex digits of n are those of n modulo 16 ^ k
+-- n and n modulo 16 ^ k have the same last k hex digits
 pub hex_last : (k n m : ℕ) → m ≡ n % 16 ^ k → hex_digits k m ≡ hex_digits k n
 unfolding hex_digits
 hex_last zero n m e = refl

@@ -13,8 +13,8 @@ Judges fault (Err f) = fault ≡ Some f
 abbrev pub memory : Fault
 memory = record { kind = Memory; at = 0 }
 
--- The result of a check that allocates memory. The check passes only if there is no fault.
--- Otherwise it returns that fault, or `memory`, whatever the fault is, even if there is none.
+-- The result of a check that allocates memory. The check passes only if there is no fault. If it
+-- fails, it returns that fault or `memory`. It may return `memory` even if there is no fault.
 abbrev pub Answers : {X : Type 0} → Option Fault → Result X Fault → Type 0
 Answers fault (Ok _) = fault ≡ None
 Answers fault (Err f) = (f ≡ memory) ⊎ (fault ≡ Some f)

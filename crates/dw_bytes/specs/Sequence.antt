@@ -11,8 +11,8 @@ Sequence IsEncoding at bytes [] = bytes ≡ []
 Sequence IsEncoding at bytes (x ∷ xs) = (first rest : List ℕ) × (bytes ≡ first ++ rest) × IsEncoding at first x
     × Sequence IsEncoding (at + length first) rest xs
 
--- which bytes encode a pair of an offset and a thing, where the offset is that of the thing's first
--- byte
+-- which bytes encode a pair of an offset and a thing: the bytes encode the thing, and the offset is
+-- where they begin
 abbrev pub Located : {X : Type 0} → (ℕ → List ℕ → X → Type 0) → ℕ → List ℕ → ℕ × X → Type 0
 Located IsEncoding at bytes item = (item.0 ≡ at) × IsEncoding at bytes item.1
 

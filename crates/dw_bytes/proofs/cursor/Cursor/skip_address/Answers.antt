@@ -4,7 +4,7 @@ use Rattle.dw_bytes.specs.Encoding.{number, bytes_of_address}
 use Rattle.dw_bytes.specs.Reading.{ReadPosition, take_at, fixed_at}
 use Rattle.dw_bytes.proofs.cursor.Cursor.skip_address.Goals as goal
 
--- n bytes that can be taken are a number of n bytes
+-- if the next n bytes can be taken, they can also be read as a number of n bytes
 passed : (n : ℕ) (r after : ReadPosition) (bytes : List ℕ) → take_at n r ≡ Ok (bytes, after)
     → fixed_at n r ≡ Ok (number r.target.order n bytes, after)
 unfolding fixed_at
