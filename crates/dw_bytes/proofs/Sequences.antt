@@ -252,8 +252,8 @@ pub offsets-exact : (format : Format) (count : ℕ) (r : ReadPosition)
 offsets-exact format count r = exactly-exact r.target (offset_at format) (λ at. Offset r.target.order format)
     (offset-exact r.target format) count r refl
 
--- If reading n things succeeds and reading one more does, reading n + 1 things gives all of them.
--- If reading one more gives a fault, reading any greater number of things gives that fault.
+-- Reading n things succeeds. If one more thing can then be read, reading n + 1 things gives all of
+-- them. If reading one more gives a fault, reading any number of things above n gives that fault.
 pub exactly-more : {X : Type 0} (read : ReadPosition → Result (X × ReadPosition) Fault) (n : ℕ) (r mid after : ReadPosition) (xs : List X)
     (x : X)
     → exactly_of read n r ≡ Ok (xs, mid) → read mid ≡ Ok (x, after) → exactly_of read (suc n) r ≡ Ok (xs ++ x ∷ [], after)

@@ -28,15 +28,15 @@ EndsWithItsBlock target at end (Instruction.expression r b) = EndsWith target at
 EndsWithItsBlock target at end (Instruction.val_expression r b) = EndsWith target at end b
 EndsWithItsBlock target at end _ = Unit {0}
 
--- `after` is what is left to read of the section from its own position on, which is above `at` and
--- at most the section's length.
+-- `after` is what is left to read of the section from offset `after.position` on. That offset is
+-- above `at`, and at most the section's length.
 pub record IsBehind (target : Target) (section : List ℕ) (at : ℕ) (after : ReadPosition) : Type 0 where
   pub later : at < after.position
   pub inside : after.position ≤ length section
   pub left : after ≡ section_from target section after.position
 
 -- The program of a record lies after the record's offset, inside a section of this size, and has
--- the same target.
+-- this target.
 pub record LiesIn (target : Target) (size offset : ℕ) (program : ReadPosition) : Type 0 where
   pub begins : offset < program.position
   pub ends : program.position + length program.rest ≤ size

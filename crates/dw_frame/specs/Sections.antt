@@ -19,8 +19,8 @@ use Rattle.dw_frame.specs.Records.{is_version, Cie, Record, cie_record, fde_reco
 
 -- ---- headers
 
--- The fields between the length of a CIE and its program, without those that must have one
--- particular value.
+-- The fields between the length of a CIE and its program, except the fields that may have only one
+-- value.
 pub record CieHeader : Type 0 where
   pub version : ℕ
   pub code_alignment_factor : ℕ
@@ -74,9 +74,9 @@ factors version =
       return_address_register = return_address_register;
     })))))
 
--- The fields of a CIE after the augmentation. Only version 4 has two sizes: the address size, which
--- must be the target's, and the segment selector size, which must be 0. Then come the alignment
--- factors and the return address register.
+-- The fields of a CIE after the augmentation. In version 4 alone, two sizes come first: the address
+-- size, which must be the target's, and the segment selector size, which must be 0. Then, in every
+-- version, come the alignment factors and the return address register.
 abbrev pub behind_augmentation : Target → ℕ → Fields Header
 behind_augmentation target version =
     if version == 4

@@ -18,8 +18,8 @@ pub struct UnwindExpression<'a> {
 
 /// A call frame instruction with its operands as they are encoded (DWARF 5, sections 6.4.2 and
 /// 7.24). A `delta` isn't yet multiplied by the CIE's code alignment factor, nor is a
-/// `factored_offset` by its data alignment factor. An `offset` is in bytes. Register numbers are
-/// those of the columns of the unwind table.
+/// `factored_offset` by its data alignment factor. An `offset` is in bytes. A register number is a
+/// column number of the unwind table.
 #[derive(Clone, Copy, Debug)]
 pub enum CallFrameInstruction<'a> {
     /// `DW_CFA_advance_loc`: the location advances by a delta of six bits.
@@ -68,7 +68,7 @@ pub enum CallFrameInstruction<'a> {
     Undefined {
         register: u16,
     },
-    /// `DW_CFA_same_value`: a register still has the value that it had.
+    /// `DW_CFA_same_value`: a register still has the value that it has in the caller.
     SameValue {
         register: u16,
     },

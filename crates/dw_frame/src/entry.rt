@@ -53,13 +53,14 @@ pub struct FrameDescriptionEntry<'a> {
     pub initial_location: u64,
     /// The number of addresses that the FDE covers.
     pub address_range: u64,
-    /// The FDE's own instructions, which follow those of its CIE.
+    /// The FDE's own instructions, which run after the CIE's initial instructions.
     pub program: Program<'a>,
     pub ghost in_range: { initial_location + address_range < 2 ^ 64 },
 }
 
 impl<'a> FrameDescriptionEntry<'a> {
-    /// The address after the last one that the FDE covers; `initial_location` if it covers none.
+    /// The address after the highest address that the FDE covers, or `initial_location` if the FDE
+    /// covers none.
     #[inline(always)]
     pub fn end_address(&self) -> u64
         ensures { result ≡ self.now.initial_location + self.now.address_range }

@@ -10,8 +10,8 @@ ghost use Rattle.dw_frame.specs.Records.{is_version};
 
 use dw_bytes::{Cursor, Fault, FaultKind, Format, Target};
 
-/// The fields between the length of a CIE and its program, without those that must have one
-/// particular value.
+/// The fields between the length of a CIE and its program, except the fields that may have only one
+/// value.
 #[derive(Clone, Copy)]
 pub struct CieHeader {
     pub version: u8,

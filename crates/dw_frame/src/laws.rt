@@ -31,8 +31,8 @@ pub fn programs_are_instructions()
         → (instructions_of r ≡ map Ok items) ↔ AreInstructions r.target r.position r.rest items }
 {}
 
-/// Reading all instructions gives the first one and then those that follow it. Reading stops at the
-/// program's end, or at the first fault, which is then the last item.
+/// Reading all instructions gives the first instruction and then what is read after it. Reading
+/// stops at the program's end, or at the first fault, which is then the last item.
 pub fn instructions_come_in_order()
     ensures instruction { (r : ReadPosition) (i : Instruction) (after : ReadPosition)
         → instruction_at r ≡ Ok (i, after)
@@ -69,7 +69,7 @@ pub fn instructions_end_with_their_expressions()
         → EndsWithItsBlock target at (at + length bytes) i }
 {}
 
-/// Reading a section from an offset on gives the record there and then those that follow it.
+/// Reading a section from an offset on gives the record there and then what is read after it.
 /// Reading stops at the section's end, or at the first fault, which is then the last item.
 pub fn records_come_in_order()
     ensures entry { (target : Target) (section : List ℕ) (at next : ℕ) (x : Record)
@@ -96,9 +96,9 @@ pub fn records_ascend()
         → AreRecords target at section records → Ascends offset_of records }
 {}
 
-/// The `offset` of a record is that of its first byte. The record's program lies after that byte,
-/// and inside the record's bytes. The fields of the record are in their ranges (see `IsSoundRecord`
-/// in Bounds.antt).
+/// The field `offset` of a record is the offset of the record's first byte. The record's program
+/// lies after that byte, and inside the record's bytes. The fields of the record are in their
+/// ranges (see `IsSoundRecord` in Bounds.antt).
 pub fn programs_lie_in_their_records()
     ensures { (target : Target) (at : ℕ) (bytes : List ℕ) (x : Record)
         → IsRecord target at bytes x

@@ -20,15 +20,15 @@ pub fn operations_are_exact()
     ensures { (r : ReadPosition) → IsExact operation_at (EncodesOperation r.target r.position) r }
 {}
 
-/// Bytes are read to the end as operations exactly if they are the encodings of these operations,
-/// one after another.
+/// Bytes are read to the end without a fault exactly if they are the encodings of operations, one
+/// after another. Reading then gives these operations with their offsets.
 pub fn expressions_are_operations()
     ensures { (r : ReadPosition) (items : List (ℕ × Operation))
         → (operations_of r ≡ map Ok items) ↔ AreOperations r.target r.position r.rest items }
 {}
 
-/// Reading all operations gives the first one and then those that follow it. Reading stops at the
-/// end of the bytes, or at the first fault, which is then the last item.
+/// Reading all operations gives the first operation and then what is read after it. Reading stops
+/// at the end of the bytes, or at the first fault, which is then the last item.
 pub fn operations_come_in_order()
     ensures operation { (r : ReadPosition) (i : Operation) (after : ReadPosition)
         → operation_at r ≡ Ok (i, after)

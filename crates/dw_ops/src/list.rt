@@ -15,8 +15,8 @@ use std::alloc::Global;
 /// All operations of an expression, each with its offset, in one pass over the bytes. Memory is
 /// allocated only for more than 16 operations.
 ///
-/// The fault that is returned is the first one that `decode_one` gives from left to right, or
-/// `Memory` at 0 if memory for more than 16 operations can't be allocated.
+/// The fault that is returned is the fault of the first operation that can't be read
+/// (`decode_one`), or `Memory` at 0 if memory for more than 16 operations can't be allocated.
 pub fn operations<'a>(
     alloc: Global,
     expression: &Expression<'a>,

@@ -102,7 +102,7 @@ pub enum Operation<'a> {
     Fbreg { offset: i64 },
     /// `DW_OP_bregx`: pushes the register's value plus the offset.
     Bregx { register: u16, offset: i64 },
-    /// `DW_OP_piece`: the location described before this operation is that of a piece of `size`
+    /// `DW_OP_piece`: the operations before this one describe the location of a piece of `size`
     /// bytes.
     Piece { size: u32 },
     /// `DW_OP_deref_size`: replaces the top, an address, by the `size` bytes at that address,
@@ -114,8 +114,8 @@ pub enum Operation<'a> {
     PushObjectAddress,
     /// `DW_OP_call_frame_cfa`: pushes the CFA.
     CallFrameCfa,
-    /// `DW_OP_bit_piece`: the location described before this operation is that of a piece of `size`
-    /// bits, which begins `offset` bits into the location.
+    /// `DW_OP_bit_piece`: the operations before this one describe the location of a piece of `size`
+    /// bits, which begins `offset` bits into that location.
     BitPiece { size: u32, offset: u32 },
     /// `DW_OP_implicit_value`: the object isn't in memory; its value is `bytes`.
     ImplicitValue { bytes: &'a [u8] },
