@@ -68,7 +68,7 @@ pub enum CallFrameInstruction<'a> {
     Undefined {
         register: u16,
     },
-    /// `DW_CFA_same_value`: a register still has the value that it has in the caller.
+    /// `DW_CFA_same_value`: a register still has the caller's value.
     SameValue {
         register: u16,
     },

@@ -143,8 +143,8 @@ same_placed t at s = elim (same_tells (stack_of t) s) [
   ]
 ]
 
--- either the caller passed no states or the right state for this operation, or the caller passed
--- states and has no right state for this operation
+-- either the caller passed no states, or passed the right state for this operation, or passed
+-- states without the right state for this operation
 given_tells : (ops : List Placed) (len : ℕ) (given : Option (List State)) (k : ℕ) (s : StackState)
     → Given ops len given k s ⊎ ((Given ops len given k s → ⊥) × (given ≡ None → ⊥))
 given_tells ops len None k s = inl tt

@@ -143,8 +143,8 @@ pub fn check_expression<'a>(
 }
 
 /// Checks an expression together with states from any source, such as `Certificate::states`.
-/// Accepts exactly if the expression passes the check and `states` are the states that paths have
-/// before its operations, including their offsets.
+/// Unless memory runs out, accepts exactly if the expression passes the check and `states` are the
+/// states that paths have before its operations, including their offsets.
 ///
 /// An error is the first fault; the numbers in parentheses are those of `FaultKind`. The whole
 /// expression is read first. Then there must be as many states as operations (70, at 0). Then
