@@ -226,8 +226,8 @@ module _ (kind : Kind) (ops : List Placed) (len k pieces : ℕ) (s : StackState)
             (subst (λ (d : StackEffect). TargetIs ops len k d.jump target) at.is is);
       }
 
--- if the table has one known state for an operation, and the state that the caller passed for it,
--- if any, is the same, then the first check that the operation fails is the fault of its step
+-- if the table has one known state for an operation, and the caller passed that state for it or no
+-- states at all, then the first check that the operation fails is the fault of its step
 pub step_objects : (kind : Kind) (ops : List Placed) (len : ℕ) (given : Option (List State)) (i pieces : ℕ) (old : List InState)
     (f : FaultKind) (s : StackState) → slice_index_or old i Unreached ≡ Known s → Given ops len given i s
     → Objects kind ops len i pieces s f → StepObjects kind ops len given i pieces old f

@@ -158,8 +158,8 @@ begun kind e state is = subst (λ (s : StackState). JudgedSoFar kind e 0 0 s s.h
   straight = λ laid. straight_start kind (operations_in (target_of e) (bytes_of e)) (length (bytes_of e)) laid;
 })
 
--- If there are no more pieces than operations, the same holds after one more operation; b tells
--- whether that operation is a piece.
+-- If there are no more pieces than operations, that stays true after one more operation; b tells
+-- whether the new operation is a piece.
 one_more : (b : Bool) (pieces count : ℕ) → pieces ≤ count → pieces + cond b 1 0 ≤ count + 1
 one_more true pieces count le = omega (arith, le)
 one_more false pieces count le = omega (arith, le)

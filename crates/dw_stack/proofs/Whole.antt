@@ -57,8 +57,8 @@ module _ (kind : Kind) (target : Target) (bytes : List ℕ) (ops : List Placed) 
         )))
   ]
 
--- if the states that the caller passed are those that the paths have, they are the states of the
--- operations
+-- if the caller passed as many states as there are operations, and each is the state that paths
+-- have (`KnowsOnly`), then `AreStates` holds for these states
 pub states_known : (kind : Kind) (ops : List Placed) (len : ℕ) (given : List State) → length given ≡ length ops
     → KnowsOnly kind ops len (Some given) → AreStates kind ops len given
 states_known kind ops len given long knows = record {

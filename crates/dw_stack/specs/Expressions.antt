@@ -31,7 +31,7 @@ pub record IsGoodExpression (kind : Kind) (target : Target) (bytes : List ℕ) :
   pub encoded : AreOperations target 0 bytes (operations_in target bytes)
   pub good : IsGood kind (operations_in target bytes) (length bytes)
 
--- the states are those that the expression's paths have before its operations, in order
+-- `states` has the state that paths have before each operation, in order of the operations
 abbrev pub AreStatesOf : Kind → Target → List ℕ → List State → Type 0
 AreStatesOf kind target bytes states = AreStates kind (operations_in target bytes) (length bytes) states
 
@@ -58,7 +58,7 @@ IsFaultOf kind target bytes given f =
     ⊎ ((reading_fault target bytes ≡ None) × ¬ IsOtherCount target bytes given × IsFirstFault kind (operations_in target bytes)
     (length bytes) given f.kind f.at)
 
--- what a caller knows of a checked expression
+-- a checked expression: its kind, target and bytes, its depth, and the number of its operations
 pub record Checked : Type 0 where
   pub kind : Kind
   pub target : Target

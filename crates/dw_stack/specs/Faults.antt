@@ -14,13 +14,13 @@ use Rattle.dw_stack.specs.Effects.{effect_of}
 use Rattle.dw_stack.specs.States.{stands_alone, height_after, HasResult, at_offset}
 use Rattle.dw_stack.specs.Paths.{Placed, place, branch_target, branch_target_of, Reaches, has_operation, is_piece, pieces_before}
 
--- if states are passed to be checked (see `recheck`), the one at index k is t
+-- no states are passed to be checked (see `recheck`), or the passed state at index k is t
 abbrev pub Keeps : Option (List State) → ℕ → State → Type 0
 Keeps None k t = Unit {0}
 Keeps (Some given) k t = slice_get given k ≡ Some t
 
--- if states are passed to be checked, the one for the operation numbered k is s with the
--- operation's offset
+-- no states are passed to be checked, or the passed state for the operation numbered k is s with
+-- the operation's offset
 abbrev pub Given : List Placed → ℕ → Option (List State) → ℕ → StackState → Type 0
 Given ops len given k s = Keeps given k (at_offset (place ops len k) s)
 

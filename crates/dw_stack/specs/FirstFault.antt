@@ -103,7 +103,7 @@ asked_last kind ops len (s ∷ others) =
     ∷ else_fault (has_result kind s.mode (length ops == 0) s.pieced s.height) fault.EndsEmpty len
     ∷ []
 
--- the questions about the operations from the one numbered k on, and then about the end
+-- the questions about the operations `left`, which are numbered from k on, and then about the end
 abbrev pub asked_from : Kind → List Placed → ℕ → ℕ → List Placed → List Question
 asked_from kind ops len k [] = asked_last kind ops len (states_to kind ops len k)
 asked_from kind ops len k (x ∷ left) =

@@ -31,5 +31,5 @@ pub mod Views
 
 -- the check of one operation in one state
 pub mod Judge
--- the table of what is known of the state before each operation, by which one pass checks all paths
+-- the table with which one pass checks all paths: what is known of the state before each operation
 pub mod InStates

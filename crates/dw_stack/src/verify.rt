@@ -30,8 +30,8 @@ fn are_as_many_states(given: Option<&[State]>, count: usize) -> bool
     }
 }
 
-/// Reads the operations, then checks them in one pass. If `given` has states, they must equal those
-/// that the pass finds.
+/// Reads the operations, then checks them in one pass. If `given` has states, they must equal the
+/// states that the pass finds.
 fn check_with_states<'a>(
     alloc: Global,
     expression: Expression<'a>,

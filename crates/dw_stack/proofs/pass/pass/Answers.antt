@@ -125,7 +125,7 @@ module _ (kind : Kind) (ops : List Placed) (len : ℕ) (laid : IsLaidOut ops len
       → get_or in_states (length ops) Unreached ≡ Known s
   end_state a s e is = e ∙ arrived_is a s is
 
--- the `InState` at the end is the one that the code read from the last slot
+-- reading equal lists at equal indexes gives the same `InState`
 last_read : (xs items : List InState) (n m : ℕ) → xs ≡ items → m ≡ n → get_or items m Unreached ≡ get_or xs n Unreached
 last_read xs items n m same long = ap (get_or_at m) (sym same) ∙ ap (λ (k : ℕ). get_or xs k Unreached) long
   where
