@@ -80,7 +80,7 @@ turn-of {X} read forward n r x after long is =
     ∙ (ap (λ y. and_then y (at_most_of read n)) is ∙ ap (λ (items : List (Result X Fault)). Ok x ∷ items)
     (enough-same read forward n (length after.rest) after (omega (arith, less)) (omega arith))))
 
--- if a thing is read, it comes first in the list, and then the things after it
+-- if the first read gives x, the list is x followed by what is read after it
 pub goes-on : {X : Type 0} (read : ReadPosition → Result (X × ReadPosition) Fault) → Forward read
     → (r : ReadPosition) (x : X) (after : ReadPosition) → read r ≡ Ok (x, after) → sequence_of read r ≡ Ok x ∷ sequence_of read after
 goes-on read forward r x after is = let less = forward r x after is in
@@ -92,7 +92,7 @@ unfolding sequence_of
 stops-of read n r fault long is = ap (λ k. at_most_of read k r) long
     ∙ (turn read n r (omega arith) ∙ ap (λ x. and_then x (at_most_of read n)) is)
 
--- if the first read gives a fault, that fault is the only item of the list
+-- if bytes are left and the first read gives a fault, that fault is the only item of the list
 pub stops : {X : Type 0} (read : ReadPosition → Result (X × ReadPosition) Fault) (r : ReadPosition) (fault : Fault) → 0 < length r.rest
     → read r ≡ Err fault → sequence_of read r ≡ Err fault ∷ []
 stops read r fault some is = stops-of read (length r.rest - 1) r fault (omega arith) is

@@ -90,7 +90,7 @@ pub fn records_lie_behind_each_other()
         → IsBehind target section at after }
 {}
 
-/// Each record of a section begins after the one before it.
+/// The records of a section are in order of their offsets, and no two have the same offset.
 pub fn records_ascend()
     ensures { (target : Target) (at : ℕ) (section : List ℕ) (records : List Record)
         → AreRecords target at section records → Ascends offset_of records }

@@ -39,8 +39,8 @@ abbrev pub ReceivesAt : Option ℕ → List InState → StackState → List InSt
 ReceivesAt None old s new = new ≡ old
 ReceivesAt (Some j) old s new = Receives old j s new
 
--- the table `new` is `old` after `out.state`, the state after the operation numbered i, was passed
--- on to the operations that may run next
+-- passing `out.state`, the state after the operation numbered i, on to the operations that may run
+-- next turns the table `old` into the table `new`
 pub record PassesOn (old : List InState) (i : ℕ) (out : OutState) (new : List InState) : Type 0 where
   pub mid : List InState
   pub next : ReceivesIf out.falls_through old (i + 1) out.state mid

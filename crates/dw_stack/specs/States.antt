@@ -1,6 +1,6 @@
 -- The state of the stack: its height, what has been named (the mode), and whether there was a
 -- piece. Which operations a state allows, and the state after an operation (DWARF 5, section 2.6).
--- That two paths to an operation must have the same state is a rule of this checker.
+-- One rule is this checker's own: all paths to an operation must have the same state.
 use Rattle.std.specs.Prelude.{ℕ, ◌+◌, ◌-◌, ◌==◌, nat_le, ◌&&◌, ◌||◌, Bool, true, false, not, IsTrue}
 use Rattle.dw_stack.specs.declared.effect.Role.{Role}
 use Rattle.dw_stack.specs.declared.effect.Role.TheVariants as role
