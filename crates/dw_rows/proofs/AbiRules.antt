@@ -185,7 +185,7 @@ none-above low (e ∷ es) r t high =
     let other : eqb e.0 r ≡ false = let below : e.0 < 65536 = t.1 in grind (arith, nat_tests, below, high) in
     rw other (none-above (e.0 + 1) es r t.3 high)
 
--- the roles that a table with the rules of `abi_rule` stands for are those of `abi_of`
+-- `roles_of` reads from a table with the rules of `abi_rule` the roles that `abi_of` defines
 pub has-roles : (registers : List ℕ) (pointer : Option ℕ) (rules : List (ℕ × PlacedRule)) → AreRegisters registers
     → AreRegisters (option_to_list pointer) → rules ≡ rule_list (abi_rule registers pointer) → roles_of rules ≡ abi_of registers pointer
 has-roles registers pointer rules fit fits is = fun_ext each
@@ -243,7 +243,8 @@ pub is-none : (o : Option ℕ) → ((n : ℕ) → o ≡ Some n → ⊥) → o �
 is-none None other = refl
 is-none (Some n) other = absurd (other n refl)
 
--- without a stack pointer there is no fault, and the rules are those of `abi_rule`
+-- if the loop over the callee-saved registers reached their end and there is no stack pointer, the
+-- ABI has no fault and the rules are those of `abi_rule`
 pub made-without : (registers : List ℕ) (pointer : Option ℕ) (place : ℕ) (rules : List (ℕ × PlacedRule)) → length registers ≤ MAX_KEPT
     → KeepsUpTo registers (option_to_list pointer) place rules → length registers ≤ place → place ≤ length registers → pointer ≡ None
     → (abi_fault registers pointer ≡ None) × (rules ≡ rule_list (abi_rule registers pointer))
@@ -253,8 +254,8 @@ made-without registers pointer place rules few k ge le none =
       all.0 ∙ ap (λ (o : Option ℕ). rule_list (abi_rule registers o)) (sym none),
     )
 
--- if the stack pointer is also among the callee-saved registers, the fault is AbiTwice, at their
--- count
+-- if the loop over the callee-saved registers reached their end and the stack pointer is one of
+-- them, the fault is AbiTwice, and its index is the number of callee-saved registers
 pub kept-pointer : (registers : List ℕ) (pointer : Option ℕ) (place : ℕ) (rules : List (ℕ × PlacedRule)) (n : ℕ)
     → length registers ≤ MAX_KEPT
     → KeepsUpTo registers (option_to_list pointer) place rules → length registers ≤ place → place ≤ length registers → pointer ≡ Some n
@@ -266,8 +267,8 @@ kept-pointer registers pointer place rules n few k ge le is fits some =
     (all.1 ∙ ap (λ (o : Option ℕ). place_of_second registers (option_to_list o)) is
     ∙ second-here registers n [] (named-some registers rules n all.0 fits some))
 
--- if the stack pointer isn't among the callee-saved registers, there is no fault, and the rules are
--- those of `abi_rule`
+-- if the loop over the callee-saved registers reached their end and the stack pointer isn't one of
+-- them, the ABI has no fault and the rules are those of `abi_rule`
 pub made-with : (registers : List ℕ) (pointer : Option ℕ) (place : ℕ) (rules new : List (ℕ × PlacedRule)) (n : ℕ)
     → length registers ≤ MAX_KEPT
     → KeepsUpTo registers (option_to_list pointer) place rules → length registers ≤ place → place ≤ length registers → pointer ≡ Some n
@@ -299,7 +300,7 @@ few-named (Some n) = omega arith
 abbrev pub twice : ℕ → Fault
 twice at = record { kind = AbiTwice; at = at }
 
--- the index that a fault names is that of a callee-saved register, or the count of these registers
+-- the index that a fault names is at most the number of callee-saved registers
 pub abi-stands : (registers : List ℕ) (pointer : Option ℕ) (fault : Fault) → abi_fault registers pointer ≡ Some fault
     → fault.at ≤ length registers
 abi-stands registers pointer fault is = go (ltb MAX_KEPT (length registers)) refl is

@@ -20,13 +20,14 @@ use Rattle.dw_rows.proofs.Faults.{option_or-none, none-each}
 use Rattle.dw_rows.proofs.Parts.{parts-pass, covers-once-in}
 use Rattle.dw_rows.proofs.SectionOrder.{cies-ascend, fdes-ascend, cies-sound, fdes-sound}
 
--- the records of a checked section were read, and no part of the check found a fault
+-- the CIEs and FDEs of a section that passed the check were read without a fault
 pub checked-read : (s : FrameSection) → IsChecked s → fault_in (entries_of s.target s.section) ≡ None
 unfolding section_fault
 checked-read s k =
     let frame = frame_of s.target s.section in
     (option_or-none (fault_in (entries_of s.target s.section)) (parts_fault frame.cies frame.fdes) k.faultless).0
 
+-- checking the CIEs and FDEs of such a section found no fault
 pub checked-parts : (s : FrameSection) → IsChecked s → parts_fault s.cies s.fdes ≡ None
 unfolding section_fault
 checked-parts s k =
@@ -59,7 +60,7 @@ checked-fdes-sound s k f among = fdes-sound s.target s.section f (subst (λ (t :
 pub checked-fits : (s : FrameSection) → IsChecked s → (f : Fde) → Contains s.fdes f → f.initial_location + f.address_range ≤ top_of s.target
 checked-fits s k f among = (checked-fdes-sound s k f among).range
 
--- the expressions of a checked section are those of its programs
+-- every expression listed for a checked section is in one of the section's programs
 pub in-programs : (s : FrameSection) → IsChecked s → (e : LocatedExpression) → Contains s.expressions e
     → Contains (frame_expressions s.cies s.fdes) e
 in-programs s k e among =
@@ -67,7 +68,8 @@ in-programs s k e among =
     let there : Contains (frame_expressions t.cies t.fdes) e = subst (λ (u : FrameSection). Contains u.expressions e) k.whole among in
     subst (λ (u : FrameSection). Contains (frame_expressions u.cies u.fdes) e) (sym k.whole) there
 
--- an FDE has as many rows with expressions as with the offsets of expressions
+-- FDEs have equally many rows whether a row holds expressions (`rows_in`) or their offsets
+-- (`placed_rows`)
 count-given : (s : FrameSection) (fdes : List Fde) → length (flat_map (placed_rows s.cies) fdes) ≡ length (flat_map (rows_in s) fdes)
 count-given s [] = refl
 count-given s (f ∷ fdes) =
@@ -78,7 +80,8 @@ count-given s (f ∷ fdes) =
     let later = count-given s fdes in
     omega (arith, placed, given, same, later)
 
--- if the parts of a section have no fault, what the code stores about the section meets `IsKept`
+-- if reading a section and checking its CIEs and FDEs finds no fault, what the code stores about the
+-- section meets `IsKept`
 pub kept : (target : Target) (section : List ℕ) (cies : List Cie) (left : List KeptRules) (fdes : List Fde) (index : List IndexEntry)
     → fault_in (entries_of target section) ≡ None → cies ≡ (frame_of target section).cies → fdes ≡ (frame_of target section).fdes
     → parts_fault cies fdes ≡ None → AreLeftBy cies left → IsAddressIndex fdes index → (expressions : List LocatedExpression)

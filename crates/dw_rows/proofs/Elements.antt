@@ -23,7 +23,7 @@ pub some-element : {X : Type 0} (xs : List X) (i : ℕ) → i < length xs → X
 some-element [] i h = absurd (omega arith)
 some-element (x ∷ xs) i h = x
 
--- if a list is sorted by the key of f of each element, the mapped list is sorted by the key
+-- if a list is sorted by `key (f x)` of its elements x, the mapped list is sorted by `key`
 pub sorted-map : {X Y : Type 0} (f : X → Y) (key : Y → ℕ) (xs : List X) → IsNonDecreasingBy (λ x. key (f x)) xs
     → IsNonDecreasingBy key (map f xs)
 sorted-map f key xs sorted i j e le lt =
@@ -36,13 +36,12 @@ sorted-map f key xs sorted i j e le lt =
     let h = sorted i j d le j_in in
     subst (λ v. key v ≤ key (get_or (map f xs) j e)) (sym at_i) (subst (λ v. key (f (get_or xs i d)) ≤ key v) (sym at_j) h)
 
--- the FDE at an index has the same offset in the code's list and in the list of the records that it
--- stands for
+-- mapping the code's FDEs to the specification's by `fde_of` keeps the offset of each FDE
 pub offset-at : (xs : List FrameDescriptionEntry) (i : ℕ) (x : FrameDescriptionEntry) (d : Fde) → i < length xs
     → (get_or (map fde_of xs) i d).offset ≡ (get_or xs i x).offset
 offset-at xs i x d i_in = ap (λ (f : Fde). f.offset) (get_or-map fde_of xs i x d i_in)
 
--- if the mapped list is sorted by a key, the list is sorted by the key of f of each element
+-- if the mapped list is sorted by `key`, the list is sorted by `key (f x)` of its elements x
 pub sorted-back : {X Y : Type 0} (f : X → Y) (key : Y → ℕ) (xs : List X) → IsNonDecreasingBy key (map f xs)
     → IsNonDecreasingBy (λ x. key (f x)) xs
 sorted-back f key xs sorted i j d le lt =
@@ -66,7 +65,7 @@ all-back : {X Y : Type 0} (f : X → Y) (at : Y → ℕ) (n : ℕ) (xs : List X)
 all-back f at n [] all = tt
 all-back f at n (x ∷ xs) all = (all.0, all-back f at n xs all.1)
 
--- if the mapped list ascends by `at`, the list ascends by `at` of f of each element
+-- if the mapped list ascends by `at`, the list ascends by `at (f x)` of its elements x
 pub ascending-back : {X Y : Type 0} (f : X → Y) (at : Y → ℕ) (xs : List X) → Ascends at (map f xs) → Ascends (λ x. at (f x)) xs
 ascending-back f at [] up = tt
 ascending-back f at (x ∷ xs) up = (all-back f at (at (f x)) xs up.0, ascending-back f at xs up.1)

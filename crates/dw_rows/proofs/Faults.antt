@@ -28,12 +28,13 @@ from-here : {X Y : Type 0} (view : X → Y) (t : Y → Option Fault) (xs : List 
 from-here view t xs i x lt is =
     ap (λ l. first_fault t (map view l)) (drop-at xs i x lt is)
 
--- if the element at index i has no fault, the first fault from i on is that from i + 1 on
+-- if the element at index i has no fault, the first fault from index i on is the first fault from
+-- index i + 1 on
 pub passed : {X Y : Type 0} (view : X → Y) (t : Y → Option Fault) (xs : List X) (i : ℕ) (x : X) → i < length xs → get_or xs i x ≡ x
     → t (view x) ≡ None → first_fault t (map view (drop i xs)) ≡ first_fault t (map view (drop (i + 1) xs))
 passed view t xs i x lt is none = from-here view t xs i x lt is ∙ ap (λ o. option_or o (first_fault t (map view (drop (i + 1) xs)))) none
 
--- if the element at index i has a fault, that is the first fault from i on
+-- if the element at index i has a fault, that fault is the first from index i on
 pub refused : {X Y : Type 0} (view : X → Y) (t : Y → Option Fault) (xs : List X) (i : ℕ) (x : X) (f : Fault) → i < length xs
     → get_or xs i x ≡ x → t (view x) ≡ Some f → first_fault t (map view (drop i xs)) ≡ Some f
 refused view t xs i x f lt is some = from-here view t xs i x lt is ∙ ap (λ o. option_or o (first_fault t (map view (drop (i + 1) xs)))) some
