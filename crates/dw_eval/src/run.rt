@@ -157,7 +157,7 @@ impl<'a, const PLACES: usize> Run<'a, PLACES> {
     }
 
     /// Where the object is, at the end of a location expression without pieces. `is_empty` says
-    /// that the expression has no operations.
+    /// whether the expression has no operations.
     pub fn result(&self, is_empty: bool) -> Location<'a>
         requires { GivesResult Kind.Location is_empty (configuration_of 0 self.now []) }
         ensures { single (location_description_of result) ≡ result_of Kind.Location is_empty

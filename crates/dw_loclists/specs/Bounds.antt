@@ -16,7 +16,7 @@ IsUpTo at (Some e) = at ≤ e.offset + length e.bytes
 abbrev pub IsBefore : ℕ → Entry → ℕ → Type 0
 IsBefore begin entry at = (at ≤ begin) ⊎ IsUpTo at (expression_in entry)
 
--- the items ascend: the number that `at` gives for an item is lower than those of all later items
+-- the items ascend: `at` gives each item a lower number than it gives any later item
 abbrev pub Ascends : {X : Type 0} → (X → ℕ) → List X → Type 0
 Ascends at [] = Unit {0}
 Ascends at (x ∷ xs) = AllByRecursion (λ y. at x < at y) xs × Ascends at xs

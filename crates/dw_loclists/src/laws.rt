@@ -23,7 +23,7 @@ pub fn entries_are_unambiguous()
 
 /// Entries, lists and tables are read exactly from the bytes that encode them. For lists and tables
 /// this includes the further rules: a list has at most one default, no range ends before it begins,
-/// each expression passes the check as a location, and each array offset is that of a list.
+/// each expression passes the check as a location, and each array offset leads to a list.
 pub fn list_reads_are_exact()
     ensures entries { (r : ReadPosition) → IsExact entry_at (IsEntry r.target r.position) r }
     ensures lists { (r : ReadPosition) → IsExact list_at (IsList r.target r.position) r }
@@ -77,9 +77,9 @@ pub fn checked_list_sections()
         expression_in e ≡ Some b → b.target ≡ s.target }
 {}
 
-/// Whether an entry holds at an address is decided with the base address that the last base_address
-/// before the entry in its list sets, or with the unit's if there is none. A list has at most one
-/// default.
+/// Whether an entry holds at an address is decided with the base address that the nearest
+/// base_address in front of the entry in its list sets, or with the unit's base address if there is
+/// none. A list has at most one default.
 pub fn entries_hold_by_the_base_before_them()
     ensures held { (base address : ℕ) (before : List Entry) (e : Entry) (behind : List Entry) →
         bounded_at base address (before ++ e ∷ behind) ≡ bounded_at base address before

@@ -139,9 +139,10 @@ impl<'a> CheckedLists<'a> {
         find_list(&self.contents.lists, u64::from(offset))
     }
 
-    /// The expressions of `list`, a list of this section, that hold at `address`, in order: those
-    /// of all entries whose range contains the address, or, if there are none, the default's.
-    /// `base` is the unit's base address; sums don't wrap. Doesn't allocate.
+    /// The expressions of `list`, a list of this section, that hold at `address`, in order: the
+    /// expressions of all entries whose range contains the address. If no entry's range does, the
+    /// expression of the default_location, if the list has one. `base` is the unit's base address;
+    /// sums don't wrap. Doesn't allocate.
     pub fn locations_at(&self, list: &LocationList, base: u64, address: u64) -> LocationsAt<'_, 'a>
         requires { Contains (starts_of (lists_in self.now)) (start_of list.now) }
         ensures { (l : Loclist) → Contains (lists_in self.now) l →

@@ -194,8 +194,8 @@ all-one : {X : Type 0} (P : X → Type 0) (x : X) → P x → All P (x ∷ [])
 all-one P x h zero d lt = h
 all-one P x h (suc k) d lt = absurd (omega arith)
 
--- if the entries are those of the first `place` FDEs, and the next FDE covers an address, the
--- entries with one for that FDE at the end are those of the first `place` + 1 FDEs
+-- If `entries` are the entries of the first `place` FDEs, and the next FDE covers an address, adding
+-- an entry for that FDE at the end gives the entries of the first `place` + 1 FDEs.
 pub entries-more : (fdes : List FrameDescriptionEntry) (place : ℕ) (x : FrameDescriptionEntry) (entries : List IndexEntry)
     → place < length fdes → get_or fdes place x ≡ x → 0 < x.address_range → All (IsEntry (map fde_of fdes)) entries
     → map (fde_at (map fde_of fdes)) entries ≡ filter is_some_fde (take place (map fde_of fdes))
@@ -274,7 +274,7 @@ starts-sorted fdes entries is i j d le lt =
     let h = sorted-back (fde_at fdes) initial_of entries is.index_of.ordered.sorted i j d le lt in
     omega (arith, h)
 
--- if the entries from an index on begin above an address, so do their FDEs
+-- if the entries from the index `place` on start above an address, their FDEs begin above it
 pub starts-above : (fdes : List Fde) (entries : List IndexEntry) (place a : ℕ) → All (IsEntry fdes) entries
     → ((k : ℕ) (d : IndexEntry) → place ≤ k → k < length entries → a < (get_or entries k d).start)
     → (k : ℕ) (d : Fde) → place ≤ k → k < length (map (fde_at fdes) entries) → a < (get_or (map (fde_at fdes) entries) k d).initial_location

@@ -22,7 +22,7 @@ three_ways i j = elim (cases_lt i j) [
 pub before_or_at : (k i : ℕ) → k < i + 1 → (k < i) ⊎ (k ≡ i)
 before_or_at k i lt = elim (cases_lt k i) [ inl low ↦ inl low | inr le ↦ inr (omega arith) ]
 
--- if i is neither less nor greater than j, both are equal
+-- if i is neither less nor greater than j, i and j are equal
 pub squeeze : (i j : ℕ) → ¬ (i < j) → ¬ (j < i) → i ≡ j
 squeeze i j low high = elim (three_ways i j) [ inl lt ↦ absurd (low lt) | inr rest ↦ elim rest [ inl e ↦ e | inr lt ↦ absurd (high lt) ] ]
 

@@ -1,5 +1,5 @@
--- The records that are read from a section are in order of offset, and cover only addresses that
--- the section's target has.
+-- The CIEs and FDEs that are read from a section are in order of offset, and the FDEs cover only
+-- addresses that the section's target has.
 use Rattle.std.proofs.Common.{◌≡◌, ℕ, suc, zero, ◌<◌, List, [], ◌∷◌, length, map, Some, None, Result, Ok, Err, Contains, refl, ap, arith}
 use Rattle.std.specs.List.{AllByRecursion, filter_map}
 use Rattle.dw_bytes.specs.declared.target.Target.{Target}

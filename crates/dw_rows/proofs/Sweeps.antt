@@ -175,8 +175,8 @@ covers-once fdes up apart a f g f_in g_in cf cg =
     let high : ¬ (g.offset < f.offset) = λ lt. apart f f_in g g_in lt (a, cg, cf) in
     ascending-same fde_offset fdes up f g f_in g_in (omega (arith, low, high))
 
--- if no two FDEs with offsets up to that of x share an address, no two with offsets up to that of
--- an earlier FDE do
+-- If no two FDEs with offsets up to x's offset share an address, neither do two FDEs with offsets
+-- up to the offset of an earlier FDE.
 pub apart-below : (fdes index : List Fde) (i : ℕ) (x : Fde) → Ascends fde_offset fdes → i < length fdes → get_or fdes i x ≡ x
     → ApartWithin index x.offset → (k : ℕ) (d : Fde) → k ≤ i → ApartWithin index (get_or fdes k d).offset
 apart-below fdes index i x up i_in i_is apart k d le f g f_in g_in order within shared =

@@ -23,8 +23,8 @@ use Rattle.dw_rows.proofs.GivenRows.{length-with}
 use Rattle.dw_rows.proofs.Indexes.{AreDistinct}
 use Rattle.dw_rows.proofs.TableRows.{rows-pushed, with-cfa}
 
--- if `room < less` implies `other < more`, a lack of room in terms of `room` and `less` is one in
--- terms of `other` and `more`
+-- if `room < less` implies `other < more`, then `LacksRoom why room less` implies
+-- `LacksRoom why other more`
 pub lacks-more : (why : Unmade) (room other less more : ℕ) → (room < less → other < more) → LacksRoom why room less → LacksRoom why other more
 lacks-more Memory room other less more up h = tt
 lacks-more Room room other less more up h = up h
