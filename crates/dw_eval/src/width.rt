@@ -8,7 +8,7 @@ ghost use Rattle.dw_eval.specs.Numbers.{width_of, wrap, twos_complement, truth};
 
 use dw_bytes::AddressSize;
 
-/// The width w of a stack entry in bits: an entry is as wide as an address (DWARF 5, section 2.5.1).
+/// The width w of a stack entry in bits, which is the width of an address (DWARF 5, section 2.5.1).
 /// The results of the methods are taken modulo 2^w.
 ///
 /// ```rust

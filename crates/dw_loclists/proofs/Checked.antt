@@ -30,8 +30,8 @@ no-fault : (ts : List Table) → fault_in (all-read ts) ≡ None
 no-fault [] = refl
 no-fault (t ∷ ts) = no-fault ts
 
--- if reading a section gives the tables `ts` and then those from offset `at` on, and `at` isn't
--- before the section's end, `ts` are all tables of the section
+-- if reading a section gives the tables `ts` and then the tables from offset `at` on, and `at` is at
+-- or past the section's end, `ts` are all tables of the section
 pub all-tables : (target : Target) (section : List ℕ) (at : ℕ) (ts : List Table)
     → tables_of target section ≡ all-read ts ++ tables_from target section at → length section ≤ at → tables_of target section ≡ all-read ts
 all-tables target section at ts is h = is ∙ (ap (λ (xs : Items). all-read ts ++ xs) (at-end target section at h) ∙ nothing (all-read ts))
@@ -74,8 +74,8 @@ map-append-read : (ts : List Table) (t : Table) (items : Items) → all-read ts 
 map-append-read [] t items = refl
 map-append-read (u ∷ ts) t items = ap (λ (xs : Items). Ok u ∷ xs) (map-append-read ts t items)
 
--- if reading a section gives the tables `ts` and then those from offset `at` on, and the table at
--- `at` is t, reading gives `ts`, then t, and then the tables after t
+-- if reading a section gives the tables `ts` and then the tables from offset `at` on, and the table
+-- at `at` is t, reading gives `ts`, then t, and then the tables after t
 pub one-more : (target : Target) (section : List ℕ) (at next : ℕ) (ts : List Table) (t : Table)
     → tables_of target section ≡ all-read ts ++ tables_from target section at
     → table_at (section_from target section at) ≡ Ok (t, section_from target section next)

@@ -221,7 +221,7 @@ unfolding checked_entry_at
 checked-refused has_default r f read =
     ap (λ (x : Result (Entry × ReadPosition) Fault). x >>= λ y. unless_fault (entry_fault has_default r.position y.0) y) read
 
--- an offset that is at most that of an entry's first byte, or that of its expression's end, isn't
+-- an offset that is at most the offset of an entry's first byte, or of its expression's end, isn't
 -- past the end of the bytes from which the entry was read
 pub before-inside : (r : ReadPosition) (e : Entry) (after : ReadPosition) (n : ℕ) → entry_at r ≡ Ok (e, after) → IsBefore r.position e n
     → n ≤ r.position + length r.rest

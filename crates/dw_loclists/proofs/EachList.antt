@@ -422,8 +422,8 @@ next-entry r s after d next es e so_far is going or =
     so_far ∙ (ap (put_all es) (entries-more d s e after is going)
     ∙ (put-one-more es e (entries_at (d || is_default e) after) ∙ ap (λ b. put_all (es ++ e ∷ []) (entries_at b after)) or))
 
--- if the expressions of the entries `es` and then that of e were stored, the expressions of `es`
--- with e at the end were stored
+-- if the expressions of the entries `es` and then the expression of e were stored, the expressions
+-- of `es` with e at the end were stored
 pub keeps-entry : (es : List Entry) (e : Entry) (old mid new : List KeptExpression) → KeepsMore (expressions_of es) old mid
     → KeepsMore (expressions_of (e ∷ [])) mid new → KeepsMore (expressions_of (es ++ e ∷ [])) old new
 keeps-entry es e old mid new h k =

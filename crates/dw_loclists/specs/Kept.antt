@@ -81,7 +81,7 @@ nothing_kept = record { tables = []; lists = [] }
 abbrev pub with_lists : Kept → List Loclist → Kept
 with_lists k lists = record { tables = k.tables; lists = k.lists ++ starts_of lists }
 
--- k with the offset of a table, and those of its lists, added at the end
+-- k with the offset of a table and the offsets of its lists added at the end
 abbrev pub with_table : Kept → Table → Kept
 with_table k t = record { tables = k.tables ++ t.offset ∷ []; lists = k.lists ++ starts_of t.lists }
 

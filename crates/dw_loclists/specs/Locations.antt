@@ -22,8 +22,8 @@ expressions_in lists = flat_map (λ (l : Loclist). expressions_of l.entries) lis
 
 -- ---- the entries that hold at an address
 
--- the base address after these entries: the last that a base_address sets, or the base before the
--- entries if there is none
+-- the base address after these entries: what the last base_address among them sets, or the base
+-- before the entries if none of them is a base_address
 abbrev pub base_after : ℕ → List Entry → ℕ
 base_after base [] = base
 base_after base (base_address other ∷ entries) = base_after other entries
@@ -65,8 +65,8 @@ abbrev pub or_else_all : {X : Type 0} → List X → List X → List X
 or_else_all [] others = others
 or_else_all (x ∷ xs) others = x ∷ xs
 
--- The expressions of a location list that hold at an address, in order: those of all entries whose
--- range contains the address, or the default's if there are none. `base` is the unit's base
--- address.
+-- The expressions of a location list that hold at an address, in order: the expressions of all
+-- entries whose range contains the address. If no entry's range does, the expression of the
+-- default_location, if the list has one. `base` is the unit's base address.
 abbrev pub locations_of : Loclist → ℕ → ℕ → List LocatedExpression
 locations_of l base address = or_else_all (bounded_at base address l.entries) (defaults_in l.entries)

@@ -103,7 +103,7 @@ list_offset_at format array starts r = offset_at format r >>= λ offset. ok_unle
     (unless (is_among (array + offset.0) starts) BadOffsetEntry) r.position offset
 
 -- Reads a table within the bytes that its length covers: the header, the offset array, the lists,
--- and then the array a second time, to check that each of its offsets is that of a list.
+-- and then the array a second time, to check that each of its offsets leads to a list.
 unfoldable pub table_at : ReadPosition → Result (Table × ReadPosition) Fault
 table_at r = do
   framed ← framed_at r

@@ -34,7 +34,7 @@ left_of w = entries_at (is_some w.default) w.cursor
 abbrev pub IsReadable : ListWalk → Type 0
 IsReadable w = IsOk (left_of w)
 
--- the expressions in the rest of the list whose entry has a range that contains the address
+-- the expressions of the entries in the rest of the list whose range contains the address
 abbrev pub held_ahead : ℕ → ListWalk → List LocatedExpression
 held_ahead address w = bounded_at w.base address (entries_in (left_of w))
 

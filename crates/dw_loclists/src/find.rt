@@ -26,7 +26,8 @@ pub fn find_list(lists: &[LocationList], offset: u64) -> Option<LocationList>
     }
 }
 
-/// The checked expression of `block`, found among the stored expressions by its offset.
+/// The offset and the checked expression of `block`, which must be among the stored expressions. It
+/// is found there by its offset.
 pub fn find_expression<'a>(
     expressions: &[KeptExpression],
     block: Block<'a>,

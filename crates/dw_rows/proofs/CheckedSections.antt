@@ -80,8 +80,8 @@ count-given s (f ∷ fdes) =
     let later = count-given s fdes in
     omega (arith, placed, given, same, later)
 
--- if reading a section and checking its CIEs and FDEs finds no fault, what the code stores about the
--- section meets `IsKept`
+-- if reading a section and checking its CIEs and FDEs finds no fault, what the code stores about
+-- the section meets `IsKept`
 pub kept : (target : Target) (section : List ℕ) (cies : List Cie) (left : List KeptRules) (fdes : List Fde) (index : List IndexEntry)
     → fault_in (entries_of target section) ≡ None → cies ≡ (frame_of target section).cies → fdes ≡ (frame_of target section).fdes
     → parts_fault cies fdes ≡ None → AreLeftBy cies left → IsAddressIndex fdes index → (expressions : List LocatedExpression)

@@ -115,7 +115,8 @@ table-of s target es rows same lent are = record {
       (found-at s a (find (has a) rows) are.checked (are.row a));
 }
 
--- if all expressions that the rows name are among `es`, so is each expression that a found row names
+-- if all expressions that the rows name are among `es`, so are the expressions that a row found
+-- among them names
 pub found-lends : (es : List LocatedExpression) (a : ℕ) (rows : List (PlacedRow × ℕ)) (x : PlacedRow × ℕ) → All (LendsFound es) rows
     → find (has a) rows ≡ Some x → LendsFound es x
 found-lends es a rows x all = go rows (recursion_from_All (LendsFound es) rows all)

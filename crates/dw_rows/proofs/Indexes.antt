@@ -194,8 +194,8 @@ all-one : {X : Type 0} (P : X → Type 0) (x : X) → P x → All P (x ∷ [])
 all-one P x h zero d lt = h
 all-one P x h (suc k) d lt = absurd (omega arith)
 
--- If `entries` are the entries of the first `place` FDEs, and the next FDE covers an address, adding
--- an entry for that FDE at the end gives the entries of the first `place` + 1 FDEs.
+-- If `entries` are the entries of the first `place` FDEs, and the next FDE covers an address,
+-- adding an entry for that FDE at the end gives the entries of the first `place` + 1 FDEs.
 pub entries-more : (fdes : List FrameDescriptionEntry) (place : ℕ) (x : FrameDescriptionEntry) (entries : List IndexEntry)
     → place < length fdes → get_or fdes place x ≡ x → 0 < x.address_range → All (IsEntry (map fde_of fdes)) entries
     → map (fde_at (map fde_of fdes)) entries ≡ filter is_some_fde (take place (map fde_of fdes))

@@ -148,7 +148,7 @@ in-without (y ∷ xs) (suc i) (suc j) x apart lt is =
     let rest = in-without xs i j x (λ same. apart (ap suc same)) (omega arith) is in (suc rest.0, omega (arith, rest.1), rest.2)
 
 -- if the FDEs in `xs` have distinct offsets and all are in `ys`, the sum of f over `xs` is at most
--- that over `ys`
+-- the sum of f over `ys`
 sum-within : (f : Fde → ℕ) (xs ys : List Fde) → AreDistinct xs → ((x : Fde) → Contains xs x → Contains ys x)
     → sum_by f xs ≤ sum_by f ys
 sum-within f [] ys distinct within = omega arith
@@ -173,7 +173,7 @@ sum-within f (x ∷ xs) ys distinct within =
         omega (arith, twice) in
         in-without ys at.0 there.0 y apart there.1 there.2
 
--- the sum over the first k FDEs of an index is no more than that over all FDEs
+-- the sum of f over the first k FDEs of an index is at most the sum of f over all FDEs
 pub sum-first : (f : Fde → ℕ) (fdes index : List Fde) (k : ℕ) → IsIndexOf fdes index → sum_by f (take k index) ≤ sum_by f fdes
 sum-first f fdes index k is =
     omega (arith, sum_by-take-le f index k, sum-within f index fdes is.ordered.distinct is.from)

@@ -188,8 +188,8 @@ filling-table es c f rows w w' entries new sets new_sets start end h step t push
     (table-pushed es w.context.location entries new sets new_sets start
     (record { rules = w'.context.current; register = c.return_address_register }) t pushed (omega arith) lends) (omega arith)
 
--- if the programs of the CIE and the FDE name only expressions among `es`, so do the rules of the
--- next row
+-- if the programs of the CIE and the FDE name only expressions among `es`, the rules of the next row
+-- name only expressions among `es`
 pub filling-lends : (es : List LocatedExpression) (c : Cie) (f : Fde) (rows : List (PlacedRow × ℕ)) (w w' : RowCursor) (entries : List TableEntry)
     (sets : List KeptSet) (start end : ℕ) → IsFilling c f rows w entries sets → GivesNextRow w (Some (start, end)) w' → Lends es c f
     → LendsRules es w'.context.current
@@ -268,7 +268,7 @@ none-above sets (e ∷ es) a to above =
     (below-row k.rules.cfa a e.start (next_start es to) k (above 0 e (omega arith)))
     ∙ none-above sets es a to (λ m d lt. above (suc m) d (omega arith))
 
--- where the entry after index n begins; `to` if n is the last index
+-- where the entry after the entry at index n begins; `to` if there is no such entry
 abbrev pub next_at : List TableEntry → ℕ → ℕ → ℕ
 next_at [] n to = to
 next_at (e ∷ es) zero to = next_start es to
@@ -316,8 +316,8 @@ placed-below entries sets a count = none-above sets entries a 0 (λ k d lt. coun
 abbrev row-of-entry : List KeptSet → ℕ → ℕ → ℕ → ℕ → Option (PlacedRow × ℕ)
 row-of-entry sets a n start to = find (has a) (row_with start to (set_numbered sets n))
 
--- looking up an address gives the row of the last entry that begins at or below it, if that row has
--- the address
+-- looking up an address gives the row of the last entry that begins at or below the address, if
+-- that row has the address, and none otherwise
 at-place : (entries : List TableEntry) (sets : List KeptSet) (a n : ℕ) (d : TableEntry) → IsEntryCount entries a (suc n)
     → find (has a) (rows_to sets entries 0)
     ≡ row-of-entry sets a (get_or entries n d).set (get_or entries n d).start (next_at entries n 0)
@@ -325,7 +325,7 @@ at-place entries sets a n d count =
     row-at sets entries n a 0 d (omega (arith, count.bound)) (λ k d le. count.below k d (omega arith))
     (λ k d lt there. count.above k d (omega arith) there)
 
--- if all entries begin at or below the address, it is past the last row, so no row has it
+-- if all entries begin at or below the address, the last row ends at or below it, so no row has it
 pub placed-above : (entries : List TableEntry) (sets : List KeptSet) (a n : ℕ) → IsEntryCount entries a n → n ≡ length entries
     → find (has a) (rows_to sets entries 0) ≡ None
 placed-above entries sets a zero count all = placed-below entries sets a count

@@ -106,7 +106,7 @@ in-first e es = let yes : eqb e.0 e.0 ≡ true = eq-eqb e.0 e.0 refl in rw yes r
 in-behind : {E : Type 0} → (e : ℕ × RuleOver E) (es : List (ℕ × RuleOver E)) (r : ℕ) → e.0 < r → rule_in (e ∷ es) r ≡ rule_in es r
 in-behind e es r lt = let no : eqb e.0 r ≡ false = grind (arith, nat_tests) in rw no refl
 
--- all registers of a table are at least its first one
+-- all registers of a table are at least the first entry's register
 from-first : {E : Type 0} → (e : ℕ × RuleOver E) (es : List (ℕ × RuleOver E)) → IsTable 0 (e ∷ es) → IsTable e.0 (e ∷ es)
 from-first e es t = (omega arith, t.1, t.2, t.3)
 
@@ -156,7 +156,7 @@ lowest-other o es os t none =
 pub none-of-either : {E : Type 0} → rules_of_either {E = E} [] [] ≡ []
 none-of-either {E} = rule_list-table {E = E} [] tt
 
--- with an empty second table the rules are those of the first
+-- if the second table is empty, the rules of both tables together are the first table's
 pub either-alone : {E : Type 0} → (es : List (ℕ × RuleOver E)) → IsTable 0 es → rules_of_either es [] ≡ es
 either-alone es t = rule_list-same (rule_of_either es []) (rule_in es) (λ r h. or-default (rule_in es r)) ∙ rule_list-table es t
 
@@ -288,14 +288,14 @@ lowest-greater o es right t u none = record {
       (other.0, h, All-from_recursion (LendsEntry xs) right other.1);
 }
 
--- no register below a table's first one has a rule in the table
+-- a register below the register of a table's first entry has no rule in the table
 pub none-below : (o : ℕ × PlacedRule) (right : List (ℕ × PlacedRule)) (n : ℕ) → IsTable 0 (o ∷ right) → n < o.0
     → (r : ℕ) → r ≤ n → rule_in (o ∷ right) r ≡ default
 none-below o right n t lt r le = rule_in-below o.0 (o ∷ right) r (from-first o right t) (omega (arith, lt, le))
 
 -- ---- the lemmas above, for entries as the code stores them (`RuleEntry`)
 
--- taking all elements from index 1 on gives those after the first one
+-- taking all elements from index 1 on gives the list without its first element
 behind-is : (x : RuleEntry) (rest : List RuleEntry) → take (length (x ∷ rest) - 1) (drop 1 (x ∷ rest)) ≡ rest
 behind-is x rest = let count : length (x ∷ rest) - 1 ≡ length rest = omega arith in ap (λ n. take n rest) count ∙ take-length rest
 
@@ -337,7 +337,7 @@ first-equal (x ∷ rest) (y ∷ behind) d some more t u same =
     IsLowest (entries_of (x ∷ rest)) (entries_of (y ∷ behind)) (entry_of x) (entries_of l) (entries_of behind))
     (sym (behind-is x rest)) (lowest-equal (entry_of x) (entry_of y) (entries_of rest) (entries_of behind) t u same))
 
--- no register below that of the first entry has a rule in the table
+-- a register below the register of the first entry has no rule in the table
 pub none-below-first : (entries : List RuleEntry) (d : RuleEntry) (n : ℕ) → 1 ≤ length entries → IsTable 0 (entries_of entries)
     → n < (entry_of (get_or entries 0 d)).0 → (r : ℕ) → r ≤ n → rule_in (entries_of entries) r ≡ default
 none-below-first [] d n some t lt r le = absurd (omega (arith, some))

@@ -28,7 +28,7 @@ unreachable-requires c =
     let clash : nothing ≡ Some pointed.0 = c.in-None.ensures ∙ (same ∙ pointed.1) in
     cc
 
--- neither the program of the CIE that was found nor that of the FDE has a fault
+-- neither the program of the CIE that was found nor the FDE's program has a fault
 both-good : goal.In-Some → Type 0
 both-good c = (cie_fault (cie_of c.in-Some.cie) ≡ None) × (fde_fault (cie_of c.in-Some.cie) (fde_of c.args.fde.now) ≡ None)
 

@@ -11,7 +11,7 @@ use Rattle.dw_rows.specs.declared.index.IndexEntry.{IndexEntry}
 use Rattle.dw_rows.proofs.CheckedSections.{checked-once, checked-fits}
 use Rattle.dw_rows.proofs.frame.CheckedFrame.fde_for_address.Goals as goal
 
--- if all FDEs end at or below the target's highest address, so does the one that covers an address
+-- if all FDEs end at or below the target's highest address, so does the FDE found for an address
 cover-fits : (s : FrameSection) (a : ℕ) (o : Option FrameDescriptionEntry) → IsCoverOf s.fdes a (option_map fde_of o)
     → ((f : Fde) → Contains s.fdes f → f.initial_location + f.address_range ≤ top_of s.target)
     → IfSome o (λ fde. fde.initial_location + fde.address_range ≤ top_of s.target)

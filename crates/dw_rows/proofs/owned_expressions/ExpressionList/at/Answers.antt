@@ -16,7 +16,7 @@ use Rattle.dw_rows.specs.OwnedExpressions.{bytes_in, all_owned, IsOwned}
 use Rattle.dw_rows.proofs.OwnedExpressions.{offset_in, owned-at, owned-found, owned-absent}
 use Rattle.dw_rows.proofs.owned_expressions.ExpressionList.at.Goals as goal
 
--- the bytes of the expression that is returned are those that its stored entry refers to
+-- the expression that is returned has the bytes that its stored entry refers to
 lent : (c : goal.After-new) → bytes_of c.new.result ≡ bytes_in c.self.inside.bytes.items c.index-kept.result.now
 lent c =
     let k = c.index-kept.result.now in

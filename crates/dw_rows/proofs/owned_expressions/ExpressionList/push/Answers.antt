@@ -39,7 +39,7 @@ behind : (c : goal.In_ok-push) → take c.in-Ok-try_from.length (drop c.in-Ok.st
     ≡ c.bytes-bytes.result.now
 behind c = bytes-behind c.self.inside.bytes.items c.bytes-bytes.result.now c.in-Ok.start c.in-Ok-try_from.length (begins c) (long c)
 
--- the bytes that are added are those of the expression
+-- the bytes that are added are the expression's bytes
 same : (c : goal.In_ok-push) → c.bytes-bytes.result.now ≡ (checked_of c.args.checked.now).bytes
 same c = c.bytes-bytes.ensures ∙ c.expression.ensures.bytes
 
