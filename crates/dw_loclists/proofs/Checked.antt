@@ -30,8 +30,8 @@ no-fault : (ts : List Table) → fault_in (all-read ts) ≡ None
 no-fault [] = refl
 no-fault (t ∷ ts) = no-fault ts
 
--- if reading a section gives the tables `ts` and then the tables from offset `at` on, and `at` is at
--- or past the section's end, `ts` are all tables of the section
+-- if reading a section gives the tables `ts` and then the tables from offset `at` on, and `at` is
+-- at or past the section's end, `ts` are all tables of the section
 pub all-tables : (target : Target) (section : List ℕ) (at : ℕ) (ts : List Table)
     → tables_of target section ≡ all-read ts ++ tables_from target section at → length section ≤ at → tables_of target section ≡ all-read ts
 all-tables target section at ts is h = is ∙ (ap (λ (xs : Items). all-read ts ++ xs) (at-end target section at h) ∙ nothing (all-read ts))

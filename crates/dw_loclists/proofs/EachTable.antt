@@ -463,7 +463,7 @@ table-unnamed r after mid end format body count os ls f one two three four five 
     ∙ ap (λ (x : Result (List ℕ × ReadPosition) Fault). x >>= λ named. done (table-of r.position format mid.position named.0 ls) after)
     five)))
 
--- after the header is read, the bytes left are those of the same section from the new position on
+-- after the header is read, what is left to read is the section from the new position on
 pub header-leaves : (target : Target) (section : List ℕ) (start count : ℕ) (mid : ReadPosition) → start ≤ length section
     → fields_at (table_header target) (section_from target section start) ≡ Ok (count, mid) → mid ≡ section_from target section mid.position
 header-leaves target section start count mid inside is =

@@ -253,11 +253,12 @@ each-lent target section (x ∷ xs) (k ∷ ks) h kept =
 all-in : (s : ListSection) → IsChecked s → AreIn s.target 0 s.section (located_in s)
 all-in s checked = tables-in s.target 0 s.section (tables_in s) (checked-tables s checked)
 
--- all stored expressions can be borrowed from the section, and this gives the section's expressions
+-- all stored expressions of a checked section can be borrowed from the section
 pub all-lendable : (s : ListSection) (ks : List KeptExpression) → IsChecked s → AreKeptOf (located_in s) ks
     → AllByRecursion (IsLendable s.target s.section) ks
 all-lendable s ks checked kept = each-lendable s.target s.section (located_in s) ks (all-in s checked) kept
 
+-- borrowing all stored expressions of a checked section gives the section's expressions
 pub all-lent : (s : ListSection) (ks : List KeptExpression) → IsChecked s → AreKeptOf (located_in s) ks
     → all_lent_from s.target s.section ks ≡ located_in s
 all-lent s ks checked kept = each-lent s.target s.section (located_in s) ks (all-in s checked) kept

@@ -57,15 +57,15 @@ list-kept k old new ls l so_far more =
     ∙ ap (kept-as k.tables)
     (append_assoc k.lists (starts_of ls) (l.offset ∷ []) ∙ ap (λ (t : List ℕ). k.lists ++ t) (sym (starts-more ls l))))
 
--- if the expressions of the lists `ls` and then those of l were stored, the expressions of `ls`
--- with l at the end were stored
+-- if the expressions of the lists `ls` and then the expressions of l were stored, the expressions
+-- of `ls` with l at the end were stored
 pub keeps-list : (ls : List Loclist) (l : Loclist) (old mid new : List KeptExpression) → KeepsMore (expressions_in ls) old mid
     → KeepsMore (expressions_of l.entries) mid new → KeepsMore (expressions_in (ls ++ l ∷ [])) old new
 keeps-list ls l old mid new h k =
     subst (λ (ys : List LocatedExpression). KeepsMore ys old new) (sym (expressions-more ls l))
     (keeps-then (expressions_in ls) (expressions_of l.entries) old mid new h k)
 
--- the lists of tables with one more at the end are those of the tables and then those of the last
+-- the lists of the tables `ts` with t at the end are the lists of `ts` and then the lists of t
 lists-of-more : (ts : List Table) (t : Table) → lists_of (ts ++ t ∷ []) ≡ lists_of ts ++ t.lists
 lists-of-more ts t = flat_map-append (λ (u : Table). u.lists) ts (t ∷ []) ∙ ap (λ (x : List Loclist). lists_of ts ++ x) (nothing t.lists)
 
@@ -75,8 +75,8 @@ table-kept ts t =
     ∙ ap (kept-as (map (λ (u : Table). u.offset) (ts ++ t ∷ [])))
     (sym (map-append (λ (m : Loclist). m.offset) (lists_of ts) t.lists) ∙ ap starts_of (sym (lists-of-more ts t)))
 
--- if the expressions of the tables `ts` are stored and then those of t are added, the expressions
--- of `ts` with t at the end are stored
+-- if the expressions of the tables `ts` are stored and then the expressions of t are added, the
+-- expressions of `ts` with t at the end are stored
 pub keeps-table : (ts : List Table) (t : Table) (old new : List KeptExpression) → AreKeptOf (expressions_in (lists_of ts)) old
     → KeepsMore (expressions_in t.lists) old new → AreKeptOf (expressions_in (lists_of (ts ++ t ∷ []))) new
 keeps-table ts t old new kept more =
@@ -84,7 +84,7 @@ keeps-table ts t old new kept more =
     (sym (flat_map-append (λ (l : Loclist). expressions_of l.entries) (lists_of ts) t.lists) ∙ ap expressions_in (sym (lists-of-more ts t)))
     (more (expressions_in (lists_of ts)) kept)
 
--- adding the offsets of a table's lists and then that of the table itself is what `with_table` adds
+-- adding the offsets of a table's lists and then the table's own offset is what `with_table` does
 pub behind-lists : (k new : Kept) (t : Table) (tables : List ℕ) → new ≡ with_lists k t.lists → tables ≡ new.tables ++ t.offset ∷ []
     → kept-as tables new.lists ≡ with_table k t
 behind-lists k new t tables lists table =

@@ -1,5 +1,5 @@
--- Register numbers without a fault can make an ABI, and the number that AbiTwice names is the first
--- one that occurred before.
+-- Register numbers can make an ABI (`CanBeAbi`) if and only if they have no fault. The index in the
+-- fault AbiTwice is the index of the first number that occurred earlier in the list.
 use Rattle.std.proofs.Common.{◌≡◌, ℕ, ◌<◌, Bool, true, false, cond, List, [], ◌∷◌, ◌++◌, length, Option, None, Some, refl, sym, ap, ◌∙◌}
 use Rattle.std.proofs.Common.{arith, ltb, ◌||◌, take, subst, append_assoc, length-append}
 use Rattle.std.specs.Prelude.{◌↔◌, nat_eq, option_map}

@@ -79,8 +79,8 @@ overlaps-some fdes g (f, (k, lt, is), order, shared) =
     let any : list_any (clashes g) fdes ≡ true = list_any_at (clashes g) fdes k f lt (ap (clashes g) is ∙ test) in
     ap (overlap_if g) any
 
--- in a list in ascending order, if x has a fault and no element lower than x has one, the first
--- fault is that of x
+-- if x, an element of a list in ascending order, has a fault, and no lower element has one, the
+-- list's first fault is x's fault
 pub first-of : {X : Type 0} (at : X → ℕ) (t : X → Option Fault) (xs : List X) → Ascends at xs → (x : X) (f : Fault) → Contains xs x
     → t x ≡ Some f → ((y : X) → Contains xs y → at y < at x → t y ≡ None) → first_fault t xs ≡ Some f
 first-of at t [] up x f (k, lt, is) here before = absurd (omega arith)

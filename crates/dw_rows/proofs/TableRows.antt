@@ -188,8 +188,8 @@ filling-table es c f rows w w' entries new sets new_sets start end h step t push
     (table-pushed es w.context.location entries new sets new_sets start
     (record { rules = w'.context.current; register = c.return_address_register }) t pushed (omega arith) lends) (omega arith)
 
--- if the programs of the CIE and the FDE name only expressions among `es`, the rules of the next row
--- name only expressions among `es`
+-- if the programs of the CIE and the FDE name only expressions among `es`, the rules of the next
+-- row name only expressions among `es`
 pub filling-lends : (es : List LocatedExpression) (c : Cie) (f : Fde) (rows : List (PlacedRow × ℕ)) (w w' : RowCursor) (entries : List TableEntry)
     (sets : List KeptSet) (start end : ℕ) → IsFilling c f rows w entries sets → GivesNextRow w (Some (start, end)) w' → Lends es c f
     → LendsRules es w'.context.current
@@ -312,12 +312,12 @@ pub placed-below : (entries : List TableEntry) (sets : List KeptSet) (a : ℕ) �
 placed-below entries sets a count = none-above sets entries a 0 (λ k d lt. count.above k d (omega arith) lt)
 
 -- the row from `start` to `to` with the rule set number n, if that set has a CFA rule and the row
--- has the address `a`
+-- has the address `a`; none otherwise
 abbrev row-of-entry : List KeptSet → ℕ → ℕ → ℕ → ℕ → Option (PlacedRow × ℕ)
 row-of-entry sets a n start to = find (has a) (row_with start to (set_numbered sets n))
 
--- looking up an address gives the row of the last entry that begins at or below the address, if
--- that row has the address, and none otherwise
+-- looking up an address gives the row of the last entry that begins at or below the address; none
+-- if that entry has no row or its row doesn't have the address
 at-place : (entries : List TableEntry) (sets : List KeptSet) (a n : ℕ) (d : TableEntry) → IsEntryCount entries a (suc n)
     → find (has a) (rows_to sets entries 0)
     ≡ row-of-entry sets a (get_or entries n d).set (get_or entries n d).start (next_at entries n 0)
