@@ -72,8 +72,8 @@ entry-rises target at bytes e here =
 offsets-append : (xs ys : List LocatedExpression) → offsets-of (xs ++ ys) ≡ offsets-of xs ++ offsets-of ys
 offsets-append xs ys = map-append (λ (x : LocatedExpression). x.offset) xs ys
 
--- if the offsets of `xs` ascend and are below `mid`, and the offsets of `ys` ascend and are at least
--- `mid`, the offsets of `xs` followed by `ys` ascend
+-- if the offsets of `xs` ascend and are below `mid`, and the offsets of `ys` ascend and are at
+-- least `mid`, the offsets of `xs` followed by `ys` ascend
 both-rise : (low mid high other : ℕ) (xs ys : List LocatedExpression) → other ≡ high → RiseWithin low mid (offsets-of xs)
     → RiseWithin mid other (offsets-of ys) → RiseWithin low high (offsets-of (xs ++ ys))
 both-rise low mid high other xs ys same h k =

@@ -27,7 +27,7 @@ checked-read s k =
     let frame = frame_of s.target s.section in
     (option_or-none (fault_in (entries_of s.target s.section)) (parts_fault frame.cies frame.fdes) k.faultless).0
 
--- checking the CIEs and FDEs of such a section found no fault
+-- checking the CIEs and FDEs of a section that passed the check found no fault in them
 pub checked-parts : (s : FrameSection) → IsChecked s → parts_fault s.cies s.fdes ≡ None
 unfolding section_fault
 checked-parts s k =

@@ -115,8 +115,7 @@ table-of s target es rows same lent are = record {
       (found-at s a (find (has a) rows) are.checked (are.row a));
 }
 
--- if all expressions that the rows name are among `es`, so are the expressions that a row found
--- among them names
+-- if all rows in `rows` name only expressions among `es`, so does a row that is found in `rows`
 pub found-lends : (es : List LocatedExpression) (a : ℕ) (rows : List (PlacedRow × ℕ)) (x : PlacedRow × ℕ) → All (LendsFound es) rows
     → find (has a) rows ≡ Some x → LendsFound es x
 found-lends es a rows x all = go rows (recursion_from_All (LendsFound es) rows all)
