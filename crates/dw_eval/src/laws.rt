@@ -41,8 +41,8 @@ pub fn each_has_an_evaluation()
         → (o : Outcome) × (n : ℕ) × IsEvaluation c e o n × (n ≤ c.count) }
 {}
 
-/// All numbers of a run are below 2^w at every step, w being the size of an address in bits: those
-/// on the stack, the value or address that was named, and those of the pieces.
+/// All numbers of a run are below 2^w at every step, w being the size of an address in bits: the
+/// stack entries, the value or address that was named, and the values and addresses of the pieces.
 pub fn numbers_of_evaluations_fit()
     ensures { (e : World) (kind : Kind) (ops : List Placed) (len n : ℕ) (s : List ℕ)
         (c : Configuration) → first_stack e kind ≡ Some s

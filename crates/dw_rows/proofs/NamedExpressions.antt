@@ -1,5 +1,5 @@
--- If all rules that a program starts with and that its instructions set have a property, so do the
--- rules after the instructions.
+-- If the rules at a program's start have a property, and its instructions set only rules with this
+-- property, the rules after the instructions have the property.
 use Rattle.std.proofs.Common.{ℕ, zero, suc, List, [], ◌∷◌, Option, Some, Bool, true, false, cond, Contains, refl, arith}
 use Rattle.std.specs.Prelude.{All, IfSome, ℤ, ◌==◌}
 use Rattle.std.proofs.lemmas.List.Elements.{All-append, All-from_recursion}

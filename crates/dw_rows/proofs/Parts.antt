@@ -1,5 +1,5 @@
--- The parts of a frame section's check, after its records were read: the CIE_pointers, the programs
--- of the CIEs and of the FDEs, and overlap.
+-- The parts of a frame section's check, after its CIEs and FDEs were read: the CIE_pointers, the
+-- programs of the CIEs and of the FDEs, and overlap.
 use Rattle.std.proofs.Common.{◌≡◌, List, Option, Some, None, Contains, refl, sym, ap, ◌∙◌, if◌then◌else◌}
 use Rattle.std.specs.Prelude.{is_some}
 use Rattle.std.specs.Option.{option_or}
