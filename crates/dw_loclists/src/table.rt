@@ -60,7 +60,7 @@ fn read_lists(
     Ok(())
 }
 
-/// Reads a table's offset array a second time, after the table's lists were read. Each offset
+/// Reads a table's offset array, which was skipped before the table's lists were read. Each offset
 /// counts from the array's first byte, and must lead to the first byte of a list of the table.
 fn check_array(
     cursor: &mut Cursor<'_>,
