@@ -198,9 +198,9 @@ fn check_pair(
 }
 
 /// Whether the next seven bytes are the most common entry: an offset_pair of two LEB128 numbers of
-/// two bytes each, with a register. The answer only saves time and changes no result: after it the
-/// compiler leaves out the tests that `check_pair` makes of the same bytes, and compares one length
-/// in place of seven.
+/// two bytes each, with a register. This test only saves time and changes no result: after the test
+/// the compiler leaves out the tests that `check_pair` makes of the same bytes, and compares one
+/// length in place of seven.
 #[inline(always)]
 fn is_usual_pair(cursor: &Cursor<'_>) -> bool {
     let mut ahead = cursor.copy();
