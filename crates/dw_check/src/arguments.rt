@@ -357,8 +357,8 @@ fn usage_of_clap_error(alloc: Global, error: Error) -> Usage
 }
 
 /// Turns a command line, whose first word is the program's name, into a request. The error is
-/// `Line` if clap rejects the words. It is `BadArgument` if clap accepts them, but a word or an
-/// option's value is malformed. Instead of any of these results it may be `Memory`.
+/// `Line` if clap rejects the words or they ask for help. It is `BadArgument` if clap accepts the
+/// words, but a word or an option's value is malformed. If memory runs out, the error is `Memory`.
 pub fn request(alloc: Global, words: Vec<String>) -> Result<Request, Usage>
     ensures { AsksFor (map (λ w. string_bytes w) words.items) result }
 {

@@ -20,8 +20,8 @@ use crate::writer::{Writer, send_line};
 use dw_eval::{Context, Evaluation, evaluate};
 use dw_stack::CheckedExpression;
 
-/// Writes the outcome of an evaluation and the line with its number of steps and `depth`, the
-/// expression's greatest stack depth on any path.
+/// Writes the outcome of an evaluation, and then a line with the evaluation's number of steps and
+/// with `depth`, the greatest stack depth on any path through the expression.
 fn write_evaluation<S: Sink>(
     out: &mut Writer<'_, S>,
     evaluation: &Evaluation<'_>,

@@ -32,7 +32,8 @@ pub(crate) fn has_flag(matches: &ArgMatches<'_>, name: &str) -> bool
     }
 }
 
-/// The target: little-endian with 8-byte addresses, unless `--big` or `--addr4` is given.
+/// The target: big-endian if `--big` is given, else little-endian; with 4-byte addresses if
+/// `--addr4` is given, else with 8-byte addresses.
 pub(crate) fn target_by_flags(matches: &ArgMatches<'_>) -> Target
     ensures { result ≡ target_by_flags (rows_of (found_of matches.now)) }
 {
@@ -52,7 +53,8 @@ pub(crate) fn target_by_flags(matches: &ArgMatches<'_>) -> Target
     }
 }
 
-/// The address in the required argument `name`. `BadArgument` if that argument is malformed.
+/// The address in the required argument `name`. The error is `BadArgument` if the argument is
+/// malformed, and `Memory` if it is missing, which clap rules out.
 pub(crate) fn address_word(matches: &ArgMatches<'_>, name: &str) -> Result<u64, Usage>
     ensures ok { IfOk result (λ a. address_at name.now (rows_of (found_of matches.now)) ≡ Some a) }
     ensures err { IfErr result (λ e. (e ≡ Memory)
@@ -67,7 +69,8 @@ pub(crate) fn address_word(matches: &ArgMatches<'_>, name: &str) -> Result<u64, 
     }
 }
 
-/// The section offset in the required argument `name`. `BadArgument` if that argument is malformed.
+/// The section offset in the required argument `name`. The error is `BadArgument` if the argument
+/// is malformed, and `Memory` if it is missing, which clap rules out.
 pub(crate) fn offset_word(matches: &ArgMatches<'_>, name: &str) -> Result<u32, Usage>
     ensures ok { IfOk result (λ n. offset_at name.now (rows_of (found_of matches.now)) ≡ Some n) }
     ensures err { IfErr result (λ e. (e ≡ Memory)
@@ -98,8 +101,8 @@ pub(crate) fn kind_word(name: &str) -> Option<Kind>
     None
 }
 
-/// The greatest number of frames to show, in the required argument `name`. `BadArgument` if that
-/// argument is malformed.
+/// The greatest number of frames to show, in the required argument `name`. The error is
+/// `BadArgument` if the argument is malformed, and `Memory` if it is missing, which clap rules out.
 pub(crate) fn limit_word(matches: &ArgMatches<'_>, name: &str) -> Result<u32, Usage>
     ensures ok { IfOk result (λ n. limit_at name.now (rows_of (found_of matches.now)) ≡ Some n) }
     ensures err { IfErr result (λ e. (e ≡ Memory)
@@ -114,7 +117,8 @@ pub(crate) fn limit_word(matches: &ArgMatches<'_>, name: &str) -> Result<u32, Us
     }
 }
 
-/// The load address of FRAME's module: the value of `--load`, or 0 if it isn't given.
+/// The load address of FRAME's module: the value of `--load`, or 0 if that option isn't given. The
+/// error is `BadArgument` if the value is malformed.
 pub(crate) fn load_option(matches: &ArgMatches<'_>) -> Result<u64, Usage>
     ensures ok { IfOk result (λ a. load_in (rows_of (found_of matches.now)) ≡ Some a) }
     ensures err { IfErr result (λ e. (e ≡ BadArgument)
@@ -129,7 +133,8 @@ pub(crate) fn load_option(matches: &ArgMatches<'_>) -> Result<u64, Usage>
     }
 }
 
-/// The modules that the values of `--module` give, in order.
+/// The modules that the values of `--module` give, in the order of the command line. The error is
+/// `BadArgument` if a value is malformed, and `Memory` if memory runs out.
 pub(crate) fn module_options<'a>(
     alloc: Global,
     matches: &ArgMatches<'a>,

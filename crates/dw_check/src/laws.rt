@@ -49,11 +49,12 @@ pub fn sections_without_fault_are_well_formed()
     dw_loclists::laws::list_sections_without_fault_are_well_formed();
 }
 
-/// What holds for two sections without a fault, which are the sections that `check` accepts. The
-/// records and lists read from them are what their bytes encode. Each address that an FDE covers
-/// has exactly one row, the one that DWARF 5 defines; any other address has none. For all registers
-/// and memory, each expression of a rule or of a list ends within its number of operations, never
-/// pops an entry that isn't there, stays within its depth, and has exactly one outcome.
+/// What holds for two sections without a fault, which are the sections that `check` accepts unless
+/// memory runs out. The CIEs, FDEs and lists read from them are what their bytes encode. Each
+/// address that an FDE covers has exactly one row, as DWARF 5 defines it; any other address has
+/// none. For all registers and memory, each expression of a rule or of a list ends within its
+/// number of operations, never pops an entry that isn't there, stays within its depth, and has
+/// exactly one outcome.
 pub fn accepted_sections_are_sound()
     ensures { (target : Target) (frame lists : List ℕ) → check_fault target frame lists ≡ None
         → AreSound target frame lists }

@@ -115,9 +115,10 @@ fn write_locations<'c, 'a, S: Sink>(
     }
 }
 
-/// Writes the offset and the outcome of each expression of a location list that applies at an
-/// address. Writes `none` if no expression applies, and `no list` if no list begins at offset
-/// `lookup.list`. Takes one pass over the list, and a binary search for each expression.
+/// Looks up `lookup.address` in the location list at offset `lookup.list`, and writes the offset
+/// and the outcome of each expression that applies. Writes `none` if no expression applies, and
+/// `no list` if no list begins at that offset. Takes one pass over the list, and a binary search
+/// for each expression.
 pub(crate) fn write_list_lookup<S: Sink>(
     out: &mut Writer<'_, S>,
     lists: &CheckedLists<'_>,

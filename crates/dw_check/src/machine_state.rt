@@ -97,8 +97,9 @@ impl MachineState {
     }
 
     /// Adds what a line gives and returns true. A value that an earlier line gave stays as it is.
-    /// Returns false for a `keep` line that names the stack pointer, or one register more than
-    /// `MAX_KEPT`, and for a first `sp` line that names a callee-saved register.
+    /// Returns false for a `keep` line if its register is the stack pointer, or is new and there
+    /// are `MAX_KEPT` callee-saved registers already. Returns false for the first `sp` line if its
+    /// register is callee-saved.
     fn add(&mut self, line: StateLine) -> Result<bool, AllocError>
         requires { FitsAddresses (fact_of line) }
         ensures taken { IfOk result (λ taken. (facts : List StateFact)
@@ -178,8 +179,8 @@ impl Memory for MachineState {
 
 /// Reads a state file. If a line is malformed, contradicts earlier lines, or names one callee-saved
 /// register too many, the error has the number of the first such line. Empty lines are skipped. If
-/// two lines give the same register, byte or other value, the first line counts. Takes O(n log n)
-/// time for a file of n bytes.
+/// several lines give values for the same register, byte, CFA or other item, the earliest of these
+/// lines counts. Takes O(n log n) time for a file of n bytes.
 pub(crate) fn read_state(
     alloc: Global,
     target: Target,

@@ -10,8 +10,8 @@ use dw_bytes::AddressSize;
 use itoa::{Buffer, Integer};
 use std::alloc::AllocError;
 
-/// The 8 lower-case hex digits of a number. Most numbers in the output are offsets and addresses,
-/// and `write!` would take several times as long for each of them.
+/// The 8 lower-case hex digits of a number. This is several times as fast as `write!`, and most
+/// numbers in the output are offsets and addresses in hex.
 #[tactic(auto, using(crate::proofs::HexBytes::short_digits))]
 fn short_digits(number: u32) -> [u8; 8]
     ensures { result ≡ hex_digits 8 number }
@@ -67,8 +67,8 @@ fn push_long_address(line: &mut String, address: u64) -> Result<(), AllocError>
     push_digits(line, &long_digits(address))
 }
 
-/// Appends an address: `0x` and 8 hex digits if addresses have 4 bytes, 16 if they have 8. If the
-/// number is too large for 8 digits, its last 8 digits are written.
+/// Appends an address: `0x` and 8 hex digits if addresses have 4 bytes, 16 if they have 8. For
+/// 4-byte addresses only the last 8 hex digits of `address` are written, even if it has more.
 pub(crate) fn push_address(
     line: &mut String,
     size: AddressSize,

@@ -1,4 +1,5 @@
-//! Checks the frame sections in files: a single one, or those of the modules of a process.
+//! Reads frame sections from files and checks them: a single section, or one section for each
+//! module of a process.
 
 ghost use Rattle.std.specs.Prelude.{◌≡◌, List, None, IfOk, IfErr, length, map};
 ghost use Rattle.dw_rows.specs.Section.{frame_of};

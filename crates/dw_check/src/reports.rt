@@ -239,7 +239,8 @@ fn write_list_expressions<'c, 'a, S: Sink>(
     Ok(())
 }
 
-/// Writes a line for each expression of both sections, those of the frame section first.
+/// Writes a line for each expression of the frame section, and then one for each expression of the
+/// location lists.
 fn write_all_expressions<'c, 'a, S: Sink>(
     out: &mut Writer<'_, S>,
     of_frame: &[(u32, CheckedExpression<'_>)],
@@ -276,10 +277,11 @@ pub(crate) fn write_report<S: Sink>(
 }
 
 /// Writes the report on two checked sections: `accepted`; the numbers of CIEs, FDEs, rows, tables,
-/// lists and expressions; and a line for each expression, those of the frame section first. The
-/// first three lines are sent to the sink together and the others one by one, so memory never holds
-/// the whole report. After an error only the start of the report has been written. The sink has
-/// stopped if the error is `Write`, and accepts more bytes after any other error.
+/// lists and expressions; and a line for each expression, first of the frame section, then of the
+/// location lists. The first three lines are sent to the sink together and the others one by one,
+/// so memory never holds the whole report. After an error only a beginning of the report, or
+/// nothing, has been written. If the error is `Write`, the sink has stopped. If it is `Memory`, the
+/// sink hasn't stopped.
 pub fn report<S: Sink>(
     alloc: Global,
     checked: &Checked<'_>,

@@ -56,12 +56,12 @@ pub struct Request {
     /// The load address of the module whose frame section is the first file: the value of `--load`,
     /// or 0 without that option.
     pub(crate) load: u64,
-    /// The load addresses of the further modules (`--module`), in order.
+    /// The load addresses of the further modules, in the order of their `--module` options.
     pub(crate) module_loads: Vec<u64>,
     /// Whether sections and the expression are hex text; a state file never is.
     pub(crate) hex: bool,
-    /// The names of the files: those given as words, in order; then the file of `--state`, if
-    /// given; then those of the further modules.
+    /// The names of the files: first each file that is a word of the command, then the file of
+    /// `--state` if given, and then the files of the further modules.
     pub(crate) files: Vec<String>,
 }
 
@@ -126,7 +126,7 @@ impl Usage {
     }
 }
 
-/// The text that clap gives, `bad argument` or `out of memory`.
+/// For `Line` the text from clap, for `BadArgument` `bad argument`, for `Memory` `out of memory`.
 impl fmt::Display for Usage {
     ghost use Rattle.std.specs.Prelude.{Some};
     ghost use Rattle.dw_check.specs.Statuses.{usage_text};

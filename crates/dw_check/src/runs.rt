@@ -89,7 +89,8 @@ fn expression_or_refusal<'a>(
     }
 }
 
-/// Checks both sections. The error is their first fault, or out of memory.
+/// Checks a frame section and a section of location lists. The error is the first fault that
+/// `check` finds, or out of memory.
 fn sections_or_refusal<'a>(
     alloc: Global,
     target: Target,
@@ -183,8 +184,8 @@ fn show_row<S: Sink>(
 }
 
 /// Runs `locs`: checks a section of location lists, and writes the expressions of a list that apply
-/// at an address, and their outcomes. Registers, memory and the rest of the state are those in the
-/// state file; without one, nothing is known of them.
+/// at an address, and their outcomes. Registers, memory and all else that expressions read come
+/// from the state file. Without a state file, none of their values are known.
 fn show_locations<S: Sink>(
     alloc: Global,
     lookup: ListLookup,
@@ -206,8 +207,9 @@ fn show_locations<S: Sink>(
     run_result(write_list_lookup(out, &lists, lookup, &state))
 }
 
-/// Runs `eval`: checks an expression and writes its outcome. Registers, memory and the rest of the
-/// state are those in the state file; without one, nothing is known of them.
+/// Runs `eval`: checks an expression and writes its outcome. Registers, memory and all else that
+/// the expression reads come from the state file. Without a state file, none of their values are
+/// known.
 fn show_outcome<S: Sink>(
     alloc: Global,
     kind: Kind,
@@ -303,9 +305,9 @@ fn show_caller<S: Sink>(
     run_result(unwind_and_write(out, modules.as_slice(), address, &process.state))
 }
 
-/// Runs `backtrace`: checks the frame sections of the process's modules, and writes at most `limit`
-/// frames from the one at `address` on, given the modules' load addresses and the state in the
-/// state file.
+/// Runs `backtrace`: checks the frame sections of the process's modules, walks up the stack from
+/// the frame at `address`, and writes at most `limit` frames, given the modules' load addresses and
+/// the state in the state file.
 fn show_walk<S: Sink>(
     alloc: Global,
     address: u64,
@@ -370,8 +372,8 @@ fn show_reply<S: Sink>(
 /// have a fault, the line for the first one is written, and the run ends with `Refused`. Otherwise
 /// the whole text is written, and the run ends with `Done`.
 ///
-/// If memory runs out before that, the run ends with `Memory`: a beginning of the text may have
-/// been written, but no part of a refusal's line. If the sink stops, the run ends with `Output`:
+/// If memory runs out, the run ends with `Memory` instead: a beginning of the text may have been
+/// written, but no part of a refusal's line. If the sink stops, the run ends with `Output`:
 /// only a beginning of the text or of the refusal's line has been written.
 pub fn run<S: Sink>(alloc: Global, request: &Request, files: &[Vec<u8>], sink: &mut S) -> End
     requires files { length files.now ≡ length request.now.files }

@@ -123,9 +123,9 @@ impl From<AllocError> for LoadFault {
 /// The number of bytes that one read asks for.
 const PIECE: usize = 65_536;
 
-/// Reads all remaining bytes of an open source, which is `Ended` afterwards. If the error is
-/// `Read`, the source is `Failed`. If the error is `Memory`, the source is still `Open`, and the
-/// bytes read so far are lost.
+/// Reads all remaining bytes of an open source. If that succeeds, the source is `Ended`. If the
+/// error is `Read`, the source is `Failed`. If the error is `Memory`, the source is still `Open`,
+/// and the bytes read so far are lost.
 #[tactic(auto, using(crate::proofs::Loading::consumes_more))]
 pub fn load<S: Source>(alloc: Global, source: &mut S) -> Result<Vec<u8>, LoadFault>
     requires open { S.reading source.old ≡ Reading.Open }

@@ -23,7 +23,8 @@ pub(crate) const TOO_LONG: Fault = Fault {
     at: 0,
 };
 
-/// The first fault of two sections that are checked together.
+/// Why `check` refuses two sections: the first fault in the order in which `check` looks, or that
+/// memory ran out.
 #[derive(Clone, Copy, Debug, PartialEq, Eq)]
 pub struct CheckFault {
     /// The section that has the fault, never `Section::Expression`. It has no meaning if memory ran
@@ -130,7 +131,7 @@ pub fn check<'a>(
 ) -> Result<Checked<'a>, CheckFault>
     ensures answer { Checks (check_fault target frame.entry.now lists.entry.now) result }
 
-    // `check` accepts only sections that are well formed, and refuses such sections only if memory
+    // `check` accepts only well-formed sections, and refuses well-formed sections only if memory
     // runs out.
     ensures accepts { IfOk result (λ _. AreWellFormed target frame.entry.now lists.entry.now) }
     ensures refuses { IfErr result (λ found. (found.fault ≡ memory)
@@ -148,14 +149,14 @@ pub fn check<'a>(
 }
 
 impl<'a> Checked<'a> {
-    /// The frame section: its records and rows.
+    /// The frame section: its CIEs, FDEs and rows.
     pub fn frame(&self) -> &CheckedFrame<'a>
         ensures { result.now ≡ self.now.frame }
     {
         &self.frame
     }
 
-    /// The location lists. Their target is that of the frame section.
+    /// The location lists. They have the same target as the frame section.
     pub fn lists(&self) -> &CheckedLists<'a>
         ensures lists { result.now ≡ self.now.lists }
         ensures target { self.now.lists.target ≡ self.now.frame.target }
