@@ -37,9 +37,9 @@ named first found (BadHex n) is h = absurd h
 named first found (StateLine n) is h = absurd h
 named first found Output is h = absurd h
 
--- If a check of two sections failed with `found`, which is their first fault or says that memory
--- ran out, then a run that ends as `IsRefusal` says for the fault in `found` also ends as
--- `RefusesBoth` says.
+-- A check of two sections failed with `found`: their first fault, or that memory ran out. If
+-- `IsRefusal` holds for `stop` and the section and fault in `found`, then `RefusesBoth` holds for
+-- `stop` and the first fault of the two sections.
 pub stopped : (first : Option CheckFault) (found : CheckFault) (stop : RunFault)
     → ((own : Option Fault) → (found.fault ≡ memory) ⊎ (own ≡ Some found.fault) → IsRefusal found.section own stop)
     → (found.fault ≡ memory) ⊎ (first ≡ Some found) → RefusesBoth first stop

@@ -43,12 +43,12 @@ none_wrong r ds bad = go (list_all (λ c. nat_lt (digit_value c) r) ds) refl
 pub no_plus : (ds : List ℕ) → (get_or ds 0 0 ≡ 43 → ⊥) → without_leading_plus ds ≡ ds
 no_plus ds h = grind (arith, nat_tests)
 
--- if all bytes are digits, and there are neither too few nor too many, their number is read
+-- if there are 1 to `most` bytes, all of them digits, `number_of` gives their number
 pub read_ok : (r most : ℕ) (ds : List ℕ) (n : ℕ) → 0 < length ds → length ds ≤ most → AllDigits r ds → n ≡ digits_value r ds
     → Some n ≡ number_of r most ds
 read_ok r most ds n some short all e = rw (lt-ltb 0 (length ds) some, le-leb (length ds) most short, test_from_digits r ds all) (ap Some e)
 
--- if a byte isn't a digit, no number is read
+-- if there are 1 to `most` bytes, not all of them digits, `number_of` gives None
 pub read_none : (r most : ℕ) (ds : List ℕ) → 0 < length ds → length ds ≤ most → (AllDigits r ds → ⊥) → None ≡ number_of r most ds
 read_none r most ds some short bad = rw (lt-ltb 0 (length ds) some, le-leb (length ds) most short, none_wrong r ds bad) refl
 

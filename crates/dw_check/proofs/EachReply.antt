@@ -92,17 +92,19 @@ each_locs lookup target hex files =
 abbrev EachReport : Type 0
 EachReport = (frame : FrameSection) (lists : ListSection) → rows.IsChecked frame → IsChecked lists → (t : List ℕ) × IsReport frame lists t
 
--- what is assumed of unwinding: through checked modules, each address has a caller or has none
+-- what is assumed of unwinding: through checked modules, each address has an answer, which is a
+-- caller or None
 abbrev pub EachUnwinding : Type 0
 EachUnwinding = (sections : List (Module FrameSection)) (abi : Abi) (memory registers : ℕ → Option ℕ) (address : ℕ)
     → AreChecked sections → (c : Option Caller) × over_sections abi memory sections registers address c
 
--- what is assumed of walks: through checked modules, there is one from each place, with each limit
+-- what is assumed of walks: through checked modules, there is a walk from each `Place` with each
+-- limit
 abbrev pub EachWalk : Type 0
 EachWalk = (sections : List (Module FrameSection)) (abi : Abi) (memory : ℕ → Option ℕ) (first : Place) (limit : ℕ)
     → AreChecked sections → (xs : List WalkedFrame) × (stop : Stop) × Walks (over_sections abi memory sections) first limit xs stop
 
--- for any checked modules and any facts of a state file, there is a text that shows the answer
+-- for any checked modules and any facts of a state file, there is a text for which `Shows` holds
 abbrev EachShown : (AddressSize → List StateFact → List (Module FrameSection) → List ℕ → Type 0) → Type 0
 EachShown Shows = (size : AddressSize) (facts : List StateFact) (sections : List (Module FrameSection)) → AreChecked sections
     → (t : List ℕ) × Shows size facts sections t

@@ -32,8 +32,8 @@ both : (xs ys : List LocatedExpression) → AllByRecursion Good xs → AllByRecu
 both [] ys h k = k
 both (x ∷ xs) ys h k = (h.0, both xs ys h.1 k)
 
--- if the expression of an entry passes the check, or it has none, and the expressions of the
--- entries after it pass too, then all of these expressions pass
+-- if the expression of the entry e passes the check (or e has no expression), and all expressions of
+-- the entries es pass, then all expressions of e ∷ es pass
 entry_good : (e : Entry) (es : List Entry) (o : Option Block) → expression_in e ≡ o
     → ((b : Block) → expression_in e ≡ Some b → IsGoodExpression Location b.target b.bytes)
     → AllByRecursion Good (expressions_of es) → AllByRecursion Good (expressions_of (e ∷ es))
@@ -69,7 +69,8 @@ module _ (deepest : (kind : Kind) (target : Target) (bytes : List ℕ) → IsGoo
       let rest = lines_some section xs good.1 in
       (expression_line section x depth.0 ++ rest.0, (depth.0, rest.0, depth.1, rest.1, refl))
 
-  -- there are lines for the expressions of a section of location lists
+  -- there are lines for the expressions of an accepted section of location lists, if all
+  -- expressions of such sections pass the check
   pub list_lines_some : ((s : ListSection) (l : Loclist) (e : Entry) (b : Block) → IsChecked s → Contains (lists_in s) l
       → Contains l.entries e → expression_in e ≡ Some b → IsGoodExpression Location b.target b.bytes)
       → (lists : ListSection) → IsChecked lists → (t : List ℕ) × AreLines sections.Lists (located_in lists) t

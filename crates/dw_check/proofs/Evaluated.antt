@@ -87,7 +87,7 @@ written_same kind target bytes c gs W same h = (
   h.2,
 )
 
--- there is a text that shows the outcome of an expression that passes the check
+-- an expression of fewer than 2^32 bytes that passes the check has a text that shows its outcome
 pub each_text : (kind : Kind) (target : Target) (bytes : List ℕ) (gs : List StateFact) → length bytes < 2 ^ 32
     → IsGoodExpression kind target bytes → (t : List ℕ) × Evaluates kind target bytes gs t
 each_text kind target bytes gs short good =

@@ -17,8 +17,8 @@ abbrev pub joined : List (Module (List ℕ)) → Result (List (Module (List ℕ)
 joined before (Err n) = Err n
 joined before (Ok others) = Ok (before ++ others)
 
--- it makes no difference whether one more module, whose section can be read, counts as the first of
--- the others or as the last of those already read
+-- `joined` gives the same list if a module whose section can be read is moved from the front of
+-- `others` to the end of `before`
 pub one_more_read : (before : List (Module (List ℕ))) (place load : ℕ) (found : Option (List ℕ)) (section : List ℕ)
     (others : Result (List (Module (List ℕ))) ℕ) → found ≡ Some section
     → joined before (module_before place load found others) ≡ joined (before ++ loaded_at load section ∷ []) others
@@ -30,8 +30,8 @@ pub one_more_judged : (target : Target) (m : Module (List ℕ)) (modules : List 
     → modules_refusal target (m ∷ modules) ≡ modules_refusal target modules
 one_more_judged target m modules none = ap (λ (f : Option Fault). option_or f (modules_refusal target modules)) none
 
--- if the section of the next module can't be read, the modules together can't be read, and for the
--- same reason
+-- if `stop` says why the section of the next module can't be read, it also says why the whole list
+-- of modules can't be read
 pub bad_module : (all : Result (List (Module (List ℕ))) ℕ) (before : List (Module (List ℕ))) (place load count : ℕ)
     (found : Option (List ℕ)) (others : Result (List (Module (List ℕ))) ℕ) (stop : RunFault)
     → all ≡ joined before (module_before place load found others) → IsBadSection found place count stop → AreBadModules all count stop

@@ -1,5 +1,5 @@
--- The expressions of a list in an accepted section have the section's target, are shorter than the
--- section, and pass the check.
+-- Each expression of a list in an accepted section can be shown (`IsShowable`): it has fewer than
+-- 2^32 bytes and passes the check, and its addresses have the size of the section's addresses.
 use Rattle.std.proofs.Common.{◌≡◌, ℕ, ◌+◌, ◌^◌, ◌<◌, Bool, true, false, cond, List, [], ◌∷◌, ◌++◌, length, Contains, Option, Some, None}
 use Rattle.std.proofs.Common.{refl, sym, ap, subst, ◌∙◌, arith}
 use Rattle.std.specs.Prelude.{◌==◌, map, filter_map}
@@ -29,8 +29,8 @@ abbrev AllUnder : Target → Option Block → Type 0
 AllUnder target None = Unit {0}
 AllUnder target (Some b) = b.target ≡ target
 
--- If an entry has the operands that a line of the table of entries demands, its expression, if it
--- has one, has the target. `of` is that line; None if no line has the entry's code.
+-- `of` is a line of the table of entries, or None if no line has the entry's code. An entry with the
+-- operands in that line either has no expression, or an expression with the target `target`.
 Under : Target → Option (Line Entry) → Type 0
 Under target of = (at : ℕ) (bytes : List ℕ) (e : Entry) → AreOperands target of at bytes e → AllUnder target (expression_in e)
 
@@ -139,8 +139,8 @@ behind : (target : Target) (xs ys : List LocatedExpression) → AllShowable targ
 behind target [] ys h = h
 behind target (x ∷ xs) ys h = behind target xs ys h.1
 
--- if all expressions of some entries can be shown, so can that of the first entry, and so can those
--- of the others
+-- if all expressions of e ∷ es can be shown, then the expression of e (if any) can be shown, and all
+-- expressions of es can be shown
 split : (target : Target) (e : Entry) (es : List Entry) → AllShowable target (expressions_of (e ∷ es))
     → AllShowable target (expressions_of (e ∷ [])) × AllShowable target (expressions_of es)
 split target e es h = let all = subst (AllShowable target) (entries-front e es) h in (

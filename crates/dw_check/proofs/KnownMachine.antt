@@ -1,5 +1,5 @@
--- The registers, the memory and the ABI of a known state are those that the state file's facts
--- give. So callers and walks in that state are those in the state that the facts give.
+-- A known state has the registers, the memory and the ABI that the facts of its state file give. So
+-- a caller or a walk in the known state is also one in the state that the facts give.
 use Rattle.std.proofs.Common.{◌≡◌, ◌∙◌, ℕ, List, refl, subst}
 use Rattle.std.specs.Prelude.{Option}
 use Rattle.std.proofs.Math.Path.{fun_ext}

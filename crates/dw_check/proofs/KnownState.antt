@@ -134,7 +134,7 @@ one_more : {X : Type 0} → (pick : StateFact → Option X) (gs : List StateFact
     → new ≡ option_or old (pick g) → old ≡ first_that pick gs → new ≡ first_that pick (gs ++ g ∷ [])
 one_more pick gs g old new h is = h ∙ ap (λ o. option_or o (pick g)) is ∙ sym (first_more pick gs g)
 
--- one more fact adds its callee-saved register to those of the facts before it
+-- one more fact adds its callee-saved register, if it gives one, to the registers of the facts gs
 kept_more : (gs : List StateFact) (g : StateFact) → kept_in (gs ++ g ∷ []) ≡ kept_with (kept_in gs) g
 kept_more gs g = fold-append kept_with [] gs (g ∷ [])
 
@@ -150,7 +150,8 @@ given_more old new g h gs is = record {
   stack_pointer = one_more stack_pointer_in gs g old.stack_pointer new.stack_pointer h.stack_pointer is.stack_pointer;
 }
 
--- whether the facts still make an ABI after one more fact depends on the known state alone
+-- whether the facts still make an ABI after one more fact depends only on the known state before and
+-- on that fact
 pub together_more : (old : KnownState) (gs : List StateFact) (g : StateFact) → IsGivenBy old gs
     → go_together (gs ++ g ∷ []) ≡ is_none (abi_fault (kept_with old.kept g) (option_or old.stack_pointer (stack_pointer_in g)))
 together_more old gs g is =

@@ -140,7 +140,7 @@ refusal_alike target xs ys (inl same) = ap (frame_refusal target) same
 refusal_alike target xs ys (inr long) =
     long_fault xs (section_fault target xs) long.0 ∙ sym (long_fault ys (section_fault target ys) long.1)
 
--- a section without a fault isn't too long, so a section that is alike has the same bytes
+-- a section without a fault isn't too long, so a section that is `Alike` to it has the same bytes
 same_section : (target : Target) (xs ys : List ℕ) → frame_refusal target xs ≡ None → Alike xs ys → xs ≡ ys
 same_section target xs ys none (inl same) = same
 same_section target xs ys none (inr long) =
@@ -299,7 +299,7 @@ module _ (target : Target) (files others : List (List ℕ)) (alike : FilesAlike 
   moves (Unwind address) load loads same = process_alike (ShowsCaller address) load loads same
   moves (Backtrace address limit) load loads same = process_alike (ShowsWalk address limit) load loads same
 
--- each file and its needed part are alike
+-- if files aren't hex text, each file and its needed part are alike
 needed_alike : (task : Task) (from : ℕ) (files : List (List ℕ)) (place : ℕ)
     → Alike (bytes_at files place) (bytes_at (needed_parts task false from files) place)
 unfolding needed_parts
@@ -311,7 +311,8 @@ needed_alike task from (file ∷ files) zero = by (is_state task from)
     by false = alike_part file
 needed_alike task from (file ∷ files) (suc place) = needed_alike task (suc from) files place
 
--- the needed part of a state file is the whole file
+-- if the file at index 1 is needed in full (`needed_length` is None), its needed part is the whole
+-- file
 second_whole : (task : Task) → needed_length task false 1 ≡ None → (files : List (List ℕ))
     → slice_get files 1 ≡ slice_get (needed_parts task false 0 files) 1
 unfolding needed_parts

@@ -4,8 +4,8 @@ use Rattle.std.proofs.lemmas.List.{append_assoc}
 use Rattle.std.specs.Prelude.{Option, Some, None, option_map}
 use Rattle.dw_check.specs.NamedModules.{NamedModule}
 
--- it makes no difference whether one more module is added at the front of the rest, or at the end
--- of the modules before the rest
+-- the whole list stays the same if the module m is moved from the front of `rest` to the end of
+-- `before`
 pub joined : (before : List NamedModule) (m : NamedModule) (rest : Option (List NamedModule))
     → option_map (λ others. before ++ others) (option_map (λ others. m ∷ others) rest)
     ≡ option_map (λ others. (before ++ m ∷ []) ++ others) rest

@@ -97,13 +97,15 @@ one_locs lookup target hex files r s h k =
 abbrev OneReport : Type 0
 OneReport = (frame : FrameSection) (lists : ListSection) (s t : List ℕ) → IsReport frame lists s → IsReport frame lists t → s ≡ t
 
--- what is assumed of callers: through checked modules, an address has at most one
+-- what is assumed of callers: through checked modules, an address has at most one answer, a caller
+-- or None
 abbrev pub OneCaller : Type 0
 OneCaller = (sections : List (Module FrameSection)) (abi : Abi) (memory registers : ℕ → Option ℕ) (address : ℕ) (c d : Option Caller)
     → AreChecked sections → over_sections abi memory sections registers address c → over_sections abi memory sections registers address d
     → c ≡ d
 
--- what is assumed of walks: through checked modules, there is at most one from a place with a limit
+-- what is assumed of walks: through checked modules, there is at most one walk from a `Place` with a
+-- given limit
 abbrev pub OneWalk : Type 0
 OneWalk = (sections : List (Module FrameSection)) (abi : Abi) (memory : ℕ → Option ℕ) (first : Place) (limit : ℕ)
     (xs ys : List WalkedFrame) (a b : Stop) → AreChecked sections → Walks (over_sections abi memory sections) first limit xs a

@@ -58,8 +58,8 @@ unread_modules count modules Is (Refused s f) h = absurd h
 unread_modules count modules Is (StateLine n) h = absurd h
 unread_modules count modules Is Output h = absurd h
 
--- if the first file can be read, and the files after it can't, the files of the process can't be
--- read for the same reason
+-- if the first file can be read, and `stop` says why the files after it can't, `stop` also says why
+-- the files of the process can't be read
 pub after_section : (count : ℕ) (found : Option (List ℕ)) (bytes : List ℕ) (Is : List ℕ → Reply → Type 0) (stop : RunFault)
     → found ≡ Some bytes → IsBadProcess (Is bytes) count stop → IsBadProcess (OfSection 0 found Is) count stop
 after_section count found bytes Is stop e h = subst (λ o. IsBadProcess (OfSection 0 o Is) count stop) (sym e) h
@@ -177,7 +177,7 @@ module _ (target : Target) where
         by None e = let shown = some (accepted modules e) in (text shown.0, (e, shown.1))
         by (Some fault) e = (refusal Frame fault, (refl, e))
 
--- for checked modules and the facts of a state file, at most one text shows the answer
+-- for checked modules and the facts of a state file, `Shows` holds for at most one text
 abbrev pub OneShown : (AddressSize → List StateFact → List (Module FrameSection) → List ℕ → Type 0) → Type 0
 OneShown Shows = (size : AddressSize) (facts : List StateFact) (sections : List (Module FrameSection)) → AreChecked sections
     → (s t : List ℕ) → Shows size facts sections s → Shows size facts sections t → s ≡ t
@@ -194,8 +194,8 @@ module _ (Shows : AddressSize → List StateFact → List (Module FrameSection) 
       goes_process target load loads hex files count modules facts Is a a (Err stop) gives
       (goes_refusal count Frame (modules_refusal target modules) (Is facts modules) a stop (λ fault k. (refl, k)) h)
 
-  -- `Goes` holds for a run that wrote a text that shows the answer, or failed after a beginning of
-  -- it, if at most one text shows the answer
+  -- If the modules have no fault and `Shows` holds for one text only, `Goes` holds for a run that
+  -- wrote this text, or failed after a beginning of it.
   pub goes_shown : (sections : List (Module FrameSection)) (old new : Option (List ℕ)) (r : Result (Unit {0}) ReportFault)
       (written : List ℕ) → OneShown Shows → modules_refusal target modules ≡ None → sections ≡ modules_of_sections target modules
       → Shows target.address_size facts sections written → Writes old new r written

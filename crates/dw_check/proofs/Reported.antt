@@ -30,7 +30,7 @@ both_mapped f g xs ys e = sym (length-map xs f) ∙ ap length e ∙ length-map y
 
 -- ---- the lines of expressions
 
--- the lines that the code makes of checked expressions are the lines that a report has for them
+-- the lines that the code writes for checked expressions are their lines in a report
 pub lines_are : (section : Section) (xs : List (ℕ × CheckedExpression))
     → AreLines section (map located_of xs) (flat_map (line_of section) xs)
 lines_are section [] = refl
@@ -42,7 +42,7 @@ lines_are section (x ∷ xs) = (
   refl,
 )
 
--- the elements from index i on are the one at i, then those from i + 1 on
+-- the elements from index i on are the element at i, followed by the elements from i + 1 on
 pub next_here : {X : Type 0} (xs : List X) (i : ℕ) (x : X) → i < length xs → x ≡ get_or xs i x → drop i xs ≡ x ∷ drop (i + 1) xs
 next_here xs i x h e =
     drop-cons xs i x h ∙ ap (λ y. y ∷ drop (suc i) xs) (sym e) ∙ ap (λ n. x ∷ drop n xs) (sym (add-one i))

@@ -56,13 +56,13 @@ sent_place f all left rest x a b e s =
     (length s.came, omega (arith, length-append s.came (x ∷ rest)), get_or-append_seam s.came x rest x) in
     subst (λ l. Contains l x) cut here
 
--- what holds for all elements holds for this element
+-- what holds for all elements of a list holds for each element in it
 pub all_here : {X : Type 0} (P : X → Type 0) (all : List X) (x : X) → All P all → Contains all x → P x
 all_here P all x each at = subst P at.2 (each at.0 x at.1)
 
 -- ---- lists to whose elements a function is applied
 
--- the elements from index i on are the one at i, then those from i + 1 on
+-- the elements from index i on are the element at i, followed by the elements from i + 1 on
 pub next_seen : {X Y : Type 0} (view : X → Y) (xs : List X) (i : ℕ) (x : X) → i < length xs → x ≡ get_or xs i x
     → map view (drop i xs) ≡ view x ∷ map view (drop (i + 1) xs)
 next_seen view xs i x h e =
@@ -73,7 +73,8 @@ next_seen view xs i x h e =
 pub none_seen : {X Y : Type 0} (view : X → Y) (xs : List X) (i : ℕ) → length xs ≤ i → map view (drop i xs) ≡ []
 none_seen view xs i h = ap (map view) (drop_all i xs h)
 
--- the elements from index i on, each with its number, are the one at i, then those from i + 1 on
+-- the elements from index i on, each with its index, are the element at i, followed by the elements
+-- from i + 1 on
 pub next_numbered : {X Y : Type 0} (view : X → Y) (xs : List X) (i : ℕ) (x : X) → i < length xs → x ≡ get_or xs i x
     → enumerate_from i (map view (drop i xs)) ≡ (i, view x) ∷ enumerate_from (i + 1) (map view (drop (i + 1) xs))
 next_numbered view xs i x h e = ap (enumerate_from i) (next_seen view xs i x h e)

@@ -1,4 +1,4 @@
--- What clap's result leads to is an answer that the command line may have (`AsksBy`).
+-- The code's answer to a command line, by what clap found, is one that `AsksBy` allows.
 use Rattle.std.proofs.Common.{◌≡◌, ◌⊎◌, List, [], inl, inr, subst}
 use Rattle.std.specs.Prelude.{Option, Some, Result, Ok, Err, IfOk, IfErr}
 use Rattle.std.specs.Option.{IsSomeAnd}
@@ -8,8 +8,8 @@ use Rattle.dw_check.specs.Requests.{Asked, asked_by, AsksBy, IsUsageOf, HasBadWo
 use Rattle.dw_check.specs.declared.requests.Usage.{Usage}
 use Rattle.dw_check.specs.declared.requests.Usage.TheVariants.{Line, BadArgument, Memory}
 
--- if clap found no fault, a request that its matches give is such an answer, and so are `Memory`,
--- and `BadArgument` for an argument that is malformed
+-- if clap found no fault, the answer may be the request that clap's matches give, `Memory`, or, if an
+-- argument is malformed, `BadArgument`
 pub answered : (faults : Kinds) (matches : Option (Text × List Row)) (r : Result Asked Usage) → faults ≡ []
     → IfOk r (λ q. IsSomeAnd matches (λ (name, rows). asked_by name rows ≡ Some q))
     → IfErr r (λ e. (e ≡ Memory) ⊎ ((e ≡ BadArgument) × IsSomeAnd matches (λ (name, rows). HasBadWord name rows)))
@@ -21,7 +21,8 @@ answered faults matches (Err BadArgument) none ok (inl e) = cc
 answered faults matches (Err BadArgument) none ok (inr e) = (none, e.1)
 answered faults matches (Err Memory) none ok err = tt
 
--- if clap found a fault, clap's text is such an answer, and so is `Memory`
+-- if clap failed, the answer may be clap's text or `Memory`; it may be the text only if clap's error
+-- isn't that memory ran out
 pub refused : (faults : Kinds) (matches : Option (Text × List Row)) (e : Error) (u : Usage) → HasKind faults e → IsUsageOf (kind_of e) u
     → AsksBy faults matches (Err u)
 refused faults matches e (Line text) (inl h) k = absurd (k h)

@@ -17,8 +17,8 @@ values_given : {X : Type 0} (xs : List X) → values_in {X = X} (map Ok xs) ≡ 
 values_given [] = refl
 values_given (x ∷ xs) = ap (λ l. x ∷ l) (values_given xs)
 
--- if no item is a fault, a function gives the same for the values among the items as for all of
--- them
+-- if the items are the values xs without a fault, a function of the values among the items gives
+-- what it gives for xs
 pub made_of : {X Y : Type 0} (make : List X → Y) (items : List (Result X Fault)) (xs : List X) → items ≡ map Ok xs
     → make (values_in items) ≡ make xs
 made_of make items xs are = ap (λ its. make (values_in its)) are ∙ ap make (values_given xs)

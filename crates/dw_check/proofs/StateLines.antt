@@ -34,15 +34,15 @@ few_parts s (b ∷ bytes) = parts_step s b bytes (b == s) refl (few_parts s byte
 abbrev pub is_bad : Target → List ℕ → ℕ → Bool
 is_bad target text n = not (are_good target (take n (parts_of 10 text)))
 
--- the first n lines of the file have been read, and none of them is bad; `lines` are those that
--- haven't been read yet
+-- the first n lines of the file, `before`, have been read, and none of them is bad; the other lines
+-- are `lines`
 pub record Reading (target : Target) (text : List ℕ) (before : List (List ℕ)) (n : ℕ) (lines : List (List ℕ)) : Type 0 where
   pub is : parts_of 10 text ≡ before ++ lines
   pub count : length before ≡ n
   pub each : list_all (is_line target) before ≡ true
   pub first : first_bad_line target (parts_of 10 text) ≡ find (is_bad target text) (range_with_len (n + 1) (length lines))
 
--- whether a line isn't bad, if none of the lines before it is
+-- whether a line isn't bad, given that none of the lines `before` it is bad
 abbrev pub goes_behind : Target → List (List ℕ) → List ℕ → Bool
 goes_behind target before line = is_line target line && go_together (facts_of_lines target before ++ facts_of_lines target (line ∷ []))
 

@@ -45,8 +45,8 @@ each_without_fault target frame lists h =
     let c = option_or_none (fault_within Frame (section_fault target frame)) _ b.1 in
     (within_none Frame _ c.0, within_none Lists _ c.1)
 
--- two sections have no fault exactly if they are well formed, assuming the same for each section by
--- itself
+-- two sections have no fault exactly if they are well formed, assuming that a single section of
+-- either kind has no fault exactly if it is well formed
 pub without_fault : ((target : Target) (section : List ℕ) → (section_fault target section ≡ None) ↔ frames.IsWellFormed target section)
     → ((target : Target) (section : List ℕ) → (lists_fault target section ≡ None) ↔ tables.IsWellFormed target section)
     → (target : Target) (frame lists : List ℕ) → (check_fault target frame lists ≡ None) ↔ AreWellFormed target frame lists

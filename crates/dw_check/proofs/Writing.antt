@@ -17,13 +17,14 @@ use Rattle.dw_check.specs.declared.stop.ReportFault.{ReportFault}
 use Rattle.dw_check.specs.declared.stop.ReportFault.TheVariants.{Memory, Write}
 use Rattle.dw_check.proofs.Growth.{appends_more, front_more, front_wider}
 
--- after all of x, a call for y wrote y or a beginning of y
+-- if all of x was written, and then a call wrote y, or failed after a beginning of y, `Writes` holds
+-- for that call and x followed by y
 pub writes_then : (a b c : Option (List ℕ)) (r : Result (Unit {0}) ReportFault) (x y : List ℕ) → Appends a b x → Writes b c r y
     → Writes a c r (x ++ y)
 writes_then a b c (Ok _) x y h k = appends_more a b c x y h k
 writes_then a b c (Err _) x y h k = front_more a b c x y h k
 
--- a call that failed wrote a beginning of the text
+-- `Writes` holds for a call that failed after a beginning of the text
 pub writes_front : (a b : Option (List ℕ)) (r : Result (Unit {0}) ReportFault) (x : List ℕ) → IsErr r → AppendsFront a b x → Writes a b r x
 writes_front a b (Ok _) x failed h = cc
 writes_front a b (Err _) x failed h = h

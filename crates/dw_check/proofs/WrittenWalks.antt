@@ -56,9 +56,9 @@ module _ (u : CallerRelation) (size : AddressSize) (begin : WalkedFrame) where
   WritesWalk first limit old new r = (frames : List WalkedFrame) × (stop : Stop) × Walks u first limit frames stop
       × Writes old new r (walk_text size frames stop)
 
-  -- Assumed: if a walk gives some frames, and then gives one more, it gives those frames and that
-  -- one. (Some lemmas below assume more: that the frames a walk gives are a walk in the sense of
-  -- `Walks`, or the beginning of one.)
+  -- Assumed: if a walk gives the frames xs and then the frame f, it gives xs followed by f. Some
+  -- lemmas below also assume that the frames which a walk gives are a walk in the sense of `Walks`,
+  -- or the beginning of such a walk.
   module _
       (more : (p : Progress) (xs : List WalkedFrame) (f : WalkedFrame) → GivesFrames u p xs → GivesFrame u (after p xs) f
       → GivesFrames u p (xs ++ f ∷ []) × (after p (xs ++ f ∷ []) ≡ has_given f)) where
@@ -114,7 +114,8 @@ module _ (u : CallerRelation) (size : AddressSize) (begin : WalkedFrame) where
     last_written p n stop old mid new r s walks line =
         (s.frames, stop, walks, writes_then old mid new r (frames_text size 0 s.frames) (last_line stop) s.text line)
 
-    -- if the walk gives no more frames, a call that writes the last line writes the text of a walk
+    -- if the walk gives no more frames, a call that writes the line with the reason (`last_line`)
+    -- completes the text of a walk, or a beginning of it if the call failed
     pub ended_written : ((xs : List WalkedFrame) (stop : Stop) → GivesFrames u (about_to_give begin) xs
         → stop_of (after (about_to_give begin) xs) ≡ Some stop → length xs < limit → Walks u first limit xs stop)
         → (p : Progress) (n : ℕ) (stop : Stop) (old mid new : Option (List ℕ)) (r : Result (Unit {0}) ReportFault)
@@ -124,7 +125,8 @@ module _ (u : CallerRelation) (size : AddressSize) (begin : WalkedFrame) where
         last_written p n stop old mid new r s
         (ends s.frames stop s.given (ap stop_of s.comes ∙ ended) (omega (arith, few, s.count))) line
 
-    -- if the limit is reached, a call that writes the last line writes the text of a walk
+    -- if the limit is reached, a call that writes the line with that reason (`last_line Limit`)
+    -- completes the text of a walk, or a beginning of it if the call failed
     pub filled_written : ((xs : List WalkedFrame) → GivesFrames u (about_to_give begin) xs → length xs ≡ limit → Walks u first limit xs Limit)
         → (p : Progress) (n : ℕ) (old mid new : Option (List ℕ)) (r : Result (Unit {0}) ReportFault)
         → Shown u size begin p n old mid → n ≡ limit → Writes mid new r (last_line Limit) → WritesWalk first limit old new r

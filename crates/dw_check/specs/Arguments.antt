@@ -17,8 +17,8 @@ use Rattle.dw_check.specs.NamedModules.{NamedModule, module_of, modules_of}
 abbrev pub flag_of : Text → List Row → Bool
 flag_of name rows = option_map_or (λ text. bytes_eq text (codes "true")) (first_of name rows) false
 
--- the target by the flags: little-endian with 8-byte addresses, unless `--big` or `--addr4` is
--- given
+-- the target that the flags give: big-endian if `--big` is given, else little-endian; with 4-byte
+-- addresses if `--addr4` is given, else with 8-byte addresses
 abbrev pub target_by_flags : List Row → Target
 target_by_flags rows = record {
   order = (if flag_of (codes "big") rows then Big else Little);
@@ -44,9 +44,9 @@ pub data Word : Type 0 where
   limit : Word
   named_module : Word
 
--- The value of the argument called `name`; None if the argument is missing or malformed. There is
--- one definition for each of a file, an address, an offset, a kind and a limit. The definition for
--- a file also gives None if the argument isn't the name of a file.
+-- `file_at` and the four definitions after it give the value of the argument called `name`, or None
+-- if the argument is missing or malformed. `file_at` also gives None if the argument isn't the name
+-- of a file.
 abbrev pub file_at : List Row → Text × Word → Option Text
 file_at rows (name, file) = first_of name rows
 file_at rows (name, _) = None
@@ -68,7 +68,7 @@ limit_at name rows = option_and_then short_number (first_of name rows)
 abbrev pub load_in : List Row → Option ℕ
 load_in rows = option_map_or (address_of (target_by_flags rows)) (first_of (codes "load") rows) (Some 0)
 
--- all values of an option, in order; none if the option isn't given
+-- all values of an option, in the order of the command line; no values if the option isn't given
 abbrev pub values_of : Text → List Row → List Text
 values_of name rows = unwrap_or (all_of name rows) []
 
@@ -76,7 +76,8 @@ values_of name rows = unwrap_or (all_of name rows) []
 abbrev pub modules_in : List Row → Option (List NamedModule)
 modules_in rows = modules_of (target_by_flags rows) (values_of (codes "module") rows)
 
--- The argument of this name is given, and a value of it is malformed. The name of a file never is.
+-- The argument of this name is given, and a value of it is malformed. The name of a file is never
+-- malformed.
 abbrev pub IsBad : List Row → Text × Word → Type 0
 IsBad rows (name, file) = ⊥
 IsBad rows (name, address) = IsSomeAnd (first_of name rows) (λ text. address_of (target_by_flags rows) text ≡ None)

@@ -53,8 +53,8 @@ abbrev pub Checks : {X : Type 0} → Option CheckFault → Result X CheckFault �
 Checks first (Ok _) = first ≡ None
 Checks first (Err found) = (found.fault ≡ memory) ⊎ (first ≡ Some found)
 
--- The bytes in which the offset of a fault counts. A fault of two sections is never one of an
--- expression that is checked by itself, so there are no bytes for that case.
+-- The bytes in which a fault's offset counts: the frame section or the section of location lists.
+-- `check` never gives `Expression` as the section of a fault, so there are no bytes for that case.
 abbrev pub bytes_within : Section → List ℕ → List ℕ → List ℕ
 bytes_within Frame frame_bytes list_bytes = frame_bytes
 bytes_within Lists frame_bytes list_bytes = list_bytes

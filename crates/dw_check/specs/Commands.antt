@@ -140,12 +140,12 @@ abbrev pub with_words : App → List (Text × Word) → App
 with_words app [] = app
 with_words app (word ∷ words) = with_words (with_rule app (word_rule word.0)) words
 
--- the command `app`, with an option added if the command takes it
+-- the command `app`, with an option added if the truth value is true, else unchanged
 abbrev pub with_option : App → Rule → Bool → App
 with_option app rule false = app
 with_option app rule true = with_rule app rule
 
--- the command `app`, with the options added that the command takes
+-- `app`, with each of `--state`, `--load` and `--module` added that the command `c` takes
 abbrev pub with_options : App → Command → App
 with_options app c = with_option (with_option (with_option app (option_rule (codes "state")) c.has_state)
     (option_rule (codes "load")) c.has_load) (list_rule (codes "module")) c.has_modules

@@ -1,4 +1,4 @@
--- Modules that the code has read from files, as the definitions see them.
+-- The modules that the code has read from files, with their sections as lists of bytes.
 use Rattle.std.specs.Prelude.{ℕ, List, map}
 use Rattle.std.specs.declared.borrow.CowSlice.{CowSlice}
 use Rattle.std.specs.Cow.{cow_slice_items}

@@ -33,23 +33,24 @@ state_facts target (Some text) = facts_of_file target text
 abbrev pub loaded_at : ℕ → List ℕ → Module (List ℕ)
 loaded_at load section = record { rows = section; load_address = load }
 
--- The modules `others`, with one more in front of them. If that one's section is None, since its
--- file must be hex text and isn't, the error is `place`, the index of the file. Otherwise an error
--- in place of `others` is the result.
+-- The modules `others`, with one more module in front of them. If the section of that module is
+-- None, since its file must be hex text and isn't, the error is `place`, the index of the file.
+-- Otherwise, if `others` is an error, the result is the same error.
 abbrev pub module_before : ℕ → ℕ → Option (List ℕ) → Result (List (Module (List ℕ))) ℕ → Result (List (Module (List ℕ))) ℕ
 module_before place load None others = Err place
 module_before place load (Some section) (Err n) = Err n
 module_before place load (Some section) (Ok others) = Ok (loaded_at load section ∷ others)
 
--- The modules that `--module` gives. Their load addresses are `loads`, and the file of the first
+-- The modules that `--module` gives. Their load addresses are `loads`, and the first module's file
 -- has index `place`. The error is the index of the first file that must be hex text and isn't.
 abbrev pub further_modules : Bool → List (List ℕ) → ℕ → List ℕ → Result (List (Module (List ℕ))) ℕ
 further_modules hex files place [] = Ok []
 further_modules hex files place (load ∷ loads) =
     module_before place load (section_bytes hex (slice_get files place)) (further_modules hex files (suc place) loads)
 
--- The files of a process give `modules` and `facts`. The modules are that of the first file, FRAME,
--- and then those of `--module`. The facts are what the second file, the state file, says.
+-- The files of a process give `modules` and `facts`. The first module has its section in the first
+-- file, FRAME; the others are the modules of `--module`. The facts are what the second file, the
+-- state file, says.
 pub record GivesProcess (target : Target) (load : ℕ) (loads : List ℕ) (hex : Bool) (files : List (List ℕ))
     (modules : List (Module (List ℕ))) (facts : List StateFact) : Type 0 where
   pub section : List ℕ

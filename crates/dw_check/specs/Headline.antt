@@ -41,8 +41,8 @@ pub record IsSafe (kind : Kind) (target : Target) (bytes : List ℕ) : Type 0 wh
 abbrev pub list_section : Target → List ℕ → ListSection
 list_section target bytes = record { target = target; section = bytes }
 
--- The records and tables read from the sections are what their bytes encode. Each address that an
--- FDE covers has exactly one row, the one that DWARF 5 defines, and in the FDE's program each
+-- The CIEs, FDEs and tables read from the sections are what the bytes encode. Each address that an
+-- FDE covers has exactly one row, as DWARF 5 defines it, and in the FDE's program each
 -- remember_state is restored and locations never go back. Any other address has no row. Each
 -- expression of a rule or of a list has the sections' target, and `IsSafe` holds for it.
 pub record AreSound (target : Target) (frame_bytes list_bytes : List ℕ) : Type 0 where

@@ -24,8 +24,8 @@ size_text (machine.bits n offset) = codes " bits " ++ decimal n ++ codes " offse
 unfoldable pub piece_line : AddressSize → Piece → List ℕ
 piece_line size piece = codes "piece " ++ location_text size piece.location ++ size_text piece.size ++ codes "\n"
 
--- the line of an expression without a result: the reason, and the offset in the expression of the
--- operation that has no result
+-- the line of an expression without a result: the reason, and the offset of the operation that has
+-- no result, counted from the start of the expression
 unfoldable pub stop_line : List ℕ → ℕ → List ℕ
 stop_line what at = what ++ codes " at " ++ offset_text at ++ codes "\n"
 

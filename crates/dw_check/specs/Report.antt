@@ -52,7 +52,7 @@ expression_kind_text FrameRegister = codes "register"
 expression_kind_text Location = codes "location"
 
 -- the line of an expression: its section, the offset of its first byte, its kind, its number of
--- operations, and its depth
+-- operations, and its greatest stack depth on any path
 unfoldable pub expression_line : Section → LocatedExpression → ℕ → List ℕ
 expression_line section x depth = codes "expr " ++ section_text section ++ codes " " ++ offset_text x.offset ++ codes " "
     ++ expression_kind_text x.kind ++ codes " ops " ++ decimal (length (operations_in x.target x.bytes))

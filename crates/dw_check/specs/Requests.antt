@@ -17,7 +17,7 @@ use Rattle.dw_check.specs.declared.requests.Usage.TheVariants.{Line, BadArgument
 
 -- A request: the task, the target of the files, the load address of the frame section's module, the
 -- load addresses of the further modules, whether sections and expressions are hex text, and the
--- names of the files, those of the further modules last.
+-- names of the files, which end with the files of the further modules.
 pub record Asked : Type 0 where
   pub task : Task
   pub target : Target
@@ -36,7 +36,7 @@ abbrev pub files_of : Command → List Row → List Text
 files_of c rows = filter_map (file_at rows) c.words ++ option_to_list (state_at c.has_state rows)
 
 -- the load address of the module whose frame section is FRAME: 0 unless the command takes `--load`
--- and that option is given
+-- and that option is given; None if its value is malformed
 abbrev pub load_at : Bool → List Row → Option ℕ
 load_at false rows = Some 0
 load_at true rows = load_in rows

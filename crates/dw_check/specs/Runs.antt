@@ -128,7 +128,7 @@ IsFound lookup target section facts _ = ⊥
 -- ---- two sections
 
 -- The reply for two sections is a text for which `Shows` holds, or, if they have a fault, the
--- refusal with the first one.
+-- refusal with their first fault.
 abbrev pub OfChecked : Target → List ℕ → List ℕ → (FrameSection → ListSection → List ℕ → Type 0) → Reply → Type 0
 OfChecked target frame lists Shows (text written) = (check_fault target frame lists ≡ None)
     × Shows (frame_of target frame) (record { target = target; section = lists }) written
@@ -172,7 +172,7 @@ abbrev pub modules_of_sections : Target → List (Module (List ℕ)) → List (M
 modules_of_sections target modules = map (λ m. record { rows = frame_of target m.rows; load_address = m.load_address }) modules
 
 -- The reply for modules is a text for which `Shows` holds, or, if their frame sections have a
--- fault, the refusal with the first one.
+-- fault, the refusal with the first fault (`modules_refusal`).
 abbrev pub OfModules : Target → List (Module (List ℕ)) → (List (Module FrameSection) → List ℕ → Type 0) → Reply → Type 0
 OfModules target modules Shows (text written) =
     (modules_refusal target modules ≡ None) × Shows (modules_of_sections target modules) written
@@ -210,13 +210,15 @@ IsBadProcess Is count _ = ⊥
 
 -- ---- replies that two commands have in common
 
--- `rows` and `row`: the text that `text_for` makes of the frame section in the first file
+-- `rows` and `row`: the text that `text_for` makes of the frame section in the first file; or the
+-- section's refusal; or `not_hex`
 abbrev pub OfFrame : (FrameSection → List ℕ) → Target → Bool → List (List ℕ) → Reply → Type 0
 OfFrame text_for target hex files reply =
     OfSection 0 (section_bytes hex (slice_get files 0)) (λ section r. r ≡ frame_reply text_for target section) reply
 
--- `unwind` and `backtrace`: a text for which `Shows` holds, given what the state file says and the
--- modules, that of FRAME first
+-- `unwind` and `backtrace`: a text for which `Shows` holds, given the state file's facts and the
+-- modules (FRAME's module first); or the refusal of a section; or, if a file can't be read,
+-- `not_hex` or `bad_line`
 abbrev pub OfModulesAndState : (AddressSize → List StateFact → List (Module FrameSection) → List ℕ → Type 0) → ℕ → List ℕ → Target
     → Bool → List (List ℕ) → Reply → Type 0
 OfModulesAndState Shows load loads target hex files reply =
@@ -234,8 +236,8 @@ IsCheckReply target hex files reply =
 abbrev pub IsRowsReply : Target → Bool → List (List ℕ) → Reply → Type 0
 IsRowsReply target hex files reply = OfFrame frame_text target hex files reply
 
--- `row`: `load` is the module's load address, and the row is shown with the addresses that it has
--- in the section, to which `load` isn't added
+-- `row`: `load` is the module's load address. The row's line has the addresses of the section, to
+-- which `load` isn't added.
 abbrev pub IsRowReply : ℕ → ℕ → Target → Bool → List (List ℕ) → Reply → Type 0
 IsRowReply load address target hex files reply =
     OfFrame (λ frame. lookup_text frame (as_linked target load address)) target hex files reply

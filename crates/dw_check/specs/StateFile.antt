@@ -25,7 +25,7 @@ pub data StateFact : Type 0 where
   keep : ℕ → StateFact
   stack_pointer : ℕ → StateFact
 
--- bytes of memory end at or before address 2^64 - 1
+-- if the fact gives bytes of memory, the address of the last byte is at most 2^64 - 1
 abbrev pub FitsAddresses : StateFact → Type 0
 FitsAddresses (bytes a bs) = a + length bs ≤ 2 ^ 64
 FitsAddresses _ = Unit {0}
@@ -104,7 +104,8 @@ stack_pointer_in _ = None
 
 -- ---- callee-saved registers
 
--- the callee-saved registers `ns`, and after them the one that a fact gives, unless it is in `ns`
+-- the callee-saved registers `ns`, with the register of a `keep` fact added at the end, unless `ns`
+-- has it already
 abbrev pub kept_with : List ℕ → StateFact → List ℕ
 kept_with ns (keep n) = if is_among n ns then ns else ns ++ n ∷ []
 kept_with ns _ = ns

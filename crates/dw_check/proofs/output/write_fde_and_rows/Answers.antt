@@ -10,7 +10,7 @@ use Rattle.dw_check.proofs.Within.{below_top, good_rows_fit}
 use Rattle.dw_check.proofs.Writing.{fde_then, fde_front}
 use Rattle.dw_check.proofs.output.write_fde_and_rows.Goals as goal
 
--- the rows of an FDE are those of its program run after its CIE's program
+-- the rows of an FDE are the rows of its program, run after the program of its CIE
 behind : (s : FrameSection) (f : Fde) (c : Cie) (rows : List Row) → cie_in s f ≡ Some c → rows ≡ rows_in s f
     → rows ≡ map (given_row s.expressions) (rows_of c f)
 behind s f c rows is all = all ∙ ap (λ o. map (given_row s.expressions) (rows_behind o f)) is

@@ -3,7 +3,7 @@ use Rattle.dw_check.specs.FileViews.{with_bytes}
 use Rattle.dw_check.specs.Runs.{modules_of_sections, modules_refusal}
 use Rattle.dw_check.proofs.process.modules_or_refusal.Given as goal
 
--- the modules so far have no fault
+-- the modules checked so far have no fault; they and the remaining modules are all modules
 abbrev pub invariant-loop-module : goal.invariant-loop-module
 invariant-loop-module l = record {
   checked : l.checked.items ++ modules_of_sections l.target (with_bytes (drop l.module-index l.modules))
