@@ -32,8 +32,8 @@ both : (xs ys : List LocatedExpression) → AllByRecursion Good xs → AllByRecu
 both [] ys h k = k
 both (x ∷ xs) ys h k = (h.0, both xs ys h.1 k)
 
--- if the expression of the entry e passes the check (or e has no expression), and all expressions of
--- the entries es pass, then all expressions of e ∷ es pass
+-- if the expression of the entry e passes the check (or e has no expression), and all expressions
+-- of the entries es pass, then all expressions of e ∷ es pass
 entry_good : (e : Entry) (es : List Entry) (o : Option Block) → expression_in e ≡ o
     → ((b : Block) → expression_in e ≡ Some b → IsGoodExpression Location b.target b.bytes)
     → AllByRecursion Good (expressions_of es) → AllByRecursion Good (expressions_of (e ∷ es))

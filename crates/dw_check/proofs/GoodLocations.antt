@@ -29,8 +29,8 @@ abbrev AllUnder : Target → Option Block → Type 0
 AllUnder target None = Unit {0}
 AllUnder target (Some b) = b.target ≡ target
 
--- `of` is a line of the table of entries, or None if no line has the entry's code. An entry with the
--- operands in that line either has no expression, or an expression with the target `target`.
+-- `of` is a line of the table of entries, or None if no line has the entry's code. An entry with
+-- the operands in that line has no expression, or has an expression with the target `target`.
 Under : Target → Option (Line Entry) → Type 0
 Under target of = (at : ℕ) (bytes : List ℕ) (e : Entry) → AreOperands target of at bytes e → AllUnder target (expression_in e)
 
@@ -139,8 +139,8 @@ behind : (target : Target) (xs ys : List LocatedExpression) → AllShowable targ
 behind target [] ys h = h
 behind target (x ∷ xs) ys h = behind target xs ys h.1
 
--- if all expressions of e ∷ es can be shown, then the expression of e (if any) can be shown, and all
--- expressions of es can be shown
+-- if all expressions of e ∷ es can be shown, then the expression of e (if any) can be shown, and
+-- all expressions of es can be shown
 split : (target : Target) (e : Entry) (es : List Entry) → AllShowable target (expressions_of (e ∷ es))
     → AllShowable target (expressions_of (e ∷ [])) × AllShowable target (expressions_of es)
 split target e es h = let all = subst (AllShowable target) (entries-front e es) h in (

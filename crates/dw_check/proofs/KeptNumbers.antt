@@ -33,7 +33,8 @@ second_of_both before (x ∷ xs) ys =
       | false ↦ later
     ]
 
--- the first repetition in kept ++ n is in kept; if kept has no repetition, it is n, if n is in kept
+-- the first repetition in kept ++ n is in kept; if there is none in kept, it is n if kept has n; if
+-- kept doesn't have n, there is no repetition
 second_behind : (kept : List ℕ) (n : ℕ) (t : Bool) → is_among n kept ≡ t
     → place_of_second [] (kept ++ n ∷ []) ≡ option_or (place_of_second [] kept) (if t then Some (length kept) else None)
 second_behind kept n t is = rw (second_of_both [] kept (n ∷ []), is) refl

@@ -150,8 +150,8 @@ given_more old new g h gs is = record {
   stack_pointer = one_more stack_pointer_in gs g old.stack_pointer new.stack_pointer h.stack_pointer is.stack_pointer;
 }
 
--- whether the facts still make an ABI after one more fact depends only on the known state before and
--- on that fact
+-- whether the facts still make an ABI after one more fact depends only on that fact and on the
+-- known state before it
 pub together_more : (old : KnownState) (gs : List StateFact) (g : StateFact) → IsGivenBy old gs
     → go_together (gs ++ g ∷ []) ≡ is_none (abi_fault (kept_with old.kept g) (option_or old.stack_pointer (stack_pointer_in g)))
 together_more old gs g is =

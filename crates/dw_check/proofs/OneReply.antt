@@ -104,8 +104,8 @@ OneCaller = (sections : List (Module FrameSection)) (abi : Abi) (memory register
     → AreChecked sections → over_sections abi memory sections registers address c → over_sections abi memory sections registers address d
     → c ≡ d
 
--- what is assumed of walks: through checked modules, there is at most one walk from a `Place` with a
--- given limit
+-- what is assumed of walks: through checked modules, there is at most one walk from a `Place` with
+-- a given limit
 abbrev pub OneWalk : Type 0
 OneWalk = (sections : List (Module FrameSection)) (abi : Abi) (memory : ℕ → Option ℕ) (first : Place) (limit : ℕ)
     (xs ys : List WalkedFrame) (a b : Stop) → AreChecked sections → Walks (over_sections abi memory sections) first limit xs a

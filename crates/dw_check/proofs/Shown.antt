@@ -8,8 +8,8 @@ use Rattle.dw_check.specs.Requests.{Asked, asked_by, AsksBy, IsUsageOf, HasBadWo
 use Rattle.dw_check.specs.declared.requests.Usage.{Usage}
 use Rattle.dw_check.specs.declared.requests.Usage.TheVariants.{Line, BadArgument, Memory}
 
--- if clap found no fault, the answer may be the request that clap's matches give, `Memory`, or, if an
--- argument is malformed, `BadArgument`
+-- if clap found no fault, the answer may be the request that clap's matches give, `Memory`, or, if
+-- an argument is malformed, `BadArgument`
 pub answered : (faults : Kinds) (matches : Option (Text × List Row)) (r : Result Asked Usage) → faults ≡ []
     → IfOk r (λ q. IsSomeAnd matches (λ (name, rows). asked_by name rows ≡ Some q))
     → IfErr r (λ e. (e ≡ Memory) ⊎ ((e ≡ BadArgument) × IsSomeAnd matches (λ (name, rows). HasBadWord name rows)))
@@ -21,8 +21,8 @@ answered faults matches (Err BadArgument) none ok (inl e) = cc
 answered faults matches (Err BadArgument) none ok (inr e) = (none, e.1)
 answered faults matches (Err Memory) none ok err = tt
 
--- if clap failed, the answer may be clap's text or `Memory`; it may be the text only if clap's error
--- isn't that memory ran out
+-- if clap failed, the answer may be `Memory`, or clap's text unless clap failed because memory ran
+-- out
 pub refused : (faults : Kinds) (matches : Option (Text × List Row)) (e : Error) (u : Usage) → HasKind faults e → IsUsageOf (kind_of e) u
     → AsksBy faults matches (Err u)
 refused faults matches e (Line text) (inl h) k = absurd (k h)

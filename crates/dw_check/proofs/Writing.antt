@@ -17,8 +17,8 @@ use Rattle.dw_check.specs.declared.stop.ReportFault.{ReportFault}
 use Rattle.dw_check.specs.declared.stop.ReportFault.TheVariants.{Memory, Write}
 use Rattle.dw_check.proofs.Growth.{appends_more, front_more, front_wider}
 
--- if all of x was written, and then a call wrote y, or failed after a beginning of y, `Writes` holds
--- for that call and x followed by y
+-- if all of x was written, and then a call wrote y or failed after a beginning of y, `Writes` holds
+-- for the call and the text x ++ y
 pub writes_then : (a b c : Option (List ℕ)) (r : Result (Unit {0}) ReportFault) (x y : List ℕ) → Appends a b x → Writes b c r y
     → Writes a c r (x ++ y)
 writes_then a b c (Ok _) x y h k = appends_more a b c x y h k
