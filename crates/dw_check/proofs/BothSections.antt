@@ -37,9 +37,9 @@ named first found (BadHex n) is h = absurd h
 named first found (StateLine n) is h = absurd h
 named first found Output is h = absurd h
 
--- A check of two sections failed with `found`: their first fault, or that memory ran out. If
--- `IsRefusal` holds for `stop` and the section and fault in `found`, then `RefusesBoth` holds for
--- `stop` and the first fault of the two sections.
+-- A check of two sections failed with `found`: their first fault, or that memory ran out. `each`
+-- says that `IsRefusal` holds for the section in `found` and `stop`, with the fault in `found` or,
+-- if memory ran out, with any fault or None. Then `RefusesBoth` holds for `stop`.
 pub stopped : (first : Option CheckFault) (found : CheckFault) (stop : RunFault)
     → ((own : Option Fault) → (found.fault ≡ memory) ⊎ (own ≡ Some found.fault) → IsRefusal found.section own stop)
     → (found.fault ≡ memory) ⊎ (first ≡ Some found) → RefusesBoth first stop

@@ -1,5 +1,5 @@
--- There is a report on two sections, assuming that accepted sections have only expressions that
--- pass the check, and that such expressions have a depth.
+-- There is a report on two accepted sections. Assumed: all expressions of accepted sections pass
+-- the check, and each expression that passes the check has a depth.
 use Rattle.std.proofs.Common.{◌≡◌, ℕ, zero, suc, List, [], ◌∷◌, ◌++◌, refl, arith}
 use Rattle.std.specs.Prelude.{Option, Some, None, Contains}
 use Rattle.std.specs.List.{AllByRecursion}

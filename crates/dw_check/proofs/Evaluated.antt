@@ -75,8 +75,8 @@ pub refused_long : (kind : Kind) (target : Target) (bytes : List ℕ) (gs : List
     → IsOutcome kind target bytes gs (refusal Expression too_long)
 refused_long kind target bytes gs h = (refl, long_fault bytes _ h)
 
--- a text that shows the outcome of a checked expression shows the outcome of the bytes that were
--- checked
+-- if c is the checked form of `bytes`, a text that shows the outcome of c shows the outcome of
+-- `bytes`
 pub written_same : (kind : Kind) (target : Target) (bytes : List ℕ) (c : Checked) (gs : List StateFact) (W : List ℕ → Type 0)
     → IsOf kind target bytes c → ((t : List ℕ) × Evaluates c.kind c.target c.bytes gs t × W t)
     → (t : List ℕ) × Evaluates kind target bytes gs t × W t

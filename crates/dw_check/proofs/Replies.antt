@@ -94,7 +94,7 @@ goes_whole count Is bytes old new (Ok _) is h = (bytes, is, h)
 goes_whole count Is bytes old new (Err faults.Memory) is h = λ reply i. front_none old new (accepted_text reply) h
 goes_whole count Is bytes old new (Err faults.Write) is h = (text bytes, is, tt, h)
 
--- a call that sends a text only when it is complete writes it, or fails after a beginning of it
+-- if `WritesWhole` holds for a call, so does `Writes`
 pub writes_if_whole : (old new : Option (List ℕ)) (r : Result (Unit {0}) ReportFault) (bytes : List ℕ) → WritesWhole old new r bytes
     → Writes old new r bytes
 writes_if_whole old new (Ok _) bytes h = h

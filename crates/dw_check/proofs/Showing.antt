@@ -25,8 +25,8 @@ pub record Shown (gs : List StateFact) (all rest : List LocatedExpression) (old 
 pub shown_none : (gs : List StateFact) (all : List LocatedExpression) (a : Option (List ℕ)) → Shown gs all all a a
 shown_none gs all a = record { came = []; sent = appends_nothing a; whole = λ behind h. h }
 
--- a text that shows the next expression, followed by a text that shows the others, shows all
--- expressions that are left
+-- a text that shows the expression x, followed by a text that shows the expressions `rest`, shows
+-- the expressions x ∷ rest
 next_before : (gs : List StateFact) (left rest : List LocatedExpression) (x : LocatedExpression) (own behind : List ℕ) → left ≡ x ∷ rest
     → Evaluates x.kind x.target x.bytes gs own → AreEvaluated gs rest behind
     → AreEvaluated gs left ((expression_offset_line x.offset ++ own) ++ behind)

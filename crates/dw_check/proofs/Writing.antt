@@ -29,8 +29,7 @@ pub writes_front : (a b : Option (List ℕ)) (r : Result (Unit {0}) ReportFault)
 writes_front a b (Ok _) x failed h = cc
 writes_front a b (Err _) x failed h = h
 
--- a call that sends a text only when it is complete writes it, or fails after a beginning of it,
--- which may be empty
+-- if `WritesWhole` holds for a call, so does `Writes`
 pub writes_whole : (a b : Option (List ℕ)) (r : Result (Unit {0}) ReportFault) (x : List ℕ) → WritesWhole a b r x → Writes a b r x
 writes_whole a b (Ok _) x h = h
 writes_whole a b (Err Memory) x h = ([], x, refl, h)

@@ -12,7 +12,7 @@ use Rattle.dw_check.specs.StateFile.{StateFact}
 use Rattle.dw_check.specs.Text.{expression_offset_line}
 use Rattle.dw_check.specs.Evaluations.{Evaluates}
 
--- the list of a section whose first byte is at an offset, if there is one
+-- the location list that begins at offset `at` in the section; None if no list begins there
 abbrev pub list_that_begins_at : ListSection → ℕ → Option Loclist
 list_that_begins_at s at = find (λ l. l.offset == at) (lists_in s)
 

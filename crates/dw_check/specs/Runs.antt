@@ -71,14 +71,14 @@ IsWritten (bad_line n) = ⊥
 
 -- ---- files that can't be read
 
--- The reply is one that `Is` allows for the bytes of the section in the file at index `place`. If
--- there are no such bytes, since the file isn't hex text, the reply is `not_hex`.
+-- `Is` allows the reply, given the bytes of the section in the file at index `place`. If there are
+-- no such bytes, since the file must be hex text and isn't, the reply is `not_hex`.
 abbrev pub OfSection : ℕ → Option (List ℕ) → (List ℕ → Reply → Type 0) → Reply → Type 0
 OfSection place None Is reply = reply ≡ not_hex place
 OfSection place (Some bytes) Is reply = Is bytes reply
 
--- The reply is one that `Is` allows for what the state file gives. If that file has a bad line, the
--- reply is `bad_line` with the number of the first one.
+-- `Is` allows the reply, given the facts of the state file. If that file has a bad line, the reply
+-- is `bad_line` with the number of the first bad line.
 abbrev pub OfState : Result (List StateFact) ℕ → (List StateFact → Reply → Type 0) → Reply → Type 0
 OfState (Err n) Is reply = reply ≡ bad_line n
 OfState (Ok facts) Is reply = Is facts reply
@@ -179,8 +179,8 @@ OfModules target modules Shows (text written) =
 OfModules target modules Shows (refusal refused fault) = (refused ≡ sections.Frame) × (modules_refusal target modules ≡ Some fault)
 OfModules target modules Shows _ = ⊥
 
--- The reply is one that `Is` allows for the modules of `--module`. If one of their files must be
--- hex text and isn't, the reply is `not_hex` with the index of the first such file.
+-- `Is` allows the reply, given the modules of `--module`. If one of their files must be hex text
+-- and isn't, the reply is `not_hex` with the index of the first such file.
 abbrev pub OfFurther : Result (List (Module (List ℕ))) ℕ → (List (Module (List ℕ)) → Reply → Type 0) → Reply → Type 0
 OfFurther (Err n) Is reply = reply ≡ not_hex n
 OfFurther (Ok modules) Is reply = Is modules reply

@@ -8,11 +8,13 @@ use Rattle.dw_check.specs.declared.source.Reading.TheVariants.{Open, Ended, Fail
 use Rattle.dw_check.specs.declared.source.LoadFault.{LoadFault}
 use Rattle.dw_check.specs.declared.source.LoadFault.TheVariants.{Read, Memory}
 
--- the known bytes that were left are exactly `bytes`, and the source is at its end
+-- If the bytes of a source are known: it had exactly `bytes` left before (`old`), and has no bytes
+-- left now (`new`).
 abbrev pub GivesAll : Option (List ℕ) → Option (List ℕ) → List ℕ → Type 0
 GivesAll old new bytes = Consumes old new bytes × IsAtEnd new
 
--- a beginning of the known bytes that were left was consumed
+-- If the bytes of a source are known: it gave a beginning, perhaps empty, of the bytes that it had
+-- left before (`old`), and has the rest left now (`new`).
 abbrev pub GivesFront : Option (List ℕ) → Option (List ℕ) → Type 0
 GivesFront old new = (front : List ℕ) × Consumes old new front
 
@@ -32,6 +34,6 @@ reading_after_load (Err Memory) = Open
 abbrev pub reader_of : {R : Type 0} → Reads R → R
 reader_of r = r.inner
 
--- the state of a source over a reader
+-- how far a `Reads` source has been read
 abbrev pub reading_of : {R : Type 0} → Reads R → Reading
 reading_of r = r.reading
