@@ -92,8 +92,8 @@ each_locs lookup target hex files =
 abbrev EachReport : Type 0
 EachReport = (frame : FrameSection) (lists : ListSection) → rows.IsChecked frame → IsChecked lists → (t : List ℕ) × IsReport frame lists t
 
--- what is assumed of unwinding: through checked modules, each address has an answer, which is a
--- caller or None
+-- what is assumed of unwinding: through checked modules, there is a result for each address, which
+-- is a caller or None
 abbrev pub EachUnwinding : Type 0
 EachUnwinding = (sections : List (Module FrameSection)) (abi : Abi) (memory registers : ℕ → Option ℕ) (address : ℕ)
     → AreChecked sections → (c : Option Caller) × over_sections abi memory sections registers address c

@@ -1,5 +1,5 @@
 -- Each expression of a list in an accepted section can be shown (`IsShowable`): it has fewer than
--- 2^32 bytes and passes the check, and its addresses have the size of the section's addresses.
+-- 2^32 bytes and passes the check, and its target has the section's address size.
 use Rattle.std.proofs.Common.{◌≡◌, ℕ, ◌+◌, ◌^◌, ◌<◌, Bool, true, false, cond, List, [], ◌∷◌, ◌++◌, length, Contains, Option, Some, None}
 use Rattle.std.proofs.Common.{refl, sym, ap, subst, ◌∙◌, arith}
 use Rattle.std.specs.Prelude.{◌==◌, map, filter_map}

@@ -22,7 +22,7 @@ first_digit (suc k) n =
     ∙ ap (λ (q : ℕ). digit (q % 16) ∷ hex_digits (suc k) n)
     (div-div-eq-div-mul n 16 (16 ^ k) ∙ ap (λ (p : ℕ). n / p) (sym (pow-succ' 16 k)))
 
--- for each number below k, the table `lower_digits` of `hex` has the same digit as `digit`
+-- for each number below k, `hex` (`lower_digits`) has the same digit as the definition `digit`
 abbrev agree : ℕ → Bool
 agree zero = true
 agree (suc k) = (slice_index lower_digits k == digit k) && agree k

@@ -97,8 +97,8 @@ one_locs lookup target hex files r s h k =
 abbrev OneReport : Type 0
 OneReport = (frame : FrameSection) (lists : ListSection) (s t : List ℕ) → IsReport frame lists s → IsReport frame lists t → s ≡ t
 
--- what is assumed of callers: through checked modules, an address has at most one answer, a caller
--- or None
+-- what is assumed of callers: through checked modules, there is at most one result for an address,
+-- a caller or None
 abbrev pub OneCaller : Type 0
 OneCaller = (sections : List (Module FrameSection)) (abi : Abi) (memory registers : ℕ → Option ℕ) (address : ℕ) (c d : Option Caller)
     → AreChecked sections → over_sections abi memory sections registers address c → over_sections abi memory sections registers address d

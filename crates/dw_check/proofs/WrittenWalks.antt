@@ -114,8 +114,8 @@ module _ (u : CallerRelation) (size : AddressSize) (begin : WalkedFrame) where
     last_written p n stop old mid new r s walks line =
         (s.frames, stop, walks, writes_then old mid new r (frames_text size 0 s.frames) (last_line stop) s.text line)
 
-    -- if the walk gives no more frames, a call that writes the line with the reason (`last_line`)
-    -- completes the text of a walk, or a beginning of it if the call failed
+    -- If the walk gives no more frames, and a call then writes the line with the reason
+    -- (`last_line`), a walk's whole text is written, or a beginning of it if the call failed.
     pub ended_written : ((xs : List WalkedFrame) (stop : Stop) → GivesFrames u (about_to_give begin) xs
         → stop_of (after (about_to_give begin) xs) ≡ Some stop → length xs < limit → Walks u first limit xs stop)
         → (p : Progress) (n : ℕ) (stop : Stop) (old mid new : Option (List ℕ)) (r : Result (Unit {0}) ReportFault)
@@ -125,8 +125,8 @@ module _ (u : CallerRelation) (size : AddressSize) (begin : WalkedFrame) where
         last_written p n stop old mid new r s
         (ends s.frames stop s.given (ap stop_of s.comes ∙ ended) (omega (arith, few, s.count))) line
 
-    -- if the limit is reached, a call that writes the line with that reason (`last_line Limit`)
-    -- completes the text of a walk, or a beginning of it if the call failed
+    -- If the limit is reached, and a call then writes the line with that reason
+    -- (`last_line Limit`), a walk's whole text is written, or a beginning of it if the call failed.
     pub filled_written : ((xs : List WalkedFrame) → GivesFrames u (about_to_give begin) xs → length xs ≡ limit → Walks u first limit xs Limit)
         → (p : Progress) (n : ℕ) (old mid new : Option (List ℕ)) (r : Result (Unit {0}) ReportFault)
         → Shown u size begin p n old mid → n ≡ limit → Writes mid new r (last_line Limit) → WritesWalk first limit old new r

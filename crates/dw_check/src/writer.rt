@@ -13,7 +13,7 @@ use dw_bytes::AddressSize;
 pub(crate) struct Writer<'a, S: Sink> {
     /// The line or lines that are sent next. They may be incomplete.
     pub line: &'a mut String,
-    /// The size of an address, by which it is shown with 8 or 16 hex digits.
+    /// The size of an address: 4-byte addresses are shown with 8 hex digits, 8-byte ones with 16.
     pub size: AddressSize,
     pub sink: &'a mut S,
 }
