@@ -35,7 +35,8 @@ no_abi r = unnamed
 -- ---- a row's rules under an ABI
 
 -- The rule that an ABI gives a register without a rule in the row: a callee-saved register still
--- has the caller's value, and the stack pointer's value in the caller is the CFA.
+-- has the caller's value, and the stack pointer's value in the caller is the CFA. It is default for
+-- a register that the ABI doesn't name.
 abbrev pub rule_of_role : {E : Type 0} → Role → RuleOver E
 rule_of_role unnamed = default
 rule_of_role kept = same_value
@@ -63,7 +64,7 @@ pub record CanBeAbi (registers : List ℕ) (pointer : Option ℕ) : Type 0 where
   pub few : length registers ≤ MAX_KEPT
   pub distinct : IsDistinct nat_eq (registers ++ option_to_list pointer)
 
--- `place` is the index of the first number that occurs earlier in the list
+-- `place` is the index of the first number in the list that repeats an earlier one
 pub record StandsAgain (numbers : List ℕ) (place : ℕ) : Type 0 where
   pub number : ℕ
   pub here : slice_get numbers place ≡ Some number
@@ -72,15 +73,15 @@ pub record StandsAgain (numbers : List ℕ) (place : ℕ) : Type 0 where
 
 -- ---- the first fault
 
--- The index of the first number of `before ++ rest` that occurs earlier in that list, or none.
--- `before` has the numbers that were looked at already, none of which occurs twice.
+-- The index of the first number in `before ++ rest` that repeats an earlier one, or none if no
+-- number occurs twice. `before` has the numbers that were looked at already, which are distinct.
 abbrev pub place_of_second : List ℕ → List ℕ → Option ℕ
 place_of_second before [] = None
 place_of_second before (n ∷ rest) = if is_among n before then Some (length before) else place_of_second (before ++ n ∷ []) rest
 
 -- The fault of an ABI, or none: first AbiTooLarge if there are too many callee-saved registers, and
--- then AbiTwice at the index of the first number that occurs earlier in the list. The stack pointer
--- is the last number of that list.
+-- then AbiTwice at the index of the first number that repeats an earlier one. Indices count through
+-- the callee-saved registers, and then the stack pointer.
 abbrev pub abi_fault : List ℕ → Option ℕ → Option Fault
 abi_fault registers pointer =
     if nat_lt MAX_KEPT (length registers) then Some (record { kind = AbiTooLarge; at = MAX_KEPT })

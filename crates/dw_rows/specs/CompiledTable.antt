@@ -29,7 +29,7 @@ paired (start ∷ starts) (set ∷ sets) = record { start = start; set = set } �
 
 -- ---- rows by where they begin
 
--- a rule set, and the return address register of the CIE whose FDEs have rows with it
+-- a rule set, and the return address register of the rows that have the rule set
 pub record KeptSet : Type 0 where
   pub rules : KeptRules
   pub register : ℕ

@@ -62,7 +62,7 @@ pub record IsOrdered (index : List Fde) : Type 0 where
       → (slice_index_or index i d).offset ≡ (slice_index_or index j d).offset → i ≡ j
   pub sorted : IsNonDecreasingBy initial_of index
 
--- `index` has exactly those of the FDEs that cover at least one address, in order of address
+-- `index` has each FDE that covers at least one address, and no other FDE, in order of address
 pub record IsIndexOf (fdes index : List Fde) : Type 0 where
   pub from : (f : Fde) → Contains index f → Contains fdes f
   pub to : (f : Fde) → Contains fdes f → 0 < f.address_range → Contains index f
@@ -91,7 +91,7 @@ pub record IsEntry (fdes : List Fde) (e : IndexEntry) : Type 0 where
   pub within : e.place < length fdes
   pub start : e.start ≡ (fde_at fdes e).initial_location
 
--- the entries refer to exactly those of the FDEs that cover at least one address, in order of
+-- the entries refer to each FDE that covers at least one address, and to no other FDE, in order of
 -- address
 pub record IsAddressIndex (fdes : List Fde) (entries : List IndexEntry) : Type 0 where
   pub each : All (IsEntry fdes) entries

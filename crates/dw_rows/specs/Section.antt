@@ -75,7 +75,7 @@ abbrev pub first_fault : {X : Type 0} → (X → Option Fault) → List X → Op
 first_fault test [] = None
 first_fault test (x ∷ xs) = option_or (test x) (first_fault test xs)
 
--- the CIE that begins at the offset `at`
+-- the CIE that begins at the offset `at`, or none if no CIE begins there
 abbrev pub cie_at : List Cie → ℕ → Option Cie
 cie_at cies at = find (λ c. c.offset == at) cies
 
@@ -112,7 +112,8 @@ programs_fault cies fdes = option_or (first_fault (pointer_fault cies) fdes)
 unfoldable pub parts_fault : List Cie → List Fde → Option Fault
 parts_fault cies fdes = option_or (programs_fault cies fdes) (first_fault (overlap_fault fdes) fdes)
 
--- the first fault of a section: of reading its records, or else of the records that were read
+-- the first fault of a section: the first one in reading its CIEs and FDEs, or else the first one of
+-- their pointers, programs and addresses
 unfoldable pub section_fault : Target → List ℕ → Option Fault
 section_fault target section = option_or (fault_in (entries_of target section))
     (parts_fault (frame_of target section).cies (frame_of target section).fdes)

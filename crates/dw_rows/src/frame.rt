@@ -109,7 +109,7 @@ impl<'a> Model for CheckedFrame<'a> {
 /// room for one FDE for each `USUAL_FDE` bytes of the section, so it rarely has to grow.
 const USUAL_FDE: usize = 48;
 
-/// Reads the records of a section in one pass, and returns its CIEs and its FDEs.
+/// Reads a section in one pass, and returns its CIEs and its FDEs.
 fn records_of<'a>(
     alloc: Global,
     section: &'a [u8],
@@ -226,12 +226,13 @@ fn check_parts<'a>(
     Ok((programs, index))
 }
 
-/// Checks a section of fewer than 2^32 bytes: its records, the CIE_pointer of each FDE, the
-/// programs of the CIEs, those of the FDEs, and that no address is covered by two FDEs.
+/// Checks a section of fewer than 2^32 bytes: that its CIEs and FDEs can be read, then the
+/// CIE_pointer of each FDE, the programs of the CIEs, the programs of the FDEs, and that no address
+/// is covered by two FDEs.
 ///
 /// The error is the first fault in that order: a fault of `entries`; `NoSuchCie` (9) at a
-/// CIE_pointer; a fault of `check_cie` or `check_fde`; `Overlap` (23) at the first FDE that shares
-/// an address with an FDE before it in the section. `Memory` (60) has offset 0.
+/// CIE_pointer; a fault of `check_cie` or `check_fde`; `Overlap` (23) at the first FDE of the
+/// section that shares an address with an earlier FDE. `Memory` (60) has offset 0.
 #[tactic(auto, unfolding(crate::specs::Section::section_fault))]
 pub fn check_frame<'a>(
     alloc: Global,
@@ -340,8 +341,8 @@ impl<'a> CheckedFrame<'a> {
 
     /// Returns the CIE of one of this section's FDEs, and stores in `state`, as the initial rules,
     /// the rules that the CIE's program leaves: the FDE's program begins with them. The search
-    /// tries the CIE at index `near` and the next one first, and sets `near` to the index of the
-    /// FDE's CIE.
+    /// first tries the CIEs at the indices `near` and `near + 1`, and sets `near` to the index of
+    /// the FDE's CIE.
     pub(crate) fn begin_with_cie(
         &self,
         state: &mut UnwindState,
@@ -403,8 +404,8 @@ impl<'a> CheckedFrame<'a> {
         BorrowedExpressions::new(cies, fdes)
     }
 
-    /// The section's checked expressions, borrowed, in the type that a row stores. A row's
-    /// expressions can also be those that a compiled table owns.
+    /// The section's checked expressions, borrowed, in the type that a row stores. That type can
+    /// also refer to the expressions of a compiled table.
     pub(crate) fn lent(&self) -> LentExpressions<'_, 'a>
         ensures { lent_by result ≡ self.now.expressions }
     {

@@ -5,8 +5,8 @@
 /// CFA.
 #[derive(Clone, Copy)]
 pub enum KeptRule {
-    /// No rule is in force. Either no instruction has set one, or a DW_CFA_restore has brought back
-    /// the register's rule at the end of the CIE's program, and there it had none. The register is
+    /// No rule is in force. Either no instruction has set one, or a DW_CFA_restore or a
+    /// DW_CFA_restore_state has gone back to a point where the register had none. The register is
     /// undefined unless an ABI says otherwise.
     Default,
     /// The caller's value can't be recovered.

@@ -33,10 +33,10 @@ ghost use Rattle.dw_rows.specs.declared.abi.TheConstants.{MAX_KEPT};
 ghost use Rattle.dw_rows.specs.declared.map.TheConstants.{MAX_RULES};
 ghost use Rattle.dw_rows.specs.declared.remember_stack.TheConstants.{MAX_REMEMBERED};
 
-/// The rules after each number of instructions (`rule_after` and `cfa_after`, Good.antt) follow
-/// from the earlier ones as the standard says for each kind of instruction (`AreRules`,
-/// Clauses.antt). For example, the rules after a restore_state are those before the matching
-/// remember_state. If each restore_state has a match, no other rules meet these conditions.
+/// The rules after the first k + 1 instructions (`rule_after` and `cfa_after`, Good.antt) follow
+/// from the rules after fewer instructions, as the standard says for each kind of instruction
+/// (`AreRules`, Clauses.antt). For example, the rules after a restore_state are the rules before the
+/// matching remember_state. If each restore_state has a match, no other rules meet these conditions.
 pub fn rules_by_instruction()
     ensures meet { (s : Start) (program : List Effect)
         → AreRules s program (rule_after s program) (cfa_after s program) }
@@ -59,7 +59,8 @@ pub fn good_programs_have_no_fault()
 
 /// If an instruction has an expression, and the location before it isn't past the end, then only
 /// the last test, `TooManyRules`, can refuse the instruction. A CIE may contain the instruction. So
-/// its expression, which is checked before the last test, can be checked before all tests.
+/// checking its expression before all tests finds the same fault as checking it just before the last
+/// test.
 pub fn expressions_are_judged_in_their_place()
     ensures behind { (s : Start) (before : List Effect) (cie : Cie) (i : Instruction)
         (e : LocatedExpression) → expression_in i ≡ Some e → location_of s before ≤ s.end
@@ -71,8 +72,8 @@ pub fn expressions_are_judged_in_their_place()
 
 /// If an FDE's program is good, `rows_of` gives its rows as the standard describes them
 /// (`AreRowsOf`, Clauses.antt). For an address that the FDE covers, take the longest prefix of the
-/// program whose location is at most the address. The row of the address has the rules after that
-/// prefix, and covers all of the FDE's addresses that have the same longest prefix.
+/// program after which the location is at most the address. The row of the address has the rules
+/// after that prefix. It covers exactly the FDE's addresses that have the same longest prefix.
 pub fn rows_are_those_of_addresses()
     ensures { (cie : Cie) (fde : Fde) → (good : IsGoodFdeProgram cie fde)
         → AreRowsOf cie fde good (rows_of cie fde) }
@@ -80,7 +81,7 @@ pub fn rows_are_those_of_addresses()
 
 /// If an FDE's program has no fault, each of its rows begins where the row before it ends, and
 /// together the rows cover exactly what the FDE covers. Each covered address is in exactly one row.
-/// Rows without gaps still have none once expressions are put in place of their offsets.
+/// Rows without gaps still have no gaps once expressions are put in place of their offsets.
 pub fn rows_cover()
     ensures cover { (cie : Cie) (fde : Fde) → fde_fault cie fde ≡ None
         → Cover fde.initial_location (rows_of cie fde) (fde.initial_location + fde.address_range) }
@@ -116,8 +117,8 @@ pub fn rules_under_abis()
 
 /// The register numbers of an ABI have no fault if and only if there are at most `MAX_KEPT`
 /// callee-saved registers, and no number occurs twice among them and the stack pointer. If the
-/// fault is `AbiTwice`, its index is that of the first number that occurs earlier in the list of
-/// the callee-saved registers and the stack pointer.
+/// fault is `AbiTwice`, its index is the index of the first number that repeats an earlier one, in
+/// the list of the callee-saved registers followed by the stack pointer.
 pub fn abis_without_fault_are_distinct()
     ensures good { (registers : List ℕ) (pointer : Option ℕ)
         → (abi_fault registers pointer ≡ None) ↔ CanBeAbi registers pointer }
@@ -126,8 +127,8 @@ pub fn abis_without_fault_are_distinct()
         → StandsAgain (registers ++ option_to_list pointer) place }
 {}
 
-/// A section has no fault if and only if it is well formed: it is a sequence of records without
-/// gaps, each CIE_pointer is the offset of a CIE, all programs are good, and no address is covered
+/// A section has no fault if and only if it is well formed: it is a sequence of CIEs and FDEs
+/// without gaps, each CIE_pointer is the offset of a CIE, all programs are good, and no address is covered
 /// by two FDEs.
 pub fn frame_sections_without_fault_are_well_formed()
     ensures { (target : Target) (section : List ℕ)

@@ -313,8 +313,8 @@ impl RegisterRuleMap {
         self.entries.as_slice()
     }
 
-    /// Gives a register a rule, or refuses it with `TooManyRules` if more than `MAX_RULES`
-    /// registers would then have a rule.
+    /// Gives a register a rule. If more than `MAX_RULES` registers would then have a rule, this is
+    /// refused with `TooManyRules`.
     #[inline(always)]
     pub fn set(&mut self, number: u16, rule: KeptRule) -> Result<(), FaultKind>
         ensures { MatchResult result

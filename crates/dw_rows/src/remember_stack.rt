@@ -10,8 +10,8 @@ use std::marker::Model;
 pub const MAX_REMEMBERED: usize = 16;
 
 /// The rules that remember_states have saved and no restore_state has taken back. The model is the
-/// list of the saved rule sets, with the one saved last first. A slot of `rows` is `None` until
-/// rules are first pushed to it.
+/// list of the saved rule sets, from the newest to the oldest. A slot of `rows` is `None` until
+/// rules are pushed to it for the first time.
 #[derive(Drop)]
 pub struct RememberStack {
     rows: [Option<RuleSet>; MAX_REMEMBERED],

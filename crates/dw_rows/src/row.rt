@@ -26,8 +26,8 @@ use std::marker::Model;
 /// CFA.
 #[derive(Clone, Copy, Debug)]
 pub enum RegisterRule<'a> {
-    /// No rule is in force. Either no instruction has set one, or a DW_CFA_restore has brought back
-    /// the register's rule at the end of the CIE's program, and there it had none. The register is
+    /// No rule is in force. Either no instruction has set one, or a DW_CFA_restore or a
+    /// DW_CFA_restore_state has gone back to a point where the register had none. The register is
     /// undefined unless an ABI says otherwise.
     Default,
     /// The caller's value can't be recovered.
@@ -134,8 +134,8 @@ fn given_expression<'a>(offset: u32, expressions: &LentExpressions<'_, 'a>) -> C
 }
 
 /// A row of the unwind table: the addresses from `start` up to but not including `end`, and the
-/// rules that hold there. `'f` is the lifetime of the borrow of the checked section, and `'a` that
-/// of the section's bytes. The expressions in the row's rules live for `'a`.
+/// rules that hold there. `'f` is the lifetime of the borrow of the checked section, and `'a` is the
+/// lifetime of the section's bytes. The expressions in the row's rules live for `'a`.
 #[derive(Debug, Drop)]
 pub struct UnwindTableRow<'f, 'a> {
     start: u64,
@@ -190,8 +190,8 @@ impl<'f, 'a> UnwindTableRow<'f, 'a> {
         }
     }
 
-    /// Overwrites the row with the given addresses and rules. Each expression's offset in the rules
-    /// must be that of an expression in `expressions`.
+    /// Overwrites the row with the given addresses and rules. For each expression offset in the
+    /// rules, `expressions` must have the expression that begins there.
     pub(crate) fn set(
         &mut self,
         start: u64,
@@ -330,9 +330,9 @@ impl<'f, 'a> Model for RegisterRules<'f, 'a> {
         × LendsEach (lent_by r.expressions) (entries_of r.others.now) };
 }
 
-/// The entry of the lowest register that is in either table, and what remains of both tables after
-/// it, or `None` if both are empty. If both tables have that register, the entry is the one in
-/// `entries`, and the one in `others` is skipped.
+/// Takes the entry with the lowest register out of the two tables. Returns that entry and the rest
+/// of each table, or `None` if both tables are empty. If each table has an entry for that register,
+/// the entry in `entries` is returned, and the entry in `others` is dropped.
 #[inline(always)]
 fn lowest<'f>(
     entries: &'f [RuleEntry],

@@ -17,7 +17,7 @@ use std::marker::Model;
 
 /// An iterator over the rows of an FDE, in order of address. It runs the FDE's program from one row
 /// to the next, and allocates no memory. `'f` is the lifetime of the borrow of the checked section,
-/// and `'a` that of the section's bytes.
+/// and `'a` is the lifetime of the section's bytes.
 #[derive(Drop)]
 pub struct Rows<'f, 'a> {
     cie: CommonInformationEntry<'a>,

@@ -1,11 +1,11 @@
-//! The rules of a row: that of the CFA, and those of registers.
+//! The rules of a row: the CFA's rule, and the rules of registers.
 
 use crate::kept_rule::{KeptCfa, KeptRule};
 use crate::map::{MAX_RULES, RegisterRuleMap, RuleEntry};
 use dw_bytes::FaultKind;
 use std::marker::Model;
 
-/// The rules of a row: that of the CFA, if it has one, and those of registers.
+/// The rules of a row: the CFA's rule, if there is one, and the rules of registers.
 #[derive(Drop)]
 pub struct RuleSet {
     cfa: Option<KeptCfa>,
@@ -67,7 +67,7 @@ impl RuleSet {
         self.rules.copy_from(&other.rules);
     }
 
-    /// Replaces the CFA's rule by `cfa`, and the register rules by those of `entries`.
+    /// Replaces the CFA's rule by `cfa`, and the register rules by the rules in `entries`.
     pub fn assign(&mut self, cfa: Option<KeptCfa>, entries: &[RuleEntry])
         requires few { length entries.now ≤ MAX_RULES }
         requires table { IsTable 0 (entries_of entries.now) }
@@ -112,8 +112,8 @@ impl RuleSet {
         self.rules.register(number)
     }
 
-    /// Gives a register a rule, or refuses it with `TooManyRules` if more than `MAX_RULES`
-    /// registers would then have a rule.
+    /// Gives a register a rule. If more than `MAX_RULES` registers would then have a rule, this is
+    /// refused with `TooManyRules`.
     #[inline(always)]
     pub fn set(&mut self, register: u16, rule: KeptRule) -> Result<(), FaultKind>
         ensures { Sets self.old register (kept_rule_of rule) result self.new }

@@ -38,9 +38,9 @@ fn place_of_cie(cies: &[CommonInformationEntry<'_>], offset: u64) -> Option<usiz
 }
 
 /// Finds the CIE that begins at `offset`, and returns its index in `cies`. `None` means that no CIE
-/// begins there. The indices `near` and `near + 1` are tried before the binary search. Callers pass
-/// the index at which they found the last CIE, since most FDEs have the same CIE as the FDE before
-/// them, or the CIE after it.
+/// begins there. The indices `near` and `near + 1` are tried before the binary search. As `near`,
+/// callers pass the index of the previous FDE's CIE, since most FDEs have that CIE or the CIE after
+/// it.
 #[inline(always)]
 fn place_near(cies: &[CommonInformationEntry<'_>], near: usize, offset: u64) -> Option<usize>
     requires { Ascends cie_offset (map cie_of cies.now) }
@@ -100,7 +100,7 @@ struct FoundCie<'a> {
     cie: CommonInformationEntry<'a>,
 }
 
-/// Finds the CIE that begins at `offset`, or `None` if no CIE begins there. Stores in `state`, as
+/// Returns the CIE that begins at `offset`, or `None` if no CIE begins there. Stores in `state`, as
 /// the initial rules, the rules that the CIE's program leaves. `last` is the CIE of the previous
 /// FDE, or `None` for the first FDE. If `last` is the CIE at `offset`, `state` already has its
 /// rules. If the CIE after `last` is at `offset`, no binary search is needed.
@@ -137,7 +137,7 @@ fn begin_with_rules_again<'a>(
     Some(FoundCie { offset, place, cie })
 }
 
-/// Checks that each FDE's CIE_pointer is the offset of a CIE, in O(n log n) time for n records.
+/// Checks that each FDE's CIE_pointer is the offset of a CIE, in O(n log n) time for n CIEs and FDEs.
 pub fn check_pointers(
     cies: &[CommonInformationEntry<'_>],
     fdes: &[FrameDescriptionEntry<'_>],

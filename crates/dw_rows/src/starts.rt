@@ -1,4 +1,4 @@
-//! A compact list of addresses: those at which the entries of a compiled table begin.
+//! A compact list of the addresses at which the entries of a compiled table begin.
 
 ghost use Rattle.std.specs.Prelude.{◌≡◌, ◌+◌, ◌<◌, [], ◌∷◌, ◌++◌, IfSome, IsTrue, MatchResult, length, slice_index_or, ℕ};
 

@@ -55,7 +55,8 @@ impl Model for UnwindTable {
 }
 
 impl UnwindTable {
-    /// Compiles a checked section into a table of at most `room` bytes.
+    /// Compiles a checked section into a table whose rows and rules take at most `room` bytes. The
+    /// copied expressions aren't counted.
     pub(crate) fn of(frame: &CheckedFrame<'_>, alloc: Global, room: usize) -> Result<Self, Unmade>
         ensures table { IfOk result (IsTableOf frame.now) }
         ensures room { IfOk result (λ table. 16 * length table.rows ≤ room) }

@@ -32,8 +32,8 @@ struct Blocks {
 const USUAL_BLOCK: usize = 16;
 
 /// By how many bits an offset is shifted to the right to give the number of its block. `span` is
-/// the greatest offset, and `blocks` the greatest block number that it may give. All blocks have
-/// the same number of addresses.
+/// the greatest offset, and the number of its block must be at most `blocks`. All blocks have the
+/// same number of addresses.
 fn block_shift(span: u64, blocks: u64) -> u32
     ensures { result < 64 }
 {

@@ -62,8 +62,8 @@ impl<'t, 'a> Model for UnwindRow<'t, 'a> {
 }
 
 impl<'t, 'a> UnwindRow<'t, 'a> {
-    /// A row with the given addresses and rules. Each expression's offset in the rules must be that
-    /// of an expression in `expressions`.
+    /// A row with the given addresses and rules. For each expression offset in the rules,
+    /// `expressions` must have the expression that begins there.
     pub(crate) fn new(
         start: u64,
         end: u64,

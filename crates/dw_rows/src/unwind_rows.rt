@@ -1,4 +1,4 @@
-//! The trait `UnwindRows` of sources of rows: what can look up the row of an address.
+//! The trait `UnwindRows`, for types that can look up the row of an address.
 
 ghost use Rattle.std.specs.Prelude.{◌≡◌, ℕ, IfSome, Option};
 ghost use Rattle.dw_bytes.specs.declared.target.Target.{Target as OfTarget};
