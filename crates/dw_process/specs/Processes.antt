@@ -16,8 +16,8 @@ Modules = List (Module RowTable)
 
 -- ---- added and removed
 
--- The section has no fault, and a table of its rows is added as the last module. Each row takes at
--- least 16 of the `room` bytes.
+-- The section has no fault, and a table of its rows is added as the last module. The table has at
+-- most one row for every 16 bytes of `room`.
 pub record IsAdded (target : Target) (section : List ℕ) (load_address room : ℕ) (old new : Modules) : Type 0 where
   pub accepted : section_fault target section ≡ None
   pub table : RowTable

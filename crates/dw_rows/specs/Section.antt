@@ -112,8 +112,8 @@ programs_fault cies fdes = option_or (first_fault (pointer_fault cies) fdes)
 unfoldable pub parts_fault : List Cie → List Fde → Option Fault
 parts_fault cies fdes = option_or (programs_fault cies fdes) (first_fault (overlap_fault fdes) fdes)
 
--- the first fault of a section: the first one in reading its CIEs and FDEs, or else the first one of
--- their pointers, programs and addresses
+-- the first fault of a section: the first fault in reading its CIEs and FDEs, or else the first
+-- fault of their pointers, programs and addresses
 unfoldable pub section_fault : Target → List ℕ → Option Fault
 section_fault target section = option_or (fault_in (entries_of target section))
     (parts_fault (frame_of target section).cies (frame_of target section).fdes)

@@ -7,8 +7,8 @@ use Rattle.dw_rows.specs.Good.{IsGoodCieProgram, IsGoodFdeProgram}
 use Rattle.dw_rows.specs.Section.{cies_among, fdes_among, CoversOnce}
 
 -- The section's bytes are the encodings of CIEs and FDEs, without gaps. Each CIE_pointer is the
--- offset of a CIE. All programs are good, where an FDE's program begins with the rules that its CIE's program
--- leaves. No address is covered by two FDEs.
+-- offset of a CIE. All programs are good, where an FDE's program begins with the rules that its
+-- CIE's program leaves. No address is covered by two FDEs.
 pub record IsWellFormed (target : Target) (section : List ℕ) : Type 0 where
   pub records : List Record
   pub encoded : AreRecords target 0 section records

@@ -35,8 +35,9 @@ ghost use Rattle.dw_rows.specs.declared.remember_stack.TheConstants.{MAX_REMEMBE
 
 /// The rules after the first k + 1 instructions (`rule_after` and `cfa_after`, Good.antt) follow
 /// from the rules after fewer instructions, as the standard says for each kind of instruction
-/// (`AreRules`, Clauses.antt). For example, the rules after a restore_state are the rules before the
-/// matching remember_state. If each restore_state has a match, no other rules meet these conditions.
+/// (`AreRules`, Clauses.antt). For example, the rules after a restore_state are the rules before
+/// the matching remember_state. If each restore_state has a match, no other rules meet these
+/// conditions.
 pub fn rules_by_instruction()
     ensures meet { (s : Start) (program : List Effect)
         → AreRules s program (rule_after s program) (cfa_after s program) }
@@ -59,8 +60,8 @@ pub fn good_programs_have_no_fault()
 
 /// If an instruction has an expression, and the location before it isn't past the end, then only
 /// the last test, `TooManyRules`, can refuse the instruction. A CIE may contain the instruction. So
-/// checking its expression before all tests finds the same fault as checking it just before the last
-/// test.
+/// checking its expression before all tests finds the same fault as checking it just before the
+/// last test.
 pub fn expressions_are_judged_in_their_place()
     ensures behind { (s : Start) (before : List Effect) (cie : Cie) (i : Instruction)
         (e : LocatedExpression) → expression_in i ≡ Some e → location_of s before ≤ s.end
@@ -117,7 +118,7 @@ pub fn rules_under_abis()
 
 /// The register numbers of an ABI have no fault if and only if there are at most `MAX_KEPT`
 /// callee-saved registers, and no number occurs twice among them and the stack pointer. If the
-/// fault is `AbiTwice`, its index is the index of the first number that repeats an earlier one, in
+/// fault is `AbiTwice`, its index is the index of the first number that repeats an earlier one in
 /// the list of the callee-saved registers followed by the stack pointer.
 pub fn abis_without_fault_are_distinct()
     ensures good { (registers : List ℕ) (pointer : Option ℕ)

@@ -134,8 +134,8 @@ fn given_expression<'a>(offset: u32, expressions: &LentExpressions<'_, 'a>) -> C
 }
 
 /// A row of the unwind table: the addresses from `start` up to but not including `end`, and the
-/// rules that hold there. `'f` is the lifetime of the borrow of the checked section, and `'a` is the
-/// lifetime of the section's bytes. The expressions in the row's rules live for `'a`.
+/// rules that hold there. `'f` is the lifetime of the borrow of the checked section, and `'a` is
+/// the lifetime of the section's bytes. The expressions in the row's rules live for `'a`.
 #[derive(Debug, Drop)]
 pub struct UnwindTableRow<'f, 'a> {
     start: u64,

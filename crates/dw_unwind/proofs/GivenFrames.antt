@@ -41,7 +41,7 @@ module _ (u : CallerRelation) (first : Place) where
       fills u first limit frames (after (about_to_give begin) frames) (given_so_far begin frames at given) many
 
   module _ (some : AlwaysUnwinds u) where
-    -- either a walk has ended, or it gives a next frame
+    -- a walk with the progress `p` either has ended or gives a next frame
     abbrev GoesOn : Progress → Type 0
     GoesOn p = ((stop : Stop) × (stop_of p ≡ Some stop)) ⊎ ((f : WalkedFrame) × GivesFrame u p f)
 

@@ -18,7 +18,7 @@ use Rattle.dw_unwind.specs.Walks.{CallerRelation, Place, WalkedFrame, Walks, add
 use Rattle.dw_unwind.specs.declared.frames.Stop.{Stop}
 use Rattle.dw_unwind.proofs.WalksOver.{walk_where}
 
--- ---- if each module has at most one answer, or some answer, all modules together have it too
+-- ---- if each module has at most one answer, or some answer, so have all modules together
 
 -- there is at most one answer: a caller, or none
 abbrev pub HasOne : CallerRelation → Type 0

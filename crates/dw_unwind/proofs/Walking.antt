@@ -11,7 +11,7 @@ use Rattle.dw_unwind.specs.Walks.{CallerRelation, Place, WalkedFrame, AreFrames,
 use Rattle.dw_unwind.specs.Walks.{address_before, stop_after, stop_of_caller}
 use Rattle.dw_unwind.specs.WalkSteps.{Progress, about_to_give, has_given, GivesFrame, stop_of}
 
--- if `frames`, ended by `f`, are frames of a walk and `g` is the frame after `f`, `g` can be
+-- if `frames`, followed by `f`, are frames of a walk, and `g` is the frame after `f`, then `g` can be
 -- appended
 pub one_more_frame : (u : CallerRelation) (p : Option Place) (frames : List WalkedFrame) (f g : WalkedFrame)
     → AreFrames u p (frames ++ f ∷ []) → AreFrames u (next_place f.caller) (g ∷ []) → AreFrames u p ((frames ++ f ∷ []) ++ g ∷ [])
@@ -38,8 +38,8 @@ none_before (suc n) none = absurd (none (omega arith))
 -- ---- a walk under way
 
 -- The walk with the progress `p` has given `frames`, from the place `first` on. Any frame that it
--- gives next comes after them. If it gives no next frame, the reason is the one for which the
--- frames end.
+-- gives next comes after them. If it gives no next frame for some reason (`stop_of`), that is also
+-- the reason why no frame follows `frames` (`stop_after`).
 pub record UnderWay (u : CallerRelation) (first : Place) (frames : List WalkedFrame) (p : Progress) : Type 0 where
   pub are : AreFrames u (Some first) frames
   pub next : (f : WalkedFrame) → GivesFrame u p f → AreFrames u (Some first) (frames ++ f ∷ [])

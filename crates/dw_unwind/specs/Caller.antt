@@ -85,7 +85,8 @@ answer_of (results.division_by_zero at) = division_by_zero
 answer_of _ = unreadable
 
 -- Running the expression `x` as an expression of the kind `kind` gives `answer`. The expression of
--- a CFA rule starts with an empty stack, that of a register's rule with the CFA on the stack.
+-- a CFA rule starts with an empty stack, and the expression of a register's rule starts with the
+-- CFA on the stack.
 abbrev pub Gives : World → Kind → LocatedExpression → Answer → Type 0
 Gives e kind x answer = (outcome : Outcome) × (steps : ℕ)
     × IsRun (under x.target e) kind (operations_in x.target x.bytes) (length x.bytes) outcome steps × (answer ≡ answer_of outcome)

@@ -1,6 +1,6 @@
 -- Unwinding through the modules of a process: its executable and its libraries, each with its own
--- rows and load address. The addresses in a module's rows are those that the linker gave it. The
--- addresses on the stack are those at which the modules are loaded.
+-- rows and load address. The addresses in a module's rows are as linked: the linker chose them. The
+-- addresses on the stack are as loaded: they are addresses in the running process.
 use Rattle.std.specs.Prelude.{◌≡◌, ℕ, ◌≤◌, ◌^◌, pos, ◌-ℤ◌, List, [], ◌∷◌, map, All, Option, Some, None}
 use Rattle.std.specs.Borrow.{Bor}
 use Rattle.dw_bytes.specs.declared.target.Target.{Target}

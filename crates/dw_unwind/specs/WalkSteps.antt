@@ -6,8 +6,8 @@ use Rattle.dw_unwind.specs.Caller.{Answer, Caller}
 use Rattle.dw_unwind.specs.Walks.{CallerRelation, WalkedFrame, AreFrames, UnwindsAt, address_before, contents_of, next_place, stop_of_caller}
 use Rattle.dw_unwind.specs.declared.frames.Stop.{Stop}
 
--- The progress of a walk. Either it has given no frame yet, and this is its first frame, or this is
--- the frame that it gave last.
+-- The progress of a walk. Either the walk has given no frame yet, and the argument is its first
+-- frame, or the argument is the frame that it gave last.
 pub data Progress : Type 0 where
   about_to_give : WalkedFrame → Progress
   has_given : WalkedFrame → Progress
@@ -25,7 +25,7 @@ abbrev pub GivesFrame : CallerRelation → Progress → WalkedFrame → Type 0
 GivesFrame u (about_to_give first) frame = frame ≡ first
 GivesFrame u (has_given last) frame = AreFrames u (next_place last.caller) (frame ∷ [])
 
--- the next frames that a walk with this progress gives are these, in this order
+-- the next frames that a walk with this progress gives are the frames in the list, in their order
 abbrev pub GivesFrames : CallerRelation → Progress → List WalkedFrame → Type 0
 GivesFrames u p [] = Unit {0}
 GivesFrames u p (frame ∷ frames) = GivesFrame u p frame × GivesFrames u (has_given frame) frames
@@ -40,12 +40,12 @@ abbrev pub stop_of : Progress → Option Stop
 stop_of (about_to_give first) = None
 stop_of (has_given last) = stop_of_caller last.caller
 
--- the current frame of a walk: the one that it gave last, or its first frame if it has given none
+-- the current frame of a walk: the frame that it gave last, or its first frame if it has given none
 abbrev pub frame_at : Progress → WalkedFrame
 frame_at (about_to_give first) = first
 frame_at (has_given last) = last
 
--- the CFA of a frame, none if no FDE covers the address that is looked up for the frame
+-- the CFA of a frame; none if the frame has no caller
 abbrev pub cfa_of : WalkedFrame → Option Answer
 cfa_of frame = option_map (λ (c : Caller). c.cfa) frame.caller
 

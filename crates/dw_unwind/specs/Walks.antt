@@ -45,7 +45,7 @@ pub record Place : Type 0 where
   pub registers : ℕ → Option ℕ
 
 -- A frame of a walk: its address and its caller. The caller is none if no FDE covers the address
--- that is looked up for the frame.
+-- that is looked up for the frame, or if there is no address to look up.
 pub record WalkedFrame : Type 0 where
   pub address : ℕ
   pub caller : Option Caller

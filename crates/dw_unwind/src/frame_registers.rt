@@ -25,9 +25,9 @@ pub struct FrameRegisters {
     /// frames.
     found: [(u16, Answer); MAX_FOUND],
     count: usize,
-    /// For each register number modulo `GUESSES`, the index in `found` where such a register was
-    /// put last. The index may be left over from an earlier frame, so it is checked before it is
-    /// used.
+    /// For each remainder modulo `GUESSES`, the index in `found` of the register that was most
+    /// recently put there with a number of that remainder. The index may be left over from an
+    /// earlier frame, so it is checked before it is used.
     places: [u8; GUESSES],
     /// Whether each register number is greater than those before it, and all are below `bound`. If
     /// so, no register is in the list twice.
@@ -85,8 +85,8 @@ fn answer_at(found: &[(u16, Answer)], place: usize, number: u16) -> Option<Answe
     }
 }
 
-/// If the register `number` is at the index `place`, its content, which is none if its answer isn't
-/// a value. If another register is there, or `place` is past the end, the outer option is none.
+/// Looks for the register `number` at the index `place` only. If it is there, the result is `Some`
+/// of its content, which is none if its answer isn't a value. Otherwise the result is `None`.
 /// Numbers in `found` ascend, so the register is at no other index.
 #[inline(always)]
 fn content_at(found: &[(u16, Answer)], place: usize, number: u16) -> Option<Option<u64>>

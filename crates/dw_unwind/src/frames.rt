@@ -8,10 +8,10 @@ pub struct Frame {
     /// The frame's address. For frame 0 it is the address that was passed to the walk. For each
     /// later frame it is the return address of the frame before it.
     pub address: u64,
-    /// The frame's caller, none if and only if no FDE covers the address that is looked up. For
-    /// frame 0 that is its own address; for each later frame it is the frame's address minus 1,
-    /// since a call may be the last instruction that an FDE covers (DWARF 5, section 6.4.4). A
-    /// later frame at address 0 has no address to look up, so its caller is none.
+    /// The frame's caller. Frame 0 is looked up at its own address, and each later frame at its
+    /// address minus 1, since a call may be the last instruction that an FDE covers (DWARF 5,
+    /// section 6.4.4). The caller is none if and only if no FDE covers the address that is looked
+    /// up, or a later frame is at address 0, so that there is no address to look up.
     pub caller: Option<Caller>,
 }
 
@@ -20,8 +20,8 @@ pub struct Frame {
 pub struct BriefFrame {
     /// The frame's address, as in `Frame`.
     pub address: u64,
-    /// The frame's canonical frame address, none if and only if no FDE covers the address that is
-    /// looked up.
+    /// The frame's canonical frame address, none if and only if the frame's caller is none, as in
+    /// `Frame`.
     pub cfa: Option<Answer>,
 }
 
@@ -31,7 +31,8 @@ pub enum Stop {
     /// The limit on frames was reached, whether or not another frame follows. Only a `Backtrace`
     /// has this reason: a `Walk` has no limit.
     Limit,
-    /// No FDE of any module covers the address that is looked up for the last frame.
+    /// No FDE covers the address that is looked up for the last frame, or the last frame is a
+    /// caller at address 0, so that there is no address to look up.
     NotCovered,
     /// The last frame's return address is undefined: the walk is complete (DWARF 5, section 6.4.4).
     ReturnUndefined,

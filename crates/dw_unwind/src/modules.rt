@@ -55,8 +55,8 @@ pub fn as_linked(target: Target, load_address: u64, address: u64) -> u64
     width.minus(address, load_address)
 }
 
-/// Unwinds through the modules of a process, with the first module that has an FDE that covers the
-/// address as linked in that module.
+/// Unwinds through the modules of a process. Each module is asked for the address as linked in that
+/// module. The first module whose FDEs cover it gives the caller.
 impl<'m, T: UnwindRows> Unwinder for &'m [Module<T>] {
     ghost use Rattle.dw_unwind.specs.Modules.{AreBelow, over_modules_of_rows};
 
@@ -85,11 +85,12 @@ impl<'m, T: UnwindRows> Unwinder for &'m [Module<T>] {
 }
 
 /// The caller of the frame at `address`, computed from the frame's registers and memory. `address`
-/// is as loaded, in the running process. The first module that has a row for it is used; none if no
-/// module has one (DWARF 5, section 6.4.1).
+/// is as loaded, in the running process. The first module that has a row for it is used. If no
+/// module has a row for it, the result is none (DWARF 5, section 6.4.1).
 ///
-/// The result is that of `unwind_by` at the address minus the module's load address, modulo 2^w, w
-/// being the size of an address in bits. A module that doesn't cover the address costs one look-up.
+/// The result is what `unwind_by` returns for that module's rows at the address minus the module's
+/// load address, modulo 2^w, w being the size of an address in bits. A module that doesn't cover
+/// the address costs one look-up.
 ///
 /// ```rust
 /// let modules = [Module::new(program, 0x5555_5555_4000), Module::new(library, 0x7fff_f7dc_3000)];

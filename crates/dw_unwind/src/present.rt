@@ -142,8 +142,8 @@ impl<'m, R: Registers, M: Memory> Present<'m, R, M> {
         }
     }
 
-    /// Replaces the contents of the list `registers` by the registers that these rules are for,
-    /// each with its answer, in the order of the rules.
+    /// Replaces the contents of the list `registers` by the registers in `rules`, each with its
+    /// answer, in the order of the rules.
     #[inline(always)]
     pub fn registers_into<L: RegisterList>(
         &self,

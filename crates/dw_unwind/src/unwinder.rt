@@ -1,4 +1,4 @@
-//! The trait of what can find the caller of a frame.
+//! The trait `Unwinder`, for types that can find the caller of a frame.
 
 ghost use Rattle.std.specs.Prelude.{IfSome, option_map};
 ghost use Rattle.dw_rows.specs.AbiViews.{roles_of};
@@ -10,10 +10,10 @@ use crate::unwinding::{Unwound, unwind_into};
 use dw_eval::{Memory, Registers};
 use dw_rows::{Abi, UnwindRows};
 
-/// What finds the caller of a frame, for `Walk`: a checked section or a compiled table, as
-/// `&&CheckedFrame` or `&UnwindTable`, or the modules of a process, as `&[Module<T>]`. Other crates
-/// can't implement this trait: it writes registers to a `RegisterList`, which is private to this
-/// crate.
+/// Finds the caller of a frame, for `Walk`. It is implemented by a checked section (as
+/// `&&CheckedFrame`), by a compiled table (as `&UnwindTable`), and by the modules of a process (as
+/// `&[Module<T>]`). Other crates can't implement this trait: it writes registers to a
+/// `RegisterList`, which is private to this crate.
 pub trait Unwinder {
     ghost use Rattle.std.specs.Prelude.{ℕ, Option};
     ghost use Rattle.dw_rows.specs.Abi.{Abi};
@@ -24,8 +24,8 @@ pub trait Unwinder {
     /// covers the address.
     ghost unwinds: { Self → Abi → (ℕ → Option ℕ) → CallerRelation };
 
-    /// Which numbers are bounds of addresses: those that are 2^w or more, w being the size of an
-    /// address in bits. All numbers of a caller are below each bound.
+    /// Whether a number is a bound of addresses: a number that is 2^w or more, w being the size of
+    /// an address in bits. All numbers of a caller are below each bound.
     ghost is_bound: { Self → ℕ → Type 0 };
 
     /// Finds the caller of the frame at `address`, and replaces the contents of `into` by the

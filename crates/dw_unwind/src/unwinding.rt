@@ -24,8 +24,8 @@ use dw_rows::{Abi, CheckedFrame, MAX_RULES, UnwindRow, UnwindRows};
 pub enum Answer {
     /// The value, which is below 2^w, w being the size of an address in bits.
     Value(u64),
-    /// The register isn't available: its rule is `undefined`, or no instruction gave it a rule and
-    /// the ABI doesn't name it.
+    /// The register isn't available: its rule is `undefined`, or the row has no rule for it and the
+    /// ABI doesn't name it.
     Undefined,
     /// A register or memory that the answer depends on, possibly through the CFA, isn't known, or a
     /// read goes past the greatest address.
@@ -158,8 +158,7 @@ pub(crate) fn unwind_over<U: Unwinder, R: Registers, M: Memory>(
 
 /// The caller of the frame at an address, computed from the frame's registers and memory by the row
 /// of a checked section or a compiled table. None if the section or table has no row at the address
-/// (DWARF 5, section 6.4.1). A register to which no instruction gives a rule has the rule of the
-/// ABI.
+/// (DWARF 5, section 6.4.1). A register for which the row has no rule has the ABI's rule.
 ///
 /// Contents and sums are taken modulo 2^w, w being the size of an address in bits. A saved value is
 /// an address-sized word in memory. If the CFA has no value, the answer of a rule that needs the

@@ -70,9 +70,9 @@ impl<'w, U: Unwinder, M: Memory> Model for Walk<'w, U, M> {
     } };
 }
 
-/// The caller of a frame at `address` that is itself a caller, computed from that frame's
-/// registers. Looks up `address` minus 1, which is inside the call. None if no FDE covers the
-/// address looked up, or if `address` is 0.
+/// Finds the caller of a frame other than a walk's first frame. The frame is at `address` and has
+/// the registers `registers`. Looks up `address` minus 1, which is inside the call. None if no FDE
+/// covers the address looked up, or if `address` is 0.
 #[inline(always)]
 fn unwind_caller<U: Unwinder, M: Memory>(
     unwinder: &U,
@@ -218,8 +218,8 @@ impl<'w, U: Unwinder, M: Memory> Walk<'w, U, M> {
     }
 
     /// The registers of the caller of the frame that was given last: each register that has a rule,
-    /// with its answer. None if no FDE covers the address that is looked up for the frame. If no
-    /// frame has been given yet, the registers of the first frame's caller.
+    /// with its answer. None if the frame has no caller (see `Frame`). If no frame has been given
+    /// yet, the registers of the first frame's caller.
     pub fn caller_registers(&self) -> Option<&FrameRegisters>
         ensures { option_map (λ r. r.now) result
             ≡ option_map (λ c. c.registers) (frame_at self.now.progress).caller }
