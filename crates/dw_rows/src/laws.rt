@@ -129,8 +129,8 @@ pub fn abis_without_fault_are_distinct()
 {}
 
 /// A section has no fault if and only if it is well formed: it is a sequence of CIEs and FDEs
-/// without gaps, each CIE_pointer is the offset of a CIE, all programs are good, and no address is covered
-/// by two FDEs.
+/// without gaps, each CIE_pointer is the offset of a CIE, all programs are good, and no address is
+/// covered by two FDEs.
 pub fn frame_sections_without_fault_are_well_formed()
     ensures { (target : Target) (section : List ℕ)
         → (section_fault target section ≡ None) ↔ IsWellFormed target section }

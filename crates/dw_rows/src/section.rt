@@ -137,7 +137,8 @@ fn begin_with_rules_again<'a>(
     Some(FoundCie { offset, place, cie })
 }
 
-/// Checks that each FDE's CIE_pointer is the offset of a CIE, in O(n log n) time for n CIEs and FDEs.
+/// Checks that each FDE's CIE_pointer is the offset of a CIE, in O(n log n) time for n CIEs and
+/// FDEs.
 pub fn check_pointers(
     cies: &[CommonInformationEntry<'_>],
     fdes: &[FrameDescriptionEntry<'_>],

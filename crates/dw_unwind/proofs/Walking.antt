@@ -11,8 +11,8 @@ use Rattle.dw_unwind.specs.Walks.{CallerRelation, Place, WalkedFrame, AreFrames,
 use Rattle.dw_unwind.specs.Walks.{address_before, stop_after, stop_of_caller}
 use Rattle.dw_unwind.specs.WalkSteps.{Progress, about_to_give, has_given, GivesFrame, stop_of}
 
--- if `frames`, followed by `f`, are frames of a walk, and `g` is the frame after `f`, then `g` can be
--- appended
+-- if `frames`, followed by `f`, are frames of a walk, and `g` is the frame after `f`, then `g` can
+-- be appended
 pub one_more_frame : (u : CallerRelation) (p : Option Place) (frames : List WalkedFrame) (f g : WalkedFrame)
     → AreFrames u p (frames ++ f ∷ []) → AreFrames u (next_place f.caller) (g ∷ []) → AreFrames u p ((frames ++ f ∷ []) ++ g ∷ [])
 one_more_frame u None [] f g h next = absurd h

@@ -123,8 +123,8 @@ pub fn backtrace_by<T: UnwindRows, R: Registers, M: Memory>(
     backtrace_over(alloc, rows, abi, address, registers, memory, limit)
 }
 
-/// Walks up the stack with a checked frame section, for programs that check no location lists.
-/// Returns the same frames as `backtrace_by`: at most `limit`, and why there are no more.
+/// Walks up the stack with a checked frame section alone: no location lists are needed. Returns the
+/// same frames as `backtrace_by`: at most `limit`, and why there are no more.
 pub fn backtrace_by_section<R: Registers, M: Memory>(
     alloc: Global,
     frame: &CheckedFrame<'_>,

@@ -189,8 +189,8 @@ pub fn unwind_by<T: UnwindRows, R: Registers, M: Memory>(
     unwind_over(&rows, abi, address, registers, memory)
 }
 
-/// The caller of the frame at an address, computed by the row of a checked frame section. For
-/// programs that check no location lists; gives what `unwind_by` gives.
+/// The caller of the frame at an address, computed by the row of a checked frame section alone: no
+/// location lists are needed. Returns what `unwind_by` returns.
 pub fn unwind_by_section<R: Registers, M: Memory>(
     frame: &CheckedFrame<'_>,
     abi: &Abi,
