@@ -40,7 +40,7 @@ has_room e cfa came left rest all answers x most h whole next few =
     let one : length left ≡ suc (length rest) = ap length next in
     omega (arith, many, cut, one, few)
 
--- ---- a loop that sees each element of a list through `view`: the next element is visited
+-- ---- a list in two parts: the next element moves from the second part to the first
 
 pub comes : {X Y : Type 0} (view : X → Y) (came : List X) (x : X) (left rest all : List Y) → map view came ++ left ≡ all
     → left ≡ view x ∷ rest → map view (came ++ x ∷ []) ++ rest ≡ all

@@ -51,7 +51,7 @@ some_cie : (p : ℕ) (cs : List Cie) (d : Cie) → Contains cs d → d.offset �
 some_cie p [] d (k, lt, at) is = absurd (omega (arith, lt))
 some_cie p (c ∷ cs) d among is = first_cie_or p c cs (c.offset == p) refl d among is (some_cie p cs)
 
--- ---- all elements that a filter keeps are elements of the list that is filtered
+-- ---- a filter keeps only elements of its list
 
 later : {X : Type 0} (x y : X) (xs : List X) → Contains xs y → Contains (x ∷ xs) y
 later x y xs at = (suc at.0, omega (arith, at.1), at.2)

@@ -72,7 +72,7 @@ good_as : (es : List LocatedExpression) (kind : Kind) (x : LocatedExpression) �
     → IsGoodExpression kind x.target x.bytes
 good_as es kind x good = subst (λ k. IsGoodExpression k x.target x.bytes) good.of_kind good.good
 
--- two callers are the same if their parts are
+-- a caller from its parts; two callers with the same parts are the same
 abbrev made : Answer → List (ℕ × Answer) → Answer → Caller
 made cfa registers returned = record { cfa = cfa; registers = registers; return_address = returned }
 
