@@ -38,9 +38,9 @@ fn place_of_cie(cies: &[CommonInformationEntry<'_>], offset: u64) -> Option<usiz
 }
 
 /// Finds the CIE that begins at `offset`, and returns its index in `cies`. `None` means that no CIE
-/// begins there. The indices `near` and `near + 1` are tried before the binary search. A caller that
-/// goes through many FDEs passes the index of the previous FDE's CIE as `near`, since most FDEs have
-/// that CIE or the CIE after it.
+/// begins there. The indices `near` and `near + 1` are tried before the binary search. A caller
+/// that goes through many FDEs passes the index of the previous FDE's CIE as `near`, since most
+/// FDEs have that CIE or the CIE after it.
 #[inline(always)]
 fn place_near(cies: &[CommonInformationEntry<'_>], near: usize, offset: u64) -> Option<usize>
     requires { Ascends cie_offset (map cie_of cies.now) }
