@@ -12,7 +12,7 @@ role_of_rule rule = kept
 abbrev pub roles_of : List (ℕ × PlacedRule) → Abi
 roles_of rules r = role_of_rule (rule_in rules r)
 
--- the rule of each register (default if the table has none) is the one that `rule_of_role` gives
+-- the rule of each register (default if the table has none) is the rule that `rule_of_role` gives
 -- for the register's role
 abbrev pub AreRoles : List (ℕ × PlacedRule) → Type 0
 AreRoles rules = (r : ℕ) → rule_in rules r ≡ rule_of_role (roles_of rules r)

@@ -15,8 +15,8 @@ abbrev pub rules_of_either : {E : Type 0} → List (ℕ × RuleOver E) → List 
 rules_of_either rules others = rule_list (rule_of_either rules others)
 
 -- `entry` is the first of the rules of both tables taken together, and `left` and `left_others`
--- taken together have all later rules. If the expressions that both tables refer to are among `es`,
--- so are those that `entry`, `left` and `left_others` refer to.
+-- taken together have all later rules. If each expression that either table refers to is among
+-- `es`, so is each expression that `entry`, `left` or `left_others` refers to.
 pub record IsLowest (entries others : List (ℕ × PlacedRule)) (entry : ℕ × PlacedRule)
     (left left_others : List (ℕ × PlacedRule)) : Type 0 where
   pub first : rules_of_either entries others ≡ entry ∷ rules_of_either left left_others

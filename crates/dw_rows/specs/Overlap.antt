@@ -111,9 +111,9 @@ pub record IsCountUpTo (entries : List IndexEntry) (a count : ℕ) : Type 0 wher
   pub below : (k : ℕ) (d : IndexEntry) → k < count → (slice_index_or entries k d).start ≤ a
   pub above : (k : ℕ) (d : IndexEntry) → count ≤ k → k < length entries → a < (slice_index_or entries k d).start
 
--- What a checked section stores: its records, the rules that the CIEs' programs leave (`left`), an
--- index of its FDEs in order of address, how many of its expressions belong to CIEs (`count`), and
--- how many rows its FDEs have.
+-- What a checked section stores: its CIEs, FDEs and expressions (`s`), the rules that the CIEs'
+-- programs leave (`left`), an index of its FDEs in order of address, how many of its expressions
+-- belong to CIEs (`count`), and how many rows its FDEs have.
 pub record IsKept (s : FrameSection) (left : List KeptRules) (index : List IndexEntry) (count rows : ℕ) : Type 0 where
   pub checked : IsChecked s
   pub left_by : AreLeftBy s.cies left

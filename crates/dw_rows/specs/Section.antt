@@ -68,7 +68,7 @@ abbrev pub IsCoverOf : List Fde → ℕ → Option Fde → Type 0
 IsCoverOf fdes a None = (f : Fde) → Contains fdes f → ¬ Covers f a
 IsCoverOf fdes a (Some f) = Contains fdes f × Covers f a × ((g : Fde) → Contains fdes g → Covers g a → g ≡ f)
 
--- ---- the first fault that is found once all records have been read
+-- ---- the first fault that is found once all CIEs and FDEs have been read
 
 -- the fault of the first element that has one
 abbrev pub first_fault : {X : Type 0} → (X → Option Fault) → List X → Option Fault
@@ -118,8 +118,8 @@ unfoldable pub section_fault : Target → List ℕ → Option Fault
 section_fault target section = option_or (fault_in (entries_of target section))
     (parts_fault (frame_of target section).cies (frame_of target section).fdes)
 
--- A section that is accepted: its records and expressions are those read from its bytes, and it has
--- no fault.
+-- A section that is accepted: its CIEs, FDEs and expressions are what is read from its bytes, and it
+-- has no fault.
 pub record IsChecked (s : FrameSection) : Type 0 where
   pub whole : s ≡ frame_of s.target s.section
   pub faultless : section_fault s.target s.section ≡ None

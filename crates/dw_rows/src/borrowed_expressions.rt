@@ -31,7 +31,7 @@ impl<'f, 'a> BorrowedExpressions<'f, 'a> {
         }
     }
 
-    /// Borrows the expressions of CIEs and those of FDEs. Each slice must be in order of offset.
+    /// Borrows the expressions of CIEs and of FDEs. Each slice must be in order of offset.
     pub(crate) fn new(
         cies: &'f [(u32, CheckedExpression<'a>)],
         fdes: &'f [(u32, CheckedExpression<'a>)],

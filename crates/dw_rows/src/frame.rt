@@ -170,7 +170,7 @@ struct JudgedPrograms<'a> {
     rows: u128,
 }
 
-/// Checks the CIE_pointers first, then the programs of the CIEs, then those of the FDEs.
+/// Checks the CIE_pointers first, then the programs of the CIEs, then the programs of the FDEs.
 fn check_programs<'a>(
     alloc: Global,
     cies: &[CommonInformationEntry<'a>],
@@ -307,8 +307,8 @@ impl<'a> CheckedFrame<'a> {
     }
 
     /// The checked expressions of all programs, each with the offset of its first byte in the
-    /// section. Those of the CIEs come first, then those of the FDEs. Both are in the order of the
-    /// section.
+    /// section. The expressions of the CIEs come first, then the expressions of the FDEs, each in
+    /// the order of the section.
     pub fn expressions(&self) -> &[(u32, CheckedExpression<'a>)]
         ensures { all_located result.now ≡ self.now.expressions }
     {

@@ -190,7 +190,8 @@ pub fn tables_of_sections()
         → row_at t a ≡ row_at u a }
 {}
 
-/// Each remember_state has at most one matching restore_state, and the other way around.
+/// Each remember_state has at most one matching restore_state, and each restore_state has at most
+/// one matching remember_state.
 pub fn matches_are_unique()
     ensures restore { (program : List Effect) (i j k : ℕ) → Match program i j → Match program i k
         → j ≡ k }

@@ -18,7 +18,7 @@ use crate::unwind_state::UnwindState;
 use dw_frame::{CommonInformationEntry, FrameDescriptionEntry, Instructions};
 
 /// Overwrites `row` with the row of `address`. `fde` must cover the address, and the initial rules
-/// in `state` must be those that the CIE's program leaves.
+/// in `state` must be the rules that the CIE's program leaves.
 pub(crate) fn write_row_at<'f, 'a>(
     state: &mut UnwindState,
     cie: &CommonInformationEntry<'a>,

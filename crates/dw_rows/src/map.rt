@@ -162,7 +162,7 @@ impl EntryTable {
         self.count = 0;
     }
 
-    /// Replaces all entries by those of a slice. Array elements past the new entries are left as
+    /// Replaces all entries by the entries of a slice. Array elements past the new entries are left as
     /// they were, which saves time.
     #[inline(always)]
     fn assign(&mut self, entries: &[RuleEntry])
@@ -286,16 +286,16 @@ impl RegisterRuleMap {
         self.entries.clear();
     }
 
-    /// Replaces all rules by those of `other`. Entries past the new ones are left as they were in
-    /// the array, which saves time.
+    /// Replaces all rules by the rules of `other`. Array elements past the new entries are left as
+    /// they were, which saves time.
     pub fn copy_from(&mut self, other: &RegisterRuleMap)
         ensures { self.new ≡ other.now }
     {
         self.entries.assign(other.entries.as_slice());
     }
 
-    /// Replaces all rules by those of `entries`. Entries past the new ones are left as they were in
-    /// the array, which saves time.
+    /// Replaces all rules by the rules in `entries`. Array elements past the new entries are left
+    /// as they were, which saves time.
     pub fn assign(&mut self, entries: &[RuleEntry])
         requires few { length entries.now ≤ MAX_RULES }
         requires table { IsTable 0 (entries_of entries.now) }

@@ -126,7 +126,8 @@ fn list_of(
 }
 
 /// The checked expressions of a section with a copy of their bytes. The model is the list of the
-/// expressions: first those of the CIEs, then those of the FDEs. Both are in order of offset.
+/// expressions: first the expressions of the CIEs in order of offset, then the expressions of the
+/// FDEs in order of offset.
 #[derive(Debug, Drop)]
 pub struct OwnedExpressions {
     cies: ExpressionList,

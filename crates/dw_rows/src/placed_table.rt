@@ -23,8 +23,8 @@ use dw_frame::FrameDescriptionEntry;
 use std::alloc::Global;
 use std::marker::Model;
 
-/// How many bytes of the room an entry uses up, besides those of its rule set. The memory of an
-/// entry, with its share of the counts in `Blocks`, is at most this.
+/// How many bytes of the room an entry uses up, not counting its rule set. The memory of an entry,
+/// with its share of the counts in `Blocks`, is at most this.
 pub const ROW_ROOM: usize = 16;
 
 /// A compiled table while it is being filled.

@@ -59,7 +59,7 @@ impl RuleSet {
         self.rules.clear();
     }
 
-    /// Replaces all rules by those of `other`.
+    /// Replaces all rules by the rules of `other`.
     pub fn copy_from(&mut self, other: &RuleSet)
         ensures { self.new ≡ other.now }
     {

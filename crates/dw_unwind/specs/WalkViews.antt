@@ -39,8 +39,8 @@ progress_with true frame = has_given frame
 -- ---- a call of `Walk::next`
 
 -- What a call of `Walk::next` does. Either the call gives the next frame as a `BriefFrame`, or the
--- call gives none, leaves the walk unchanged, and there is a reason why no frame follows.
--- If all numbers of the current frame are below a bound for which `IsBound` holds, so are those of
+-- call gives none, leaves the walk unchanged, and there is a reason why no frame follows. If all
+-- numbers of the current frame are below a bound for which `IsBound` holds, so are all numbers of
 -- the next frame.
 pub record NextFrame {U M : Type 0} (u : CallerRelation) (IsBound : ℕ → Type 0) (old : WalkState U M) (given : Option BriefFrame)
     (new : WalkState U M) : Type 0 where
