@@ -118,8 +118,8 @@ unfoldable pub section_fault : Target → List ℕ → Option Fault
 section_fault target section = option_or (fault_in (entries_of target section))
     (parts_fault (frame_of target section).cies (frame_of target section).fdes)
 
--- A section that is accepted: its CIEs, FDEs and expressions are what is read from its bytes, and it
--- has no fault.
+-- A section that is accepted: its CIEs, FDEs and expressions are what is read from its bytes, and
+-- it has no fault.
 pub record IsChecked (s : FrameSection) : Type 0 where
   pub whole : s ≡ frame_of s.target s.section
   pub faultless : section_fault s.target s.section ≡ None

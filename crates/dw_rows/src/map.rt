@@ -162,8 +162,8 @@ impl EntryTable {
         self.count = 0;
     }
 
-    /// Replaces all entries by the entries of a slice. Array elements past the new entries are left as
-    /// they were, which saves time.
+    /// Replaces all entries by the entries of a slice. Array elements past the new entries are left
+    /// as they were, which saves time.
     #[inline(always)]
     fn assign(&mut self, entries: &[RuleEntry])
         requires { length entries.now ≤ MAX_RULES }
