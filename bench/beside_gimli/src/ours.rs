@@ -58,23 +58,24 @@ pub fn rows_into(section: &[u8]) -> u64 {
     unsafe { bench_rows_into(section.as_ptr(), section.len()) }
 }
 
-/// Checks a section, and looks up the row of each address, `times` times.
+/// Checks a section once; then looks up the row of each address, `times` times.
 pub fn look_up(section: &[u8], addresses: &[u64], times: u32) -> u64 {
     unsafe { bench_look_up(section.as_ptr(), section.len(), addresses.as_ptr(), addresses.len(), times) }
 }
 
-/// Checks a section, and finds the caller of the frame at each address, `times` times.
+/// Checks a section once; then finds the caller of the frame at each address, `times` times.
 pub fn unwind(section: &[u8], addresses: &[u64], times: u32) -> u64 {
     unsafe { bench_unwind(section.as_ptr(), section.len(), addresses.as_ptr(), addresses.len(), times) }
 }
 
-/// Checks a section, compiles its table, and looks up the row of each address, `times` times.
+/// Checks a section and compiles its table, once; then looks up the row of each address, `times`
+/// times.
 pub fn look_up_by_table(section: &[u8], addresses: &[u64], times: u32) -> u64 {
     unsafe { bench_look_up_by_table(section.as_ptr(), section.len(), addresses.as_ptr(), addresses.len(), times) }
 }
 
-/// Checks a section, compiles its table, and finds the caller of the frame at each address, `times`
-/// times.
+/// Checks a section and compiles its table, once; then finds the caller of the frame at each
+/// address, `times` times.
 pub fn unwind_by_table(section: &[u8], addresses: &[u64], times: u32) -> u64 {
     unsafe { bench_unwind_by_table(section.as_ptr(), section.len(), addresses.as_ptr(), addresses.len(), times) }
 }

@@ -26,8 +26,8 @@ pub fn operations_use_the_top_alone()
         → location_of s None ≡ AtAddress a → s ≡ a ∷ [] }
 {}
 
-/// With given registers, memory and context, an expression that passes the check has at most one
-/// outcome, after one possible number of steps.
+/// Any two evaluations of an expression that passes the check, with the same registers, memory and
+/// context, have the same outcome and the same number of steps.
 pub fn evaluations_are_determined()
     ensures { (c : Checked) (e : World) (o p : Outcome) (n k : ℕ)
         → IsGoodExpression c.kind c.target c.bytes → IsEvaluation c e o n → IsEvaluation c e p k

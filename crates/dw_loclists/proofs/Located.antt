@@ -163,7 +163,8 @@ of-lists (m ∷ ls) l x (zero, lt, is) h =
 of-lists (m ∷ ls) l x (suc k, lt, is) h =
     Contains-append_right (expressions_of m.entries) (expressions_in ls) x (of-lists ls l x (k, omega arith, is) h)
 
--- each expression of a list that can hold at an address is an expression of the section
+-- each expression that a list of the section has in an entry whose range contains the address, or
+-- in a default entry, is an expression of the section
 pub given-among : (s : ListSection) (l : Loclist) (base address : ℕ) (x : LocatedExpression) → Contains (lists_in s) l
     → Contains (bounded_at base address l.entries ++ defaults_in l.entries) x → Contains (located_in s) x
 given-among s l base address x l_in among =

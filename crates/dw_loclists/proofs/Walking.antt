@@ -87,8 +87,9 @@ held-step base address xs e es is = ap (bounded_at base address) is
 pub defaults-step : (xs : List Entry) (e : Entry) (es : List Entry) → xs ≡ e ∷ es → defaults_in xs ≡ default_of e ++ defaults_in es
 defaults-step xs e es is = ap defaults_in is
 
--- if no default was read before and the next entry is the default b, the list's defaults are the
--- same before and after b is read
+-- if no default has been read yet and the next entry is the default b: the default that has been
+-- read (if any), followed by the defaults that are still ahead, is the same list before b is read
+-- and after it
 pub first-default : (old : Option declared.Block) (b : declared.Block) (es : List Entry) → (is_some old && true) ≡ false
     → default_located old ++ (location_of (block_of b) ∷ defaults_in es) ≡ default_located (Some b) ++ defaults_in es
 first-default None b es first = refl

@@ -18,8 +18,8 @@ start_within FrameCfa = omega arith
 start_within FrameRegister = omega arith
 start_within Location = omega arith
 
--- the stack height in the next state is at most the height h after the operation: a piece clears
--- the stack, and all other operations keep h
+-- the stack height in the next state is at most h, the height after the operation but before a
+-- piece clears the stack: the next height is 0 for a piece, and h for any other operation
 pub next_height_le : (r : Role) (h : ℕ) (b : Bool) → (next_mode r h b).height ≤ h
 next_height_le role.Piece h b = omega arith
 next_height_le role.Plain h b = omega arith

@@ -235,8 +235,9 @@ fn misjudged(
 
 #[test]
 fn names_the_field_that_a_body_cuts_off(rt: HostRuntime) {
-    // The section, its target, where the record begins, the index of the least significant byte of
-    // its length, and the offsets at which the length and each field of its header end.
+    // The section, its target, and the record's offset in the section. Then, as offsets in the
+    // record: where the length's least significant byte is, and where the length and each field of
+    // the header end.
     let headers: [(&[u8], Target, usize, usize, &[usize]); 8] = [
         (&FUNCTION, LITTLE, 0, 0, &[4, 8, 9, 10, 11, 12, 13, 14, 15]),
         (&FUNCTION, LITTLE, 24, 0, &[4, 8, 16, 24]),

@@ -12,14 +12,14 @@ pub struct Abi {
     pub machine: u16,
     /// The size of an address.
     pub address_size: AddressSize,
-    /// The callee-saved registers, ascending. The stack pointer isn't among them.
+    /// The DWARF numbers of the callee-saved registers, ascending, without the stack pointer.
     ///
     /// If calls leave the return address in a register, that register is in this list too, because
     /// a leaf function doesn't change it.
     pub kept: &'static [u16],
-    /// The stack pointer. Its value in the caller is the CFA.
+    /// The DWARF number of the stack pointer, whose value in the caller is the CFA.
     pub stack_pointer: u16,
-    /// The instruction pointer.
+    /// The DWARF number of the instruction pointer.
     pub program_counter: u16,
 }
 

@@ -329,7 +329,7 @@ fn core_that_was_cut() {
     assert_eq!(CoreFile::read(&program).unwrap_err(), CoreError::NotCore(3));
 }
 
-/// A 32-bit program that dies in a function that another one called.
+/// A 32-bit program that dies in the function `f`, which `_start` calls.
 const I386_CRASH: &str = ".globl _start
 _start: .cfi_startproc
  movl $0x12345678, %ebx

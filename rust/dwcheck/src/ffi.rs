@@ -160,14 +160,15 @@ pub struct State {
 /// No FDE covers the frame. This occurs only in the last frame of a walk. (This and the next four
 /// are the values of `kind` in `Answer` and `Register`.)
 pub const NOT_COVERED: u32 = 0;
-/// The number is `value`, which is below 2^w, where w is the address size in bits.
+/// The CFA, return address or register is `value`, which is below 2^w, where w is the address size
+/// in bits.
 pub const VALUE: u32 = 1;
-/// The number isn't available.
+/// The CFA, return address or register isn't available.
 pub const UNDEFINED: u32 = 2;
-/// The number depends on a register or memory that isn't known, or on memory past the highest
-/// address, 2^w - 1.
+/// The CFA, return address or register depends on a register or memory that isn't known, or on
+/// memory past the highest address, 2^w - 1, where w is the address size in bits.
 pub const UNREADABLE: u32 = 3;
-/// The expression for the number divides by zero.
+/// The expression for the CFA, return address or register divides by zero.
 pub const DIVISION_BY_ZERO: u32 = 4;
 
 /// What is known of a CFA or a return address.
