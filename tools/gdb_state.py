@@ -1,6 +1,7 @@
 #!/usr/bin/env python3
 """A script for gdb that writes the state file of a stopped thread, for `dwcheck unwind` and
-`dwcheck backtrace`.
+`dwcheck backtrace`. The state is that of the thread's newest frame (frame 0), whatever frame is
+selected.
 
     gdb -batch -x STOP -x tools/gdb_state.py -ex 'dwcheck-state state' PROGRAM
 
@@ -231,13 +232,25 @@ def next_commands(state, address, size, is_big, objcopy):
     yield walk("dwcheck-elf", [], [(module, module.file) for module in found], state, address)
 
 
+def newest_frame():
+    """The newest frame of the selected thread. An older frame continues at a return address, so its
+    address isn't one to look up."""
+    thread = gdb.selected_thread()
+    if thread is None:
+        raise gdb.GdbError("the program isn't running: run it to a breakpoint first")
+    if thread.is_running():
+        raise gdb.GdbError("the program is running: stop it first")
+    return gdb.newest_frame()
+
+
 class WriteState(gdb.Command):
-    """Write the selected frame's registers and its stack as a state file of dwcheck.
+    """Write the registers and the stack of the selected thread as a state file of dwcheck.
 
     dwcheck-state FILE [BYTES]
 
+    The registers are those of the thread's newest frame (frame 0), whatever frame is selected.
     BYTES is how much of the stack is written from the stack pointer on; about 256 KiB if not given.
-    Then the commands that walk from the selected frame are printed."""
+    Then the commands that walk from the newest frame are printed."""
 
     def __init__(self):
         super().__init__("dwcheck-state", gdb.COMMAND_DATA, gdb.COMPLETE_FILENAME)
@@ -246,7 +259,7 @@ class WriteState(gdb.Command):
         words = gdb.string_to_argv(argument)
         if not 1 <= len(words) <= 2 or not all(word.isdigit() for word in words[1:]):
             raise gdb.GdbError("usage: dwcheck-state FILE [BYTES]")
-        frame, size = gdb.selected_frame(), address_size()
+        frame, size = newest_frame(), address_size()
         is_big = "big endian" in gdb.execute("show endian", to_string=True)
         target = target_of(frame.architecture().name(), size, is_big)
         pointer = word_of(frame.read_register(target.pointer), size)
