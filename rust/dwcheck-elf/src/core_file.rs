@@ -15,7 +15,7 @@ pub use registers::Thread;
 use crate::abi::{abi, Abi};
 use crate::target::{AddressSize, Order, Target};
 use notes::Notes;
-use object::elf::{FileHeader32, FileHeader64, ET_CORE, PF_X, PT_LOAD};
+use object::elf::{self, FileHeader32, FileHeader64, ET_CORE, PF_X, PT_LOAD};
 use object::read::elf::{FileHeader, ProgramHeader};
 use object::read::FileKind;
 use object::Endianness;
@@ -173,6 +173,27 @@ impl<'data> CoreSegment<'data> {
     }
 }
 
+/// The name of a machine (`e_machine`) whose core files can't be read.
+fn unread_machine(machine: u16) -> Option<&'static str> {
+    let name = match machine {
+        // With addresses of 8 bytes, core files of this machine can be read.
+        elf::EM_X86_64 => "x32",
+        elf::EM_ALPHA => "alpha",
+        elf::EM_ARM => "arm",
+        elf::EM_LOONGARCH => "loongarch",
+        elf::EM_MIPS => "mips",
+        elf::EM_PARISC => "hppa",
+        elf::EM_PPC => "powerpc",
+        elf::EM_PPC64 => "powerpc64",
+        elf::EM_RISCV => "riscv",
+        elf::EM_S390 => "s390",
+        elf::EM_SPARC => "sparc",
+        elf::EM_SPARCV9 => "sparc64",
+        _ => return None,
+    };
+    Some(name)
+}
+
 fn elf_error(error: object::Error) -> CoreError {
     CoreError::Elf(error.to_string())
 }
@@ -182,7 +203,13 @@ impl fmt::Display for CoreError {
         match self {
             CoreError::Elf(error) => write!(f, "not a core file that can be read: {}", error),
             CoreError::NotCore(kind) => write!(f, "an ELF file of type {}, not a core file", kind),
-            CoreError::Machine(machine) => write!(f, "the registers of machine {} aren't known", machine),
+            CoreError::Machine(machine) => {
+                match unread_machine(*machine) {
+                    Some(name) => write!(f, "the registers of {} (machine {}) aren't known", name, machine)?,
+                    None => write!(f, "the registers of machine {} aren't known", machine)?,
+                }
+                f.write_str(": x86-64, i386 and aarch64 are read")
+            }
             CoreError::Note(kind) => write!(f, "the note of type {:#x} is too short", kind),
         }
     }

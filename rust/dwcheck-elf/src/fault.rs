@@ -40,6 +40,8 @@ pub struct Defect {
     pub function: Option<String>,
     /// The rule that the fault breaks, in words.
     pub rule: String,
+    /// Where the fault usually comes from, and what helps, if that is known.
+    pub hint: Option<&'static str>,
 }
 
 /// The CIE, FDE or table that has a fault.
@@ -99,6 +101,7 @@ impl<'a> Terms<'a> {
             function: within.as_ref().and_then(|within| within.function(self.functions)),
             record: within,
             rule: rule(fault.kind).to_string(),
+            hint: None,
         }
     }
 }
@@ -116,6 +119,7 @@ impl Defect {
             record: Some(Within::Record(error.record)),
             function: None,
             rule: error.reason.to_string(),
+            hint: None,
         }
     }
 
@@ -139,6 +143,7 @@ impl Defect {
             record: crate::loclists::table_of(lists, target, fault.offset as usize).map(Within::Record),
             function: None,
             rule: rule(fault.kind).to_string(),
+            hint: code.filter(|_| fault.kind == FaultKind::UnknownEntry).and_then(entry_hint),
         }
     }
 }
@@ -151,6 +156,20 @@ impl Within {
             Within::Fde(range) => Spot::at(functions, range.start).map(|spot| spot.to_string()),
             _ => None,
         }
+    }
+}
+
+/// A hint for an entry of a location list whose kind isn't supported, by the entry's first byte.
+fn entry_hint(code: u8) -> Option<&'static str> {
+    match code {
+        // DW_LLE_base_addressx, DW_LLE_startx_endx and DW_LLE_startx_length, which clang writes. Or
+        // gcc's view numbers, which by default precede a list and aren't marked as such.
+        0x01..=0x03 => {
+            Some("these are view numbers or address indexes: see docs/TROUBLESHOOTING.md, or use check --no-lists")
+        }
+        // DW_LLE_GNU_view_pair, which gcc writes with -gvariable-location-views=incompat5.
+        0x09 => Some("these are view numbers: see docs/TROUBLESHOOTING.md, or use check --no-lists"),
+        _ => None,
     }
 }
 

@@ -1,13 +1,16 @@
 //! Looks up the functions of an ELF file, by address or by name.
 
 use crate::layout::Layout;
-use crate::names::is_shown_as;
+use crate::names::{is_shown_as, similar};
 use crate::target::Target;
 use object::elf;
 use object::read::{Object, ObjectSection, ObjectSymbol, SymbolSection};
 use object::{SectionFlags, SymbolFlags};
 use std::collections::HashMap;
 use std::fmt;
+
+/// The most names that [`NameError::Unknown`] has.
+pub const SIMILAR: usize = 3;
 
 /// A symbol of a function, or a label in code.
 #[derive(Clone, Copy, Debug, PartialEq, Eq)]
@@ -30,8 +33,9 @@ pub struct Function<'data> {
 /// Why a name has no address.
 #[derive(Clone, Debug, PartialEq, Eq)]
 pub enum NameError {
-    /// No function has the name.
-    Unknown(String),
+    /// No function has the name. The list has the names of functions that may be meant, as they
+    /// are shown, at most [`SIMILAR`] of them.
+    Unknown(String, Vec<String>),
     /// Several functions have the name. These are their addresses.
     Ambiguous(String, Vec<u64>),
     /// The text after the plus sign isn't a number.
@@ -103,7 +107,7 @@ impl<'data> Functions<'data> {
     /// local ones. It is an error if the preferred symbols have different addresses.
     pub fn address_of(&self, name: &str) -> Result<u64, NameError> {
         match self.address_of_symbol(name) {
-            Err(NameError::Unknown(_)) => self.only(name, |symbol| is_shown_as(symbol, name)),
+            Err(NameError::Unknown(..)) => self.only(name, |symbol| is_shown_as(symbol, name)),
             found => found,
         }
     }
@@ -119,7 +123,7 @@ impl<'data> Functions<'data> {
     fn only(&self, name: &str, has_name: impl Fn(&str) -> bool) -> Result<u64, NameError> {
         let named: Vec<_> = self.functions.iter().filter(|function| has_name(function.name)).collect();
         let best = named.iter().map(|function| function.rank).max();
-        let best = best.ok_or_else(|| NameError::Unknown(name.to_string()))?;
+        let best = best.ok_or_else(|| NameError::Unknown(name.to_string(), Vec::new()))?;
         let preferred = named.iter().filter(|function| function.rank == best);
         let mut addresses: Vec<_> = preferred.map(|function| function.begin).collect();
         addresses.dedup();
@@ -136,23 +140,39 @@ impl<'data> Functions<'data> {
         // A name in the file may itself end with a plus sign and a number, so the whole text is
         // looked up first.
         match self.address_of_symbol(text) {
-            Err(NameError::Unknown(_)) => {}
+            Err(NameError::Unknown(..)) => {}
             found => return found,
         }
         let (name, offset) = split_offset(text);
         match self.address_of(name) {
             Ok(begin) => begin.checked_add(offset).ok_or_else(|| NameError::Sum(text.to_string())),
-            Err(NameError::Unknown(_)) if self.names_before_plus(name) => {
-                Err(NameError::Offset(text.to_string()))
+            Err(NameError::Unknown(..)) if self.names_before_plus(name) => Err(NameError::Offset(text.to_string())),
+            Err(NameError::Unknown(name, _)) => {
+                let similar = self.similar(&name);
+                Err(NameError::Unknown(name, similar))
             }
             Err(error) => Err(error),
         }
     }
 
+    /// The names of up to [`SIMILAR`] functions that `name` may stand for, by address, each once.
+    fn similar(&self, name: &str) -> Vec<String> {
+        let mut found = Vec::new();
+        for shown in self.functions.iter().filter_map(|function| similar(function.name, name)) {
+            if !found.contains(&shown) {
+                found.push(shown);
+            }
+            if found.len() == SIMILAR {
+                break;
+            }
+        }
+        found
+    }
+
     /// Whether the part of the text before its last plus sign is the name of a function.
     fn names_before_plus(&self, text: &str) -> bool {
         let before = text.rsplit_once('+').map(|(name, _)| name.trim_end());
-        before.map_or(false, |name| !matches!(self.address_of(name), Err(NameError::Unknown(_))))
+        before.map_or(false, |name| !matches!(self.address_of(name), Err(NameError::Unknown(..))))
     }
 }
 
@@ -224,10 +244,25 @@ fn function<'data>(
     Some(Function { name, begin, size: symbol.size(), limit, rank: binding + if is_function { 3 } else { 0 } })
 }
 
+/// Writes names that may be meant, such as `; there are f(int) and f(long)`.
+fn write_similar(f: &mut fmt::Formatter<'_>, similar: &[String]) -> fmt::Result {
+    match similar {
+        [] => Ok(()),
+        [only] => write!(f, "; there is {}", only),
+        [others @ .., last] => write!(f, "; there are {} and {}", others.join(", "), last),
+    }
+}
+
 impl fmt::Display for NameError {
     fn fmt(&self, f: &mut fmt::Formatter<'_>) -> fmt::Result {
         match self {
-            NameError::Unknown(name) => write!(f, "no function has the name {}", name),
+            NameError::Unknown(name, similar) => {
+                write!(f, "no function has the name {}", name)?;
+                if !name.is_empty() && name.bytes().all(|byte| byte.is_ascii_hexdigit()) {
+                    f.write_str(" (an address begins with 0x)")?;
+                }
+                write_similar(f, similar)
+            }
             NameError::Ambiguous(name, addresses) => {
                 write!(f, "{} functions have the name {}:", addresses.len(), name)?;
                 addresses.iter().try_for_each(|address| write!(f, " {:#x}", address))

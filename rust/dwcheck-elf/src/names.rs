@@ -55,6 +55,49 @@ pub(crate) fn is_shown_as(symbol: &str, name: &str) -> bool {
     shown(&demangled(symbol)).eq(name.chars())
 }
 
+/// The shown name of the function that has the name `symbol` in the file, if `name` may be short
+/// for it: `leaf` is short for `leaf(int)`, `leaf<char>()` and `tree::leaf(int)`. Very long names
+/// aren't looked at.
+pub(crate) fn similar(symbol: &str, name: &str) -> Option<String> {
+    if symbol.len() > LONGEST || name.is_empty() {
+        return None;
+    }
+    let whole: String = shown(&demangled(symbol)).collect();
+    let is_short = whole != name && whole.match_indices(name).any(|(at, _)| is_last_part(&whole, at, name));
+    Some(whole).filter(|_| is_short)
+}
+
+/// Whether the part of a function's shown name that is `name` and begins at `at` is the last part
+/// of the function's path, before template arguments and parameters.
+fn is_last_part(whole: &str, at: usize, name: &str) -> bool {
+    let (before, rest) = whole.split_at(at);
+    let after = rest.strip_prefix(name).unwrap_or(rest);
+    let after = after.strip_prefix("::").filter(|arguments| arguments.starts_with('<')).unwrap_or(after);
+    let begins = before.is_empty() || before.ends_with("::") || before.ends_with(' ');
+    let ends = after.is_empty() || after.starts_with('(') || after.starts_with('<');
+    begins && ends && is_outside_brackets(before) && !without_brackets(after).contains("::")
+}
+
+/// Whether what follows a text isn't inside parentheses or angle brackets that the text opens.
+fn is_outside_brackets(text: &str) -> bool {
+    let count = |brackets: &[char]| text.matches(brackets).count();
+    count(&['(', '<']) == count(&[')', '>'])
+}
+
+/// A text without its parts in parentheses and angle brackets.
+fn without_brackets(text: &str) -> String {
+    let mut depth = 0_usize;
+    let is_outside = |c: &char| {
+        match c {
+            '(' | '<' => depth += 1,
+            ')' | '>' => depth = depth.saturating_sub(1),
+            _ => return depth == 0,
+        }
+        false
+    };
+    text.chars().filter(is_outside).collect()
+}
+
 /// A string that refuses to get longer than [`LONGEST`] bytes.
 struct Bounded(String);
 

@@ -133,6 +133,22 @@ fn check_without_location_lists() {
     assert_eq!((none.status, none.out.as_str()), (0, "without: no .debug_frame or .eh_frame\n"));
 }
 
+/// For entries that gcc and clang write, the line with the rule has a hint.
+#[test]
+fn entries_of_location_lists_that_compilers_write() {
+    let folder = Folder::new("command-entries");
+    let (both, views) = ("view numbers or address indexes", "view numbers");
+    for (code, kind) in [(1, both), (2, both), (3, both), (9, views)] {
+        let table = format!(".long 10\n.short 5\n.byte 8, 0\n.long 0\n.byte {}, 0\n", code);
+        folder.write("a.s", format!(".section .debug_loclists\n{}", table));
+        folder.run("as a.s -o a.o");
+        let ran = dwcheck_elf(&folder, "check a.o");
+        let hint = format!("; these are {}: see docs/TROUBLESHOOTING.md, or use check --no-lists", kind);
+        assert!(ran.lines()[0].contains(&format!("UnknownEntry: entry {:#04x}", code)), "{}", ran.out);
+        assert!(ran.status == 1 && ran.lines()[1].ends_with(&hint), "{}", ran.out);
+    }
+}
+
 #[test]
 fn walks_are_those_of_dwcheck() {
     let folder = Folder::new("command-walks");
@@ -209,10 +225,12 @@ fn words_and_files_that_are_wrong() {
         ("unwind --module 1=x program main state", 2, "isn't an address"),
         ("unwind --module 0x1 program main state", 2, "isn't LOAD=FILE"),
         ("locs program 0x100000000 0x0 0x0", 2, "past 0xffffffff"),
+        ("row program 4ba50", 2, "no function has the name 4ba50 (an address begins with 0x)"),
         ("check nowhere", 3, "cannot read nowhere"),
+        ("check .", 3, "cannot read .: Is a directory (os error 21): survey reads folders\n"),
         ("check text", 3, "not an ELF file"),
         ("unwind program main nowhere", 3, "cannot read nowhere"),
-        ("stack program program", 3, "not a core file"),
+        ("stack program program", 3, "an ELF file of type 2, not a core file; the order is PROGRAM CORE\n"),
     ] {
         let ran = dwcheck_elf(&folder, words);
         assert_eq!((ran.status, ran.out.as_str()), (status, ""), "{}: {}", words, ran.error);

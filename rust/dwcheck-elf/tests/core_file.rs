@@ -375,6 +375,22 @@ fn i386_program() {
     assert!(matches!(modules.last().unwrap().image, Image::Vdso(_)));
 }
 
+/// The error for a core file of another machine names the machine, and those whose core files are
+/// read.
+#[test]
+fn machines_whose_core_files_are_not_read() {
+    let mut header = [0; 52];
+    header[..7].copy_from_slice(b"\x7fELF\x01\x01\x01");
+    header[16] = 4;
+    for (machine, name) in [(40, "arm (machine 40)"), (62, "x32 (machine 62)"), (0xfe, "machine 254")] {
+        header[18] = machine;
+        let error = CoreFile::read(&header).unwrap_err();
+        assert_eq!(error, CoreError::Machine(machine.into()));
+        let message = format!("the registers of {} aren't known: x86-64, i386 and aarch64 are read", name);
+        assert_eq!(error.to_string(), message);
+    }
+}
+
 /// Assembly of the beginning of a note with the registers of an aarch64 thread.
 const AARCH64_NOTE: &str = ".section .note, \"a\", @note
  .long 5, end - begin, 1

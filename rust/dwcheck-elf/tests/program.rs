@@ -70,7 +70,7 @@ fn functions() {
     assert_eq!(functions.parse("main+x"), Err(NameError::Offset("main+x".into())));
     let past = "main+0xffffffffffffffff";
     assert_eq!(functions.parse(past), Err(NameError::Sum(past.into())));
-    assert_eq!(functions.parse("nothing"), Err(NameError::Unknown("nothing".into())));
+    assert_eq!(functions.parse("nothing"), Err(NameError::Unknown("nothing".into(), Vec::new())));
     assert_eq!(functions.at(u64::MAX), None);
     assert_eq!(functions.at(0), None);
 }
@@ -126,13 +126,54 @@ int main(int argc, char **) { return thrice(argc); }
         assert_eq!(Spot::at(&functions, begin + 1).unwrap().to_string(), format!("{}+0x1", name));
     }
     assert_eq!(functions.parse("_ZL5twicei+4"), Ok(address("twice(int)") + 4));
-    for unknown in ["twice", "twice(long)", "operator+", "operator+(A)", "operator+(int, int)"] {
-        assert_eq!(functions.parse(unknown), Err(NameError::Unknown(unknown.into())));
+    for (unknown, similar) in [
+        ("twice", "; there is twice(int)"),
+        ("thrice", "; there is int thrice<int>(int)"),
+        ("~A", "; there is A::~A()"),
+        ("operator+", "; there is operator+(A const&, A const&)"),
+        ("operator", ""),
+        ("int", ""),
+        ("twice(long)", ""),
+        ("operator+(A)", ""),
+        ("operator+(int, int)", ""),
+        ("4ba50", " (an address begins with 0x)"),
+    ] {
+        let error = functions.parse(unknown).unwrap_err();
+        assert_eq!(error.to_string(), format!("no function has the name {}{}", unknown, similar));
     }
     assert_eq!(functions.parse("twice(int)+x"), Err(NameError::Offset("twice(int)+x".into())));
     let mut both: Vec<_> = ["_ZN1AD0Ev", "_ZN1AD1Ev"].iter().map(|name| functions.address_of(name).unwrap()).collect();
     both.sort_unstable();
     assert_eq!(functions.parse("A::~A()+4"), Err(NameError::Ambiguous("A::~A()".into(), both)));
+}
+
+/// At most three names are shown for a name that no function has, each once.
+#[test]
+fn names_that_may_be_meant() {
+    let folder = Folder::new("similar-names");
+    let overloads = ["char", "int", "long", "float"].map(|kind| format!("{0} leaf({0} x) {{ return x + 1; }}\n", kind));
+    let others = "
+namespace tree { template <typename T> struct Node { T twig(T x) { return x; } }; }
+template struct tree::Node<long>;
+int stem(int x) { auto bud = [](int y) __attribute__((noinline)) { return y + 1; }; return bud(x) * 2; }
+";
+    folder.write("a.cc", overloads.concat() + others);
+    folder.run("g++ -c -O1 a.cc -o a.o");
+    let bytes = folder.bytes("a.o");
+    let functions = Program::read(&bytes).unwrap().functions();
+    let message = "no function has the name leaf; there are leaf(char), leaf(int) and leaf(long)";
+    assert_eq!(functions.parse("leaf").unwrap_err().to_string(), message);
+    assert_eq!(functions.parse("leaf+4").unwrap_err().to_string(), message);
+    for (name, similar) in [
+        ("stem", "; there is stem(int)"),
+        ("twig", "; there is tree::Node<long>::twig(long)"),
+        ("Node<long>::twig", "; there is tree::Node<long>::twig(long)"),
+        ("Node", ""),
+        ("long", ""),
+    ] {
+        let error = functions.parse(name).unwrap_err();
+        assert_eq!(error.to_string(), format!("no function has the name {}{}", name, similar));
+    }
 }
 
 /// Functions of Rust, with both kinds of mangled names. Shown names have no hash, so two functions
@@ -149,6 +190,7 @@ fn names_of_rust_that_are_demangled() {
     let functions = Program::read(&bytes).unwrap().functions();
     assert_eq!(functions.parse("prog::main+1"), Ok(0x1001));
     assert_eq!(functions.parse("prog::last"), Ok(0x1003));
+    assert_eq!(functions.parse("last").unwrap_err().to_string(), "no function has the name last; there is prog::last");
     let both = vec![0x1001, 0x1002];
     assert_eq!(functions.parse("prog::next"), Err(NameError::Ambiguous("prog::next".into(), both)));
 }

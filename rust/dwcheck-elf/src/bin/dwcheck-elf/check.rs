@@ -34,8 +34,16 @@ pub fn check(words: &CheckWords, out: &mut impl Write) -> Result<Done, Failure> 
     Ok(done)
 }
 
+/// Reads a program. If it is a folder, the failure names the command that takes folders.
+fn read_program(path: &Path) -> Result<Vec<u8>, Failure> {
+    read(path).map_err(|failure| match failure {
+        Failure::File(text) if path.is_dir() => Failure::File(format!("{}: survey reads folders", text)),
+        failure => failure,
+    })
+}
+
 fn check_one(words: &CheckWords, path: &Path, out: &mut impl Write) -> Result<Done, Failure> {
-    let data = read(path)?;
+    let data = read_program(path)?;
     let program = program(path, &data)?;
     let check = words.reading.check(words.all);
     let (sections, names) = match words.no_lists {

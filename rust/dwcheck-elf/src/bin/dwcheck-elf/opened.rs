@@ -69,10 +69,14 @@ fn note_eh_frame(path: &Path, defect: &Defect) {
 }
 
 /// Writes a fault in two lines. The first says where it is, such as in which FDE, and gives its
-/// name. The second has its offset, and the rule that it breaks.
+/// name. The second has its offset, the rule that it breaks, and the hint if there is one.
 pub fn write_defect(out: &mut impl Write, path: &Path, defect: &Defect) -> io::Result<()> {
     writeln!(out, "{}: {}", path.display(), defect)?;
-    writeln!(out, "    at {:#x}: {}", defect.offset, defect.rule)
+    write!(out, "    at {:#x}: {}", defect.offset, defect.rule)?;
+    match defect.hint {
+        Some(hint) => writeln!(out, "; {}", hint),
+        None => writeln!(out),
+    }
 }
 
 /// Adds the sections of a module to a process, at the module's load address.
