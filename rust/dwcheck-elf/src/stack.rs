@@ -101,7 +101,8 @@ impl<'a> Stacks<'a> {
     }
 
     /// Adds the program of a core that doesn't list its mapped files, such as qemu's. Does nothing
-    /// for any other core, whose modules are known.
+    /// for any other core, whose modules are known: for these, see
+    /// [`Files::use_program`](crate::core_file::Files::use_program).
     pub fn add_program(&mut self, path: &Path, bytes: &'a [u8]) {
         if self.core.mappings().is_empty() {
             if let Some(module) = self.core.program_module(path, bytes) {

@@ -111,6 +111,104 @@ fn a_program_of_32_bits() {
     compared("stack-i386", "gcc -m32 -O1", SIGNAL);
 }
 
+/// Makes the program `program`, and its core file `core` by gdb. Returns false if gdb isn't
+/// installed.
+fn program_and_core(folder: &Folder) -> bool {
+    folder.write("a.c", SIGNAL);
+    folder.run("gcc -O1 a.c -o program");
+    let runs = has("gdb");
+    if runs {
+        folder.run("gdb --batch -ex 'set startup-with-shell off' -ex 'handle SIGSEGV nostop' -ex run -ex 'gcore core' ./program < /dev/null > gdb.log 2>&1");
+    }
+    runs
+}
+
+/// The program on the command line is used, even if another file is at its old path.
+#[test]
+fn a_program_that_was_moved() {
+    let folder = Folder::new("stack-moved");
+    if !program_and_core(&folder) {
+        return;
+    }
+    let before = dwcheck_elf(&folder, "stack program core");
+    assert_eq!((before.status, before.error.as_str()), (0, ""), "{}", before.out);
+    assert!(before.out.contains(" faulty") && before.out.contains(" main"), "{}", before.out);
+    folder.run("mkdir elsewhere; mv program elsewhere");
+    for change in ["true", "cp a.c program", "gcc -O2 -g a.c -o program"] {
+        folder.run(change);
+        let moved = dwcheck_elf(&folder, "stack elsewhere/program core");
+        assert_eq!((moved.status, moved.error.as_str(), &moved.out), (0, "", &before.out), "{}", change);
+    }
+    let root = dwcheck_elf(&folder, "stack --root elsewhere elsewhere/program core");
+    assert!(!root.error.contains("of this core file") && root.out.contains(" faulty"), "{}{}", root.error, root.out);
+}
+
+/// A program that isn't the core's isn't used.
+#[test]
+fn another_program() {
+    let folder = Folder::new("stack-other");
+    if !program_and_core(&folder) {
+        return;
+    }
+    let program = dwcheck_elf(&folder, "stack program core");
+    folder.run("gcc -O2 -g a.c -o other");
+    let said = "dwcheck-elf: other isn't the program of this core file";
+    let other = dwcheck_elf(&folder, "stack other core");
+    let expected = format!("{}: {} is used\n", said, folder.file("program").display());
+    assert_eq!((other.status, &other.error, &other.out), (0, &expected, &program.out));
+    folder.run("rm program");
+    let other = dwcheck_elf(&folder, "stack other core");
+    assert!(other.status == 0 && other.error.ends_with(&format!("{}\n", said)), "{}", other.error);
+    assert!(!other.out.contains(" faulty"), "{}", other.out);
+}
+
+/// A program whose function `last` ends with a call that doesn't return.
+const NORETURN: &str = "
+#include <stdlib.h>
+__attribute__((noinline, noreturn)) static void stops(int n) { exit(n); }
+__attribute__((noinline, noreturn)) static void last(int n) { volatile int kept = n; stops(kept); }
+int main(int argc, char **argv) { last(argv[argc] != NULL); }
+";
+
+/// The script for gdb that writes state files.
+const GDB_STATE: &str = concat!(env!("CARGO_MANIFEST_DIR"), "/../../tools/gdb_state.py");
+
+/// tools/gdb_state.py writes the state of the thread's newest frame, even if another frame is
+/// selected, and prints the command that walks from there.
+#[test]
+fn gdb_state_starts_at_the_newest_frame() {
+    let folder = Folder::new("stack-newest");
+    if !has("gdb") {
+        return;
+    }
+    folder.write("a.c", NORETURN);
+    folder.run("gcc -O1 a.c -o program");
+    let run = "-ex 'set startup-with-shell off' -ex 'break stops' -ex run";
+    let states = "-ex 'dwcheck-state first' -ex up -ex 'dwcheck-state second' -ex 'frame 2' -ex 'dwcheck-state third'";
+    let shown =
+        folder.run(&format!("gdb --batch {} -x {} {} ./program < /dev/null 2> gdb.log", run, GDB_STATE, states));
+    let commands: Vec<_> = shown.lines().filter_map(|line| line.strip_prefix("dwcheck-elf ")).collect();
+    assert_eq!(commands.len(), 3, "{}", shown);
+    let first = dwcheck_elf(&folder, commands[0]);
+    assert!(["(stops)", "(last+", "(main+"].iter().all(|name| first.out.contains(name)), "{}", first.out);
+    for (state, command) in ["second", "third"].iter().zip(&commands[1..]) {
+        assert_eq!(folder.bytes(state), folder.bytes("first"));
+        assert_eq!(dwcheck_elf(&folder, command).out, first.out);
+    }
+}
+
+/// Without a process there is no state, and tools/gdb_state.py says what to do.
+#[test]
+fn gdb_state_needs_a_stopped_program() {
+    let folder = Folder::new("stack-not-running");
+    if !has("gdb") {
+        return;
+    }
+    let shown = folder.run(&format!("gdb --batch -x {} -ex 'dwcheck-state state' 2>&1 || true", GDB_STATE));
+    assert_eq!(shown.lines().last(), Some("the program isn't running: run it to a breakpoint first"), "{}", shown);
+    assert!(!folder.file("state").exists());
+}
+
 /// qemu's core files don't list the mapped files, so the program on the command line is used.
 #[test]
 fn a_program_of_another_machine() {

@@ -24,7 +24,8 @@ const COMPARED: usize = 4096;
 pub struct MappedFile {
     /// The file's name in the core.
     pub path: PathBuf,
-    /// The bytes that the file has now, or why they can't be used.
+    /// The bytes that the file has now, or why they can't be used. If
+    /// [`use_program`](Files::use_program) has replaced them, the bytes of the program.
     pub bytes: Result<Vec<u8>, FileError>,
 }
 
@@ -74,6 +75,28 @@ impl Files {
         Files { files, places }
     }
 
+    /// Uses `bytes` as the content of the program's file, for a program that isn't at its path in
+    /// the core anymore. Returns false, and changes nothing, if `bytes` can't be what the process
+    /// had mapped there: the segments have to be those that are mapped, and the first bytes have to
+    /// be those in the core, if the core has them.
+    pub fn use_program(&mut self, core: &CoreFile<'_>, bytes: &[u8]) -> bool {
+        let is_mapped = |path: &&[u8]| core.maps_segments(path, bytes) && is_same(core, path, bytes);
+        let place = core.program_path().filter(is_mapped).and_then(|path| self.places.get(path));
+        match place.and_then(|place| self.files.get_mut(*place)) {
+            Some(file) => {
+                file.bytes = Ok(bytes.to_vec());
+                true
+            }
+            None => false,
+        }
+    }
+
+    /// The program's file: the one that is mapped at the address of the program's first
+    /// instruction. `None` if the core doesn't have that address or names no file there.
+    pub fn program(&self, core: &CoreFile<'_>) -> Option<&MappedFile> {
+        self.places.get(core.program_path()?).and_then(|place| self.files.get(*place))
+    }
+
     /// All files, in the order in which the core first names them.
     pub fn all(&self) -> &[MappedFile] {
         &self.files
@@ -119,21 +142,27 @@ fn content(path: &Path, left: u64) -> Result<Vec<u8>, FileError> {
     Ok(bytes)
 }
 
-/// Returns the bytes of a file if the file still seems to be the one that was mapped. If the core
-/// has the beginning of an ELF file at the address where the file was mapped, the file has to begin
-/// with the same bytes. Other files aren't compared.
+/// Returns the bytes of a file if the file still seems to be the one that was mapped.
 fn same(core: &CoreFile<'_>, path: &[u8], bytes: Vec<u8>) -> Result<Vec<u8>, FileError> {
-    let starts = core.mappings().iter().filter(|mapping| mapping.path == path && mapping.offset == 0);
-    for mapping in starts {
+    if is_same(core, path, &bytes) {
+        Ok(bytes)
+    } else {
+        Err(FileError::Changed)
+    }
+}
+
+/// Whether a file with these bytes still seems to be the one that was mapped. If the core has the
+/// beginning of an ELF file at the address where the file was mapped, the file has to begin with
+/// the same bytes. Other files aren't compared.
+fn is_same(core: &CoreFile<'_>, path: &[u8], bytes: &[u8]) -> bool {
+    let mut starts = core.mappings().iter().filter(|mapping| mapping.path == path && mapping.offset == 0);
+    starts.all(|mapping| {
         let size = usize::try_from(mapping.end.saturating_sub(mapping.begin)).unwrap_or(COMPARED).min(COMPARED);
         let held = core.bytes_from(mapping.begin).unwrap_or(&[]);
         let held = held.get(..size).unwrap_or(held);
         let held = held.get(..bytes.len()).unwrap_or(held);
-        if held.starts_with(b"\x7fELF") && !bytes.starts_with(held) {
-            return Err(FileError::Changed);
-        }
-    }
-    Ok(bytes)
+        !held.starts_with(b"\x7fELF") || bytes.starts_with(held)
+    })
 }
 
 impl fmt::Display for FileError {

@@ -87,6 +87,32 @@ impl CoreFile<'_> {
         Some(Module { path: path.to_path_buf(), bias, begin, end, image: Image::Program(bytes) })
     }
 
+    /// The name of the file that is mapped at the address of the program's first instruction.
+    pub(super) fn program_path(&self) -> Option<&[u8]> {
+        let entry = self.entry?;
+        let holds = |mapping: &&Mapping<'_>| (mapping.begin..mapping.end).contains(&entry);
+        self.mappings().iter().find(holds).map(|mapping| mapping.path)
+    }
+
+    /// Whether the mappings of a file are those of a program with these bytes: each segment is
+    /// mapped, and all have the bias of the program's first instruction.
+    pub(super) fn maps_segments(&self, path: &[u8], bytes: &[u8]) -> bool {
+        let program = Program::read(bytes).ok().filter(|program| program.target() == self.target());
+        let (entry, program) = match (self.entry, program) {
+            (Some(entry), Some(program)) => (entry, program),
+            _ => return false,
+        };
+        let target = self.target();
+        let expected = target.wrap(entry.wrapping_sub(program.entry()));
+        let mappings = self.mappings().iter().filter(|mapping| mapping.path == path);
+        let is_mapped = |segment: &Segment| {
+            let mut shown = mappings.clone().filter(|mapping| is_shown(mapping, segment));
+            shown.any(|mapping| target.wrap(bias(mapping, segment)) == expected)
+        };
+        let segments = program.segments();
+        !segments.is_empty() && segments.iter().filter(|segment| segment.file_size > 0).all(is_mapped)
+    }
+
     /// The vDSO as a module. Its whole ELF file is in the core's memory. `None` if the core has no
     /// vDSO that can be read.
     fn vdso_module(&self) -> Option<Module<'_>> {
