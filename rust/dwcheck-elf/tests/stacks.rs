@@ -111,11 +111,11 @@ fn a_program_of_32_bits() {
     compared("stack-i386", "gcc -m32 -O1", SIGNAL);
 }
 
-/// Makes the program `program`, and its core file `core` by gdb. Returns false if gdb isn't
-/// installed.
-fn program_and_core(folder: &Folder) -> bool {
+/// Makes the program `program` with these flags of gcc, and its core file `core` by gdb. Returns
+/// false if gdb isn't installed.
+fn program_and_core(folder: &Folder, flags: &str) -> bool {
     folder.write("a.c", SIGNAL);
-    folder.run("gcc -O1 a.c -o program");
+    folder.run(&format!("gcc -O1 {} a.c -o program", flags));
     let runs = has("gdb");
     if runs {
         folder.run("gdb --batch -ex 'set startup-with-shell off' -ex 'handle SIGSEGV nostop' -ex run -ex 'gcore core' ./program < /dev/null > gdb.log 2>&1");
@@ -127,7 +127,7 @@ fn program_and_core(folder: &Folder) -> bool {
 #[test]
 fn a_program_that_was_moved() {
     let folder = Folder::new("stack-moved");
-    if !program_and_core(&folder) {
+    if !program_and_core(&folder, "-g") {
         return;
     }
     let before = dwcheck_elf(&folder, "stack program core");
@@ -139,15 +139,28 @@ fn a_program_that_was_moved() {
         let moved = dwcheck_elf(&folder, "stack elsewhere/program core");
         assert_eq!((moved.status, moved.error.as_str(), &moved.out), (0, "", &before.out), "{}", change);
     }
-    let root = dwcheck_elf(&folder, "stack --root elsewhere elsewhere/program core");
-    assert!(!root.error.contains("of this core file") && root.out.contains(" faulty"), "{}{}", root.error, root.out);
+    folder.run("mkdir root; ln -s /usr /lib root");
+    let root = dwcheck_elf(&folder, "stack --root root elsewhere/program core");
+    assert_eq!((root.status, root.error.as_str(), &root.out), (0, "", &before.out));
+}
+
+/// lld puts all segments of a small program into the first page of its file. The data in that page
+/// has changed in memory.
+#[test]
+fn a_program_of_one_page() {
+    let folder = Folder::new("stack-page");
+    if !has("ld.lld") || !program_and_core(&folder, "-fuse-ld=lld") {
+        return;
+    }
+    let ran = dwcheck_elf(&folder, "stack program core");
+    assert!(ran.status == 0 && ran.error.is_empty() && ran.out.contains(" faulty"), "{}{}", ran.error, ran.out);
 }
 
 /// A program that isn't the core's isn't used.
 #[test]
 fn another_program() {
     let folder = Folder::new("stack-other");
-    if !program_and_core(&folder) {
+    if !program_and_core(&folder, "-g") {
         return;
     }
     let program = dwcheck_elf(&folder, "stack program core");

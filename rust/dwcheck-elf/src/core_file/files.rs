@@ -1,6 +1,6 @@
 //! Reads the files that a process had mapped into memory when it died.
 
-use super::CoreFile;
+use super::{CoreFile, Mapping};
 use std::collections::HashMap;
 use std::ffi::OsStr;
 use std::fmt;
@@ -155,7 +155,7 @@ fn same(core: &CoreFile<'_>, path: &[u8], bytes: Vec<u8>) -> Result<Vec<u8>, Fil
 /// beginning of an ELF file at the address where the file was mapped, the file has to begin with
 /// the same bytes. Other files aren't compared.
 fn is_same(core: &CoreFile<'_>, path: &[u8], bytes: &[u8]) -> bool {
-    let mut starts = core.mappings().iter().filter(|mapping| mapping.path == path && mapping.offset == 0);
+    let mut starts = core.mappings().iter().filter(|mapping| mapping.path == path && is_start(core, mapping));
     starts.all(|mapping| {
         let size = usize::try_from(mapping.end.saturating_sub(mapping.begin)).unwrap_or(COMPARED).min(COMPARED);
         let held = core.bytes_from(mapping.begin).unwrap_or(&[]);
@@ -163,6 +163,14 @@ fn is_same(core: &CoreFile<'_>, path: &[u8], bytes: &[u8]) -> bool {
         let held = held.get(..bytes.len()).unwrap_or(held);
         !held.starts_with(b"\x7fELF") || bytes.starts_with(held)
     })
+}
+
+/// Whether a mapping is that of a file's beginning, which nothing is written to. In a small program
+/// the other segments are in the file's first page too. That page is then mapped again for each of
+/// them, right after the mapping before it, and the data in it may have changed.
+fn is_start(core: &CoreFile<'_>, mapping: &Mapping<'_>) -> bool {
+    let precedes = |other: &Mapping<'_>| other.path == mapping.path && other.end == mapping.begin;
+    mapping.offset == 0 && !core.mappings().iter().any(precedes)
 }
 
 impl fmt::Display for FileError {
