@@ -31,13 +31,13 @@ fn main() {
 fn show(program: &Path, core: &Path) -> Result<(), Box<dyn Error>> {
     let bytes = std::fs::read(core)?;
     let core = CoreFile::read(&bytes)?;
-    let files = Files::read(&core, Path::new("/"));
+    let mut files = Files::read(&core, Path::new("/"));
+    if !files.use_program(&core, &std::fs::read(program)?) {
+        eprintln!("{} isn't the program of this core file", program.display());
+    }
     let stacks = Stacks::of(&core, &files);
     for (path, why) in stacks.missing() {
         eprintln!("{}: {}", path.display(), why);
-    }
-    if !stacks.has(&program.canonicalize()?) {
-        eprintln!("{} isn't of this core, or has changed since", program.display());
     }
     for thread in core.threads() {
         print!("{}", stacks.walk(thread, MOST_FRAMES)?);
