@@ -143,7 +143,7 @@ impl Defect {
             record: crate::loclists::table_of(lists, target, fault.offset as usize).map(Within::Record),
             function: None,
             rule: rule(fault.kind).to_string(),
-            hint: code.filter(|_| fault.kind == FaultKind::UnknownEntry).and_then(entry_hint),
+            hint: code.and_then(|code| list_hint(fault.kind, code)),
         }
     }
 }
@@ -156,6 +156,19 @@ impl Within {
             Within::Fde(range) => Spot::at(functions, range.start).map(|spot| spot.to_string()),
             _ => None,
         }
+    }
+}
+
+/// A hint for a fault in location lists, by the byte at the fault: for an operation or an entry that
+/// compilers write and that isn't supported.
+fn list_hint(kind: FaultKind, code: u8) -> Option<&'static str> {
+    match (kind, code) {
+        (FaultKind::UnknownEntry, code) => entry_hint(code),
+        // DW_OP_entry_value, which gcc and clang write for arguments.
+        (FaultKind::UnknownOperation, 0xa3) => {
+            Some("this is an entry value: see docs/TROUBLESHOOTING.md, or use check --no-lists")
+        }
+        _ => None,
     }
 }
 

@@ -133,6 +133,19 @@ fn check_without_location_lists() {
     assert_eq!((none.status, none.out.as_str()), (0, "without: no .debug_frame or .eh_frame\n"));
 }
 
+/// For an entry value, which gcc and clang write, the line with the rule has a hint.
+#[test]
+fn entry_values_that_compilers_write() {
+    let folder = Folder::new("command-entry-value");
+    let table = ".long 16\n.short 5\n.byte 8, 0\n.long 0\n.byte 4, 0, 1, 3, 0xa3, 1, 0x55, 0\n";
+    folder.write("a.s", format!(".section .debug_loclists\n{}", table));
+    folder.run("as a.s -o a.o");
+    let ran = dwcheck_elf(&folder, "check a.o");
+    let hint = "; this is an entry value: see docs/TROUBLESHOOTING.md, or use check --no-lists";
+    assert!(ran.lines()[0].contains("UnknownOperation: DW_OP_entry_value"), "{}", ran.out);
+    assert!(ran.status == 1 && ran.lines()[1].ends_with(hint), "{}", ran.out);
+}
+
 /// For entries that gcc and clang write, the line with the rule has a hint.
 #[test]
 fn entries_of_location_lists_that_compilers_write() {
