@@ -276,7 +276,7 @@ fn sizes_that_lie() {
         let program = Program::read(&changed).unwrap();
         assert_eq!(program.debug_frame(), Err(ProgramError::TooLarge(".debug_frame", size)));
     }
-    let mut changed = bytes.clone();
+    let mut changed = bytes;
     changed[offset + 8] ^= 1;
     let program = Program::read(&changed).unwrap();
     assert!(matches!(program.debug_frame(), Err(ProgramError::Section(".debug_frame", _))));

@@ -3,6 +3,8 @@
 //! library.
 #![cfg(all(target_os = "linux", target_env = "gnu"))]
 #![deny(unsafe_op_in_unsafe_fn)]
+// Clippy 1.63 takes the `const` block of a `thread_local!` for a constant.
+#![allow(clippy::declare_interior_mutable_const)]
 
 mod common;
 

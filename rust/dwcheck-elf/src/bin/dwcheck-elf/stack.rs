@@ -10,12 +10,12 @@ use std::path::Path;
 
 /// Prints the stacks on `out`, and warnings on standard error.
 pub fn stack(words: &StackWords, out: &mut impl Write) -> Result<Done, Failure> {
-    let failed = |text: String| Failure::File(text);
     let bytes = read(&words.core)?;
     let core = CoreFile::read(&bytes).map_err(|error| unread(&words.core, &error))?;
     let mut files = Files::read(&core, &words.root);
     let program = words.program.canonicalize();
-    let program = program.map_err(|error| failed(format!("cannot read {}: {}", words.program.display(), error)))?;
+    let program =
+        program.map_err(|error| Failure::File(format!("cannot read {}: {}", words.program.display(), error)))?;
     let program_bytes = read(&program)?;
     let is_program = files.use_program(&core, &program_bytes);
     let mut stacks = Stacks::of(&core, &files);
@@ -32,8 +32,9 @@ pub fn stack(words: &StackWords, out: &mut impl Write) -> Result<Done, Failure> 
         let _ = writeln!(io::stderr(), "dwcheck-elf: {}", warning);
     }
     for thread in core.threads() {
-        let stack =
-            stacks.walk(thread, words.limit).map_err(|error| failed(format!("thread {}: {}", thread.id, error)))?;
+        let stack = stacks
+            .walk(thread, words.limit)
+            .map_err(|error| Failure::File(format!("thread {}: {}", thread.id, error)))?;
         write!(out, "{}", stack)?;
     }
     Ok(Done::Accepted)

@@ -79,7 +79,8 @@ impl Walk {
     }
 
     fn add(&mut self, path: PathBuf, metadata: &Metadata) {
-        if !metadata.is_dir() && !(metadata.is_file() && metadata.len() > 0) {
+        let has_content = metadata.is_file() && metadata.len() > 0;
+        if !metadata.is_dir() && !has_content {
             return;
         }
         if !self.seen.insert((metadata.dev(), metadata.ino())) {

@@ -4,7 +4,6 @@ use super::files::Files;
 use super::totals::Totals;
 use super::{Held, Section, Surveyed};
 use dwcheck_elf::fault::{Defect, Within};
-use std::fmt::Write as _;
 use std::io::{self, Write};
 
 /// Writes one JSON object on each line: first one for each file, then one for the totals.
@@ -66,8 +65,7 @@ fn text(plain: &str) -> String {
     for c in plain.chars() {
         match c {
             '"' | '\\' => quoted.extend(['\\', c]),
-            // Writing to a `String` doesn't fail.
-            c if c.is_control() => drop(write!(quoted, "\\u{:04x}", u32::from(c))),
+            c if c.is_control() => quoted.push_str(&format!("\\u{:04x}", u32::from(c))),
             c => quoted.push(c),
         }
     }
