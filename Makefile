@@ -1,13 +1,13 @@
-# Builds and installs the programs dwcheck and dwcheck-elf, the C library, and their manual pages.
-#   make            builds the programs, libdwcheck.a and libdwcheck.so in build/
-#   make check      does what make does; then builds and runs the C tests, the C examples (the
-#                   frames of one are compared with gdb's) and the tests of dwcheck-elf
+# Builds, tests and installs the programs dwcheck and dwcheck-elf, the C library, and their manual
+# pages. `rt`, the command of the Rattle kit, must be on the PATH.
+#   make try        the main job, before anything is proved: the rows of the worked section
+#   make            builds the programs, libdwcheck.a and libdwcheck.so in build/, all proved
+#   make test       all tests, and the gate: every proof, wrong bodies that must be refused, and the
+#                   tests of everything else. It installs the Debian packages that it needs.
 #   make install    does what make does; then installs the results in $(DESTDIR)$(PREFIX)
-# This needs cc, ar and rt, which is the command of the Rattle kit and proves what it builds.
-# dwcheck-elf also needs cargo and some Debian packages. If one of these is missing, dwcheck-elf is
-# left out; `rust/cargo.sh packages` prints what is missing. JOBS is the number of cargo's parallel
-# jobs (1 if not set). make doesn't run the tests in crates/dw_tests, and doesn't check that the
-# prover refuses the wrong function bodies in the folders must-fail/: `rt ci` does both.
+#   make packages   installs the Debian packages that dwcheck-elf is built with
+# make also needs cc and ar. If cargo or a package is missing, dwcheck-elf is left out, and a line
+# says so. JOBS is the number of cargo's parallel jobs (all processors if not set).
 PREFIX ?= /usr/local
 BINDIR ?= $(PREFIX)/bin
 LIBDIR ?= $(PREFIX)/lib
@@ -21,58 +21,76 @@ INSTALL ?= install
 # header.
 version := 1.0.0
 major := 1
-kit := $(dir $(shell rt doc))
+kit = $(dir $(shell rt doc))
 built := build/dwcheck build/libdwcheck.a build/libdwcheck.so.$(version) build/dwcheck.pc
 
-.PHONY: all check install clean FORCE
+.PHONY: all try test packages install clean FORCE
 
 all: $(built) build/dwcheck-elf
+
+try:
+	@tools/try.sh
+
+test:
+	@tools/test.py
+
+# The groups of packages that dwcheck-elf is built with: any cargo will do.
+groups = rust$(if $(shell command -v $(or $(CARGO),cargo)),, cargo)
+
+packages:
+	@tools/packages.sh install $(groups)
 
 build:
 	mkdir -p $@
 
-# rt proves only what has changed since it ran last. But it always writes the C library again, so
-# cargo builds dwcheck-elf again. Therefore `make` and `make install` take a minute even if nothing
-# has changed.
-build/dwcheck: FORCE | build
-	(cd crates/dwcheck && rt run -- rows --hex data/frame.hex) >build/log 2>&1 || { tail -n 5 build/log >&2; exit 1; }
-	cp crates/dwcheck/out/dwcheck $@
+# All files that are proved for the program and the library. What is written in Rattle is built again
+# only if one of them has changed, and then it replaces the old file only if it differs, so that
+# nothing that uses it is built again.
+proved := crates.txt $(shell find crates -name out -prune -o -name dw_tests -prune -o -name dw_times -prune \
+    -o -type f \( -name '*.rt' -o -name '*.antt' \) -print)
 
-build/libdwcheck_c.a: FORCE | build
-	(cd crates/dwcheck_c && rt lib) >build/log 2>&1 || { tail -n 5 build/log >&2; exit 1; }
-	cp crates/dwcheck_c/out/libdwcheck_c.a $@
+build/program.stamp: $(proved) | build
+	@tools/kit.sh
+	@tools/build.sh program
+	@touch $@
+
+build/library.stamp: $(proved) | build
+	@tools/kit.sh
+	@tools/build.sh library
+	@touch $@
+
+build/dwcheck: build/program.stamp
+	@[ -f $@ ] || tools/build.sh program
+
+build/libdwcheck_c.a: build/library.stamp
+	@[ -f $@ ] || tools/build.sh library
 
 # libdwcheck.a joins two archives: the library that rt made, and the kit's liblibc_c.a, a few lines
 # of C through which the library calls malloc and free.
 build/libdwcheck.a: build/libdwcheck_c.a
-	rm -f $@
-	printf 'create $@\naddlib $<\naddlib $(kit)c/liblibc_c.a\nsave\nend\n' | $(AR) -M
+	@rm -f $@
+	@printf 'create $@\naddlib $<\naddlib $(kit)c/liblibc_c.a\nsave\nend\n' | $(AR) -M
 
 build/libdwcheck.so.$(version): build/libdwcheck.a c/dwcheck.map
 	$(CC) -shared -Wl,-z,defs -Wl,-soname,libdwcheck.so.$(major) -Wl,--version-script=c/dwcheck.map \
 	    -Wl,--whole-archive $< -Wl,--no-whole-archive -o $@
 
 build/dwcheck.pc: c/dwcheck.pc.in FORCE | build
-	sed -e 's|@PREFIX@|$(PREFIX)|' -e 's|@LIBDIR@|$(LIBDIR)|' -e 's|@INCLUDEDIR@|$(INCLUDEDIR)|' \
+	@sed -e 's|@PREFIX@|$(PREFIX)|' -e 's|@LIBDIR@|$(LIBDIR)|' -e 's|@INCLUDEDIR@|$(INCLUDEDIR)|' \
 	    -e 's|@VERSION@|$(version)|' $< >$@
 
-# The beginning of a command that runs cargo for dwcheck-elf; cargo's arguments must follow. If
-# cargo or a package is missing, the command prints what is missing, and succeeds without running
-# cargo.
-elf = missing=$$(rust/cargo.sh packages | tr '\n' ' '); \
-    if [ -n "$$missing" ]; then echo "dwcheck-elf is left out: it needs $$missing"; exit 0; fi; \
-    cd rust/dwcheck-elf && \
-    DWCHECK_LIB_DIR=$(CURDIR)/build CARGO_TARGET_DIR=$(CURDIR)/build/cargo DWCHECK=$(CURDIR)/build/dwcheck ../cargo.sh
-
-# The old program is deleted first, so that it isn't left over if the new one can't be built.
+# If cargo or a package is missing, the old program is deleted, so that `make install` doesn't
+# install it.
 build/dwcheck-elf: build/libdwcheck.a FORCE
-	rm -f $@
-	@$(elf) build --quiet --release --bin dwcheck-elf && cp $(CURDIR)/build/cargo/release/dwcheck-elf $(CURDIR)/$@
-
-check: all
-	c/tests/run.sh
-	DWCHECK_FLAGS="-I$(CURDIR)/c/include $(CURDIR)/build/libdwcheck.a" examples/c/run.sh
-	@$(elf) test --release
+	@missing=$$(tools/packages.sh missing $(groups) | tr '\n' ' '); \
+	if [ -n "$$missing" ]; then \
+	    rm -f $@; \
+	    echo "dwcheck-elf is left out; make packages installs what it needs: $$missing"; \
+	else \
+	    cd rust/dwcheck-elf && DWCHECK_LIB_DIR=$(CURDIR)/build CARGO_TARGET_DIR=$(CURDIR)/build/cargo \
+	        ../cargo.sh build --quiet --release --bin dwcheck-elf && \
+	    { cmp -s $(CURDIR)/build/cargo/release/dwcheck-elf $(CURDIR)/$@ || cp $(CURDIR)/build/cargo/release/dwcheck-elf $(CURDIR)/$@; }; \
+	fi
 
 install: all
 	$(INSTALL) -d $(DESTDIR)$(BINDIR) $(DESTDIR)$(LIBDIR)/pkgconfig $(DESTDIR)$(INCLUDEDIR) \

@@ -14,21 +14,23 @@ less than a minute.
     $ cat FILE          if FILE doesn't exist yet, it is first written with what the page shows
     ...                 this line stands for any number of lines of output
     <!-- needs: W.. --> sessions from here to the next heading are left out if one of the programs W
-                        isn't installed (perf: or can't record)
+                        isn't installed
     <!-- slow -->       sessions from here to the next heading run in the repository, and only with
-                        --slow, because they prove or build
+                        --slow, because they take a minute or more
     ```c                a block that begins with `#include <dwcheck.h>` is compiled, not run
 
-Sessions with dwcheck-elf are left out without --elf. Addresses of stacks and libraries, and counts
-that perf gives, differ from run to run; they aren't compared (see VARYING). --write replaces the
-output in the pages by what the commands wrote, where it differs. Read the changes before you commit
-them.
+Sessions with dwcheck-elf are left out without --elf. So are sessions in which perf records if the
+machine forbids that, and those in which gdb runs a program if the machine forbids ptrace; a line
+`note: the machine ..` then says so. Addresses of stacks and libraries, and counts that perf gives,
+differ from run to run; they aren't compared (see VARYING). --write replaces the output in the pages
+by what the commands wrote, where it differs. Read the changes before you commit them.
 
 The output depends on compilers. The pages show the output on Debian 12 with these packages: gcc g++
 clang lld llvm binutils gdb gdb-multiarch elfutils linux-perf golang-go gcc-aarch64-linux-gnu
 gcc-arm-linux-gnueabihf qemu-user.
 """
 import argparse
+import functools
 import os
 import re
 import shutil
@@ -68,10 +70,18 @@ class Session:
         self.heading, self.needs, self.is_slow, self.commands = heading, needs, is_slow, []
 
     def all_needs(self):
-        """The programs that the session needs: those that the page lists, and dwcheck-elf if a
-        command begins with it."""
-        is_elf = any(command.text.startswith(ELF + " ") for command in self.commands)
-        return self.needs + [ELF] * is_elf
+        """The programs that the session needs: those that the page lists, and dwcheck-elf and gdb if
+        a command begins with it."""
+        used = [word for word in (ELF, "gdb") if any(command.text.startswith(word + " ") for command in self.commands)]
+        return self.needs + used
+
+    def why_not(self, is_slow):
+        """Why the session isn't run, or nothing if it is."""
+        if missing := [it for it in self.all_needs() if shutil.which(it) is None]:
+            return "no " + " ".join(missing)
+        if forbidden := [it for it in self.all_needs() if is_forbidden(it)]:
+            return "the machine forbids what these programs do: " + " ".join(forbidden)
+        return "slow" if self.is_slow and not is_slow else ""
 
 
 def sessions(lines):
@@ -156,11 +166,17 @@ def trimmed(lines):
     return lines
 
 
-def is_there(program):
-    if shutil.which(program) is None:
-        return False
-    trial = ["perf", "record", "-q", "-e", "cpu-clock:u", "-o", "/dev/null", "true"]
-    return program != "perf" or subprocess.run(trial, capture_output=True, check=False).returncode == 0
+@functools.cache
+def is_forbidden(program):
+    """Whether the machine forbids what this program does in sessions. perf records, which the kernel
+    may refuse. gdb runs other programs, which needs ptrace."""
+    if program == "perf":
+        words = ["perf", "record", "-q", "-e", "cpu-clock:u", "-o", "/dev/null", "true"]
+        return subprocess.run(words, capture_output=True, check=False).returncode != 0
+    if program == "gdb":
+        words = ["gdb", "-q", "-batch", "-ex", "set startup-with-shell off", "-ex", "starti", "/bin/true"]
+        return "Program stopped" not in subprocess.run(words, capture_output=True, text=True, check=False).stdout
+    return False
 
 
 def run_command(shell, command):
@@ -204,9 +220,8 @@ class Page:
         with tempfile.TemporaryDirectory(prefix="pages-") as folder:
             shell, slow_shell = Shell(folder, environment), Shell(TOP, environment)
             for session in self.sessions:
-                missing = [it for it in session.all_needs() if not is_there(it)]
-                if missing or session.is_slow and not is_slow:
-                    self.left_out.append(f"{session.heading}: {'no ' + ' '.join(missing) if missing else 'slow'}")
+                if why := session.why_not(is_slow):
+                    self.left_out.append((session.heading, why))
                     continue
                 for command in session.commands:
                     written = run_command(slow_shell if session.is_slow else shell, command)
@@ -226,8 +241,11 @@ class Page:
         for line, said in self.refused:
             print(f"{self.name}:{line}: {said}")
         print(f"{self.name}: {self.count} commands, {len(self.differing)} differ")
-        for heading in dict.fromkeys(self.left_out):
-            print(f"{self.name}: left out: {heading}")
+        for heading, why in dict.fromkeys(self.left_out):
+            if why.startswith("the machine"):
+                print(f"note: {why}; {self.name} is left out at: {heading}")
+            else:
+                print(f"{self.name}: left out: {heading}: {why}")
 
     def write(self):
         """Replaces the output in the page by what the commands wrote, where it differs."""

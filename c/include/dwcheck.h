@@ -22,10 +22,10 @@
    - malloc, realloc and free belong to one allocator, and the calling thread may call them. So a
      signal handler must not make a call that allocates or frees. After a fork in a program with
      several threads, the child must make no call at all.
-   - The stack is large enough. As measured on x86-64 (built with Rattle kit 13f), dwcheck_backtrace
-     and dwcheck_unwind take 61 KB of stack, and up to 14 KB more if a rule is an expression;
-     dwcheck_process_add takes 82 KB, dwcheck_check 41 KB, dwcheck_evaluate 12 KB, and every other
-     call less than 4 KB. So a signal handler on an alternate stack of the usual 8 KB can't walk.
+   - The stack is large enough. As measured on x86-64, dwcheck_backtrace and dwcheck_unwind take
+     61 KB of stack, and up to 14 KB more if a rule is an expression; dwcheck_process_add takes
+     82 KB, dwcheck_check 41 KB, dwcheck_evaluate 12 KB, and every other call less than 4 KB. So a
+     signal handler on an alternate stack of the usual 8 KB can't walk.
    - Fields called `reserved` are set to 0. A later version may give them a meaning.
 
    A later version may add values to enumerations, so treat a value that you don't know as

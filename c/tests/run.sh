@@ -1,42 +1,51 @@
-#!/bin/sh
-# Builds the tests in cases.c with the static library that `rt lib` makes in crates/dwcheck_c, and
-# runs them. They run plainly, with sanitizers, and under valgrind if it is installed. Before that,
-# the header is compiled as C11 and as C++17; in both, passing a pointer of a wrong type must be an
-# error.
-set -eu
-here=$(cd "$(dirname "$0")" && pwd)
-top=$(dirname "$(dirname "$here")")
-kit=$(dirname "$(rt doc)")
-library=$top/crates/dwcheck_c/out/libdwcheck_c.a
+#!/bin/bash
+# Builds the tests in cases.c with the static library build/libdwcheck.a, or the one that LIBRARY
+# names, and runs them: while allocations fail in turn, with sanitizers, and under valgrind. Before
+# that, the header is compiled as C11 and as C++17; in both, passing a pointer of a wrong type must be
+# an error. Prints a line `ok NAME` or `FAILED NAME` for each, and ends with status 1 if one failed.
+set -u
+top=$(dirname "$(dirname "$(dirname "$(realpath "$0")")")")
+library=${LIBRARY:-$top/build/libdwcheck.a}
 out=$(mktemp -d)
 trap 'rm -rf "$out"' EXIT
-printf '#include "dwcheck.h"\n' > "$out/header.c"
-cp "$out/header.c" "$out/header.cc"
 strict="-Wall -Wextra -pedantic -Werror -I$top/c/include"
-cc -std=c11 $strict -c "$out/header.c" -o "$out/header.o"
-c++ -std=c++17 $strict -c "$out/header.cc" -o "$out/header.o"
+. "$top/tools/each_test.sh"
+
+header() { # COMPILER STANDARD LANGUAGE
+    printf '#include "dwcheck.h"\n' | $1 "-std=$2" $strict -x "$3" -c - -o "$out/header.o"
+}
+
 frame() { # TYPE: writes a C function that passes a pointer to this type as the frame section
     printf '#include "dwcheck.h"\nuint32_t call(const %s *frame, dwcheck_fault *fault);\n' "$1"
     printf 'uint32_t call(const %s *frame, dwcheck_fault *fault) { return dwcheck_check(frame, 1, NULL, 0, 0, 8, fault); }\n' "$1"
 }
-for language in c c++; do
-    frame uint8_t | cc $strict -x $language -c - -o "$out/right.o"
-    if frame uint16_t | cc $strict -x $language -c - -o "$out/wrong.o" 2> /dev/null; then
-        echo "$language takes a pointer of a wrong type"
-        exit 1
-    fi
-done
-build() { # NAME FLAG..: builds the tests as the program NAME
-    name=$1; shift
-    cc -std=gnu11 -D_GNU_SOURCE $strict -O2 -g "$@" "$here/cases.c" "$library" "$kit/c/liblibc_c.a" -o "$out/$name" -pthread -ldl
+
+refuses_wrong_pointers() { # LANGUAGE
+    frame uint8_t | cc $strict -x "$1" -c - -o "$out/right.o" &&
+        ! frame uint16_t | cc $strict -x "$1" -c - -o "$out/wrong.o" 2> /dev/null
 }
-build refusing -DREFUSING
-"$out/refusing"
+
+build() { # NAME FLAG..: builds the tests as the program NAME
+    name=$1
+    shift
+    cc -std=gnu11 -D_GNU_SOURCE $strict -O2 -g "$@" "$top/c/tests/cases.c" "$library" -o "$out/$name" -pthread -ldl
+}
+
+cases() { # FLAG..: builds the tests and runs them
+    build cases "$@" && "$out/cases"
+}
+
+cases_under_valgrind() {
+    build plain && valgrind -q --error-exitcode=1 --leak-check=full "$out/plain"
+}
+
+test_of "the header as C11" header cc c11 c
+test_of "the header as C++17" header c++ c++17 c++
+test_of "pointers of wrong types in C" refuses_wrong_pointers c
+test_of "pointers of wrong types in C++" refuses_wrong_pointers c++
+test_of "cases while allocations fail in turn" cases -DREFUSING
 # The sanitizers check only the C code of the tests, because only that is compiled with them.
-for sanitizers in address,undefined thread; do
-    build sanitized "-fsanitize=$sanitizers" && "$out/sanitized"
-done
-if command -v valgrind > /dev/null; then
-    build plain
-    valgrind -q --error-exitcode=1 --leak-check=full "$out/plain"
-fi
+test_of "cases with ASan and UBSan" cases -fsanitize=address,undefined -fno-sanitize-recover=all
+test_of "cases with TSan" cases -fsanitize=thread
+test_of "cases under valgrind" cases_under_valgrind
+exit $status

@@ -14,7 +14,7 @@ libraries=${DWCHECK_LIB_DIR:-$(pkg-config --variable=libdir dwcheck)}
 export LD_LIBRARY_PATH=$libraries${LD_LIBRARY_PATH:+:$LD_LIBRARY_PATH}
 gcc -O1 -g "$here/crash.c" -o "$work/crash" -pthread
 cd "$work"
-gdb --batch -ex 'set startup-with-shell off' -ex run -ex 'gcore core' ./crash < /dev/null > gdb.log 2>&1
+"$here/../../tools/make_core.sh" ./crash
 "${CARGO_TARGET_DIR:-$here/target}/release/stack" crash core | tee ours
 
 addresses() { # FILE: prints a line for each thread, and one for the address of each of its frames

@@ -2,7 +2,7 @@
 
 mod common;
 
-use common::{has, hex, Folder};
+use common::{has, hex, may_trace, Folder};
 use dwcheck_elf::core_file::{CoreError, CoreFile, FileError, Files, Image, Memory, Origin};
 use dwcheck_elf::program::Program;
 use std::path::Path;
@@ -32,7 +32,7 @@ int main(void) { pthread_t t; pthread_create(&t, 0, idle, 0); return deep(5); }
 ";
 
 /// Makes the program `crash` and up to two core files of it: one by the kernel, if the kernel
-/// writes core files here, and one by gdb, if gdb is installed. Returns the names of the core
+/// writes core files here, and one by gdb, if gdb can run programs here. Returns the names of the core
 /// files.
 fn cores(folder: &Folder) -> Vec<&'static str> {
     folder.write("crash.c", CRASH);
@@ -41,7 +41,7 @@ fn cores(folder: &Folder) -> Vec<&'static str> {
     if kernel_core(folder, "./crash", "kernel.core") {
         cores.push("kernel.core");
     }
-    if has("gdb") {
+    if may_trace() {
         folder.run("gdb --batch -ex 'set startup-with-shell off' -ex run -ex 'gcore gdb.core' ./crash </dev/null >&2");
         cores.push("gdb.core");
     }
@@ -59,7 +59,7 @@ fn kernel_core(folder: &Folder, program: &str, name: &str) -> bool {
             true
         }
         None => {
-            eprintln!("skipped: the kernel writes no core file here");
+            eprintln!("the kernel writes no core file here, so gdb's core file stands in");
             false
         }
     }

@@ -172,7 +172,7 @@ fn cores() {
     }
     folder.write("a.s", ".globl _start\n_start: .cfi_startproc\nud2\n.cfi_endproc\n");
     folder.run("as a.s -o a.o; ld a.o -o crash");
-    folder.run("gdb --batch -ex 'set startup-with-shell off' -ex run -ex 'gcore core' ./crash </dev/null >&2");
+    folder.make_core("./crash");
     let whole = folder.bytes("core");
     let notes = folder.run("readelf -lW core | awk '/NOTE/ {print $2, $5}'");
     let words: Vec<_> = notes.split_whitespace().map(common::hex).collect();

@@ -3,7 +3,7 @@
 mod common;
 
 use common::run::dwcheck_elf;
-use common::{has, Folder};
+use common::{has, may_trace, skipped, Folder};
 
 const THREADS: &str = "
 #include <pthread.h>
@@ -69,7 +69,7 @@ fn compared(name: &str, compiler: &str, source: &str) -> String {
     let file = if compiler.starts_with("g++") { "a.cc" } else { "a.c" };
     folder.write(file, source);
     folder.run(&format!("{} {} -o program", compiler, file));
-    folder.run("gdb --batch -ex 'set startup-with-shell off' -ex 'handle SIGSEGV nostop' -ex run -ex 'gcore core' ./program < /dev/null > gdb.log 2>&1");
+    folder.make_core("./program");
     let ours = dwcheck_elf(&folder, "stack program core");
     let is_said = |line: &str| line.ends_with(" of its records aren't used");
     assert!(ours.status == 0 && ours.error.lines().all(is_said), "{}{}", ours.error, ours.out);
@@ -105,8 +105,7 @@ fn a_program_of_32_bits() {
     folder.write("a.c", "int main(void) { return 0; }");
     let builds = std::process::Command::new("gcc").args(["-m32", "a.c", "-o", "a"]).current_dir(folder.path()).output();
     if !builds.map_or(false, |output| output.status.success()) {
-        eprintln!("skipped: gcc -m32 doesn't link");
-        return;
+        return skipped("gcc -m32 doesn't link");
     }
     compared("stack-i386", "gcc -m32 -O1", SIGNAL);
 }
@@ -118,7 +117,7 @@ fn program_and_core(folder: &Folder, flags: &str) -> bool {
     folder.run(&format!("gcc -O1 {} a.c -o program", flags));
     let runs = has("gdb");
     if runs {
-        folder.run("gdb --batch -ex 'set startup-with-shell off' -ex 'handle SIGSEGV nostop' -ex run -ex 'gcore core' ./program < /dev/null > gdb.log 2>&1");
+        folder.make_core("./program");
     }
     runs
 }
@@ -191,7 +190,7 @@ const GDB_STATE: &str = concat!(env!("CARGO_MANIFEST_DIR"), "/../../tools/gdb_st
 #[test]
 fn gdb_state_starts_at_the_newest_frame() {
     let folder = Folder::new("stack-newest");
-    if !has("gdb") {
+    if !may_trace() {
         return;
     }
     folder.write("a.c", NORETURN);

@@ -6,7 +6,7 @@
 
 mod common;
 
-use common::{has, hex, Folder};
+use common::{has, hex, skipped, Folder};
 use dwcheck_elf::bridge::{bridge, Options};
 use dwcheck_elf::core_file::{CoreFile, Files, Memory, Module, Thread};
 use dwcheck_elf::program::Program;
@@ -99,7 +99,7 @@ fn frames_by_gdb(folder: &Folder, program: &str) -> HashMap<u32, Vec<u64>> {
 fn dwcheck() -> Option<String> {
     let dwcheck = std::env::var("DWCHECK").ok().filter(|_| has("gdb"));
     if dwcheck.is_none() {
-        eprintln!("skipped: DWCHECK names no built dwcheck");
+        skipped("DWCHECK names no built dwcheck");
     }
     dwcheck
 }
@@ -136,8 +136,7 @@ fn frames_of_a_c_program() {
         let folder = Folder::new("walk-c");
         folder.write("crash.c", CRASH);
         folder.run("gcc -O1 -g crash.c -o crash -lpthread");
-        let run = "-ex 'set startup-with-shell off' -ex 'handle SIGSEGV nostop' -ex run -ex 'gcore core'";
-        folder.run(&format!("gdb --batch {} ./crash </dev/null >&2", run));
+        folder.make_core("./crash");
         let modules = compare_walks(&folder, &dwcheck, "crash");
         assert_eq!(modules, 4, "the program, the C library, the loader, the vDSO");
     }
@@ -160,13 +159,12 @@ ctypes.CDLL(None).qsort((ctypes.c_int * 4)(3, 1, 4, 2), 4, 4, compare)
 fn frames_of_python() {
     let python = Path::new("/usr/bin/python3");
     if !python.is_file() {
-        return eprintln!("skipped: /usr/bin/python3 isn't installed");
+        return skipped("/usr/bin/python3 isn't installed");
     }
     if let Some(dwcheck) = dwcheck() {
         let folder = Folder::new("walk-python");
         folder.write("crash.py", PYTHON);
-        let run = "-ex 'set startup-with-shell off' -ex run -ex 'gcore core' --args /usr/bin/python3 crash.py";
-        folder.run(&format!("gdb --batch {} </dev/null >&2", run));
+        folder.make_core("/usr/bin/python3 crash.py");
         assert!(compare_walks(&folder, &dwcheck, "/usr/bin/python3") > 10);
     }
 }

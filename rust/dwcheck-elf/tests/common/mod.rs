@@ -42,6 +42,11 @@ impl Folder {
         String::from_utf8_lossy(&output.stdout).into_owned()
     }
 
+    /// Runs a program that a signal ends, and makes its core file `core`.
+    pub fn make_core(&self, words: &str) {
+        self.run(&format!("{}/../../tools/make_core.sh {}", env!("CARGO_MANIFEST_DIR"), words));
+    }
+
     /// The bytes of a section of a file, decompressed, as objcopy writes them.
     pub fn section(&self, file: &str, section: &str) -> Vec<u8> {
         self.run(&format!("objcopy --decompress-debug-sections --dump-section {}=taken {} /dev/null", section, file));
@@ -55,13 +60,25 @@ impl Drop for Folder {
     }
 }
 
-/// Whether a tool is installed. If not, a message says that the test is skipped.
+/// Says why a test, or a part of it, doesn't run. If the environment variable DWCHECK_NO_SKIPS is
+/// set, as it is under `make test`, the test fails.
+pub fn skipped(why: &str) {
+    assert!(std::env::var_os("DWCHECK_NO_SKIPS").is_none(), "not run: {}", why);
+    eprintln!("skipped: {}", why);
+}
+
+/// Whether a tool is installed. If not, the test is `skipped`.
 pub fn has(tool: &str) -> bool {
     let found = std::env::split_paths(&std::env::var_os("PATH").unwrap()).any(|folder| folder.join(tool).is_file());
     if !found {
-        eprintln!("skipped: {} isn't installed", tool);
+        skipped(&format!("{} isn't installed", tool));
     }
     found
+}
+
+/// Whether gdb can run programs. DWCHECK_NO_PTRACE says that the machine forbids it.
+pub fn may_trace() -> bool {
+    has("gdb") && std::env::var_os("DWCHECK_NO_PTRACE").is_none()
 }
 
 /// A hexadecimal number, with or without 0x.

@@ -1,6 +1,6 @@
 //! Runs the program `dwcheck-elf`, and the program `dwcheck` to compare with it.
 
-use crate::common::Folder;
+use crate::common::{skipped, Folder};
 use std::process::Command;
 
 /// The result of a run of `dwcheck-elf`.
@@ -42,7 +42,7 @@ pub fn by_dwcheck(folder: &Folder, words: &str) -> Option<String> {
     let program = match std::env::var("DWCHECK") {
         Ok(program) => program,
         Err(_) => {
-            eprintln!("skipped: DWCHECK names no dwcheck");
+            skipped("DWCHECK names no dwcheck");
             return None;
         }
     };

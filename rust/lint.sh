@@ -1,0 +1,15 @@
+#!/bin/bash
+# Runs rustfmt and clippy on each crate in Rust. Prints a line `ok NAME` or `FAILED NAME` for each, and
+# ends with status 1 if one failed. DWCHECK_LIB_DIR is the folder with the C library (build/ if not set).
+set -u
+top=$(dirname "$(dirname "$(realpath "$0")")")
+export DWCHECK_LIB_DIR=${DWCHECK_LIB_DIR:-$top/build}
+. "$top/tools/each_test.sh"
+
+for crate in rust/dwcheck rust/dwcheck-elf examples/rust; do
+    cd "$top/$crate"
+    test_of "rustfmt of $crate" cargo fmt --check
+    # Later versions of clippy leave out format_push_string unless it is asked for.
+    test_of "clippy of $crate" "$top/rust/cargo.sh" clippy --quiet --all-targets -- -D warnings -A clippy::format-push-string
+done
+exit $status

@@ -1,0 +1,56 @@
+#!/usr/bin/env bash
+# The Debian 12 packages that this repository uses.
+#   tools/packages.sh missing GROUP..   prints those that aren't installed, one a line
+#   tools/packages.sh install GROUP..   installs them, which needs root, or sudo without a password
+# The groups: `rust`, the libraries that dwcheck-elf uses; `cargo`; and `test`, what `make test` needs
+# besides. If packages can't be installed, `install` says in one line what to do, and its status is 1.
+# Then none has been installed.
+set -u
+
+rust="librust-object-dev librust-gimli-dev librust-flate2-dev librust-clap-dev librust-rayon-dev
+    librust-indicatif-dev librust-rustc-demangle-dev librust-cpp-demangle-dev"
+cargo="cargo rustc"
+# The last two lines are assemblers of other machines, which tests of dwcheck-elf use.
+test="gcc g++ libc6-dev make binutils pkg-config python3 rust-clippy rustfmt valgrind libc6-dbg gdb elfutils
+    clang lld llvm golang-go gdb-multiarch qemu-user linux-perf libc6-dev-i386 lib32gcc-12-dev
+    gcc-aarch64-linux-gnu libc6-dev-arm64-cross gcc-arm-linux-gnueabihf libc6-dev-armhf-cross
+    $(printf 'binutils-%s-linux-gnu ' i686 alpha hppa mips powerpc powerpc64 powerpc64le riscv64 s390x sparc64)
+    binutils-aarch64-linux-gnu binutils-arm-linux-gnueabihf"
+
+missing() { # GROUP..
+    for group in "$@"; do
+        for package in ${!group}; do
+            dpkg-query -W -f '${db:Status-Status}\n' "$package" 2> /dev/null | grep -qx installed || echo "$package"
+        done
+    done
+}
+
+stop() { # WHY
+    echo "$1" >&2
+    exit 1
+}
+
+install() { # GROUP..
+    packages=$(missing "$@" | tr '\n' ' ')
+    [ -n "$packages" ] || return 0
+    line="apt-get install --no-install-recommends $packages"
+    command -v apt-get > /dev/null || stop "some programs are missing, and there is no apt-get; install what these Debian 12 packages have: $packages"
+    as_root=
+    if [ "$(id -u)" -ne 0 ]; then
+        sudo -n true 2> /dev/null || stop "some packages are missing; as root, run: $line"
+        as_root="sudo -n"
+    fi
+    log=$(mktemp)
+    # apt-get fetches all packages before it installs the first one.
+    if ! { $as_root apt-get -o APT::Update::Error-Mode=any update &&
+        $as_root env DEBIAN_FRONTEND=noninteractive apt-get install -y --no-install-recommends $packages; } \
+        > "$log" 2>&1 < /dev/null; then
+        stop "some packages can't be installed ($(grep -m 1 '^E: ' "$log" || echo "see $log")); with a network, run: $line"
+    fi
+    rm "$log"
+}
+
+case ${1:-} in
+missing | install) "$@" ;;
+*) stop "usage: tools/packages.sh missing|install rust|cargo|test .." ;;
+esac
