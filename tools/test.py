@@ -71,6 +71,11 @@ def counted_lines(text):
     return Counts(len(re.findall(r"^ok .", text, re.MULTILINE)), re.findall(r"^FAILED (.*)", text, re.MULTILINE))
 
 
+def counted_refusals(text):
+    """The lines of bench/stress/refused_memory.py, one for each run that was tried."""
+    return Counts(len(re.findall(r"^ *\d+ \w", text, re.MULTILINE)))
+
+
 def counted_by_cargo(text):
     """The lines of `cargo test`. A test that is ignored counts as a failure."""
     results = re.findall(r"^test result: \w+\. (\d+) passed; (\d+) failed; (\d+) ignored", text, re.MULTILINE)
@@ -94,6 +99,8 @@ STAGES = [
           progress="^(proving .*)", needs_build=False),
     Stage("c", "the C library, with sanitizers and valgrind", "c/tests/run.sh", counted_lines, progress="^(ok .*)",
           environment={"LIBRARY": str(BUILD / "libdwcheck.a")}),
+    Stage("memory", "each request for memory refused in turn, in tests and in dwcheck",
+          "bench/stress/refused_memory.py crates/dw_tests/out/dw_tests_tests build/dwcheck", counted_refusals),
     Stage("rust", "rust/dwcheck and its documentation, also under valgrind", "rust/dwcheck/run.sh", counted_by_cargo,
           environment=RUST_LIBRARIES),
     Stage("elf", "rust/dwcheck-elf", "cd rust/dwcheck-elf && ../cargo.sh test --release", counted_by_cargo,

@@ -8,8 +8,13 @@
 #include <string.h>
 
 static long until = -1, asked, held;
-#ifdef REFUSING /* counts allocations, blocks in use and bytes, and can make any allocation fail */
-static long given;
+#ifdef REFUSING /* counts allocations, blocks in use, bytes asked for and bytes in use, and can make any allocation fail */
+#include <malloc.h>
+static long given, used;
+static void *counted(void *p) {
+    if (p) __atomic_add_fetch(&used, (long)malloc_usable_size(p), __ATOMIC_SEQ_CST);
+    return p;
+}
 void *malloc(size_t n) {
     static void *(*real)(size_t);
     if (!real) *(void **)&real = dlsym(RTLD_NEXT, "malloc");
@@ -17,7 +22,7 @@ void *malloc(size_t n) {
     if (until >= 0 && until-- == 0) return NULL;
     __atomic_add_fetch(&held, 1, __ATOMIC_SEQ_CST);
     given += (long)n;
-    return real(n);
+    return counted(real(n));
 }
 void *realloc(void *p, size_t n) {
     static void *(*real)(void *, size_t);
@@ -26,12 +31,16 @@ void *realloc(void *p, size_t n) {
     if (until >= 0 && until-- == 0) return NULL;
     if (!p) __atomic_add_fetch(&held, 1, __ATOMIC_SEQ_CST);
     given += (long)n;
-    return real(p, n);
+    long before = p ? (long)malloc_usable_size(p) : 0;
+    void *grown = counted(real(p, n));
+    if (grown) __atomic_sub_fetch(&used, before, __ATOMIC_SEQ_CST);
+    return grown;
 }
 void free(void *p) {
     static void (*real)(void *);
     if (!real) *(void **)&real = dlsym(RTLD_NEXT, "free");
     if (p) __atomic_sub_fetch(&held, 1, __ATOMIC_SEQ_CST);
+    if (p) __atomic_sub_fetch(&used, (long)malloc_usable_size(p), __ATOMIC_SEQ_CST);
     real(p);
 }
 #endif
@@ -475,19 +484,46 @@ static void last_remove_frees_the_table(void) {
     dwcheck_process_close(&q);
 }
 
+/* writes 1,000 FDEs of one row each, which all have the same rules */
+static void fill(uint8_t many[24 + 24 * 1000]) {
+    memcpy(many, good, 24);
+    for (size_t i = 0; i < 1000; i++) {
+        uint64_t start = 0x1000 + 0x100 * i;
+        memcpy(many + 24 + 24 * i, good + 24, 24);
+        memcpy(many + 32 + 24 * i, &start, 8);
+    }
+}
+
+/* `room` is what a table takes: 16 bytes for each row and for the end of the last one, 64 for each set
+   of rules and 16 for each register's rule in it, and 24 and its length for an expression. Here there
+   are three sets: that of 1,000 rows, that of a row whose CFA is an expression of two bytes, and the
+   set without rules that follows the last row. The memory in use is at most that, and the structures
+   around it. */
+static void room_bounds_what_a_table_takes(void) {
+    static uint8_t many[24 + 24 * 1000 + 28];
+    static const uint8_t last[28] = {0x18, 0, 0, 0, 0, 0, 0, 0, 0, 0xf8, 3, 0, 0, 0, 0, 0, 0, 1, 0, 0, 0, 0, 0, 0, 0x0f, 2, 0x77, 8};
+    const size_t least = 16 * (1001 + 1) + (64 + 16) + (64 + 16) + 64 + (24 + 2);
+    dwcheck_process p = DWCHECK_CLOSED;
+    dwcheck_row row;
+    long before = used;
+    fill(many);
+    memcpy(many + 24 + 24 * 1000, last, sizeof last);
+    IS(dwcheck_process_add(&p, many, sizeof many, DWCHECK_LITTLE, 8, 0, least - 1, &fault), DWCHECK_NO_ROOM);
+    IS(used - before, 0);
+    IS(dwcheck_process_add(&p, many, sizeof many, DWCHECK_LITTLE, 8, 0, least, &fault), DWCHECK_DONE);
+    IS(used - before <= (long)least + 1000, 1);
+    IS(dwcheck_row_at(&p, 0x3f8ff, &row, rules, 4), DWCHECK_DONE); IS(row.cfa.kind, DWCHECK_RULE_VAL_EXPRESSION);
+    dwcheck_process_close(&p);
+    IS(used - before, 0);
+}
+
 /* dwcheck_process_share allocates little, although the table is large: 1,000 FDEs */
 static void share_copies_no_table(void) {
     static uint8_t many[24 + 24 * 1000];
     dwcheck_process p = DWCHECK_CLOSED, q = DWCHECK_CLOSED;
     dwcheck_row row;
     long before;
-    size_t i;
-    memcpy(many, good, 24);
-    for (i = 0; i < 1000; i++) {
-        uint64_t start = 0x1000 + 0x100 * i;
-        memcpy(many + 24 + 24 * i, good + 24, 24);
-        memcpy(many + 32 + 24 * i, &start, 8);
-    }
+    fill(many);
     before = given;
     IS(dwcheck_process_add(&p, many, sizeof many, DWCHECK_LITTLE, 8, 0, room, &fault), DWCHECK_DONE); IS(given - before > 16000, 1);
     before = given;
@@ -560,6 +596,7 @@ int main(void) {
     share_frees_what_it_replaces();
     last_remove_frees_the_table();
     share_copies_no_table();
+    room_bounds_what_a_table_takes();
 #endif
     nothing();
     threads();
