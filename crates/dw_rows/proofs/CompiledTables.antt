@@ -95,9 +95,10 @@ find-given es a (x ∷ rows) = go (has a x) (find-given es a rows)
 
 -- looking up an address in a table gives the row that is found among the rows as stored, with
 -- expressions in place of their offsets
-pub table-finds : (t : RowTable) (target : Target) (es : List LocatedExpression) (rows : List (PlacedRow × ℕ)) (a : ℕ)
-    → record { target = target; rows = map (given_found es) rows } ≡ t → option_map (given_found es) (find (has a) rows) ≡ row_at t a
-table-finds t target es rows a is = sym (find-given es a rows) ∙ ap (λ (x : RowTable). row_at x a) is
+pub table-finds : (t : RowTable) (target : Target) (es : List LocatedExpression) (rows : List (PlacedRow × ℕ)) (bytes a : ℕ)
+    → record { target = target; rows = map (given_found es) rows; bytes = bytes } ≡ t
+    → option_map (given_found es) (find (has a) rows) ≡ row_at t a
+table-finds t target es rows bytes a is = sym (find-given es a rows) ∙ ap (λ (x : RowTable). row_at x a) is
 
 found-at : (s : FrameSection) (a : ℕ) (o : Option (PlacedRow × ℕ)) → IsChecked s → IsPlacedAt s a o
     → IsFoundAt s a (option_map (given_found s.expressions) o)
@@ -106,9 +107,10 @@ found-at s a (Some x) checked h = h
 
 -- the rows of a section, with the section's expressions in place of their offsets and with its
 -- target, are a table of the section
-pub table-of : (s : FrameSection) (target : Target) (es : List LocatedExpression) (rows : List (PlacedRow × ℕ)) → target ≡ s.target
-    → es ≡ s.expressions → ArePlacedRows s rows → IsTableOf s (record { target = target; rows = map (given_found es) rows })
-table-of s target es rows same lent are = record {
+pub table-of : (s : FrameSection) (target : Target) (es : List LocatedExpression) (rows : List (PlacedRow × ℕ)) (bytes : ℕ)
+    → target ≡ s.target → es ≡ s.expressions → ArePlacedRows s rows
+    → IsTableOf s (record { target = target; rows = map (given_found es) rows; bytes = bytes })
+table-of s target es rows bytes same lent are = record {
   target = same;
   row = λ a. subst (IsFoundAt s a) (sym (find-given s.expressions a rows)
       ∙ ap (λ (l : List LocatedExpression). find (has a) (map (given_found l) rows)) (sym lent))

@@ -39,6 +39,14 @@ still-lacks (Err e) why room most is h = subst (λ w. LacksRoom w room most) (sy
 pub sum-cons : {X : Type 0} (f : X → ℕ) (x : X) (xs : List X) → sum_by f (x ∷ xs) ≡ f x + sum_by f xs
 sum-cons f x xs = omega (arith, sum_by-append f (x ∷ []) xs)
 
+-- the first k elements and the next one have at most the sum over all elements
+pub sum-next : {X Y : Type 0} (f : Y → ℕ) (g : X → Y) (xs : List X) (k : ℕ) (x : X) → k < length xs → get_or xs k x ≡ x
+    → sum_by f (map g (take k xs)) + f (g x) ≤ sum_by f (map g xs)
+sum-next f g [] k x lt is = absurd (omega arith)
+sum-next f g (y ∷ xs) zero x lt is = omega (arith, sum-cons f (g y) (map g xs), ap (λ v. f (g v)) is)
+sum-next f g (y ∷ xs) (suc k) x lt is =
+    omega (arith, sum-cons f (g y) (map g (take k xs)), sum-cons f (g y) (map g xs), sum-next f g xs k x (omega arith) is)
+
 -- ---- rows
 
 abbrev pub cost : List (PlacedRow × ℕ) → ℕ

@@ -1,6 +1,7 @@
 -- All rows of a section in order of address, as a compiled table stores them. No contract of a
 -- public call uses this file.
 use Rattle.std.specs.Prelude.{map, ◌≡◌, ℕ, ◌+◌, ◌*◌, ◌<◌, ◌≤◌, List, [], ◌∷◌, ◌++◌, length, All, IfSome, Option, Some, None, find, slice_get, slice_index_or}
+use Rattle.std.specs.List.{sum_by}
 use Rattle.std.specs.List.Sorted.{IsNonDecreasingBy}
 use Rattle.dw_frame.specs.Records.{Cie, Fde}
 use Rattle.dw_stack.specs.Located.{LocatedExpression}
@@ -167,7 +168,19 @@ set_bytes k = 64 + 16 * length k.rules
 abbrev pub entry_bytes : KeptRules → ℕ
 entry_bytes k = 80 + 16 * length k.rules
 
+-- how many bytes rule sets take, and how many they take together with entries
+abbrev pub sets_bytes : List KeptSet → ℕ
+sets_bytes sets = sum_by (λ k. set_bytes k.rules) sets
+
+abbrev pub stored_bytes : List TableEntry → List KeptSet → ℕ
+stored_bytes entries sets = 16 * length entries + sets_bytes sets
+
 -- ---- a finished table
+
+-- rows with their return address registers, and how many bytes their entries and rule sets take
+pub record PlacedRows : Type 0 where
+  pub rows : List (PlacedRow × ℕ)
+  pub bytes : ℕ
 
 -- exactly `count` entries begin at or below the address `a`
 pub record IsEntryCount (entries : List TableEntry) (a count : ℕ) : Type 0 where

@@ -372,13 +372,20 @@ impl<'a> CheckedFrame<'a> {
     /// Compiles the rows of all FDEs into a table, which makes millions of look-ups cheap. The
     /// table borrows nothing, so the section may be dropped.
     ///
-    /// `room` is the number of bytes that the table's rows and their rules may take. The rows of a
-    /// section of N bytes may take 700 times N bytes. `Ok(None)` means that the rows would take
-    /// more than `room`, and that no table was made. The result is never `Ok(None)` if `room` is at
-    /// least 80 bytes for each row, 16 for each register rule of each row, 80 for each FDE, and 80
-    /// more, which is enough even if no rows share rules. It is proved that this `room` is enough,
-    /// and that the table has at most one row for every 16 bytes of `room`. That the rules fit in
-    /// `room` as well is tested, not proved.
+    /// `room` bounds what the table stores, counted as 16 bytes for each entry (each row has one,
+    /// and so has each gap after a row), 64 for each rule set and 16 for each of its register
+    /// rules, and 24 for each expression and its length (clause `stored`). The arrays of a finished
+    /// table take at most that, and 8 bytes more: the two extra counts of a look-up's search
+    /// blocks. While the table is made, more memory is in use that isn't counted: the spare
+    /// capacity of arrays that grow, their copies without spare capacity, and 16 KB by which equal
+    /// rules are found again.
+    ///
+    /// `Ok(None)` means that the sum would be more than `room`, and that no table was made. The
+    /// rows of a section of N bytes may take 700 times N bytes. The result is never `Ok(None)` if
+    /// `room` is at least 80 bytes for each row, 16 for each register rule of each row, 80 for each
+    /// FDE, 24 for each expression and its length, and 80 more (clause `none`). That is enough even
+    /// if no rows share rules, so a body that never shares rules meets the contract. That rows
+    /// share rules is tested, not proved.
     ///
     /// The only fault is `Memory`, with offset 0. Each program is run once. Compiling n rows takes
     /// O(n log n) time.
@@ -386,6 +393,7 @@ impl<'a> CheckedFrame<'a> {
         ensures table { IfOk result (λ made. IfSome made (IsTableOf self.now)) }
         ensures room { IfOk result
             (λ made. IfSome made (λ table. 16 * length table.rows ≤ room)) }
+        ensures stored { IfOk result (λ made. IfSome made (λ table. table.bytes ≤ room)) }
         ensures none { IfOk result (λ made. IfNone made (room < table_bytes self.now)) }
         ensures memory { IfErr result (λ fault. fault ≡ OUT_OF_MEMORY) }
     {

@@ -1,18 +1,28 @@
 //! Checked expressions, stored together with a copy of their bytes.
 
-ghost use Rattle.std.specs.Prelude.{◌≡◌, ◌++◌, ◌∷◌, [], IfOk, None, Some, MatchOption};
+ghost use Rattle.std.specs.Prelude.{◌≡◌, ◌+◌, ◌++◌, ◌∷◌, [], IfErr, IfOk, None, Some, MatchOption};
+ghost use Rattle.std.specs.List.{sum_by};
 ghost use Rattle.dw_frame.specs.Bounds.{Ascends};
 ghost use Rattle.dw_stack.specs.Located.{all_located, located_of};
 ghost use Rattle.dw_rows.specs.Expressions.{expression_at};
 ghost use Rattle.dw_rows.specs.ExpressionOrder.{expression_offset};
 ghost use Rattle.dw_rows.specs.BorrowedExpressions.{borrowed_by};
+ghost use Rattle.dw_rows.specs.CompiledTable.{LacksRoom};
+ghost use Rattle.dw_rows.specs.UnwindTables.{expression_bytes};
 
 use crate::borrowed_expressions::BorrowedExpressions;
+use crate::room::{Unmade, less_room};
 use dw_bytes::Target;
 use dw_ops::Expression;
 use dw_stack::{CheckedExpression, Kind};
 use std::alloc::{AllocError, Global};
 use std::marker::Model;
+
+/// How many bytes of the room a copied expression uses up, not counting its own bytes. An
+/// `OwnedExpression` takes at most this.
+const EXPRESSION_ROOM: usize = 24;
+
+const _: () = prove!(size_of::<OwnedExpression>() <= EXPRESSION_ROOM);
 
 /// A checked expression, except for its bytes: those are in the array `bytes` of an
 /// `ExpressionList`.
@@ -87,6 +97,17 @@ impl ExpressionList {
         Ok(())
     }
 
+    /// Moves the list into arrays without spare capacity.
+    pub fn cut(&mut self, alloc: Global) -> Result<(), AllocError>
+        ensures { self.new ≡ self.old }
+    {
+        let bytes = Vec::from_slice(alloc, self.bytes.as_slice())?;
+        let kept = Vec::from_slice(alloc, self.kept.as_slice())?;
+        self.bytes = bytes;
+        self.kept = kept;
+        Ok(())
+    }
+
     /// The expression that begins at an offset of the section, found by binary search, or `None` if
     /// none begins there.
     pub fn at(&self, offset: u32) -> Option<CheckedExpression<'_>>
@@ -111,17 +132,25 @@ impl ExpressionList {
     }
 }
 
-/// Copies expressions together with their bytes.
+/// Copies expressions together with their bytes. The room that an expression uses up is taken from
+/// `room` before the expression is copied.
 fn list_of(
     alloc: Global,
     expressions: &[(u32, CheckedExpression<'_>)],
-) -> Result<ExpressionList, AllocError>
-    ensures { IfOk result (λ list. list ≡ all_located expressions.now) }
+    room: &mut usize,
+) -> Result<ExpressionList, Unmade>
+    ensures list { IfOk result (λ list. list ≡ all_located expressions.now) }
+    ensures stored { IfOk result (λ list. sum_by expression_bytes list + room.new ≡ room.old) }
+    ensures short { IfErr result (λ why. LacksRoom why room.old
+        (sum_by expression_bytes (all_located expressions.now))) }
 {
     let mut list = ExpressionList::new(alloc);
     for expression in expressions {
+        let bytes = expression.1.expression().bytes();
+        *room = less_room(*room, EXPRESSION_ROOM + bytes.len())?;
         list.push(expression.0, &expression.1)?;
     }
+    list.cut(alloc)?;
     Ok(list)
 }
 
@@ -149,12 +178,20 @@ impl Model for OwnedExpressions {
 }
 
 impl OwnedExpressions {
-    /// Copies borrowed expressions together with their bytes.
-    pub fn of(alloc: Global, borrowed: &BorrowedExpressions<'_, '_>) -> Result<Self, AllocError>
-        ensures { IfOk result (λ owned. owned ≡ borrowed_by borrowed.now) }
+    /// Copies borrowed expressions together with their bytes, and takes the room that they use up
+    /// from `room`.
+    pub fn of(
+        alloc: Global,
+        borrowed: &BorrowedExpressions<'_, '_>,
+        room: &mut usize,
+    ) -> Result<Self, Unmade>
+        ensures owned { IfOk result (λ owned. owned ≡ borrowed_by borrowed.now) }
+        ensures stored { IfOk result (λ owned. sum_by expression_bytes owned + room.new ≡ room.old) }
+        ensures short { IfErr result (λ why. LacksRoom why room.old
+            (sum_by expression_bytes (borrowed_by borrowed.now))) }
     {
-        let cies = list_of(alloc, borrowed.cies)?;
-        let fdes = list_of(alloc, borrowed.fdes)?;
+        let cies = list_of(alloc, borrowed.cies, room)?;
+        let fdes = list_of(alloc, borrowed.fdes, room)?;
         Ok(OwnedExpressions { cies, fdes })
     }
 

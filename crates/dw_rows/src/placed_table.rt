@@ -5,9 +5,9 @@ ghost use Rattle.std.specs.Prelude.{◌≡◌, ◌+◌, ◌*◌, ◌≤◌, Cont
 ghost use Rattle.std.specs.Option.{option_map};
 ghost use Rattle.dw_frame.specs.Views.{fde_of};
 ghost use Rattle.dw_rows.specs.LentExpressions.{lent_by};
-ghost use Rattle.dw_rows.specs.UnwindTables.{has, fde_bytes, table_bytes};
+ghost use Rattle.dw_rows.specs.UnwindTables.{has, fde_bytes, all_rows_bytes};
 ghost use Rattle.dw_rows.specs.CompiledTable.{IsPushed, IsTableUpTo, IsClosedAt, IsBegunAt, IsFilled, ArePlacedRows, AreEntries, rows_to};
-ghost use Rattle.dw_rows.specs.CompiledTable.{LendsFound, given_found, LacksRoom, entry_bytes};
+ghost use Rattle.dw_rows.specs.CompiledTable.{LendsFound, given_found, LacksRoom, entry_bytes, stored_bytes};
 
 use crate::expressions::LentExpressions;
 use crate::frame::CheckedFrame;
@@ -43,8 +43,9 @@ impl GrowingTable {
         ensures pushed { IfOk result (λ _. IsPushed self.old.entries self.old.numbers.sets start
             (record { rules = rules.now; register = register })
             self.new.entries self.new.numbers.sets) }
-        ensures room { IfOk result (λ _. (self.new.numbers.room + 16 ≤ self.old.numbers.room)
-            × (length self.new.entries ≡ length self.old.entries + 1)) }
+        ensures stored { IfOk result (λ _.
+            stored_bytes self.new.entries self.new.numbers.sets + self.new.numbers.room
+            ≤ stored_bytes self.old.entries self.old.numbers.sets + self.old.numbers.room) }
         ensures spent { IfOk result (λ _. self.old.numbers.room
             ≤ self.new.numbers.room + entry_bytes rules.now) }
         ensures short { IfErr result
@@ -61,8 +62,9 @@ impl GrowingTable {
     fn close(&mut self) -> Result<(), Unmade>
         ensures closed { IfOk result (λ _. IsClosedAt self.old.end self.old.entries
             self.old.numbers.sets self.new.entries self.new.numbers.sets) }
-        ensures room { IfOk result (λ _. 16 * length self.new.entries + self.new.numbers.room
-            ≤ 16 * length self.old.entries + self.old.numbers.room) }
+        ensures stored { IfOk result (λ _.
+            stored_bytes self.new.entries self.new.numbers.sets + self.new.numbers.room
+            ≤ stored_bytes self.old.entries self.old.numbers.sets + self.old.numbers.room) }
         ensures spent { IfOk result (λ _. self.old.numbers.room ≤ self.new.numbers.room + 80) }
         ensures short { IfErr result (λ why. LacksRoom why self.old.numbers.room 80) }
     {
@@ -79,8 +81,9 @@ impl GrowingTable {
     fn begin_at(&mut self, start: u64) -> Result<(), Unmade>
         ensures begun { IfOk result (λ _. IsBegunAt self.old.end start self.old.entries
             self.old.numbers.sets self.new.entries self.new.numbers.sets) }
-        ensures room { IfOk result (λ _. 16 * length self.new.entries + self.new.numbers.room
-            ≤ 16 * length self.old.entries + self.old.numbers.room) }
+        ensures stored { IfOk result (λ _.
+            stored_bytes self.new.entries self.new.numbers.sets + self.new.numbers.room
+            ≤ stored_bytes self.old.entries self.old.numbers.sets + self.old.numbers.room) }
         ensures spent { IfOk result (λ _. self.old.numbers.room ≤ self.new.numbers.room + 80) }
         ensures short { IfErr result (λ why. LacksRoom why self.old.numbers.room 80) }
     {
@@ -109,8 +112,9 @@ fn fill(
         table.old.entries table.old.numbers.sets table.new.entries table.new.numbers.sets) }
     ensures end { IfOk result (λ _. table.new.end
         ≡ fde.now.initial_location + fde.now.address_range) }
-    ensures room { IfOk result (λ _. 16 * length table.new.entries + table.new.numbers.room
-        ≤ 16 * length table.old.entries + table.old.numbers.room) }
+    ensures stored { IfOk result (λ _.
+        stored_bytes table.new.entries table.new.numbers.sets + table.new.numbers.room
+        ≤ stored_bytes table.old.entries table.old.numbers.sets + table.old.numbers.room) }
     ensures spent { IfOk result (λ _. table.old.numbers.room
         ≤ table.new.numbers.room + fde_bytes frame.now (fde_of fde.now)) }
     ensures short { IfErr result (λ why. LacksRoom why table.old.numbers.room
@@ -132,8 +136,9 @@ fn fill_all(alloc: Global, frame: &CheckedFrame<'_>, room: usize) -> Result<Grow
     ensures entries { IfOk result (λ table. AreEntries table.entries table.numbers.sets) }
     ensures rows { IfOk result (λ table. ArePlacedRows frame.now
         (rows_to table.numbers.sets table.entries 0)) }
-    ensures room { IfOk result (λ table. 16 * length table.entries ≤ room) }
-    ensures short { IfErr result (λ why. LacksRoom why room (table_bytes frame.now)) }
+    ensures stored { IfOk result (λ table.
+        stored_bytes table.entries table.numbers.sets ≤ room) }
+    ensures short { IfErr result (λ why. LacksRoom why room (all_rows_bytes frame.now)) }
 {
     let base = match frame.index().first() {
         Some(first) => first.start,
@@ -157,8 +162,9 @@ fn fill_all(alloc: Global, frame: &CheckedFrame<'_>, room: usize) -> Result<Grow
     Ok(table)
 }
 
-/// All rows of a section in order of address, each with its return address register. The model is
-/// the list of rows. The rules refer to an expression by its offset in the section.
+/// All rows of a section in order of address, each with its return address register. The rules
+/// refer to an expression by its offset in the section. The model has the list of rows, and the
+/// number of bytes that the stored entries and rule sets take.
 #[derive(Drop)]
 pub struct PlacedTable {
     entries: TableEntries,
@@ -166,14 +172,16 @@ pub struct PlacedTable {
 }
 
 impl Model for PlacedTable {
-    ghost use Rattle.std.specs.Prelude.{List, ℕ};
-    ghost use Rattle.dw_rows.specs.Rules.{PlacedRow};
+    ghost use Rattle.dw_rows.specs.CompiledTable.{PlacedRows};
 
-    ghost Value = { List (PlacedRow × ℕ) };
+    ghost Value = { PlacedRows };
 
-    ghost use Rattle.dw_rows.specs.CompiledTable.{AreEntries, rows_to};
+    ghost use Rattle.dw_rows.specs.CompiledTable.{AreEntries, rows_to, stored_bytes};
 
-    ghost view = { λ t. rows_to t.sets t.entries 0 };
+    ghost view = { λ t. record {
+      rows = rows_to t.sets t.entries 0;
+      bytes = stored_bytes t.entries t.sets;
+    } };
 
     ghost invariant = { λ t. AreEntries t.entries t.sets };
 }
@@ -182,9 +190,10 @@ impl PlacedTable {
     /// Compiles the rows of a checked section into at most `room` bytes. The spare capacity that
     /// arrays have while they grow isn't counted.
     pub fn of(frame: &CheckedFrame<'_>, alloc: Global, room: usize) -> Result<Self, Unmade>
-        ensures rows { IfOk result (ArePlacedRows frame.now) }
-        ensures room { IfOk result (λ rows. 16 * length rows ≤ room) }
-        ensures short { IfErr result (λ why. LacksRoom why room (table_bytes frame.now)) }
+        ensures rows { IfOk result (λ table. ArePlacedRows frame.now table.rows) }
+        ensures few { IfOk result (λ table. 16 * length table.rows ≤ table.bytes) }
+        ensures stored { IfOk result (λ table. table.bytes ≤ room) }
+        ensures short { IfErr result (λ why. LacksRoom why room (all_rows_bytes frame.now)) }
     {
         let GrowingTable {
             entries,
@@ -205,9 +214,9 @@ impl PlacedTable {
         address: u64,
         expressions: LentExpressions<'t, 'a>,
     ) -> Option<(UnwindRow<'t, 'a>, u16)>
-        requires { All (LendsFound (lent_by expressions)) self.now }
+        requires { All (LendsFound (lent_by expressions)) self.now.rows }
         ensures { result ≡ option_map (given_found (lent_by expressions.entry))
-            (find (has address) self.now) }
+            (find (has address) self.now.rows) }
     {
         let after = self.entries.count_up_to(address);
         if after == 0 || after == self.entries.count() {

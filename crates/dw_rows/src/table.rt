@@ -25,7 +25,7 @@ use std::marker::Model;
 ///
 /// ```rust
 /// let Some(table) = frame.compile(alloc, 1 << 20)? else {
-///     return Ok(()); // its rows take more than that
+///     return Ok(()); // it takes more than that
 /// };
 /// if let Some(row) = table.row_for_address(0x1004) {
 ///     println!(rt; "{:#x}..{:#x}", row.start_address(), row.end_address())?;
@@ -34,7 +34,7 @@ use std::marker::Model;
 #[derive(Drop)]
 pub struct UnwindTable {
     target: Target,
-    rows: PlacedTable,
+    placed: PlacedTable,
     expressions: OwnedExpressions,
 }
 
@@ -43,30 +43,37 @@ impl Model for UnwindTable {
 
     ghost Value = { RowTable };
 
-    ghost use Rattle.std.specs.Prelude.{All, Contains, map};
+    ghost use Rattle.std.specs.Prelude.{◌+◌, All, Contains, map};
+    ghost use Rattle.std.specs.List.{sum_by};
     ghost use Rattle.dw_stack.specs.Located.{LocatedExpression};
-    ghost use Rattle.dw_rows.specs.UnwindTables.{IsUnder};
+    ghost use Rattle.dw_rows.specs.UnwindTables.{IsUnder, expression_bytes};
     ghost use Rattle.dw_rows.specs.CompiledTable.{LendsFound, given_found};
 
-    ghost view = { λ t. record { target = t.target; rows = map (given_found t.expressions) t.rows } };
+    ghost view = { λ t. record {
+      target = t.target;
+      rows = map (given_found t.expressions) t.placed.rows;
+      bytes = t.placed.bytes + sum_by expression_bytes t.expressions;
+    } };
 
-    ghost invariant = { λ t. All (LendsFound t.expressions) t.rows
+    ghost invariant = { λ t. All (LendsFound t.expressions) t.placed.rows
         × ((e : LocatedExpression) → Contains t.expressions e → IsUnder t.target e) };
 }
 
 impl UnwindTable {
-    /// Compiles a checked section into a table whose rows and rules take at most `room` bytes. The
-    /// copied expressions aren't counted.
+    /// Compiles a checked section into a table that stores at most `room` bytes. The expressions
+    /// are copied first, and the rows may take what is left of the room.
     pub(crate) fn of(frame: &CheckedFrame<'_>, alloc: Global, room: usize) -> Result<Self, Unmade>
         ensures table { IfOk result (IsTableOf frame.now) }
         ensures room { IfOk result (λ table. 16 * length table.rows ≤ room) }
+        ensures stored { IfOk result (λ table. table.bytes ≤ room) }
         ensures short { IfErr result (λ why. LacksRoom why room (table_bytes frame.now)) }
     {
-        let rows = PlacedTable::of(frame, alloc, room)?;
-        let expressions = OwnedExpressions::of(alloc, &frame.borrowed())?;
+        let mut left = room;
+        let expressions = OwnedExpressions::of(alloc, &frame.borrowed(), &mut left)?;
+        let placed = PlacedTable::of(frame, alloc, left)?;
         Ok(UnwindTable {
             target: frame.target(),
-            rows,
+            placed,
             expressions,
         })
     }
@@ -88,7 +95,7 @@ impl UnwindTable {
         // The row's expressions have the table's target.
         ensures under { IfSome result (λ found. IsRowUnder self.now.target found.0) }
     {
-        self.rows
+        self.placed
             .find(address, LentExpressions::Owned(&self.expressions))
     }
 

@@ -1,6 +1,11 @@
-use Rattle.std.proofs.Common.{◌≡◌, take}
+use Rattle.std.proofs.Common.{◌≡◌, ◌+◌, take}
+use Rattle.std.specs.List.{sum_by}
 use Rattle.dw_stack.specs.Located.{all_located}
+use Rattle.dw_rows.specs.UnwindTables.{expression_bytes}
 use Rattle.dw_rows.proofs.owned_expressions.list_of.Given as goal
 
 abbrev pub invariant-loop-expression : goal.invariant-loop-expression
-invariant-loop-expression l = l.list ≡ all_located (take l.expression-index l.expressions)
+invariant-loop-expression l = record {
+  list : l.list ≡ all_located (take l.expression-index l.expressions);
+  stored : sum_by expression_bytes l.list + l.room ≡ l.fn.room;
+}

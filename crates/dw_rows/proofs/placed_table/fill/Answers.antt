@@ -32,7 +32,7 @@ loop-start-init c =
         c.in_ok-begin_at.ensures.spent,
         ap cost (ap (λ n. rows_to sets new n) begins.location ∙ begun.rows es c.requires.table),
       );
-      room = c.in_ok-begin_at.ensures.room;
+      stored = c.in_ok-begin_at.ensures.stored;
     }
 
 pub loop-start-preserved : goal.loop-start-preserved
@@ -72,7 +72,7 @@ loop-start-preserved c =
         cost-on es cie fde rows w new entries more sets
             more_sets c.in-Some.start c.in-Some.field-0-1 h.filling c.in-Some.ensures h.table pushed,
       );
-      room = omega (arith, h.room, c.in_ok-push.ensures.room.0, c.in_ok-push.ensures.room.1);
+      stored = omega (arith, h.stored, c.in_ok-push.ensures.stored);
     }
 
 pub returns-clause-filled : goal.returns-clause-filled

@@ -1,7 +1,7 @@
-use Rattle.std.proofs.Common.{◌-◌, ◌+◌, ◌*◌, ◌≤◌, ◌++◌, length}
+use Rattle.std.proofs.Common.{◌-◌, ◌+◌, ◌≤◌, ◌++◌}
 use Rattle.dw_frame.specs.Views.{cie_of, fde_of}
 use Rattle.dw_rows.specs.UnwindRows.{rows_of}
-use Rattle.dw_rows.specs.CompiledTable.{IsFilling, IsTableUpTo, returning, rows_to}
+use Rattle.dw_rows.specs.CompiledTable.{IsFilling, IsTableUpTo, returning, rows_to, stored_bytes}
 use Rattle.dw_rows.specs.RowCursors.{cursor_at}
 use Rattle.dw_rows.proofs.TableRoom.{cost}
 use Rattle.dw_rows.proofs.placed_table.fill.Given as goal
@@ -14,7 +14,8 @@ invariant-loop-start l = record {
   table : IsTableUpTo l.fn.frame.expressions l.context.location l.table.entries l.table.numbers.sets;
   spent : l.fn.table.numbers.room + cost (rows_to l.fn.table.numbers.sets l.fn.table.entries l.fn.table.end)
       ≤ l.table.numbers.room + 80 + cost (rows_to l.table.numbers.sets l.table.entries l.context.location);
-  room : 16 * length l.table.entries + l.table.numbers.room ≤ 16 * length l.fn.table.entries + l.fn.table.numbers.room;
+  stored : stored_bytes l.table.entries l.table.numbers.sets + l.table.numbers.room
+      ≤ stored_bytes l.fn.table.entries l.fn.table.numbers.sets + l.fn.table.numbers.room;
 }
 
 abbrev pub decreases-loop-start : goal.decreases-loop-start

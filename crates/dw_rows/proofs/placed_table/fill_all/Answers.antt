@@ -4,10 +4,10 @@ use Rattle.dw_frame.specs.Records.{Fde}
 use Rattle.dw_frame.specs.Views.{fde_of}
 use Rattle.dw_rows.specs.Overlap.{IsAddressIndex, IsIndexOf, fde_at}
 use Rattle.dw_rows.specs.declared.table_entries.TableEntry.{TableEntry}
-use Rattle.dw_rows.specs.CompiledTable.{AreEntries, ArePlacedRows, rows_to}
+use Rattle.dw_rows.specs.CompiledTable.{KeptSet, AreEntries, ArePlacedRows, rows_to, sets_bytes}
 use Rattle.dw_rows.proofs.Indexes.{entry-placed}
 use Rattle.dw_rows.proofs.FilledTables.{IsFillingAll, all-begin, all-on, all-done}
-use Rattle.dw_rows.specs.UnwindTables.{fde_bytes, table_bytes}
+use Rattle.dw_rows.specs.UnwindTables.{fde_bytes, all_rows_bytes}
 use Rattle.dw_rows.proofs.TableRoom.{sum-further, sum-first, lacks-more, still-lacks}
 use Rattle.dw_rows.proofs.placed_table.fill_all.Goals as goal
 
@@ -67,7 +67,7 @@ loop-entry-preserved c =
         c.in_ok-fill.ensures.spent,
         sum-further (fde_bytes c.args.frame.now) (map view index) k (fde_of x) (omega arith) placed,
       );
-      room = omega (arith, c.loop-entry.invariant.room, c.in_ok-fill.ensures.room);
+      stored = omega (arith, c.loop-entry.invariant.stored, c.in_ok-fill.ensures.stored);
     }
 
 -- after all FDEs, the entries are those of a table, and their rows are the section's
@@ -99,12 +99,17 @@ pub loop-entry-init : goal.loop-entry-init
 loop-entry-init c = record {
   filling = all-begin c.args.frame.now _ _ _ c.new.ensures c.in_ok-new.ensures.sets;
   spent = omega (arith, c.in_ok-new.ensures.room);
-  room = omega (arith, ap (λ (l : List TableEntry). length l) c.new.ensures, c.in_ok-new.ensures.room);
+  stored = omega (
+    arith,
+    ap (λ (l : List TableEntry). length l) c.new.ensures,
+    ap (λ (l : List KeptSet). sets_bytes l) c.in_ok-new.ensures.sets,
+    c.in_ok-new.ensures.room,
+  );
 }
 
-pub returns-clause-room : goal.returns-clause-room
-returns-clause-room c =
-    omega (arith, c.loop-entry.invariant.room, c.in_ok-close.ensures.room, ap (λ (l : List TableEntry). length l) c.in_ok-finish.ensures)
+pub returns-clause-stored : goal.returns-clause-stored
+returns-clause-stored c =
+    omega (arith, c.loop-entry.invariant.stored, c.in_ok-close.ensures.stored, ap (λ (l : List TableEntry). length l) c.in_ok-finish.ensures)
 
 pub returns-in_err-fill-clause-short : goal.returns-in_err-fill-clause-short
 returns-in_err-fill-clause-short c =
@@ -121,8 +126,8 @@ returns-in_err-fill-clause-short c =
     let index_of : IsIndexOf s.fdes (map view index) =
     subst (λ (l : List Fde). IsIndexOf l (map view index)) c.fdes-fdes.ensures.fdes is.index_of in
     let why = c.in_err-fill.field-0.0 in
-    still-lacks c.from_residual-in_err-fill.result why c.args.room (table_bytes s) c.from_residual-in_err-fill.ensures.1
-    (lacks-more why c.loop-entry.table.numbers.room c.args.room (fde_bytes s (fde_of x)) (table_bytes s)
+    still-lacks c.from_residual-in_err-fill.result why c.args.room (all_rows_bytes s) c.from_residual-in_err-fill.ensures.1
+    (lacks-more why c.loop-entry.table.numbers.room c.args.room (fde_bytes s (fde_of x)) (all_rows_bytes s)
     (λ less. omega (
       arith,
       less,
@@ -142,8 +147,8 @@ returns-in_err-close-clause-short c =
     let index_of : IsIndexOf s.fdes (map view index) =
     subst (λ (l : List Fde). IsIndexOf l (map view index)) c.fdes-fdes.ensures.fdes is.index_of in
     let why = c.in_err-close.field-0.0 in
-    still-lacks c.from_residual-in_err-close.result why c.args.room (table_bytes s) c.from_residual-in_err-close.ensures.1
-    (lacks-more why c.loop-entry.table.numbers.room c.args.room 80 (table_bytes s)
+    still-lacks c.from_residual-in_err-close.result why c.args.room (all_rows_bytes s) c.from_residual-in_err-close.ensures.1
+    (lacks-more why c.loop-entry.table.numbers.room c.args.room 80 (all_rows_bytes s)
     (λ less. omega (
       arith,
       less,

@@ -10,11 +10,14 @@ use Rattle.dw_rows.specs.GivenRows.{given_row}
 use Rattle.dw_rows.specs.ProgramState.{row_between}
 use Rattle.dw_rows.specs.UnwindTables.{has}
 use Rattle.dw_rows.specs.Views.{kept_cfa_of, entries_of}
-use Rattle.dw_rows.specs.CompiledTable.{KeptSet, rows_to, given_found, IsEntryCount}
+use Rattle.dw_rows.specs.CompiledTable.{KeptSet, PlacedRows, rows_to, given_found, IsEntryCount}
 use Rattle.dw_rows.proofs.TableRows.{placed-below, placed-above}
 use Rattle.dw_rows.proofs.CompiledTables.{row-read, none-read, cfa-lent, rules-lent}
 use Rattle.dw_rows.proofs.placed_table.PlacedTable.find.Goals.{then-after-eq0-via-then-after-eq0, then-after-eq0-via-else-after-eq0+then-after-count}
 use Rattle.dw_rows.proofs.placed_table.PlacedTable.find.Goals as goal
+
+rows-of : {t u : PlacedRows} → t ≡ u → t.rows ≡ u.rows
+rows-of is = ap (λ (t : PlacedRows). t.rows) is
 
 pub lend-cfa-requires : goal.lend-cfa-requires
 lend-cfa-requires c =
@@ -37,7 +40,7 @@ returns-then-after-eq0 c =
           placed-above entries sets a c.count_up_to-after.result c.count_up_to-after.ensures (w.if-after-count.true ∙ w.count.ensures)
     ] in
     sym (ap (option_map (given_found es)) none)
-    ∙ ap (λ (l : List (PlacedRow × ℕ)). option_map (given_found es) (find (has a) l)) c.self.view_is
+    ∙ ap (λ (l : List (PlacedRow × ℕ)). option_map (given_found es) (find (has a) l)) (rows-of c.self.view_is)
 
 pub new-requires-clause-cfa : goal.new-requires-clause-cfa
 new-requires-clause-cfa c =
@@ -46,9 +49,9 @@ new-requires-clause-cfa c =
       register = c.lend-cfa.result.2;
     } in
     let cfa : k.rules.cfa ≡ Some (kept_cfa_of c.in-Some.cfa) = ap (λ (o : Option KeptCfa). option_map kept_cfa_of o) c.in-Some.is in
-    cfa-lent (lent_by c.args.expressions) c.args.self.now c.args.address _ (kept_cfa_of c.in-Some.cfa) c.requires
-    (row-read c.self.inside.entries c.self.inside.sets c.args.self.now c.args.address c.count_up_to-after.result c.start_at-end.result
-    c.at-entry.result k (kept_cfa_of c.in-Some.cfa) c.self.view_is c.count_up_to-after.ensures (omega arith)
+    cfa-lent (lent_by c.args.expressions) c.args.self.now.rows c.args.address _ (kept_cfa_of c.in-Some.cfa) c.requires
+    (row-read c.self.inside.entries c.self.inside.sets c.args.self.now.rows c.args.address c.count_up_to-after.result c.start_at-end.result
+    c.at-entry.result k (kept_cfa_of c.in-Some.cfa) (rows-of c.self.view_is) c.count_up_to-after.ensures (omega arith)
     (omega (arith, c.count.ensures, c.count_up_to-after.ensures.bound)) c.at-entry.ensures c.lend-cfa.ensures.rules
     c.start_at-end.ensures cfa) cfa
 
@@ -59,9 +62,9 @@ new-requires-clause-rules c =
       register = c.lend-cfa.result.2;
     } in
     let cfa : k.rules.cfa ≡ Some (kept_cfa_of c.in-Some.cfa) = ap (λ (o : Option KeptCfa). option_map kept_cfa_of o) c.in-Some.is in
-    rules-lent (lent_by c.args.expressions) c.args.self.now c.args.address _ c.requires
-    (row-read c.self.inside.entries c.self.inside.sets c.args.self.now c.args.address c.count_up_to-after.result c.start_at-end.result
-    c.at-entry.result k (kept_cfa_of c.in-Some.cfa) c.self.view_is c.count_up_to-after.ensures (omega arith)
+    rules-lent (lent_by c.args.expressions) c.args.self.now.rows c.args.address _ c.requires
+    (row-read c.self.inside.entries c.self.inside.sets c.args.self.now.rows c.args.address c.count_up_to-after.result c.start_at-end.result
+    c.at-entry.result k (kept_cfa_of c.in-Some.cfa) (rows-of c.self.view_is) c.count_up_to-after.ensures (omega arith)
     (omega (arith, c.count.ensures, c.count_up_to-after.ensures.bound)) c.at-entry.ensures c.lend-cfa.ensures.rules
     c.start_at-end.ensures cfa)
 
@@ -76,9 +79,9 @@ returns-in-Some c =
     let end = c.start_at-end.result in
     let cfa : k.rules.cfa ≡ Some (kept_cfa_of c.in-Some.cfa) = ap (λ (o : Option KeptCfa). option_map kept_cfa_of o) c.in-Some.is in
     let with : Option PlacedCfa → PlacedRow = λ o. record { start = start; end = end; cfa = o; rules = k.rules.rules } in
-    let found : find (has c.args.address) c.args.self.now ≡ Some (row_between start end k.rules, k.register) =
-    row-read c.self.inside.entries c.self.inside.sets c.args.self.now c.args.address c.count_up_to-after.result end
-    c.at-entry.result k (kept_cfa_of c.in-Some.cfa) c.self.view_is c.count_up_to-after.ensures (omega arith)
+    let found : find (has c.args.address) c.args.self.now.rows ≡ Some (row_between start end k.rules, k.register) =
+    row-read c.self.inside.entries c.self.inside.sets c.args.self.now.rows c.args.address c.count_up_to-after.result end
+    c.at-entry.result k (kept_cfa_of c.in-Some.cfa) (rows-of c.self.view_is) c.count_up_to-after.ensures (omega arith)
     (omega (arith, c.count.ensures, c.count_up_to-after.ensures.bound)) c.at-entry.ensures c.lend-cfa.ensures.rules
     c.start_at-end.ensures cfa in
     let is : Row × ℕ → Option (Row × ℕ) = λ x. Some x in
@@ -92,6 +95,6 @@ returns-in-None c =
       register = c.lend-cfa.result.2;
     } in
     let es = lent_by c.args.expressions in
-    sym (ap (option_map (given_found es)) (none-read c.self.inside.entries c.self.inside.sets c.args.self.now c.args.address
-    c.count_up_to-after.result c.at-entry.result k c.self.view_is c.count_up_to-after.ensures (omega arith) c.at-entry.ensures
+    sym (ap (option_map (given_found es)) (none-read c.self.inside.entries c.self.inside.sets c.args.self.now.rows c.args.address
+    c.count_up_to-after.result c.at-entry.result k (rows-of c.self.view_is) c.count_up_to-after.ensures (omega arith) c.at-entry.ensures
     c.lend-cfa.ensures.rules (ap (λ (o : Option KeptCfa). option_map kept_cfa_of o) c.in-None.is)))
