@@ -72,18 +72,15 @@ class Case:
 
     def files_refused(self):
         """How dwcheck must end because of a bad file, or None if there is none. It reports the
-        first that it finds of these, in this order: a file that can't be read, a FRAME that isn't
-        hex text, a malformed state file, and another section that isn't hex text."""
-        first, *others = self.process
+        first that it finds of these, in this order: a file that can't be read, a section that isn't
+        hex text, and a malformed state file."""
         missing = [module for module in self.process if module.is_missing]
         if missing:
             return "", f"dwcheck: cannot read {missing[0].name}\n", 3
-        if first.is_spoilt:
-            return "", f"dwcheck: not hex: {first.name}\n", 3
-        if isinstance(self.state, int):
-            return "", f"dwcheck: state line {self.state}\n", 2
-        spoilt = [module for module in others if module.is_spoilt]
-        return ("", f"dwcheck: not hex: {spoilt[0].name}\n", 3) if spoilt else None
+        spoilt = [module for module in self.process if module.is_spoilt]
+        if spoilt:
+            return "", f"dwcheck: not hex: {spoilt[0].name}\n", 3
+        return ("", f"dwcheck: state line {self.state}\n", 2) if isinstance(self.state, int) else None
 
     def answer(self, command):
         if self.modules is None:

@@ -120,6 +120,8 @@ def try_walks(program):
     judge("both missing", run(program, ["backtrace", "missing", "0x0", "folder", "9"]), ("", "dwcheck: cannot read missing\n", 3))
     judge("not hex, and no state", run(program, ["backtrace", "--hex", "frame", "0x0", "missing", "9"]), ("", "dwcheck: cannot read missing\n", 3))
     judge("not hex, and a bad line", run(program, ["backtrace", "--hex", "frame", "0x0", "frame", "9"]), ("", "dwcheck: not hex: frame\n", 3))
+    words = ["backtrace", "--hex", "empty", "0x0", "frame", "9", "--module", "0x0=frame"]
+    judge("a module that isn't hex, and a bad line", run(program, words), ("", "dwcheck: not hex: frame\n", 3))
     for state, line in BAD_STATES:
         with open("bad", "wb") as file:
             file.write(state)

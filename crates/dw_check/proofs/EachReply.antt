@@ -120,12 +120,12 @@ each_of_process : (Shows : AddressSize → List StateFact → List (Module Frame
 each_of_process Shows each load loads target hex files =
     let Is = λ (facts : List StateFact) (modules : List (Module (List ℕ))). OfModules target modules (Shows target.address_size facts) in
     each_of_section 0 (section_bytes hex (slice_get files 0))
-    (λ section. OfState (state_facts target (slice_get files 1))
-    (λ facts. OfFurther (further_modules hex files 2 loads) (λ others. Is facts (loaded_at load section ∷ others))))
-    (λ section. each_of_state (state_facts target (slice_get files 1))
-    (λ facts. OfFurther (further_modules hex files 2 loads) (λ others. Is facts (loaded_at load section ∷ others)))
-    (λ facts. each_of_further (further_modules hex files 2 loads) (λ others. Is facts (loaded_at load section ∷ others))
-    (λ others. each_of_modules target (loaded_at load section ∷ others) (Shows target.address_size facts)
+    (λ section. OfFurther (further_modules hex files 2 loads)
+    (λ others. OfState (state_facts target (slice_get files 1)) (λ facts. Is facts (loaded_at load section ∷ others))))
+    (λ section. each_of_further (further_modules hex files 2 loads)
+    (λ others. OfState (state_facts target (slice_get files 1)) (λ facts. Is facts (loaded_at load section ∷ others)))
+    (λ others. each_of_state (state_facts target (slice_get files 1)) (λ facts. Is facts (loaded_at load section ∷ others))
+    (λ facts. each_of_modules target (loaded_at load section ∷ others) (Shows target.address_size facts)
     (each target.address_size facts _))))
 
 module _ (report : EachReport) (unwinding : EachUnwinding) (walk : EachWalk) where

@@ -253,24 +253,22 @@ SameState task files others = slice_get files 1 ≡ slice_get others 1
 abbrev all_modules : ℕ → List ℕ → List (List ℕ) → List (Module (List ℕ))
 all_modules load loads files = loaded_at load (bytes_at files 0) ∷ plain_modules files 2 loads
 
-abbrev OfAll : (List StateFact → List (Module FrameSection) → List ℕ → Type 0) → Target → ℕ → List ℕ → List (List ℕ) → List StateFact
+-- the reply for a state file and for modules whose files can be read
+abbrev OfGiven : (List StateFact → List (Module FrameSection) → List ℕ → Type 0) → Target → Option (List ℕ) → List (Module (List ℕ))
     → Reply → Type 0
-OfAll Shows target load loads files facts =
-    OfFurther (further_modules false files 2 loads) (λ more. OfModules target (loaded_at load (bytes_at files 0) ∷ more) (Shows facts))
+OfGiven Shows target state modules = OfState (state_facts target state) (λ facts. OfModules target modules (Shows facts))
 
 module _ (target : Target) (files others : List (List ℕ)) (alike : FilesAlike files others) where
   process_alike : (Shows : AddressSize → List StateFact → List (Module FrameSection) → List ℕ → Type 0) (load : ℕ) (loads : List ℕ)
       → slice_get files 1 ≡ slice_get others 1 → (r : Reply) → OfModulesAndState Shows load loads target false files r
       → OfModulesAndState Shows load loads target false others r
   process_alike Shows load loads same =
-      let Mine = OfAll (Shows target.address_size) target load loads files in
-      let Theirs = OfAll (Shows target.address_size) target load loads others in
       section_moves 0 (slice_get files 0) (slice_get others 0) _ _
-      (λ r h. subst (λ o. OfState (state_facts target o) Theirs r) same
-      (state_alike (state_facts target (slice_get files 1)) Mine Theirs
-      (λ facts. further_alike files others loads _ _
-      (modules_alike target (all_modules load loads files) (all_modules load loads others) (Shows target.address_size facts)
-      (refl, alike 0, plain_alike files others alike 2 loads))) r h))
+      (further_alike files others loads _ _
+      (λ r h. subst (λ o. OfGiven (Shows target.address_size) target o (all_modules load loads others) r) same
+      (state_alike (state_facts target (slice_get files 1)) _ _
+      (λ facts. modules_alike target (all_modules load loads files) (all_modules load loads others) (Shows target.address_size facts)
+      (refl, alike 0, plain_alike files others alike 2 loads)) r h)))
 
   moves : (task : Task) (load : ℕ) (loads : List ℕ) → SameState task files others → (r : Reply)
       → IsReplyTo task load loads target false files r → IsReplyTo task load loads target false others r

@@ -133,12 +133,12 @@ one_of_process : (Shows : AddressSize → List StateFact → List (Module FrameS
 one_of_process Shows one load loads target hex files r s h k =
     let Is = λ (facts : List StateFact) (modules : List (Module (List ℕ))). OfModules target modules (Shows target.address_size facts) in
     one_of_section 0 (section_bytes hex (slice_get files 0))
-    (λ section. OfState (state_facts target (slice_get files 1))
-    (λ facts. OfFurther (further_modules hex files 2 loads) (λ others. Is facts (loaded_at load section ∷ others))))
-    (λ section. one_of_state (state_facts target (slice_get files 1))
-    (λ facts. OfFurther (further_modules hex files 2 loads) (λ others. Is facts (loaded_at load section ∷ others)))
-    (λ facts. one_of_further (further_modules hex files 2 loads) (λ others. Is facts (loaded_at load section ∷ others))
-    (λ others. one_of_modules target (loaded_at load section ∷ others) (Shows target.address_size facts)
+    (λ section. OfFurther (further_modules hex files 2 loads)
+    (λ others. OfState (state_facts target (slice_get files 1)) (λ facts. Is facts (loaded_at load section ∷ others))))
+    (λ section. one_of_further (further_modules hex files 2 loads)
+    (λ others. OfState (state_facts target (slice_get files 1)) (λ facts. Is facts (loaded_at load section ∷ others)))
+    (λ others. one_of_state (state_facts target (slice_get files 1)) (λ facts. Is facts (loaded_at load section ∷ others))
+    (λ facts. one_of_modules target (loaded_at load section ∷ others) (Shows target.address_size facts)
     (one target.address_size facts _)))) r s h k
 
 module _ (report : OneReport) (caller : OneCaller) (walk : OneWalk) where

@@ -64,9 +64,10 @@ pub after_section : (count : ℕ) (found : Option (List ℕ)) (bytes : List ℕ)
     → found ≡ Some bytes → IsBadProcess (Is bytes) count stop → IsBadProcess (OfSection 0 found Is) count stop
 after_section count found bytes Is stop e h = subst (λ o. IsBadProcess (OfSection 0 o Is) count stop) (sym e) h
 
-pub after_state : (count : ℕ) (given : Result (List StateFact) ℕ) (facts : List StateFact) (Is : List StateFact → Reply → Type 0)
-    (stop : RunFault) → given ≡ Ok facts → IsBadProcess (Is facts) count stop → IsBadProcess (OfState given Is) count stop
-after_state count given facts Is stop e h = subst (λ s. IsBadProcess (OfState s Is) count stop) (sym e) h
+pub after_modules : (count : ℕ) (given : Result (List (Module (List ℕ))) ℕ) (modules : List (Module (List ℕ)))
+    (Is : List (Module (List ℕ)) → Reply → Type 0) (stop : RunFault)
+    → given ≡ Ok modules → IsBadProcess (Is modules) count stop → IsBadProcess (OfFurther given Is) count stop
+after_modules count given modules Is stop e h = subst (λ m. IsBadProcess (OfFurther m Is) count stop) (sym e) h
 
 -- ---- a reply under a stronger condition is one under a weaker condition
 
@@ -91,8 +92,8 @@ module _ (target : Target) (load : ℕ) (loads : List ℕ) (hex : Bool) (files :
       → (r : Reply) → OfProcess target load loads hex files A r → OfProcess target load loads hex files B r
   process_more A B more =
       section_more 0 (section_bytes hex (slice_get files 0)) _ _
-      (λ section. state_more (state_facts target (slice_get files 1)) _ _
-      (λ facts. further_more (further_modules hex files 2 loads) _ _ (λ others. more facts (loaded_at load section ∷ others))))
+      (λ section. further_more (further_modules hex files 2 loads) _ _
+      (λ others. state_more (state_facts target (slice_get files 1)) _ _ (λ facts. more facts (loaded_at load section ∷ others))))
 
   module _ (count : ℕ) where
     pub goes_unread : (Is : List StateFact → List (Module (List ℕ)) → Reply → Type 0) (a : Option (List ℕ)) (stop : RunFault)
@@ -111,16 +112,16 @@ module _ (target : Target) (load : ℕ) (loads : List ℕ) (hex : Bool) (files :
         → GivesProcess target load loads hex files modules facts → Goes count (Is facts modules) old new r
         → Goes count (OfProcess target load loads hex files Is) old new r
     goes_process modules facts Is old new r gives h =
+        let state = state_facts target (slice_get files 1) in
         let whole = subst (λ m. Goes count (Is facts m) old new r) gives.whole h in
-        let further = subst (λ o. Goes count (OfFurther o (λ others. Is facts (loaded_at load gives.section ∷ others))) old new r)
-        (sym gives.others_are) whole in
+        let stated = goes_state count state facts (λ given. Is given (loaded_at load gives.section ∷ gives.others)) old new r
+        gives.facts_are whole in
         goes_section count 0 (section_bytes hex (slice_get files 0)) gives.section
-        (λ section. OfState (state_facts target (slice_get files 1))
-        (λ given. OfFurther (further_modules hex files 2 loads) (λ others. Is given (loaded_at load section ∷ others)))) old new r
+        (λ section. OfFurther (further_modules hex files 2 loads)
+        (λ others. OfState state (λ given. Is given (loaded_at load section ∷ others)))) old new r
         gives.section_is
-        (goes_state count (state_facts target (slice_get files 1)) facts
-        (λ given. OfFurther (further_modules hex files 2 loads) (λ others. Is given (loaded_at load gives.section ∷ others))) old new r
-        gives.facts_are further)
+        (subst (λ o. Goes count (OfFurther o (λ others. OfState state (λ given. Is given (loaded_at load gives.section ∷ others)))) old new r)
+        (sym gives.others_are) stated)
 
 -- `Goes` holds for a run in which memory ran out before anything was written
 pub goes_lacking : (count : ℕ) (Is : Reply → Type 0) (a : Option (List ℕ)) → Goes count Is a a (Err Memory)

@@ -185,23 +185,24 @@ abbrev pub OfFurther : Result (List (Module (List ℕ))) ℕ → (List (Module (
 OfFurther (Err n) Is reply = reply ≡ not_hex n
 OfFurther (Ok modules) Is reply = Is modules reply
 
--- The reply for the files of a process, which are read in this order: FRAME, the state file, and
--- the files of `--module`. It is `not_hex` or `bad_line` for the first file that can't be read, and
--- otherwise a reply that `Is` allows for the state file's facts and the modules.
+-- The reply for the files of a process, which are judged in this order: FRAME, the files of
+-- `--module`, and the state file. So it is `not_hex` for the first file that must be hex text and
+-- isn't; otherwise `bad_line`, if the state file has a bad line; and otherwise a reply that `Is`
+-- allows for the state file's facts and the modules.
 abbrev pub OfProcess : Target → ℕ → List ℕ → Bool → List (List ℕ) → (List StateFact → List (Module (List ℕ)) → Reply → Type 0)
     → Reply → Type 0
 OfProcess target load loads hex files Is reply =
     OfSection 0 (section_bytes hex (slice_get files 0))
-    (λ section. OfState (state_facts target (slice_get files 1))
-    (λ facts. OfFurther (further_modules hex files 2 loads) (λ others. Is facts (loaded_at load section ∷ others)))) reply
+    (λ section. OfFurther (further_modules hex files 2 loads)
+    (λ others. OfState (state_facts target (slice_get files 1)) (λ facts. Is facts (loaded_at load section ∷ others)))) reply
 
--- the reply if one of the files must be hex text and isn't, or has a bad line; no reply if all
--- files can be read
+-- the reply if one of the files must be hex text and isn't, or if the state file has a bad line; no
+-- reply if all files can be read
 abbrev pub IsUnreadProcess : Target → ℕ → List ℕ → Bool → List (List ℕ) → Reply → Type 0
 IsUnreadProcess target load loads hex files reply = OfProcess target load loads hex files (λ facts modules r. ⊥) reply
 
--- Why reading the `count` files of a process failed: one of them must be hex text and isn't, or has
--- a bad line, and `Is` holds for that reply; or memory ran out.
+-- Why reading the `count` files of a process failed: one of them must be hex text and isn't, or the
+-- state file has a bad line, and `Is` holds for that reply; or memory ran out.
 abbrev pub IsBadProcess : (Reply → Type 0) → ℕ → RunFault → Type 0
 IsBadProcess Is count (stops.BadHex n) = (n < count) × Is (not_hex n)
 IsBadProcess Is count (stops.StateLine n) = Is (bad_line n)

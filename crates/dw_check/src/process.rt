@@ -54,9 +54,9 @@ pub(crate) struct Process<'a> {
     pub state: MachineState,
 }
 
-/// Reads the files of a process: FRAME, whose module is loaded at `load`; the state file; and the
-/// files of `--module`, whose modules are loaded at `module_loads`. The frame sections aren't
-/// checked here.
+/// Reads the files of a process: FRAME, whose module is loaded at `load`; the files of `--module`,
+/// whose modules are loaded at `module_loads`; and the state file. The state file comes last, since
+/// a file that isn't hex text is reported before a bad line. The frame sections aren't checked here.
 pub(crate) fn read_process<'a>(
     alloc: Global,
     files: &Files<'a>,
@@ -72,8 +72,8 @@ pub(crate) fn read_process<'a>(
         (map (λ file. file.items) files.now.contents.now)) (length files.now.contents.now)) }
 {
     let section = files.section(alloc, 0)?;
-    let state = files.state(alloc, 1)?;
     let mut modules = files.further_modules(alloc, module_loads)?;
+    let state = files.state(alloc, 1)?;
     modules.insert(0, Module::new(section, load))?;
     Ok(Process { modules, state })
 }

@@ -79,7 +79,8 @@ impl Model for Request {
 }
 
 impl Request {
-    /// The names of the files whose contents `run` needs, in the order in which it takes them.
+    /// The names of the files whose contents `run` needs, in the order in which they are passed to
+    /// it.
     pub fn files(&self) -> &[String]
         ensures names { map (λ s. string_bytes s) result.now ≡ self.now.files }
         ensures count { length result.now ≡ length self.now.files }

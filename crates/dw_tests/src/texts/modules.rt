@@ -1,6 +1,6 @@
 //! Tests of the options `--load` and `--module`: modules that aren't loaded where they were linked.
 
-use crate::texts::cases::{cases_come_to, lines_come_to};
+use crate::texts::cases::{cases_come_to, comes_to, lines_come_to};
 use std::alloc::AllocError;
 
 /// Rows of a module that isn't loaded where it was linked. The row shows addresses as linked. Sums
@@ -89,13 +89,13 @@ stop not covered
 
 /// Each line is `FILE | STATE | FILE: OUTCOME`, as `lines_come_to` explains: the first section, the
 /// state file, and the section of a further module. Malformed hex text of the first section is
-/// reported first, then a bad line of the state file, then malformed hex text of the further
-/// module, then the first fault of the first section, then that of the further module.
+/// reported first, then that of the further module, then a bad line of the state file, then the
+/// first fault of the first section, then that of the further module.
 const IN_THEIR_ORDER: &str = "\
 {FUNCTION} | - | f0ffffff: refused 3 ReservedLength frame 0x00000000
 f0ffff | - | f0ffffff: refused 1 Truncated frame 0x00000000
-f0ffff | - | f0fffff: bad hex 2
-f0ffff | 00 | f0fffff: state line 1
+f0ffff | 00 | f0ffffff: state line 1
+f0ffff | 00 | f0fffff: bad hex 2
 f0fffff | 00 | f0fffff: bad hex 0
 ";
 
@@ -118,4 +118,13 @@ fn judges_the_files_of_modules_in_their_order(rt: HostRuntime) -> Result<(), All
         "dwcheck backtrace --module 0x400000=m --hex f 0x401010 s 9",
         IN_THEIR_ORDER,
     )
+}
+
+#[test]
+fn a_module_that_is_not_hex_comes_before_a_bad_state_line(
+    rt: HostRuntime,
+) -> Result<(), AllocError> {
+    let line = "dwcheck unwind --hex --module 0x400000=m f 0x401010 s";
+    comes_to(&rt, line, "{FUNCTION} | keep | f0fffff", "bad hex 2")?;
+    comes_to(&rt, line, "{FUNCTION} | keep | {FUNCTION}", "state line 1")
 }
