@@ -1,6 +1,6 @@
 -- The modules of a process: how adding and removing changes them, and which row an address as
 -- loaded (in the running process) has.
-use Rattle.std.specs.Prelude.{◌≡◌, ℕ, ◌*◌, ◌==◌, ◌≤◌, if◌then◌else◌, List, [], ◌∷◌, ◌++◌, length, Contains, Option, None}
+use Rattle.std.specs.Prelude.{◌≡◌, ℕ, ◌*◌, ◌==◌, ◌≤◌, if◌then◌else◌, List, [], ◌∷◌, ◌++◌, length, Contains, Option, None, Some}
 use Rattle.std.specs.Option.{option_or, option_map}
 use Rattle.dw_bytes.specs.declared.target.Target.{Target}
 use Rattle.dw_rows.specs.Rules.{Row}
@@ -32,16 +32,26 @@ without load_address (m ∷ modules) = if m.load_address == load_address then mo
 
 -- ---- rows
 
--- a row and its return address register, with the load address of their module
-abbrev pub found_with : ℕ → Row × ℕ → FoundRow
-found_with load_address found = record { load_address = load_address; row = found.0; return_register = found.1 }
+-- a row and its return address register, with the load address and the target of their module
+abbrev pub found_with : Module RowTable → Row × ℕ → FoundRow
+found_with m found = record {
+  load_address = m.load_address;
+  target = m.rows.target;
+  row = found.0;
+  return_register = found.1;
+}
 
--- A row that was found comes from a module of the process. `found` has that module's load address,
--- and the row's expressions have that module's target.
-pub record IsFoundIn (modules : Modules) (found : FoundRow) : Type 0 where
+-- What was found for an address as loaded comes from a module of the process: it is that module's
+-- row, with its return address register, at the address as linked in the module. `found` has the
+-- module's load address and its target, and the row's expressions have that target. Of the modules
+-- that have a row there, `row_in` says which one it is.
+pub record IsFoundIn (modules : Modules) (address : ℕ) (found : FoundRow) : Type 0 where
   pub its_module : Module RowTable
   pub among : Contains modules its_module
   pub load_address : found.load_address ≡ its_module.load_address
+  pub target : found.target ≡ its_module.rows.target
+  pub row : row_at its_module.rows (as_linked its_module.rows.target its_module.load_address address)
+      ≡ Some (found.row, found.return_register)
   pub under : IsRowUnder its_module.rows.target found.row
 
 -- the row of an address as loaded, from the first module that has one, none if no module has one;
@@ -49,5 +59,5 @@ pub record IsFoundIn (modules : Modules) (found : FoundRow) : Type 0 where
 abbrev pub row_in : Modules → ℕ → Option FoundRow
 row_in [] address = None
 row_in (m ∷ modules) address = option_or
-    (option_map (found_with m.load_address) (row_at m.rows (as_linked m.rows.target m.load_address address)))
+    (option_map (found_with m) (row_at m.rows (as_linked m.rows.target m.load_address address)))
     (row_in modules address)

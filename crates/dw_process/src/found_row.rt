@@ -1,12 +1,16 @@
 //! The result of looking up an address in the modules of a process.
 
+use dw_bytes::Target;
 use dw_rows::UnwindRow;
 
-/// The row found for an address of a running process, and the load address of its module.
+/// The row found for an address of a running process, and the load address and the target of its
+/// module.
 #[derive(Debug, Drop)]
 pub struct FoundRow<'p> {
     /// The load address of the module.
     pub load_address: u64,
+    /// The target of the module: it says how to read the expressions of the row.
+    pub target: Target,
     /// The row. Its own addresses are as linked, not as loaded.
     pub row: UnwindRow<'p, 'p>,
     /// The register that the CIE names for the return address.

@@ -111,14 +111,16 @@ impl Process {
     /// in each module up to the one that has the row.
     pub fn row_for_address(&self, address: u64) -> Option<FoundRow<'_>>
         ensures row { result ≡ row_in self.now address }
-        ensures under { IfSome result (IsFoundIn self.now) }
+        ensures found { IfSome result (IsFoundIn self.now address) }
     {
         for module in &self.modules {
             let rows = &module.rows;
-            let linked = as_linked(rows.rows_target(), module.load_address, address);
+            let target = rows.rows_target();
+            let linked = as_linked(target, module.load_address, address);
             if let Some((row, return_register)) = rows.row_and_return_register(linked) {
                 return Some(FoundRow {
                     load_address: module.load_address,
+                    target,
                     row,
                     return_register,
                 });
