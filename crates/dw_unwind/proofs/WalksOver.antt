@@ -7,7 +7,7 @@ use Rattle.dw_rows.specs.Section.{FrameSection}
 use Rattle.dw_rows.specs.UnwindTables.{IsFoundAt, IsTableOf, RowTable, row_at}
 use Rattle.dw_unwind.specs.Caller.{Caller, UnwindsBy, machine}
 use Rattle.dw_unwind.specs.declared.frames.Stop.{Stop}
-use Rattle.dw_unwind.specs.Walks.{CallerRelation, Place, WalkedFrame, AreFrames, UnwindsAt, Walks, next_place, over_rows, over_section, over_table}
+use Rattle.dw_unwind.specs.Walks.{AlwaysUnwinds, CallerRelation, Place, WalkedFrame, AreFrames, UnwindsAt, Walks, next_place, over_rows, over_section, over_table}
 use Rattle.dw_unwind.specs.Walks.{address_before, content_of, place_of_caller}
 use Rattle.dw_unwind.proofs.Callers.{found-unwinds, unwinds-found}
 
@@ -75,6 +75,14 @@ walks_same u v same first limit frames stop = (
   walk_over u v (λ registers address caller. (same registers address caller).0) first limit frames stop,
   walk_over v u (λ registers address caller. (same registers address caller).1) first limit frames stop,
 )
+
+-- an unwinder with the callers of another that has an answer everywhere has one everywhere too
+pub always_as : (u v : CallerRelation)
+    → ((registers : ℕ → Option ℕ) (address : ℕ) (caller : Option Caller) → u registers address caller ↔ v registers address caller)
+    → AlwaysUnwinds v → AlwaysUnwinds u
+always_as u v same some registers address =
+    let found = some registers address in
+    (found.0, (same registers address found.0).1 found.1)
 
 -- ---- walks with rows looked up in a section, with the rows of a table, and with a section's table
 

@@ -275,6 +275,43 @@ pub fn frames_that_are_given_are_a_walk<U: Unwinder>()
         × Walks (U.unwinds unwinder abi memory) first limit (xs ++ others) stop }
 {}
 
+/// With an accepted section, or with a table of one, unwinding has an answer at every address. So it
+/// has through modules with accepted sections, and through modules with tables of accepted
+/// sections. This is the premise of `begins` in `frames_that_are_given_are_a_walk`, for a `Walk`
+/// over a section, over a table, or over modules with sections or tables, owned or borrowed.
+pub fn sections_and_tables_always_unwind()
+    ensures section { (frame : FrameSection) (abi : Abi) (memory : ℕ → Option ℕ) → IsChecked frame
+        → AlwaysUnwinds (over_section frame abi memory)
+        × AlwaysUnwinds (over_rows frame.target (IsFoundAt frame) abi memory) }
+    ensures table { (frame : FrameSection) (table : RowTable) (abi : Abi)
+        (memory : ℕ → Option ℕ) → IsChecked frame → IsTableOf frame table
+        → AlwaysUnwinds (over_table table abi memory)
+        × AlwaysUnwinds (over_rows table.target (λ address found. found ≡ row_at table address)
+        abi memory) }
+    ensures sections { (sections : List (Module FrameSection)) (abi : Abi)
+        (memory : ℕ → Option ℕ) → All (λ m. IsChecked m.rows) sections
+        → AlwaysUnwinds (over_sections abi memory sections) }
+    ensures borrowed_sections { (modules : List (Module (Bor FrameSection))) (abi : Abi)
+        (memory : ℕ → Option ℕ) → All (λ m. IsChecked m.rows) (unborrowed modules)
+        → AlwaysUnwinds (over_modules_of_rows (λ s. s.now.target) (λ s. IsFoundAt s.now) abi memory
+        modules) }
+    ensures tables { (sections : List (Module FrameSection)) (tables : List (Module RowTable))
+        (abi : Abi) (memory : ℕ → Option ℕ) → All (λ m. IsChecked m.rows) sections
+        → AreTablesOf sections tables
+        → AlwaysUnwinds (over_tables abi memory tables)
+        × AlwaysUnwinds (over_modules_of_rows (λ t. t.target)
+        (λ t address found. found ≡ row_at t address) abi memory tables) }
+    ensures borrowed_tables { (sections : List (Module FrameSection))
+        (tables : List (Module (Bor RowTable))) (abi : Abi) (memory : ℕ → Option ℕ)
+        → All (λ m. IsChecked m.rows) sections → AreTablesOf sections (unborrowed tables)
+        → AlwaysUnwinds (over_modules_of_rows (λ t. t.now.target)
+        (λ t address found. found ≡ row_at t.now address) abi memory tables) }
+{
+    each_address_has_an_unwinding();
+    each_address_has_an_unwinding_through_modules();
+    unwindings_through_what_is_found();
+}
+
 /// A caller has at most 256 registers.
 pub fn walk_limits()
     ensures { MAX_FOUND ≡ 256 }
