@@ -36,6 +36,8 @@ mod lists;
 #[cfg(test)]
 mod modules;
 #[cfg(test)]
+mod processes;
+#[cfg(test)]
 mod refused_memory;
 #[cfg(test)]
 mod rows;

@@ -11,7 +11,7 @@ use std::alloc::Global;
 /// The registers of a frame where only register 6 is known. Its content is the address of the first
 /// byte of `STACK`.
 #[derive(Clone, Copy)]
-struct FramePointer {}
+pub(crate) struct FramePointer {}
 
 impl Registers for FramePointer {
     ghost contents = { λ _ n. if n == 6 then Some 0x7000 else None };
@@ -23,7 +23,7 @@ impl Registers for FramePointer {
 
 /// Memory that has the saved frame pointer and the return address of two frames. The first frame
 /// returns to 0x101010, the second to 0x5000.
-const STACK: MemoryBlock<'static> = MemoryBlock {
+pub(crate) const STACK: MemoryBlock<'static> = MemoryBlock {
     base: 0x7000,
     bytes: &[
         0x20, 0x70, 0, 0, 0, 0, 0, 0, 0x10, 0x10, 0x10, 0, 0, 0, 0, 0, 0, 0, 0, 0, 0, 0, 0, 0, 0,
@@ -46,7 +46,7 @@ fn program_and_library(alloc: Global) -> Option<[Module<UnwindTable>; 2]> {
 
 /// The frames of a walk that begins in the library, returns to the program, and from there to an
 /// address that no module covers.
-const FRAMES: [BriefFrame; 3] = [
+pub(crate) const FRAMES: [BriefFrame; 3] = [
     BriefFrame {
         address: 0x20_1010,
         cfa: Some(Answer::Value(0x7010)),

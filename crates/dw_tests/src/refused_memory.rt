@@ -15,6 +15,7 @@ use dw_check::{
 use dw_eval::{Context, evaluate};
 use dw_loclists::CheckedLists;
 use dw_ops::{Expression, operations};
+use dw_process::{Process, Refusal};
 use dw_rows::{Abi, CheckedFrame, check_frame};
 use dw_stack::{Kind, Mode, State, certify, recheck};
 use std::alloc::{AllocError, Global};
@@ -106,6 +107,8 @@ enum Call {
     Backtrace,
     Compile,
     CompileOfMany,
+    ProcessAdd,
+    ProcessShare,
     LookUps,
 }
 
@@ -138,6 +141,8 @@ impl Call {
             Call::Backtrace => walks(rt, alloc),
             Call::Compile => compiles(rt, alloc, &EXPRESSIONS, 0x1000, 0x1020),
             Call::CompileOfMany => compiles_many(rt, alloc),
+            Call::ProcessAdd => adds_modules(rt, alloc),
+            Call::ProcessShare => shares(rt, alloc),
             Call::LookUps => looks_up(rt, alloc),
         }
     }
@@ -385,6 +390,59 @@ fn compiles_many(rt: &impl Abort, alloc: Global) -> bool {
     compiles(rt, alloc, &section, 0x8cef, 0x8cf0)
 }
 
+/// Asserts that a process has `count` modules with `FUNCTION`, loaded at 0, 0x10000, 0x20000 and so
+/// on, and no other modules.
+fn has_modules(rt: &impl Abort, process: &Process, count: usize) {
+    assert_eq!(rt; process.modules().len(), count);
+    for (number, module) in (0..4u64).zip(process.modules()) {
+        let load_address = number * 0x1_0000;
+        assert_eq!(rt; module.load_address, load_address);
+        let found = process.row_for_address(load_address + 0x1010);
+        let row = found.map(|found| (found.load_address, found.row.start_address()));
+        assert_eq!(rt; row, Some((load_address, 0x1004)));
+    }
+}
+
+/// Adds four modules to a process. If memory runs out, the process must have the modules that were
+/// added before.
+fn add_modules(rt: &impl Abort, alloc: Global, process: &mut Process) -> bool {
+    for number in 0..4usize {
+        let load_address = number as u64 * 0x1_0000;
+        match process.add(alloc, &FUNCTION, LITTLE, load_address, 1 << 20) {
+            Ok(()) => has_modules(rt, process, number + 1),
+            Err(why) => {
+                assert_eq!(rt; why, Refusal::Section(OUT_OF_MEMORY));
+                has_modules(rt, process, number);
+                return false;
+            }
+        }
+    }
+    true
+}
+
+fn adds_modules(rt: &impl Abort, alloc: Global) -> bool {
+    let mut process = Process::new(alloc);
+    add_modules(rt, alloc, &mut process)
+}
+
+/// Shares a process of four modules, which keeps its modules in any case.
+fn shares(rt: &impl Abort, alloc: Global) -> bool {
+    let mut process = Process::new(alloc);
+    if !add_modules(rt, alloc, &mut process) {
+        return false;
+    }
+    let shared = process.share(alloc);
+    has_modules(rt, &process, 4);
+    drop(process);
+    match shared {
+        Some(other) => {
+            has_modules(rt, &other, 4);
+            true
+        }
+        None => false,
+    }
+}
+
 /// Evaluates each expression of a frame section.
 fn evaluates(rt: &impl Abort, frame: &CheckedFrame<'_>) {
     let context = Context {
@@ -508,6 +566,16 @@ fn compile_lacks_memory(rt: HostRuntime) {
 #[test]
 fn compile_of_many_lacks_memory(rt: HostRuntime) {
     is_made(&rt, Call::CompileOfMany);
+}
+
+#[test]
+fn process_add_lacks_memory(rt: HostRuntime) {
+    is_made(&rt, Call::ProcessAdd);
+}
+
+#[test]
+fn process_share_lacks_memory(rt: HostRuntime) {
+    is_made(&rt, Call::ProcessShare);
 }
 
 /// Look-ups don't allocate: `bench/stress/refused_memory.py` tests that this test makes as many
