@@ -36,8 +36,8 @@ use dw_ops::Expression;
 use dw_rows::CheckedFrame;
 use dw_stack::{CheckedExpression, Kind, check_expression};
 use dw_unwind::laws::{
-    each_address_has_an_unwinding_through_modules, one_caller_through_modules,
-    one_walk_through_modules, unwindings_through_what_is_found, walks_through_what_is_found,
+    one_caller_through_modules, one_walk_through_modules, sections_and_tables_always_unwind,
+    unwindings_through_what_is_found, walks_through_what_is_found,
 };
 use dw_unwind::{Module, Walk, as_linked, unwind_in};
 use std::alloc::Global;
@@ -271,8 +271,7 @@ fn walk_and_write<S: Sink>(
 {
     // These laws are for the proof only. If writing fails, the contract needs a walk whose text
     // begins with what was written.
-    each_address_has_an_unwinding_through_modules();
-    unwindings_through_what_is_found();
+    sections_and_tables_always_unwind();
     walks_through_what_is_found();
     let abi = state.abi();
     let mut walk = Walk::new(modules, &abi, address, state, state);

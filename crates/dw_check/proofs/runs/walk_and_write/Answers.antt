@@ -1,11 +1,8 @@
 use Rattle.std.proofs.Common.{refl}
-use Rattle.std.specs.Borrow.{Bor}
 use Rattle.dw_rows.specs.AbiViews.{roles_of}
-use Rattle.dw_rows.specs.Section.{FrameSection}
-use Rattle.dw_rows.specs.UnwindTables.{IsFoundAt}
-use Rattle.dw_unwind.specs.Modules.{over_modules_of_rows, unborrowed}
+use Rattle.dw_unwind.specs.Modules.{unborrowed}
 use Rattle.dw_check.specs.StateViews.{known_state_of}
-use Rattle.dw_unwind.specs.Walks.{AlwaysUnwinds, first_place}
+use Rattle.dw_unwind.specs.Walks.{first_place}
 use Rattle.dw_check.specs.WalkText.{walk_text}
 use Rattle.dw_check.proofs.KnownMachine.{same_walk}
 use Rattle.dw_check.proofs.runs.walk_and_write.Goals as goal
@@ -19,10 +16,7 @@ returns-clause-written g c = λ facts given.
     let abi = roles_of c.abi-abi.result in
     let first = first_place c.args.address known.registers in
     let made = c.new-walk.ensures in
-    let always : AlwaysUnwinds (over_modules_of_rows (λ (s : Bor FrameSection). s.now.target) (λ (s : Bor FrameSection). IsFoundAt s.now)
-    abi known.memory modules) = λ registers at.
-    let some = c.each_address_has_an_unwinding_through_modules.ensures sections abi known.memory registers at c.requires.checked in
-    (some.0, (c.unwindings_through_what_is_found.ensures.found modules abi known.memory registers at some.0).1 some.1) in
+    let always = c.sections_and_tables_always_unwind.ensures.borrowed_sections modules abi known.memory c.requires.checked in
     let shown = (rw (made.over, made.abi, made.memory) at c.write_walk.ensures.written) first always made.first in
     let walks = (c.walks_through_what_is_found.ensures.found modules abi known.memory first c.args.limit shown.0 shown.1).0 shown.2 in (
       walk_text size shown.0 shown.1,
