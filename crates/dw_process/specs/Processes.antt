@@ -16,13 +16,14 @@ Modules = List (Module RowTable)
 
 -- ---- added and removed
 
--- The section has no fault, and a table of its rows is added as the last module. The table has at
--- most one row for every 16 bytes of `room`.
+-- The section has no fault, and a table of its rows is added as the last module. What the table
+-- stores is at most `room` bytes, and it has at most one row for every 16 bytes of `room`.
 pub record IsAdded (target : Target) (section : List ℕ) (load_address room : ℕ) (old new : Modules) : Type 0 where
   pub accepted : section_fault target section ≡ None
   pub table : RowTable
   pub table_is : IsTableOf (frame_of target section) table
   pub within : 16 * length table.rows ≤ room
+  pub stored : table.bytes ≤ room
   pub modules : new ≡ old ++ record { rows = table; load_address = load_address } ∷ []
 
 -- the modules without the first one that is loaded at `load_address`

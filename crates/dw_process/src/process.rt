@@ -62,9 +62,10 @@ impl Process {
     }
 
     /// Checks a `.debug_frame` section of fewer than 2^32 bytes, encoded for `target`, compiles it,
-    /// and adds it as the last module, loaded at `load_address`. `room` is the number of bytes that
-    /// the compiled rows and their rules may take (`CheckedFrame::compile`). Checking and compiling
-    /// may need more memory than that while they run. After an error the modules are unchanged.
+    /// and adds it as the last module, loaded at `load_address`. `room` bounds what the compiled
+    /// table stores, copied expressions included (`CheckedFrame::compile` says how the bytes are
+    /// counted). Checking and compiling may need more memory than that while they run. After an
+    /// error the modules are unchanged.
     pub fn add(
         &mut self,
         alloc: Global,

@@ -10,7 +10,7 @@ use dw_bytes::Fault;
 pub enum Refusal {
     /// The first fault of the module's section, or out of memory (kind `Memory`, offset 0).
     Section(Fault),
-    /// The compiled rows of the module's section may need more bytes than the argument `room`
+    /// The compiled table of the module's section may need more bytes than the argument `room`
     /// allows.
     Room,
 }
