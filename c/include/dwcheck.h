@@ -63,7 +63,7 @@ enum {
     DWCHECK_DONE = 0,       /* the call's results are written */
     DWCHECK_REFUSED = 1,    /* `fault` says why */
     DWCHECK_NO_MEMORY = 2,  /* malloc or realloc returned NULL */
-    DWCHECK_NO_ROOM = 3,    /* the rows of the section can take more than `room` bytes */
+    DWCHECK_NO_ROOM = 3,    /* the table of the section can take more than `room` bytes */
     DWCHECK_BAD_TARGET = 4, /* `order` isn't 0 or 1, or `address_size` isn't 4 or 8 */
     DWCHECK_TOO_LONG = 5,   /* the section or expression has 2^32 bytes or more */
     DWCHECK_BAD_KIND = 6,   /* `kind` isn't 0, 1 or 2 */
@@ -112,13 +112,16 @@ typedef struct { void *opaque; uint64_t opaque_open; } dwcheck_process;
    process as its last module. The section's bytes aren't needed after the call returns.
    `load_address` is what is added to an address as linked, modulo 2^w, to get the address as
    loaded: for a position-independent module, the dlpi_addr that dl_iterate_phdr gives; for any
-   other module, 0. `room` is the number of bytes that the table may take; SIZE_MAX sets no bound.
-   The table of a compiler's section takes some 1.5 times the section's length; that of a hostile
-   section may take 700 times the section's length or more. In the table, rows may share their
-   rules. Without sharing, the table would take 80 bytes, plus 80 for each FDE and each row, plus 16
-   for each register's rule in a row. If `room` is at least that much, the call never returns
-   NO_ROOM. If `room` is less, the call may return NO_ROOM although the table would fit thanks to
-   sharing. `room` doesn't bound the memory that the call uses while it checks and compiles.
+   other module, 0. `room` bounds the number of bytes that the table stores; SIZE_MAX sets no bound.
+   They are counted as 16 for each row and for each gap after a row, 64 for each set of rules, 16
+   for each register's rule in a set, and 24 for each expression and its length. The table of a
+   compiler's section takes some 1.5 times the section's length; that of a hostile section may take
+   700 times the section's length or more. In the table, rows may share their rules. Without
+   sharing, the table would take 80 bytes, plus 80 for each FDE and each row, plus 16 for each
+   register's rule in a row, plus 24 for each expression and its length. If `room` is at least that
+   much, the call never returns NO_ROOM. If `room` is less, the call may return NO_ROOM although the
+   table would fit thanks to sharing. `room` doesn't bound the memory that the call uses while it
+   checks and compiles.
    Returns DONE; REFUSED with the first fault of the section; NO_MEMORY; NO_ROOM; BAD_TARGET; or
    TOO_LONG. Only DONE changes the process, and only REFUSED writes `fault`. The call takes
    O(n log n) time, where n is the number of bytes of the section's programs and of its rows. */

@@ -54,8 +54,8 @@ fn add(
     }
 }
 
-/// Checks a frame section, compiles its rows, and adds them to a process as a module. The compiled
-/// rows may take at most `room` bytes.
+/// Checks a frame section, compiles its rows, and adds them to a process as a module. What the
+/// compiled table stores, copied expressions included, may take at most `room` bytes.
 #[unsafe(no_mangle)]
 pub extern "C" fn dwcheck_process_add(
     alloc: Global,

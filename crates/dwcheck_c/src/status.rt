@@ -9,7 +9,7 @@ pub const REFUSED: u32 = 1;
 /// Memory ran out.
 pub const NO_MEMORY: u32 = 2;
 
-/// The compiled rows of the section can take more bytes than `room`, the limit that C passed.
+/// The compiled table of the section can take more bytes than `room`, the limit that C passed.
 pub const NO_ROOM: u32 = 3;
 
 /// The byte order or the address size is invalid.

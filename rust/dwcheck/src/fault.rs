@@ -315,7 +315,7 @@ pub enum Error {
     Refused(Fault),
     /// Memory ran out.
     NoMemory,
-    /// The rows of the section can take more bytes than the `room` that was passed to
+    /// The table of the section can take more bytes than the `room` that was passed to
     /// [`Process::add`](crate::Process::add).
     NoRoom,
     /// The section or the expression has 2^32 bytes or more.

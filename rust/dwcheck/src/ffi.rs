@@ -39,7 +39,7 @@ pub const DONE: u32 = 0;
 pub const REFUSED: u32 = 1;
 /// malloc or realloc returned NULL.
 pub const NO_MEMORY: u32 = 2;
-/// The rows of the section can take more than `room` bytes.
+/// The table of the section can take more than `room` bytes.
 pub const NO_ROOM: u32 = 3;
 /// The section or expression has 2^32 bytes or more. (The statuses 4 and 6 are missing here: they
 /// are for byte orders, address sizes and kinds of expressions that this crate never passes.)
@@ -349,12 +349,12 @@ extern "C" {
     /// Checks a .debug_frame section, compiles all its rows into a table, and adds the table to the
     /// process as its last module. The section's bytes aren't needed after the call returns.
     /// `load_address` is what is added to an address as linked, modulo 2^w, to get the address as
-    /// loaded. `room` is the number of bytes that the table may take; SIZE_MAX sets no bound. In
-    /// the table, rows may share their rules. The call may return NO_ROOM although the table would
-    /// fit thanks to this sharing. `room` doesn't bound the memory that the call uses while it
-    /// checks and compiles. Returns DONE; REFUSED with the first fault of the section; NO_MEMORY;
-    /// NO_ROOM; BAD_TARGET; or TOO_LONG. Only DONE changes the process, and only REFUSED writes
-    /// `fault`.
+    /// loaded. `room` bounds the number of bytes that the table stores, copies of expressions
+    /// included; SIZE_MAX sets no bound. In the table, rows may share their rules. The call may
+    /// return NO_ROOM although the table would fit thanks to this sharing. `room` doesn't bound the
+    /// memory that the call uses while it checks and compiles. Returns DONE; REFUSED with the first
+    /// fault of the section; NO_MEMORY; NO_ROOM; BAD_TARGET; or TOO_LONG. Only DONE changes the
+    /// process, and only REFUSED writes `fault`.
     pub fn dwcheck_process_add(
         process: *mut Process,
         frame: *const u8,

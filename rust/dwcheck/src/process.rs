@@ -68,7 +68,7 @@ pub struct Process {
 unsafe impl Send for Process {}
 
 impl Process {
-    /// For the `room` of [`add`](Process::add): no bound on the bytes that the rows of a section
+    /// For the `room` of [`add`](Process::add): no bound on the bytes that the table of a section
     /// may take.
     ///
     /// The rows of a compiler's section take some 1.5 times the section's length. Those of a
@@ -98,8 +98,10 @@ impl Process {
     /// The section's bytes aren't needed after the call. `load_address` is what is added to an
     /// address as linked, modulo 2^w (w is the address size in bits), to get the address as loaded:
     /// for a position-independent module, the `dlpi_addr` that `dl_iterate_phdr` gives; for any
-    /// other module, 0. `room` is the number of bytes that the rows may take, or
-    /// [`NO_BOUND`](Process::NO_BOUND). It doesn't bound the memory that the call uses while it
+    /// other module, 0. `room` bounds the number of bytes that the compiled rows take: 16 for each
+    /// row and for each gap after a row, 64 for each set of rules (rows may share one), 16 for each
+    /// register's rule in a set, and 24 for each expression and its length. There is no bound if it
+    /// is [`NO_BOUND`](Process::NO_BOUND). It doesn't bound the memory that the call uses while it
     /// checks and compiles.
     ///
     /// This takes O(n log n) time, where n is the number of bytes of the section's programs and of
