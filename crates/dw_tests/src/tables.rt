@@ -389,13 +389,42 @@ fn refusals(rt: &impl Abort, alloc: Global, frame: &CheckedFrame<'_>, rooms: usi
     refused
 }
 
+/// Asserts that the table of a section is made with a limit of `least` bytes, and not with a limit
+/// of one byte less.
+fn has_least_room(rt: &impl Abort, alloc: Global, section: &[u8], least: usize) -> Result<(), Fault>
+    requires { length section.now < 2 ^ 32 }
+{
+    let frame = check_frame(alloc, section, LITTLE)?;
+    assert!(rt; frame.compile(alloc, least.saturating_sub(1))?.is_none());
+    assert!(rt; frame.compile(alloc, least)?.is_some());
+    Ok(())
+}
+
 #[test]
 fn a_table_is_made_from_its_exact_room_on(rt: HostRuntime) -> Result<(), Fault> {
     let frame = check_frame(rt.alloc(), &FUNCTION, LITTLE)?;
-    let least = refusals(&rt, rt.alloc(), &frame, 600);
-    // The three rows alone take 48 bytes.
-    assert!(rt; least >= 48 && least < 600);
-    assert!(rt; frame.compile(rt.alloc(), least - 1)?.is_none());
-    assert!(rt; frame.compile(rt.alloc(), least)?.is_some());
-    Ok(())
+    // Three rows and the gap after them have an entry each, of 16 bytes. The rows have rule sets of
+    // one, two and two register rules, and the gap has the empty rule set.
+    let least = 4 * 16 + 80 + 96 + 96 + 64;
+    assert_eq!(rt; refusals(&rt, rt.alloc(), &frame, 600), least);
+    has_least_room(&rt, rt.alloc(), &FUNCTION, least)
+}
+
+#[test]
+fn the_expressions_of_a_table_take_room(rt: HostRuntime) -> Result<(), Fault> {
+    // A row with three register rules and the gap after it have an entry each.
+    let rows = 2 * 16 + 112 + 64;
+    // One expression has two bytes, and the other has none.
+    let expressions = 24 + 2 + 24;
+    has_least_room(&rt, rt.alloc(), &EXPRESSIONS, rows + expressions)
+}
+
+#[test]
+fn rows_with_equal_rules_share_one_rule_set(rt: HostRuntime) -> Result<(), Fault> {
+    let section = descending(rt.alloc())?;
+    assert_eq!(rt; section.len(), 32_024);
+    // Each of the 1,000 rows has an entry of 16 bytes, and so has the gap after each of them. The
+    // rows share a rule set of one register rule, and the gaps share the empty one. With a rule set
+    // for each entry the table would take 176,000 bytes.
+    has_least_room(&rt, rt.alloc(), &section, 2000 * 16 + 80 + 64)
 }
