@@ -25,10 +25,10 @@ refuses_wrong_pointers() { # LANGUAGE
         ! frame uint16_t | cc $strict -x "$1" -c - -o "$out/wrong.o" 2> /dev/null
 }
 
-build() { # NAME FLAG..: builds the tests as the program NAME
-    name=$1
+build() { # PROGRAM FLAG..: builds the tests as this program
+    local program=$1
     shift
-    cc -std=gnu11 -D_GNU_SOURCE $strict -O2 -g "$@" "$top/c/tests/cases.c" "$library" -o "$out/$name" -pthread -ldl
+    cc -std=gnu11 -D_GNU_SOURCE $strict -O2 -g "$@" "$top/c/tests/cases.c" "$library" -o "$out/$program" -pthread -ldl
 }
 
 cases() { # FLAG..: builds the tests and runs them
