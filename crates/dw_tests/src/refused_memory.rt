@@ -390,24 +390,32 @@ fn compiles_many(rt: &impl Abort, alloc: Global) -> bool {
     compiles(rt, alloc, &section, 0x8cef, 0x8cf0)
 }
 
-/// Asserts that a process has `count` modules with `FUNCTION`, loaded at 0, 0x10000, 0x20000 and so
-/// on, and no other modules.
+/// Where `FUNCTION` is loaded in the modules of a process: the load address of each module, and an
+/// address of the function there.
+const PLACES: [(u64, u64); 4] = [
+    (0, 0x1010),
+    (0x1_0000, 0x1_1010),
+    (0x2_0000, 0x2_1010),
+    (0x3_0000, 0x3_1010),
+];
+
+/// Asserts that a process has as many of the modules of `PLACES` as `count` says, in this order,
+/// and no others.
 fn has_modules(rt: &impl Abort, process: &Process, count: usize) {
     assert_eq!(rt; process.modules().len(), count);
-    for (number, module) in (0..4u64).zip(process.modules()) {
-        let load_address = number * 0x1_0000;
-        assert_eq!(rt; module.load_address, load_address);
-        let found = process.row_for_address(load_address + 0x1010);
+    for ((load_address, address), module) in PLACES.iter().zip(process.modules()) {
+        assert_eq!(rt; module.load_address, *load_address);
+        let found = process.row_for_address(*address);
         let row = found.map(|found| (found.load_address, found.row.start_address()));
-        assert_eq!(rt; row, Some((load_address, 0x1004)));
+        assert_eq!(rt; row, Some((*load_address, 0x1004)));
     }
 }
 
-/// Adds four modules to a process. If memory runs out, the process must have the modules that were
-/// added before.
+/// Adds the modules of `PLACES` to a process. If memory runs out, the process must have the modules
+/// that were added before.
 fn add_modules(rt: &impl Abort, alloc: Global, process: &mut Process) -> bool {
     for number in 0..4usize {
-        let load_address = number as u64 * 0x1_0000;
+        let (load_address, _) = PLACES[number];
         match process.add(alloc, &FUNCTION, LITTLE, load_address, 1 << 20) {
             Ok(()) => has_modules(rt, process, number + 1),
             Err(why) => {
