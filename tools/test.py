@@ -103,7 +103,7 @@ STAGES = [
           "bench/stress/refused_memory.py crates/dw_tests/out/dw_tests_tests build/dwcheck", counted_refusals),
     Stage("rust", "rust/dwcheck and its documentation, also under valgrind", "rust/dwcheck/run.sh", counted_by_cargo,
           environment=RUST_LIBRARIES),
-    Stage("elf", "rust/dwcheck-elf", "cd rust/dwcheck-elf && ../cargo.sh test --release", counted_by_cargo,
+    Stage("elf", "rust/dwcheck-elf", "cd rust/dwcheck-elf && ../cargo.sh test", counted_by_cargo,
           environment=RUST_LIBRARIES | {"DWCHECK": str(BUILD / "dwcheck")}),
     Stage("lint", "clippy and rustfmt", "rust/lint.sh", counted_lines, progress="^(ok .*)", environment=RUST_LIBRARIES),
     Stage("examples", "frames of the examples beside those of gdb and eu-stack", "examples/run.sh", counted_lines,

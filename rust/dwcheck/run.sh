@@ -11,4 +11,4 @@ cargo test --offline
 host=$(rustc -vV | sed -n 's/^host: //p' | tr 'a-z-' 'A-Z_')
 leaks=definite,indirect
 export "CARGO_TARGET_${host}_RUNNER=valgrind -q --error-exitcode=1 --leak-check=full --show-leak-kinds=$leaks --errors-for-leak-kinds=$leaks"
-cargo test --offline --tests
+DWCHECK_ROUNDS=50 cargo test --offline --tests

@@ -27,6 +27,9 @@ enum Action {
     Absolute,
     /// Sets the field to the symbol's address minus the field's address.
     Relative,
+    /// Sets the field to the symbol's address minus the address of the second word after the field's
+    /// first one, from which hppa counts.
+    RelativeAfterTwoWords,
     /// Adds the symbol's address to the field.
     Add,
     /// Subtracts the symbol's address from the field.
@@ -104,6 +107,7 @@ impl Object<'_, '_> {
             Action::Nothing => held,
             Action::Absolute => value,
             Action::Relative => value.wrapping_sub(address),
+            Action::RelativeAfterTwoWords => value.wrapping_sub(address.wrapping_add(8)),
             Action::Add => held.wrapping_add(value),
             Action::Subtract => held.wrapping_sub(value),
         };
@@ -156,6 +160,8 @@ fn machine_step(machine: u16, code: u32) -> Option<Step> {
         (elf::EM_ALPHA, elf::R_ALPHA_REFQUAD) => (Action::Absolute, 64),
         (elf::EM_ALPHA, elf::R_ALPHA_SREL32) => (Action::Relative, 32),
         (elf::EM_ALPHA, elf::R_ALPHA_SREL64) => (Action::Relative, 64),
+        (elf::EM_PARISC, elf::R_PARISC_DIR32) => (Action::Absolute, 32),
+        (elf::EM_PARISC, elf::R_PARISC_PCREL32) => (Action::RelativeAfterTwoWords, 32),
         (elf::EM_SPARC | elf::EM_SPARC32PLUS | elf::EM_SPARCV9, elf::R_SPARC_DISP32) => (Action::Relative, 32),
         (elf::EM_SPARC | elf::EM_SPARC32PLUS | elf::EM_SPARCV9, elf::R_SPARC_DISP64) => (Action::Relative, 64),
         (elf::EM_RISCV, _) => riscv(code)?,

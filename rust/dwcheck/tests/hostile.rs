@@ -95,10 +95,18 @@ fn ask_all(process: &Process, address: u64, state: &State<'_>, expression: &[u8]
     }
 }
 
+/// How many random calls are made. Under valgrind, which is slow, `run.sh` asks for fewer.
+fn rounds() -> usize {
+    match std::env::var("DWCHECK_ROUNDS") {
+        Ok(rounds) => rounds.parse().unwrap(),
+        Err(_) => 2000,
+    }
+}
+
 #[test]
 fn every_call_has_an_answer() {
     let mut numbers = Numbers(7);
-    for _ in 0..2000 {
+    for _ in 0..rounds() {
         let mut process = Process::new();
         for _ in 0..numbers.below(3) {
             let (section, target) = (changed(&mut numbers), numbers.target());
