@@ -1,6 +1,7 @@
 pub mod Ascending
 pub mod Callers
 pub mod CallersFit
+pub mod Contents
 pub mod EachCaller
 pub mod GivenFrames
 pub mod ModuleWalks

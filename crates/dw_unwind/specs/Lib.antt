@@ -19,5 +19,9 @@ pub mod CallerViews
 pub mod UnwoundViews
 -- the list that a walk fills with the registers of a caller
 pub mod FrameRegisters
+-- the list of a caller's registers that takes 16 bytes for each
+pub mod PackedRegisters
+-- the contents of registers by number, for walks that give no registers
+pub mod Contents
 -- translates the code's frames and walks
 pub mod WalkViews

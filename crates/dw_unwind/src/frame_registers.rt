@@ -113,8 +113,10 @@ impl FrameRegisters {
     pub(crate) fn none() -> Self
         ensures { result ≡ [] }
     {
+        // The bytes of these slots are all 0, so the compiler clears the list in place. It would
+        // make slots of any other answer elsewhere and copy them.
         FrameRegisters {
-            found: [(0, Answer::Undefined); MAX_FOUND],
+            found: [(0, Answer::Value(0)); MAX_FOUND],
             count: 0,
             places: [0; GUESSES],
             is_ascending: true,

@@ -3,20 +3,28 @@
 #![tactic(auto)]
 
 mod backtraces;
+mod caller_contents;
 mod frame_registers;
 mod frames;
 pub mod laws;
 mod modules;
+mod packed_registers;
 mod present;
+mod register_file;
 mod register_list;
 mod unwinder;
 mod unwinding;
 mod walk;
 
 pub use backtraces::{backtrace_by, backtrace_by_section, backtrace_in};
+pub use caller_contents::{NoPlace, WalkedContents};
 pub use frame_registers::FrameRegisters;
 pub use frames::{Backtrace, BriefFrame, Frame, Stop};
-pub use modules::{Module, as_linked, unwind_in};
+pub use modules::{Module, as_linked, unwind_in, unwind_in_place};
+pub use packed_registers::PackedRegisters;
+pub use register_file::RegisterFile;
 pub use unwinder::Unwinder;
-pub use unwinding::{Answer, Caller, FoundRegisters, MAX_FOUND, unwind_by, unwind_by_section};
-pub use walk::Walk;
+pub use unwinding::{
+    Answer, Caller, FoundRegisters, MAX_FOUND, Unwound, unwind_by, unwind_by_section,
+};
+pub use walk::{Walk, return_address};

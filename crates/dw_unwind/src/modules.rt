@@ -8,6 +8,7 @@ ghost use Rattle.dw_unwind.specs.CallerViews.{caller_in};
 ghost use Rattle.dw_unwind.specs.Modules.{AreBelow, as_linked, over_modules_of_rows};
 ghost use Rattle.dw_unwind.specs.UnwoundViews.{caller_with};
 
+use crate::packed_registers::PackedRegisters;
 use crate::register_list::RegisterList;
 use crate::unwinder::Unwinder;
 use crate::unwinding::{Caller, Unwound, unwind_into, unwind_over};
@@ -113,4 +114,21 @@ pub fn unwind_in<T: UnwindRows, R: Registers, M: Memory>(
         → IfSome (option_map caller_in result) (CallerFits bound) }
 {
     unwind_over(&modules, abi, address, registers, memory)
+}
+
+/// Finds the caller of the frame at `address` as `unwind_in` does, but writes the caller's
+/// registers to `into`, replacing what is there. So no `Caller` of 6 KB is copied. If there is no
+/// caller, what is in `into` is unspecified.
+pub fn unwind_in_place<T: UnwindRows, R: Registers, M: Memory>(
+    modules: &[Module<T>],
+    abi: &Abi,
+    address: u64,
+    registers: &R,
+    memory: &M,
+    into: &mut PackedRegisters,
+) -> Option<Unwound>
+    ensures { over_modules_of_rows T.target_of T.finds (roles_of abi.now) (M.bytes memory.now)
+        modules.now (R.contents registers.now) address (option_map (caller_with into.new) result) }
+{
+    modules.unwind_into(abi, address, registers, memory, into)
 }

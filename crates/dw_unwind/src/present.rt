@@ -26,7 +26,7 @@ pub(crate) struct Present<'m, R: Registers, M: Memory> {
 impl<'m, R: Registers, M: Memory> Present<'m, R, M> {
     /// `number` plus `offset`, modulo 2^w, w being the size of an address in bits.
     #[inline(always)]
-    fn number_plus(&self, number: u64, offset: i64) -> u64
+    pub fn number_plus(&self, number: u64, offset: i64) -> u64
         ensures { result ≡ number_plus (machine_in R.contents M.bytes self.now) offset number }
     {
         let width = Width {
@@ -51,7 +51,7 @@ impl<'m, R: Registers, M: Memory> Present<'m, R, M> {
     /// The content of the register `number`, modulo 2^w, w being the size of an address in bits.
     /// Unreadable if the content isn't known.
     #[inline(always)]
-    fn content(&self, number: u16) -> Answer
+    pub fn content(&self, number: u16) -> Answer
         ensures { answer_in result ≡ content (machine_in R.contents M.bytes self.now) number }
     {
         self.content_plus(self.registers.register(number), 0)
@@ -60,7 +60,7 @@ impl<'m, R: Registers, M: Memory> Present<'m, R, M> {
     /// The address-sized word at `address`. Unreadable if one of its bytes isn't known or lies past
     /// the greatest address.
     #[inline(always)]
-    fn word(&self, address: u64) -> Answer
+    pub fn word(&self, address: u64) -> Answer
         ensures { answer_in result ≡ word (machine_in R.contents M.bytes self.now) address }
     {
         let size = self.target.address_size.bytes();

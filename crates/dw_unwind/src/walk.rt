@@ -7,7 +7,8 @@ ghost use Rattle.dw_unwind.specs.Caller.{value};
 ghost use Rattle.dw_unwind.specs.CallerFits.{CallerFits, ProgressFits};
 ghost use Rattle.dw_unwind.specs.CallerViews.{answer_in, caller_in};
 ghost use Rattle.dw_unwind.specs.UnwoundViews.{caller_with, stop_of_unwound};
-ghost use Rattle.dw_unwind.specs.Walks.{IsFrameAt, UnwindsAt, address_before, contents_of, first_place};
+ghost use Rattle.dw_unwind.specs.Walks.{IsFrameAt, UnwindsAt, address_before, first_place};
+ghost use Rattle.dw_unwind.specs.Contents.{place_before};
 ghost use Rattle.dw_unwind.specs.WalkSteps.{GivesNext, UnwindsFrom, about_to_give, frame_at, has_given, having_given, stop_of};
 ghost use Rattle.dw_unwind.specs.WalkViews.{brief_in, brief_of, frame_in};
 
@@ -74,16 +75,16 @@ impl<'w, U: Unwinder, M: Memory> Model for Walk<'w, U, M> {
 /// the registers `registers`. Looks up `address` minus 1, which is inside the call. None if no FDE
 /// covers the address looked up, or if `address` is 0.
 #[inline(always)]
-fn unwind_caller<U: Unwinder, M: Memory>(
+fn unwind_caller<U: Unwinder, R: Registers, M: Memory>(
     unwinder: &U,
     abi: &Abi,
     address: u64,
-    registers: &FrameRegisters,
+    registers: &R,
     memory: &M,
     into: &mut FrameRegisters,
 ) -> Option<Unwound>
     ensures unwinds { UnwindsAt (U.unwinds unwinder.now (roles_of abi.now) (M.bytes memory.now))
-        (contents_of registers.now) (address_before address)
+        (R.contents registers.now) (address_before address)
         (option_map (caller_with into.new) result) }
     ensures fits { (bound : ℕ) → U.is_bound unwinder.now bound
         → IfSome (option_map (caller_with into.new) result) (CallerFits bound) }
@@ -96,7 +97,7 @@ fn unwind_caller<U: Unwinder, M: Memory>(
 
 /// The return address that unwinding a frame gave, or why a walk ends with that frame.
 #[inline(always)]
-fn return_address(unwound: Option<Unwound>) -> Result<u64, Stop>
+pub fn return_address(unwound: Option<Unwound>) -> Result<u64, Stop>
     ensures { MatchResult result
         (λ address. IsSomeAnd unwound (λ u. answer_in u.return_address ≡ value address))
         (λ stop. stop_of_unwound unwound ≡ Some stop) }
@@ -133,6 +134,41 @@ impl<'w, U: Unwinder, M: Memory> Walk<'w, U, M> {
     {
         let mut one = FrameRegisters::none();
         let unwound = unwinder.unwind_into(abi, address, registers, memory, &mut one);
+        Walk {
+            unwinder,
+            abi,
+            memory,
+            address,
+            unwound,
+            is_given: false,
+            is_other: false,
+            one,
+            other: FrameRegisters::none(),
+        }
+    }
+
+    /// A walk that begins at a later frame: the caller of some frame, at the return address
+    /// `address`, with that caller's registers. It has given no frame yet. Its first frame is
+    /// looked up at `address` minus 1, as each later one is. So a walk that was left can be taken
+    /// up again.
+    pub fn at_caller<R: Registers>(
+        unwinder: U,
+        abi: &'w Abi,
+        address: u64,
+        registers: &R,
+        memory: &'w M,
+    ) -> Self
+        ensures over { result.unwinder ≡ unwinder }
+        ensures abi { result.abi ≡ abi.now }
+        ensures memory { result.memory ≡ memory.now }
+        ensures begins { result.progress ≡ about_to_give (frame_at result.progress) }
+        ensures first { IsFrameAt (U.unwinds unwinder (roles_of abi.now) (M.bytes memory.now))
+            (place_before address (R.contents registers.now)) (frame_at result.progress) }
+        ensures fits { (bound : ℕ) → U.is_bound unwinder bound
+            → IfSome (frame_at result.progress).caller (CallerFits bound) }
+    {
+        let mut one = FrameRegisters::none();
+        let unwound = unwind_caller(&unwinder, abi, address, registers, memory, &mut one);
         Walk {
             unwinder,
             abi,
