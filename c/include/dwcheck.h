@@ -12,20 +12,34 @@
      length points to that many elements. If the length is 0, the pointer may be any address except
      NULL; with the macros at the end of this header, it may also be NULL. Pointers without a
      length, such as `fault`, `count`, `stop`, `size`, `row`, `state` and `context`, are never NULL.
-   - A process (dwcheck_process) is passed to only one call at a time. To move a process, copy the
-     structure and set the old one to DWCHECK_CLOSED. A process has to be closed if a module was
-     added to it, or if dwcheck_process_share made it from an open process, even if its modules have
-     been removed. A process may go from one thread to another if the threads synchronize: by a
-     lock, by an atomic of memory_order_seq_cst, or by a thread's start or join. To use several
-     threads at once, give each thread its own process, made by dwcheck_process_share. These
-     processes share the tables, and no lock is needed.
-   - malloc, realloc and free belong to one allocator, and the calling thread may call them. So a
-     signal handler must not make a call that allocates or frees. After a fork in a program with
-     several threads, the child must make no call at all.
-   - The stack is large enough. As measured on x86-64, dwcheck_backtrace and dwcheck_unwind take
-     61 KB of stack, and up to 14 KB more if a rule is an expression; dwcheck_process_add takes
-     82 KB, dwcheck_check 41 KB, dwcheck_evaluate 12 KB, and every other call less than 4 KB. So a
-     signal handler on an alternate stack of the usual 8 KB can't walk.
+   - A call that takes a process by a pointer to const only reads it: dwcheck_row_at,
+     dwcheck_unwind, dwcheck_backtrace and dwcheck_process_share, for its first process. Any number
+     of calls may read a process at once, in any threads. A call that takes a pointer without const
+     changes the process, and no other call may use that process meanwhile. So a call that changes
+     it comes before or after each call that reads it, and threads synchronize for that: by a lock,
+     by an atomic of memory_order_seq_cst, or by a thread's start or join.
+   - To add or remove modules while others read: (1) make another process by dwcheck_process_share,
+     which copies no table; (2) change that one; (3) publish a pointer to it by an atomic, from which
+     each reader takes the process that it reads next; (4) close the old process once all calls that
+     read it have returned. How to know that is up to the program, for example by a counter for each
+     thread.
+   - To move a process, copy the structure and set the old one to DWCHECK_CLOSED; a move is a change.
+     A process has to be closed if a module was added to it, or if dwcheck_process_share made it from
+     an open process, even if its modules have been removed.
+   - malloc, realloc and free belong to one allocator, and the calling thread may call them. So
+     neither a signal handler nor the child of a fork in a program with several threads makes a call
+     that allocates or frees. Both may call dwcheck_row_at, dwcheck_unwind and dwcheck_backtrace with
+     a process that the interrupted code, or another thread at the time of the fork, may be reading
+     but not changing.
+   - Those three calls may be left by siglongjmp, since they hold no lock and no memory. What their
+     pointers without const point to is then unspecified. The proofs don't cover a call that is left,
+     nor later changes of its process; c/tests/readers.c tests both.
+   - The stack is large enough. As measured on x86-64, dwcheck_backtrace takes 3 KB of stack and
+     dwcheck_unwind 7 KB, and both take up to 14 KB more if a rule is an expression.
+     dwcheck_backtrace takes 41 KB if a register with a number of 96 or more has a known content.
+     dwcheck_process_add takes 82 KB, dwcheck_check 41 KB, dwcheck_evaluate 12 KB, and every other
+     call less than 4 KB. So a signal handler on an alternate stack of the usual 8 KB can walk by
+     dwcheck_backtrace, unless a rule is an expression or names such a register.
    - Fields called `reserved` are set to 0. A later version may give them a meaning.
 
    A later version may add values to enumerations, so treat a value that you don't know as
@@ -138,7 +152,7 @@ uint32_t dwcheck_process_remove(dwcheck_process *process, uint64_t load_address)
    freed with the last process that has them. Adding modules to one of the two processes, or
    removing them, doesn't change the other. Returns DONE; or NO_MEMORY, and then `other` is
    unchanged. `process` is unchanged in either case. */
-uint32_t dwcheck_process_share(dwcheck_process *process, dwcheck_process *other);
+uint32_t dwcheck_process_share(const dwcheck_process *process, dwcheck_process *other);
 
 /* Releases all modules and closes the process. A closed process may be closed again. */
 void dwcheck_process_close(dwcheck_process *process);
@@ -176,7 +190,7 @@ typedef struct {
    a row. The rules of registers go into `rules` in ascending order of registers, as many as fit.
    Returns DONE; or NONE if no module has a row, and then nothing is written. The call neither
    allocates nor frees. */
-uint32_t dwcheck_row_at(dwcheck_process *process, uint64_t address, dwcheck_row *row, dwcheck_rule *rules,
+uint32_t dwcheck_row_at(const dwcheck_process *process, uint64_t address, dwcheck_row *row, dwcheck_rule *rules,
                         size_t rules_length);
 
 /* ---- callers and walks --------------------------------------------------------------------------------------------- */
@@ -230,7 +244,7 @@ typedef struct { dwcheck_answer cfa, return_address; uint64_t count; } dwcheck_c
    order, as many as fit. Returns DONE; NONE if no module has a row; or REFUSED if the ABI names too
    many registers or names one twice. Only DONE writes `caller` and `registers`, and only REFUSED
    writes `fault`. The call neither allocates nor frees. */
-uint32_t dwcheck_unwind(dwcheck_process *process, uint64_t address, const dwcheck_state *state, dwcheck_caller *caller,
+uint32_t dwcheck_unwind(const dwcheck_process *process, uint64_t address, const dwcheck_state *state, dwcheck_caller *caller,
                         dwcheck_register *registers, size_t registers_length, dwcheck_fault *fault);
 
 /* A frame: its address as loaded, and its canonical frame address (CFA). */
@@ -257,7 +271,7 @@ enum {
    address minus 1. Returns DONE; or REFUSED if the ABI names too many registers or names one twice.
    Only DONE writes `frames`, `count` and `stop`, and only REFUSED writes `fault`. The call neither
    allocates nor frees. */
-uint32_t dwcheck_backtrace(dwcheck_process *process, uint64_t address, const dwcheck_state *state, dwcheck_frame *frames,
+uint32_t dwcheck_backtrace(const dwcheck_process *process, uint64_t address, const dwcheck_state *state, dwcheck_frame *frames,
                            size_t frames_length, size_t *count, uint32_t *stop, dwcheck_fault *fault);
 
 /* ---- expressions --------------------------------------------------------------------------------------------------- */
@@ -372,12 +386,12 @@ static inline uint32_t dwcheck_process_add_by(dwcheck_process *process, const ui
                                load_address, room, fault);
 }
 
-static inline uint32_t dwcheck_row_at_by(dwcheck_process *process, uint64_t address, dwcheck_row *row, dwcheck_rule *rules,
+static inline uint32_t dwcheck_row_at_by(const dwcheck_process *process, uint64_t address, dwcheck_row *row, dwcheck_rule *rules,
                                          size_t rules_length) {
     return dwcheck_row_at(process, address, row, DWCHECK_OR_NOTHING(dwcheck_rule, rules), rules_length);
 }
 
-static inline uint32_t dwcheck_unwind_by(dwcheck_process *process, uint64_t address, const dwcheck_state *state,
+static inline uint32_t dwcheck_unwind_by(const dwcheck_process *process, uint64_t address, const dwcheck_state *state,
                                          dwcheck_caller *caller, dwcheck_register *registers, size_t registers_length,
                                          dwcheck_fault *fault) {
     const dwcheck_state copy = dwcheck_state_or_nothing(state);
@@ -385,7 +399,7 @@ static inline uint32_t dwcheck_unwind_by(dwcheck_process *process, uint64_t addr
                           fault);
 }
 
-static inline uint32_t dwcheck_backtrace_by(dwcheck_process *process, uint64_t address, const dwcheck_state *state,
+static inline uint32_t dwcheck_backtrace_by(const dwcheck_process *process, uint64_t address, const dwcheck_state *state,
                                             dwcheck_frame *frames, size_t frames_length, size_t *count, uint32_t *stop,
                                             dwcheck_fault *fault) {
     const dwcheck_state copy = dwcheck_state_or_nothing(state);

@@ -1,8 +1,9 @@
 #!/bin/bash
-# Builds the tests in cases.c with the static library build/libdwcheck.a, or the one that LIBRARY
-# names, and runs them: while allocations fail in turn, with sanitizers, and under valgrind. Before
-# that, the header is compiled as C11 and as C++17; in both, passing a pointer of a wrong type must be
-# an error. Prints a line `ok NAME` or `FAILED NAME` for each, and ends with status 1 if one failed.
+# Builds the tests with the static library build/libdwcheck.a, or the one that LIBRARY names, and runs
+# them: those of readers.c and frozen.c; and those of cases.c while allocations fail in turn, with
+# sanitizers, and under valgrind. Before that, the header is compiled as C11 and as C++17; in both,
+# passing a pointer of a wrong type must be an error. Prints a line `ok NAME` or `FAILED NAME` for
+# each, and ends with status 1 if one failed.
 set -u
 top=$(dirname "$(dirname "$(dirname "$(realpath "$0")")")")
 library=${LIBRARY:-$top/build/libdwcheck.a}
@@ -35,6 +36,10 @@ cases() { # FLAG..: builds the tests and runs them
     build cases "$@" && "$out/cases"
 }
 
+readers() { # PROGRAM: builds the tests of calls that read one process at once, and runs them
+    cc -std=gnu11 -D_GNU_SOURCE $strict -O2 -g "$top/c/tests/$1.c" "$library" -o "$out/$1" -pthread -ldl && "$out/$1"
+}
+
 cases_under_valgrind() {
     build plain && valgrind -q --error-exitcode=1 --leak-check=full "$out/plain"
 }
@@ -43,6 +48,8 @@ test_of "the header as C11" header cc c11 c
 test_of "the header as C++17" header c++ c++17 c++
 test_of "pointers of wrong types in C" refuses_wrong_pointers c
 test_of "pointers of wrong types in C++" refuses_wrong_pointers c++
+test_of "calls that read one process at once" readers readers
+test_of "the same with the process in memory that can't be written" readers frozen
 test_of "cases while allocations fail in turn" cases -DREFUSING
 # The sanitizers check only the C code of the tests, because only that is compiled with them.
 test_of "cases with ASan and UBSan" cases -fsanitize=address,undefined -fno-sanitize-recover=all

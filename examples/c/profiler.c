@@ -95,7 +95,7 @@ static uint64_t function_of(uint64_t address) {
     return dladdr((void *)(uintptr_t)address, &info) && info.dli_saddr ? (uintptr_t)info.dli_saddr : address;
 }
 
-static void count_sample(dwcheck_process *process, struct sample *sample) {
+static void count_sample(const dwcheck_process *process, struct sample *sample) {
     dwcheck_block stack = {sample->registers[7], sample->stack, sample->length};
     dwcheck_state state = state_of(sample->registers, &stack);
     dwcheck_frame frames[FRAMES];

@@ -15,7 +15,7 @@ static const char *const stops[] = {"limit", "not covered", "return undefined", 
 /* Does nothing. It is called after all frames are printed, so that a debugger can stop here. */
 __attribute__((noinline)) void printed(void) { __asm__ volatile(""); }
 
-__attribute__((noinline)) static void print_stack(dwcheck_process *process) {
+__attribute__((noinline)) static void print_stack(const dwcheck_process *process) {
     ucontext_t context;
     uint64_t registers[REGISTERS];
     if (getcontext(&context) != 0) abort();
@@ -38,7 +38,7 @@ __attribute__((noinline)) static void print_stack(dwcheck_process *process) {
 }
 
 /* Calls itself `depth` times, and then prints the stack. */
-__attribute__((noinline)) static int deep(dwcheck_process *process, int depth) {
+__attribute__((noinline)) static int deep(const dwcheck_process *process, int depth) {
     if (depth == 0) print_stack(process);
     else deep(process, depth - 1);
     return depth + 1;

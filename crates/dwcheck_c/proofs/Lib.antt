@@ -1,6 +1,9 @@
 mod AsBox
 mod Assembled
 mod FirstBlock
+mod FirstTwice
 mod NameLengths
+mod PartFields
 mod Putting
+mod RightFields
 mod WrittenFrames

@@ -1,11 +1,12 @@
 -- Writing elements to slots one by one gives the same slots as `put_into`, which writes all of the
 -- elements. The slots are the elements of an array that C passes.
-use Rattle.std.proofs.Common.{◌≡◌, ℕ, suc, ◌+◌, ◌<◌, ◌≤◌, List, [], ◌∷◌, ◌++◌, length, map, take, append_assoc, length-append, refl, sym, ap, ◌∙◌, arith}
-use Rattle.std.specs.Prelude.{slice_set}
+use Rattle.std.proofs.Common.{◌≡◌, ℕ, suc, ◌+◌, ◌<◌, ◌≤◌, List, [], ◌∷◌, ◌++◌, length, map, take, append_assoc, length-append, refl, sym, ap, ◌∙◌, arith, Option, Some, None}
+use Rattle.std.specs.Prelude.{slice_set, slice_get, option_map}
 use Rattle.std.proofs.Math.ListN.{get_or}
 use Rattle.std.proofs.Math.Seq.{take-suc}
 use Rattle.std.proofs.lemmas.Grind.{common_steps}
 use Rattle.std.proofs.lemmas.List.{map-append}
+use Rattle.std.proofs.lemmas.Option.{slice_get-get_or}
 use Rattle.dwcheck_c.specs.Slots.{put_into}
 
 pub puts_next : {X : Type 0} (xs slots : List X) (x : X) → slice_set (put_into xs slots) (length xs) x ≡ put_into (xs ++ x ∷ []) slots
@@ -63,3 +64,20 @@ puts_no_more [] (y ∷ ys) [] few = refl
 puts_no_more [] (y ∷ ys) (s ∷ slots) few = absurd (omega (arith, few))
 puts_no_more (x ∷ xs) ys [] few = refl
 puts_no_more (x ∷ xs) ys (s ∷ slots) few = ap (λ l. x ∷ l) (puts_no_more xs ys slots (omega (arith, few)))
+
+-- if the slots have the first i elements of a list, each converted by f, then writing the element
+-- at i, converted likewise, gives the slots with the first i + 1 elements
+pub puts_found : {X Y : Type 0} (f : X → Y) (xs : List X) (slots : List Y) (i : ℕ) (x : X) → i < length xs → slice_get xs i ≡ Some x
+    → slice_set (put_into (map f (take i xs)) slots) i (f x) ≡ put_into (map f (take (i + 1) xs)) slots
+puts_found f xs slots i x room is =
+    let many : i ≡ length (map f (take i xs)) = grind (arith, common_steps) in
+    let here : Some (get_or xs i x) ≡ Some x = sym (slice_get-get_or xs i x room) ∙ is in
+    let same : get_or xs i x ≡ x = cc in
+    let next : take (i + 1) xs ≡ take i xs ++ x ∷ [] =
+    let e : i + 1 ≡ suc i = omega arith in rw e (take-suc xs i x room ∙ ap (λ y. take i xs ++ y ∷ []) same) in
+    puts_shown f (take i xs) slots i x many ∙ ap (λ l. put_into (map f l) slots) (sym next)
+
+-- an option that is something once it is converted is something
+pub is_something : {X Y : Type 0} (f : X → Y) (o : Option X) (y : Y) → option_map f o ≡ Some y → ((x : X) → o ≡ Some x → ⊥) → ⊥
+is_something f None y is other = cc
+is_something f (Some x) y is other = other x refl

@@ -2,9 +2,12 @@
 use Rattle.std.specs.Prelude.{◌≡◌, ℕ, List, length, map, Option, Some, None}
 use Rattle.dw_rows.specs.Abi.{Abi}
 use Rattle.dw_unwind.specs.Caller.{Answer, value, undefined, unreadable, division_by_zero}
-use Rattle.dw_unwind.specs.Modules.{over_tables}
-use Rattle.dw_unwind.specs.Walks.{CallerRelation, Place, WalkedFrame, Walks, first_place}
+use Rattle.dw_unwind.specs.Modules.{over_modules_of_rows, over_tables}
+use Rattle.dw_rows.specs.UnwindTables.{RowTable, row_at}
+use Rattle.dw_unwind.specs.Walks.{CallerRelation, IsFrameAt, Place, WalkedFrame, Walks, first_place, next_place}
+use Rattle.dw_unwind.specs.Contents.{place_before}
 use Rattle.dw_unwind.specs.WalkViews.{brief_of}
+use Rattle.dw_unwind.specs.WalkSteps.{Progress, GivesFrames, about_to_give, after, has_given}
 use Rattle.dw_unwind.specs.declared.frames.Stop.{Stop}
 use Rattle.dw_unwind.specs.declared.frames.Stop.TheVariants.{Limit, NotCovered, ReturnUndefined, ReturnUnreadable, ReturnDivisionByZero}
 use Rattle.dw_process.specs.Processes.{Modules}
@@ -57,3 +60,28 @@ pub record AreWritten (u : CallerRelation) (first : Place) (old new : List CFram
 pub record IsBacktrace (modules : Modules) (abi : Abi) (memory registers : ℕ → Option ℕ) (address : ℕ) (old new : List CFrame)
     (count stop : ℕ) : Type 0 where
   pub frames : AreWritten (over_tables abi memory modules) (first_place address registers) old new count stop
+
+-- the walk has given `count` frames, its progress is p, and the frames are written to the front of
+-- the slots, which were `old` before and are `new` now
+pub record UnderWay (u : CallerRelation) (begin : WalkedFrame) (p : Progress) (old new : List CFrame) (count : ℕ) : Type 0 where
+  pub frames : List WalkedFrame
+  pub given : GivesFrames u (about_to_give begin) frames
+  pub come : after (about_to_give begin) frames ≡ p
+  pub written : new ≡ put_into (map cframe_of frames) old
+  pub counted : length frames ≡ count
+
+-- A walk that begins at the place `first` with the frame `begin` has given `count` frames, `last`
+-- being the last of them, and they are written to the slots. Its next frame is at `address`, and
+-- the registers of that frame have the contents `registers`.
+pub record IsLeftAt (u : CallerRelation) (first : Place) (begin last : WalkedFrame) (address : ℕ) (registers : ℕ → Option ℕ)
+    (old new : List CFrame) (count : ℕ) : Type 0 where
+  pub begins : IsFrameAt u first begin
+  pub under_way : UnderWay u begin (has_given last) old new count
+  pub next : next_place last.caller ≡ Some (place_before address registers)
+  pub long : length new ≡ length old
+
+-- unwinding through the modules of a process, by the rows that their tables find; a law of
+-- dw_unwind says that its walks are those of `over_tables`
+abbrev pub over_found : Abi → (ℕ → Option ℕ) → Modules → CallerRelation
+over_found abi memory modules =
+    over_modules_of_rows (λ (t : RowTable). t.target) (λ t address found. found ≡ row_at t address) abi memory modules

@@ -5,6 +5,7 @@ pub mod Faults
 pub mod Frames
 pub mod Handles
 pub mod Held
+pub mod Lent
 pub mod Locations
 pub mod Machine
 pub mod Rows

@@ -3,7 +3,8 @@
 
 ghost use Rattle.std.specs.Prelude.{◌≡◌, ◌≤◌, map, option_map};
 ghost use Rattle.dw_rows.specs.AbiViews.{roles_of};
-ghost use Rattle.dw_unwind.specs.CallerViews.{answer_in, caller_in, found_in};
+ghost use Rattle.dw_unwind.specs.CallerViews.{answer_in};
+ghost use Rattle.dw_unwind.specs.UnwoundViews.{caller_with};
 ghost use Rattle.dwcheck_c.specs.Callers.{ShowsCaller, Unwinds, cregister_of};
 ghost use Rattle.dwcheck_c.specs.Slots.{put_into};
 
@@ -13,7 +14,7 @@ use dw_eval::{Memory, Registers};
 use dw_process::SharedTable;
 use dw_rows::Abi;
 use dw_unwind::laws::unwindings_through_what_is_found;
-use dw_unwind::{Answer, Caller, MAX_FOUND, Module, unwind_in};
+use dw_unwind::{Answer, MAX_FOUND, Module, PackedRegisters, Unwound, unwind_in_place};
 
 /// A register of a caller: its number, and what is known of its content. `kind` and `value` have
 /// the same meaning as in `CAnswer`.
@@ -48,40 +49,47 @@ fn shown_register(number: u16, answer: Answer) -> CRegister
 }
 
 /// Writes registers to `slots`, as many as fit.
-fn write_registers(found: &[(u16, Answer)], slots: &mut [CRegister])
-    ensures { slots.new ≡ put_into (map cregister_of (map found_in found.now)) slots.old }
+fn write_registers(found: &PackedRegisters, slots: &mut [CRegister])
+    ensures { slots.new ≡ put_into (map cregister_of found.now) slots.old }
 {
-    for (index, register) in found.iter().enumerate() {
-        put(slots, index, shown_register(register.0, register.1));
+    for index in 0..found.len() {
+        if let Some((number, answer)) = found.get(index) {
+            put(slots, index, shown_register(number, answer));
+        }
     }
 }
 
-/// Writes a caller to `out`, and its registers to `slots`, as many as fit.
-pub(crate) fn write_caller(caller: &Caller, out: &mut CCaller, slots: &mut [CRegister])
-    ensures caller { ShowsCaller (caller_in caller.now) out.new slots.old slots.new }
+/// Writes a caller to `out`, and its registers, which are in `found`, to `slots`, as many as fit.
+pub(crate) fn write_caller(
+    unwound: Unwound,
+    found: &PackedRegisters,
+    out: &mut CCaller,
+    slots: &mut [CRegister],
+)
+    ensures caller { ShowsCaller (caller_with found.now unwound) out.new slots.old slots.new }
     ensures few { out.new.count ≤ MAX_FOUND }
 {
-    let found = caller.registers.as_slice();
     write_registers(found, slots);
     *out = CCaller {
-        cfa: shown_answer(caller.cfa),
-        return_address: shown_answer(caller.return_address),
+        cfa: shown_answer(unwound.cfa),
+        return_address: shown_answer(unwound.return_address),
         count: found.len() as u64,
     };
 }
 
 /// The caller of the frame at `address`, computed with the first module that has a row for
-/// `address`. `None` if no module has a row for it.
+/// `address`. Its registers replace what is in `into`. `None` if no module has a row for it.
 pub(crate) fn caller_through<R: Registers, M: Memory>(
     modules: &[Module<SharedTable>],
     abi: &Abi,
     address: u64,
     registers: &R,
     memory: &M,
-) -> Option<Caller>
+    into: &mut PackedRegisters,
+) -> Option<Unwound>
     ensures { Unwinds modules.now (roles_of abi.now) (M.bytes memory.now)
-        (R.contents registers.now) address (option_map caller_in result) }
+        (R.contents registers.now) address (option_map (caller_with into.new) result) }
 {
     unwindings_through_what_is_found();
-    unwind_in(modules, abi, address, registers, memory)
+    unwind_in_place(modules, abi, address, registers, memory, into)
 }

@@ -72,6 +72,7 @@ impl<'m, 'a> Blocks<'m, 'a> {
 
     /// Reads a number byte by byte, since its bytes may be in different blocks. `None` if there is
     /// a byte that no block contains.
+    #[inline(never)]
     fn read_by_bytes(&self, address: u64, size: u8, order: Order) -> Option<u64>
         requires size { IsSize size }
         requires within { address + size ≤ 2 ^ 64 }
@@ -94,6 +95,7 @@ impl<'m, 'a> Memory for Blocks<'m, 'a> {
 
     ghost bytes = { λ b. byte_in b.blocks.now };
 
+    #[inline(always)]
     fn read(&self, address: u64, size: u8, order: Order) -> Option<u64> {
         match self.read_first(address, size, order) {
             Some(number) => Some(number),

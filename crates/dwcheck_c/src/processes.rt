@@ -10,10 +10,13 @@ ghost use Rattle.dw_process.specs.Processes.{IsAdded, without};
 ghost use Rattle.dw_process.specs.Refusals.{IsRefused};
 ghost use Rattle.dwcheck_c.specs.Faults.{Reports};
 ghost use Rattle.dwcheck_c.specs.Handles.{held_in, modules_of};
+ghost use Rattle.dwcheck_c.specs.Lent.{Reads, loan_of};
 ghost use Rattle.dwcheck_c.specs.Targets.{target_by};
 
 use crate::fault::{CFault, IN_FRAME, report};
 use crate::handle::CProcess;
+use crate::lent::{LentProcess, put};
+use crate::right::Right;
 use crate::status::{BAD_TARGET, DONE, NO_MEMORY, NO_ROOM, NONE, REFUSED, TOO_LONG};
 use crate::target::target;
 use dw_bytes::{FaultKind, OUT_OF_MEMORY, Target};
@@ -135,28 +138,37 @@ fn shared(alloc: Global, held: &Process) -> Option<CProcess>
     }
 }
 
+/// A process that is replaced, with a part of the right to read another process, which takes no
+/// bytes: C passes a pointer to a process.
+#[repr(C)]
+pub struct SharePlace {
+    process: CProcess,
+    right: Right,
+}
+
 /// Replaces `other` with a process that has the modules of `process`. The two processes share the
 /// compiled tables.
 #[unsafe(no_mangle)]
 pub extern "C" fn dwcheck_process_share(
     alloc: Global,
-    process: &mut CProcess,
-    other: &mut CProcess,
+    process: &LentProcess,
+    other: &mut SharePlace,
 ) -> u32
-    ensures shared { result ≡ DONE → held_in other.new ≡ held_in process.old }
-    ensures lacks { result ≡ NO_MEMORY → held_in other.new ≡ held_in other.old }
+    requires { Reads other.old.right process.now }
+    ensures shared { result ≡ DONE → held_in other.new.process ≡ other.old.right.modules }
+    ensures lacks { result ≡ NO_MEMORY → held_in other.new.process ≡ held_in other.old.process }
     ensures codes { (result ≡ DONE) ⊎ (result ≡ NO_MEMORY) }
-    ensures same { held_in process.new ≡ held_in process.old }
+    ensures same { loan_of other.new.right ≡ loan_of other.old.right }
 {
-    let Some(held) = process.take(alloc) else {
-        *other = CProcess::closed(alloc);
+    let Some(part) = process.take(&mut other.right) else {
+        other.process = CProcess::closed(alloc);
         return DONE;
     };
-    let made = shared(alloc, &held);
-    *process = CProcess::open(held);
+    let made = shared(alloc, part.get());
+    put(part, &mut other.right);
     match made {
         Some(made) => {
-            *other = made;
+            other.process = made;
             DONE
         }
         None => NO_MEMORY,

@@ -1,14 +1,14 @@
 //! The C calls that find the row of an address, the caller of a frame, and the frames of a stack.
 
-ghost use Rattle.std.specs.Prelude.{◌≡◌, ◌≢◌, ◌≤◌, ◌⊎◌, IfSome, MatchOption, None, option_map};
+ghost use Rattle.std.specs.Prelude.{◌≡◌, ◌≢◌, ◌≤◌, ◌⊎◌, None};
+ghost use Rattle.std.specs.Bool.{OnTrue, OnFalse};
 ghost use Rattle.std.specs.Option.{IsSomeAnd};
 ghost use Rattle.dw_rows.specs.AbiViews.{roles_of};
 ghost use Rattle.dw_process.specs.Processes.{row_in};
-ghost use Rattle.dw_unwind.specs.CallerViews.{caller_in};
 ghost use Rattle.dwcheck_c.specs.Callers.{IsCaller, Unwinds};
 ghost use Rattle.dwcheck_c.specs.Faults.{Reports};
 ghost use Rattle.dwcheck_c.specs.Frames.{IsBacktrace, stop_number};
-ghost use Rattle.dwcheck_c.specs.Handles.{held_in, modules_of};
+ghost use Rattle.dwcheck_c.specs.Lent.{Reads, loan_of, read_by};
 ghost use Rattle.dwcheck_c.specs.Machine.{abi_fault_of, abi_in, memory_of, registers_of};
 ghost use Rattle.dwcheck_c.specs.Rows.{IsRowOf};
 
@@ -16,81 +16,133 @@ use crate::answer::{CFrame, stop_code};
 use crate::backtrace::write_backtrace;
 use crate::callers::{CCaller, CRegister, caller_through, write_caller};
 use crate::fault::{CFault, IN_ABI, report};
-use crate::handle::CProcess;
+use crate::lent::{LentProcess, put};
+use crate::right::Right;
 use crate::row::{CRow, CRule, write_row};
 use crate::state::CState;
 use crate::status::{DONE, NONE, REFUSED};
 use dw_process::SharedTable;
 use dw_rows::Abi;
-use dw_unwind::{Caller, Module, Stop};
-use std::alloc::Global;
+use dw_unwind::{Module, PackedRegisters, Stop};
+
+/// Where a row is written, with a part of the right to read the process, which takes no bytes: C
+/// passes a pointer to a row.
+#[repr(C)]
+pub struct RowPlace {
+    row: CRow,
+    right: Right,
+}
+
+/// Where a caller is written, with a part of the right to read the process.
+#[repr(C)]
+pub struct CallerPlace {
+    caller: CCaller,
+    right: Right,
+}
+
+/// Where a number of frames is written, with a part of the right to read the process.
+#[repr(C)]
+pub struct CountPlace {
+    count: usize,
+    right: Right,
+}
 
 /// Finds the row of `address`, an address as loaded. Writes the row to `row`, and the rules of its
 /// registers to `rules`, as many as fit.
 #[unsafe(no_mangle)]
 pub extern "C" fn dwcheck_row_at(
-    alloc: Global,
-    process: &mut CProcess,
+    process: &LentProcess,
     address: u64,
-    row: &mut CRow,
+    row: &mut RowPlace,
     rules: &mut [CRule],
 ) -> u32
-    ensures row { result ≡ DONE → IsSomeAnd (row_in (modules_of process.old) address)
-        (λ found. IsRowOf found row.new rules.old rules.new) }
-    ensures few { result ≡ DONE → row.new.count ≤ 128 }
-    ensures none { result ≡ NONE → row_in (modules_of process.old) address ≡ None }
+    requires { Reads row.old.right process.now }
+    ensures row { result ≡ DONE → IsSomeAnd (row_in (read_by row.old.right) address)
+        (λ found. IsRowOf found row.new.row rules.old rules.new) }
+    ensures few { result ≡ DONE → row.new.row.count ≤ 128 }
+    ensures none { result ≡ NONE → row_in (read_by row.old.right) address ≡ None }
     ensures codes { (result ≡ DONE) ⊎ (result ≡ NONE) }
-    ensures unwritten { result ≡ NONE → (row.new ≡ row.old) × (rules.new ≡ rules.old) }
-    ensures same { held_in process.new ≡ held_in process.old }
+    ensures unwritten { result ≡ NONE → (row.new.row ≡ row.old.row) × (rules.new ≡ rules.old) }
+    ensures same { loan_of row.new.right ≡ loan_of row.old.right }
 {
-    let Some(held) = process.take(alloc) else {
+    let Some(part) = process.take(&mut row.right) else {
         return NONE;
     };
-    let status = match held.row_for_address(address) {
+    let status = match part.get().row_for_address(address) {
         Some(found) => {
-            write_row(&found, row, rules);
+            write_row(&found, &mut row.row, rules);
             DONE
         }
         None => NONE,
     };
-    *process = CProcess::open(held);
+    put(part, &mut row.right);
     status
 }
 
-/// The caller of the frame at `address`, computed from the registers and the memory of `state`.
-/// `None` if no module has a row for `address`.
-fn caller_of(
+/// Finds the caller of the frame at `address` from the registers and the memory of `state`. Writes
+/// the caller to `out`, and its registers to `slots`, as many as fit. Returns false, and writes
+/// nothing, if no module has a row for `address`. This function isn't inlined, so its list of
+/// registers takes no more stack than `CState::set_abi` took before.
+#[inline(never)]
+fn write_caller_of(
     modules: &[Module<SharedTable>],
     abi: &Abi,
     address: u64,
     state: &CState<'_>,
-) -> Option<Caller>
-    ensures { Unwinds modules.now (roles_of abi.now) (memory_of state.now)
-        (registers_of state.now) address (option_map caller_in result) }
+    out: &mut CCaller,
+    slots: &mut [CRegister],
+) -> bool
+    ensures written { OnTrue result (IsCaller modules.now (roles_of abi.now) (memory_of state.now)
+        (registers_of state.now) address out.new slots.old slots.new) }
+    ensures few { OnTrue result (out.new.count ≤ 256) }
+    ensures none { OnFalse result (Unwinds modules.now (roles_of abi.now) (memory_of state.now)
+        (registers_of state.now) address None) }
+    ensures unwritten { OnFalse result ((out.new ≡ out.old) × (slots.new ≡ slots.old)) }
 {
-    caller_through(modules, abi, address, &state.registers(), &state.memory())
+    let mut found = PackedRegisters::none();
+    match caller_through(
+        modules,
+        abi,
+        address,
+        &state.registers(),
+        &state.memory(),
+        &mut found,
+    ) {
+        Some(unwound) => {
+            write_caller(unwound, &found, out, slots);
+            true
+        }
+        None => false,
+    }
 }
 
-/// The caller of the frame at `address`, computed by `caller_of` with the modules of `process`. A
-/// closed process has no modules.
-fn caller_within(
-    alloc: Global,
-    process: &mut CProcess,
+/// Calls `write_caller_of` with the modules of `process`. A closed process has no modules.
+fn write_caller_within(
+    process: &LentProcess,
+    right: &mut Right,
     abi: &Abi,
     address: u64,
     state: &CState<'_>,
-) -> Option<Caller>
-    ensures unwinds { Unwinds (modules_of process.old) (roles_of abi.now) (memory_of state.now)
-        (registers_of state.now) address (option_map caller_in result) }
-    ensures same { held_in process.new ≡ held_in process.old }
+    out: &mut CCaller,
+    slots: &mut [CRegister],
+) -> bool
+    requires { Reads right.old process.now }
+    ensures written { OnTrue result (IsCaller (read_by right.old) (roles_of abi.now)
+        (memory_of state.now) (registers_of state.now) address out.new slots.old slots.new) }
+    ensures few { OnTrue result (out.new.count ≤ 256) }
+    ensures none { OnFalse result (Unwinds (read_by right.old) (roles_of abi.now)
+        (memory_of state.now) (registers_of state.now) address None) }
+    ensures unwritten { OnFalse result ((out.new ≡ out.old) × (slots.new ≡ slots.old)) }
+    ensures same { loan_of right.new ≡ loan_of right.old }
 {
-    match process.take(alloc) {
-        Some(held) => {
-            let caller = caller_of(held.modules(), abi, address, state);
-            *process = CProcess::open(held);
-            caller
+    match process.take(right) {
+        Some(part) => {
+            let modules = part.get().modules();
+            let is_written = write_caller_of(modules, abi, address, state, out, slots);
+            put(part, right);
+            is_written
         }
-        None => caller_of(&[], abi, address, state),
+        None => write_caller_of(&[], abi, address, state, out, slots),
     }
 }
 
@@ -98,41 +150,47 @@ fn caller_within(
 /// and its registers to `registers`, as many as fit.
 #[unsafe(no_mangle)]
 pub extern "C" fn dwcheck_unwind(
-    alloc: Global,
-    process: &mut CProcess,
+    process: &LentProcess,
     address: u64,
     state: &CState<'_>,
-    caller: &mut CCaller,
+    caller: &mut CallerPlace,
     registers: &mut [CRegister],
     fault: &mut CFault,
 ) -> u32
+    requires { Reads caller.old.right process.now }
     ensures accepted { result ≢ REFUSED → abi_fault_of state.now ≡ None }
-    ensures done { result ≡ DONE → IsCaller (modules_of process.old) (abi_in state.now)
-        (memory_of state.now) (registers_of state.now) address caller.new registers.old
+    ensures done { result ≡ DONE → IsCaller (read_by caller.old.right) (abi_in state.now)
+        (memory_of state.now) (registers_of state.now) address caller.new.caller registers.old
         registers.new }
-    ensures few { result ≡ DONE → caller.new.count ≤ 256 }
-    ensures none { result ≡ NONE → Unwinds (modules_of process.old) (abi_in state.now)
+    ensures few { result ≡ DONE → caller.new.caller.count ≤ 256 }
+    ensures none { result ≡ NONE → Unwinds (read_by caller.old.right) (abi_in state.now)
         (memory_of state.now) (registers_of state.now) address None }
     ensures refused { result ≡ REFUSED → Reports IN_ABI (abi_fault_of state.now) fault.new }
     ensures codes { (result ≡ DONE) ⊎ (result ≡ NONE) ⊎ (result ≡ REFUSED) }
     ensures unwritten { result ≢ DONE
-        → (caller.new ≡ caller.old) × (registers.new ≡ registers.old) }
+        → (caller.new.caller ≡ caller.old.caller) × (registers.new ≡ registers.old) }
     ensures unreported { result ≢ REFUSED → fault.new ≡ fault.old }
-    ensures same { held_in process.new ≡ held_in process.old }
+    ensures same { loan_of caller.new.right ≡ loan_of caller.old.right }
 {
-    let abi = match Abi::new(state.kept, state.pointer()) {
-        Ok(abi) => abi,
-        Err(why) => {
-            *fault = report(IN_ABI, why);
-            return REFUSED;
-        }
-    };
-    match caller_within(alloc, process, &abi, address, state) {
-        Some(found) => {
-            write_caller(&found, caller, registers);
-            DONE
-        }
-        None => NONE,
+    if let Some(why) = state.abi_fault() {
+        *fault = report(IN_ABI, why);
+        return REFUSED;
+    }
+    let mut abi = Abi::none();
+    state.set_abi(&mut abi);
+    let out = &mut caller.caller;
+    if write_caller_within(
+        process,
+        &mut caller.right,
+        &abi,
+        address,
+        state,
+        out,
+        registers,
+    ) {
+        DONE
+    } else {
+        NONE
     }
 }
 
@@ -141,17 +199,18 @@ pub extern "C" fn dwcheck_unwind(
 /// there are no more.
 fn frames_of(
     modules: &[Module<SharedTable>],
-    abi: &Abi,
     address: u64,
     state: &CState<'_>,
     frames: &mut [CFrame],
 ) -> (usize, Stop)
-    ensures { IsBacktrace modules.now (roles_of abi.now) (memory_of state.now)
+    requires { abi_fault_of state.now ≡ None }
+    ensures { IsBacktrace modules.now (abi_in state.now) (memory_of state.now)
         (registers_of state.now) address frames.old frames.new result.0 (stop_number result.1) }
 {
     write_backtrace(
         modules,
-        abi,
+        state.kept,
+        state.pointer(),
         address,
         &state.registers(),
         &state.memory(),
@@ -161,24 +220,25 @@ fn frames_of(
 
 /// Calls `frames_of` with the modules of `process`. A closed process has no modules.
 fn frames_in(
-    alloc: Global,
-    process: &mut CProcess,
-    abi: &Abi,
+    process: &LentProcess,
+    right: &mut Right,
     address: u64,
     state: &CState<'_>,
     frames: &mut [CFrame],
 ) -> (usize, Stop)
-    ensures frames { IsBacktrace (modules_of process.old) (roles_of abi.now) (memory_of state.now)
+    requires right { Reads right.old process.now }
+    requires abi { abi_fault_of state.now ≡ None }
+    ensures frames { IsBacktrace (read_by right.old) (abi_in state.now) (memory_of state.now)
         (registers_of state.now) address frames.old frames.new result.0 (stop_number result.1) }
-    ensures same { held_in process.new ≡ held_in process.old }
+    ensures same { loan_of right.new ≡ loan_of right.old }
 {
-    match process.take(alloc) {
-        Some(held) => {
-            let written = frames_of(held.modules(), abi, address, state, frames);
-            *process = CProcess::open(held);
+    match process.take(right) {
+        Some(part) => {
+            let written = frames_of(part.get().modules(), address, state, frames);
+            put(part, right);
             written
         }
-        None => frames_of(&[], abi, address, state, frames),
+        None => frames_of(&[], address, state, frames),
     }
 }
 
@@ -186,35 +246,32 @@ fn frames_in(
 /// number of frames written to `count`, and why there are no more to `stop`.
 #[unsafe(no_mangle)]
 pub extern "C" fn dwcheck_backtrace(
-    alloc: Global,
-    process: &mut CProcess,
+    process: &LentProcess,
     address: u64,
     state: &CState<'_>,
     frames: &mut [CFrame],
-    count: &mut usize,
+    count: &mut CountPlace,
     stop: &mut u32,
     fault: &mut CFault,
 ) -> u32
+    requires { Reads count.old.right process.now }
     ensures accepted { result ≢ REFUSED → abi_fault_of state.now ≡ None }
-    ensures done { result ≡ DONE → IsBacktrace (modules_of process.old) (abi_in state.now)
-        (memory_of state.now) (registers_of state.now) address frames.old frames.new count.new
-        stop.new }
+    ensures done { result ≡ DONE → IsBacktrace (read_by count.old.right) (abi_in state.now)
+        (memory_of state.now) (registers_of state.now) address frames.old frames.new
+        count.new.count stop.new }
     ensures refused { result ≡ REFUSED → Reports IN_ABI (abi_fault_of state.now) fault.new }
     ensures codes { (result ≡ DONE) ⊎ (result ≡ REFUSED) }
-    ensures unwritten { result ≡ REFUSED → (frames.new ≡ frames.old) × (count.new ≡ count.old)
-        × (stop.new ≡ stop.old) }
+    ensures unwritten { result ≡ REFUSED → (frames.new ≡ frames.old)
+        × (count.new.count ≡ count.old.count) × (stop.new ≡ stop.old) }
     ensures unreported { result ≡ DONE → fault.new ≡ fault.old }
-    ensures same { held_in process.new ≡ held_in process.old }
+    ensures same { loan_of count.new.right ≡ loan_of count.old.right }
 {
-    let abi = match Abi::new(state.kept, state.pointer()) {
-        Ok(abi) => abi,
-        Err(why) => {
-            *fault = report(IN_ABI, why);
-            return REFUSED;
-        }
-    };
-    let (found, why) = frames_in(alloc, process, &abi, address, state, frames);
-    *count = found;
+    if let Some(why) = state.abi_fault() {
+        *fault = report(IN_ABI, why);
+        return REFUSED;
+    }
+    let (found, why) = frames_in(process, &mut count.right, address, state, frames);
+    count.count = found;
     *stop = stop_code(why);
     DONE
 }

@@ -1,7 +1,13 @@
 //! The state of a stopped thread, as passed by C.
 
+ghost use Rattle.std.specs.Prelude.{◌≡◌, ◌≤◌};
+ghost use Rattle.dw_bytes.specs.declared.fault.FaultKind.{FaultKind};
+ghost use Rattle.dw_rows.specs.Abi.{abi_fault, is_among};
+
 use crate::memory::{Blocks, CBlock};
+use dw_bytes::{Fault, FaultKind};
 use dw_eval::Registers;
+use dw_rows::{Abi, MAX_KEPT};
 
 /// The known registers. The content of register n is `contents[n]`, if bit n % 8 of `known[n / 8]`
 /// is set; otherwise the register isn't known.
@@ -39,6 +45,55 @@ impl<'a> Registers for Contents<'a> {
     }
 }
 
+/// The fault `AbiTwice` for a number that occurs earlier as well. `place` is its index in the list.
+fn twice_at(place: usize) -> Fault
+    requires { place ≤ MAX_KEPT }
+    ensures { result ≡ record { kind = FaultKind.AbiTwice; at = place } }
+{
+    Fault {
+        kind: FaultKind::AbiTwice,
+        at: place as u32,
+    }
+}
+
+/// Whether `number` is one of `registers`.
+fn is_among(registers: &[u16], number: u16) -> bool
+    ensures { result ≡ is_among number registers.now }
+{
+    registers.iter().any(|n| *n == number)
+}
+
+/// The fault of the ABI that has the callee-saved registers `kept` and the stack pointer
+/// `stack_pointer`, if it has one: the fault with which `Abi::new` refuses it. No `Abi` is made,
+/// which takes 2 KB.
+fn fault_of_abi(kept: &[u16], stack_pointer: Option<u16>) -> Option<Fault>
+    ensures { result ≡ abi_fault kept.now stack_pointer }
+{
+    if kept.len() > MAX_KEPT {
+        return Some(Fault {
+            kind: FaultKind::AbiTooLarge,
+            at: MAX_KEPT as u32,
+        });
+    }
+    let mut place = 0;
+    while place < kept.len() {
+        if is_among(&kept[..place], kept[place]) {
+            return Some(twice_at(place));
+        }
+        place += 1;
+    }
+    match stack_pointer {
+        Some(number) => {
+            if is_among(kept, number) {
+                Some(twice_at(kept.len()))
+            } else {
+                None
+            }
+        }
+        None => None,
+    }
+}
+
 /// The state of a stopped thread, with the callee-saved registers and the stack pointer of its ABI.
 #[repr(C)]
 #[derive(Drop)]
@@ -59,8 +114,9 @@ pub struct CState<'a> {
 }
 
 impl<'a> CState<'a> {
-    ghost use Rattle.std.specs.Prelude.{◌≡◌};
-    ghost use Rattle.dwcheck_c.specs.Machine.{registers_of, memory_of, pointer_of, register_in, byte_in};
+    ghost use Rattle.std.specs.Prelude.{◌≡◌, None};
+    ghost use Rattle.dw_rows.specs.AbiViews.{roles_of};
+    ghost use Rattle.dwcheck_c.specs.Machine.{abi_fault_of, abi_in, registers_of, memory_of, pointer_of, register_in, byte_in};
 
     pub(crate) fn registers(&self) -> Contents<'a>
         ensures { register_in result.contents.now result.known.now ≡ registers_of self.now }
@@ -86,6 +142,26 @@ impl<'a> CState<'a> {
             None
         } else {
             Some(self.stack_pointer)
+        }
+    }
+
+    /// The fault of the ABI, if it has one.
+    pub(crate) fn abi_fault(&self) -> Option<Fault>
+        ensures { result ≡ abi_fault_of self.now }
+    {
+        fault_of_abi(self.kept, self.pointer())
+    }
+
+    /// Makes `abi` the ABI of this state. This function isn't inlined: an ABI takes 2 KB, and the
+    /// copies from which it is made take no more stack once this returns.
+    #[inline(never)]
+    pub(crate) fn set_abi(&self, abi: &mut Abi)
+        requires { abi_fault_of self.now ≡ None }
+        ensures { roles_of abi.new ≡ abi_in self.now }
+    {
+        match Abi::new(self.kept, self.pointer()) {
+            Ok(made) => *abi = made,
+            Err(_) => unreachable!(),
         }
     }
 }

@@ -7,8 +7,8 @@ use Rattle.dw_unwind.specs.WalkSteps.{GivesFrame, Progress, frame_at, has_given,
 use Rattle.dw_unwind.specs.WalkViews.{brief_in, brief_of}
 use Rattle.dw_unwind.specs.declared.frames.Stop.TheVariants.{Limit}
 use Rattle.dwcheck_c.specs.declared.answer.CFrame.{CFrame}
-use Rattle.dwcheck_c.specs.Frames.{cframe_by, cframe_of}
-use Rattle.dwcheck_c.proofs.WrittenFrames.{UnderWay, begins, goes, written}
+use Rattle.dwcheck_c.specs.Frames.{UnderWay, cframe_by, cframe_of}
+use Rattle.dwcheck_c.proofs.WrittenFrames.{begins, goes, written}
 use Rattle.dwcheck_c.proofs.backtrace.write_frames.Goals as goal
 
 pub loop-count-init : goal.loop-count-init

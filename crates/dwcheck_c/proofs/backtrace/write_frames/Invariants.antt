@@ -1,7 +1,7 @@
 use Rattle.std.proofs.Common.{◌≡◌, ◌-◌, ◌≤◌, length}
 use Rattle.dw_rows.specs.AbiViews.{roles_of}
 use Rattle.dw_unwind.specs.WalkSteps.{frame_at}
-use Rattle.dwcheck_c.proofs.WrittenFrames.{UnderWay}
+use Rattle.dwcheck_c.specs.Frames.{UnderWay}
 use Rattle.dwcheck_c.proofs.backtrace.write_frames.Given as goal
 
 abbrev pub invariant-loop-count : goal.invariant-loop-count

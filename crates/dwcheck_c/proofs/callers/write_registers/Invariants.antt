@@ -1,8 +1,7 @@
 use Rattle.std.proofs.Common.{◌≡◌, map, take}
-use Rattle.dw_unwind.specs.CallerViews.{found_in}
 use Rattle.dwcheck_c.specs.Callers.{cregister_of}
 use Rattle.dwcheck_c.specs.Slots.{put_into}
 use Rattle.dwcheck_c.proofs.callers.write_registers.Given as goal
 
 abbrev pub invariant-loop-index : goal.invariant-loop-index
-invariant-loop-index l = l.slots ≡ put_into (map cregister_of (map found_in (take l.index l.found))) l.initial.slots
+invariant-loop-index l = l.slots ≡ put_into (map cregister_of (take l.index l.found)) l.initial.slots
