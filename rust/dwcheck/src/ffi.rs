@@ -11,17 +11,20 @@
 //!   NULL .. No other pointer may be NULL." In this crate all pointers come from references and
 //!   slices. Two `const` pointers may be to the same slice, because the library takes them as
 //!   shared references, `&[u8]` or `&CState`.
-//! - "A process is passed to only one call at a time. To move a process, copy the structure and set
-//!   the old one to DWCHECK_CLOSED. A process has to be closed if a module was added to it, or if
-//!   dwcheck_process_share made it from an open process, even if its modules have been removed. A
-//!   process may go from one thread to another if the threads synchronize: by a lock, by an atomic
-//!   of memory_order_seq_cst, or by a thread's start or join." In this crate `Process` isn't
-//!   `Sync`, Rust never uses a value after a move, `Drop` closes each process, and every way in
-//!   which safe Rust passes a value to another thread synchronizes the two threads.
-//! - "malloc, realloc and free belong to one allocator, and the calling thread may call them. So a
-//!   signal handler must not make a call that allocates or frees. After a fork in a program with
-//!   several threads, the child must make no call at all." In Rust, a user needs `unsafe` code for
-//!   signal handlers and for `fork`.
+//! - "A call that takes a process by a pointer to const only reads it .. Any number of calls may read
+//!   a process at once, in any threads. A call that takes a pointer without const changes the
+//!   process, and no other call may use that process meanwhile .. threads synchronize for that: by a
+//!   lock, by an atomic of memory_order_seq_cst, or by a thread's start or join." In this crate a
+//!   pointer to const comes from a `&Process`, and a pointer without const from a `&mut Process`.
+//!   Every way in which safe Rust lets one thread use a value after another one synchronizes them.
+//! - "To move a process, copy the structure and set the old one to DWCHECK_CLOSED .. A process has to
+//!   be closed if a module was added to it, or if dwcheck_process_share made it from an open process,
+//!   even if its modules have been removed." Rust never uses a value after a move, and `Drop` closes
+//!   each process.
+//! - "malloc, realloc and free belong to one allocator, and the calling thread may call them. So
+//!   neither a signal handler nor the child of a fork in a program with several threads makes a call
+//!   that allocates or frees .. Those three calls may be left by siglongjmp .." In Rust, a user needs
+//!   `unsafe` code for signal handlers, for `fork` and for `siglongjmp`.
 //! - "The stack is large enough." The library touches each page of its stack in turn. So if the
 //!   stack is too small, the program ends at the guard page, which each of Rust's threads has.
 //! - "Fields called `reserved` are set to 0." This crate sets them to 0.
@@ -375,7 +378,7 @@ extern "C" {
     /// before. If `process` is closed, `other` is closed too. The tables are shared, not copied,
     /// and are freed with the last process that has them. Returns DONE; or NO_MEMORY, and then
     /// `other` is unchanged. `process` is unchanged in either case.
-    pub fn dwcheck_process_share(process: *mut Process, other: *mut Process) -> u32;
+    pub fn dwcheck_process_share(process: *const Process, other: *mut Process) -> u32;
 
     /// Releases all modules and closes the process. A closed process may be closed again.
     pub fn dwcheck_process_close(process: *mut Process);
@@ -385,7 +388,7 @@ extern "C" {
     /// as fit. Returns DONE; or NONE if no module has a row, and then nothing is written. The call
     /// neither allocates nor frees.
     pub fn dwcheck_row_at(
-        process: *mut Process,
+        process: *const Process,
         address: u64,
         row: *mut Row,
         rules: *mut Rule,
@@ -399,7 +402,7 @@ extern "C" {
     /// the ABI names too many registers or names one twice. Only DONE writes `caller` and
     /// `registers`, and only REFUSED writes `fault`. The call neither allocates nor frees.
     pub fn dwcheck_unwind(
-        process: *mut Process,
+        process: *const Process,
         address: u64,
         state: *const State,
         caller: *mut Caller,
@@ -415,7 +418,7 @@ extern "C" {
     /// names one twice. Only DONE writes `frames`, `count` and `stop`, and only REFUSED writes
     /// `fault`. The call neither allocates nor frees.
     pub fn dwcheck_backtrace(
-        process: *mut Process,
+        process: *const Process,
         address: u64,
         state: *const State,
         frames: *mut Frame,

@@ -8,7 +8,6 @@ use crate::rows::Rows;
 use crate::state::State;
 use crate::target::Target;
 use crate::walk::{Backtrace, Frame, Stop};
-use std::cell::UnsafeCell;
 use std::fmt;
 use std::mem::MaybeUninit;
 use std::ptr::null_mut;
@@ -21,12 +20,14 @@ const FIRST_FRAMES: usize = 64;
 /// A look-up uses the first module that has a row for the address. The addresses that are passed to
 /// look-ups and walks are as loaded: they are those of the running process.
 ///
-/// A `Process` is `Send` but not `Sync`. Each thread needs its own, which [`share`](Process::share)
-/// makes without copying the tables. Look-ups and walks take no lock.
+/// A `Process` is `Send` and `Sync`: any number of threads may look up and walk with one `Process`
+/// at once, by `&self`, and no lock is taken. To change modules while others read, change another
+/// process, which [`share`](Process::share) makes without copying the tables.
 ///
-/// As measured on x86-64, [`add`](Process::add) takes 82 KB of stack. [`unwind`](Process::unwind)
-/// and the walks take 61 KB, and up to 14 KB more if a rule is an expression. If a thread's stack
-/// is too small, the program ends, as with any stack overflow.
+/// As measured on x86-64, [`add`](Process::add) takes 82 KB of stack. The walks take 3 KB, or 41 KB
+/// if a register with a number of 96 or more has a known content, and [`unwind`](Process::unwind)
+/// takes 7 KB; each takes up to 14 KB more if a rule is an expression. If a thread's stack is too
+/// small, the program ends, as with any stack overflow.
 ///
 /// ```
 /// # const SECTION: &[u8] = &[
@@ -53,19 +54,19 @@ const FIRST_FRAMES: usize = 64;
 /// assert_eq!(walk.stop, Stop::NotCovered);
 /// # Ok::<(), dwcheck::Error>(())
 /// ```
-///
-/// ```compile_fail,E0277
-/// fn for_all_threads<T: Sync>() {}
-/// for_all_threads::<dwcheck::Process>();
-/// ```
 pub struct Process {
-    raw: UnsafeCell<ffi::Process>,
+    raw: ffi::Process,
 }
 
 // SAFETY: the library allows a process to go from one thread to another if the threads synchronize.
-// In safe Rust they do so for every value that goes from one to another. `Process` isn't `Sync`,
-// because it may be passed to only one call at a time.
+// In safe Rust they do so for every value that goes from one to another.
 unsafe impl Send for Process {}
+
+// SAFETY: the calls that this crate makes with a `&Process` only read: `dwcheck_row_at`,
+// `dwcheck_unwind`, `dwcheck_backtrace` and `dwcheck_process_share` take the process by a pointer to
+// const, and the library allows any number of them at once, in any threads. The calls that change a
+// process, `dwcheck_process_add`, `_remove` and `_close`, are made with a `&mut Process`.
+unsafe impl Sync for Process {}
 
 impl Process {
     /// For the `room` of [`add`](Process::add): no bound on the bytes that the table of a section
@@ -78,19 +79,11 @@ impl Process {
     /// A process without modules. This allocates nothing.
     pub const fn new() -> Process {
         Process {
-            raw: UnsafeCell::new(ffi::Process {
+            raw: ffi::Process {
                 opaque: null_mut(),
                 opaque_open: MaybeUninit::new(0),
-            }),
+            },
         }
-    }
-
-    /// The pointer to pass to the library.
-    ///
-    /// Only one call uses the pointer at a time: `Process` isn't `Sync`, this crate never makes a
-    /// reference to the `ffi::Process`, and the library never calls back.
-    fn raw(&self) -> *mut ffi::Process {
-        self.raw.get()
     }
 
     /// Checks a `.debug_frame` section, compiles all its rows, and adds them as the last module.
@@ -123,7 +116,7 @@ impl Process {
         // local.
         let status = unsafe {
             ffi::dwcheck_process_add(
-                self.raw(),
+                &mut self.raw,
                 section.as_ptr(),
                 section.len(),
                 target.order_number(),
@@ -140,17 +133,18 @@ impl Process {
     /// Returns whether there was such a module.
     pub fn remove(&mut self, load_address: u64) -> bool {
         // SAFETY: the process is borrowed exclusively.
-        let status = unsafe { ffi::dwcheck_process_remove(self.raw(), load_address) };
+        let status = unsafe { ffi::dwcheck_process_remove(&mut self.raw, load_address) };
         status == ffi::DONE
     }
 
     /// Removes all modules.
     pub fn clear(&mut self) {
         // SAFETY: the process is borrowed exclusively. A process may be closed more than once.
-        unsafe { ffi::dwcheck_process_close(self.raw()) }
+        unsafe { ffi::dwcheck_process_close(&mut self.raw) }
     }
 
-    /// Makes another process with the same modules, for example for another thread.
+    /// Makes another process with the same modules, for example to change its modules while other
+    /// threads read this one.
     ///
     /// The tables are shared, not copied, and are freed with the last process that has them.
     /// Modules that are later added to or removed from one of the two processes don't change the
@@ -162,18 +156,22 @@ impl Process {
     ///
     /// ```
     /// use dwcheck::Process;
-    /// use std::thread;
+    /// use std::sync::{Arc, RwLock};
     ///
-    /// let process = Process::new();
-    /// let other = process.share()?;
-    /// let walker = thread::spawn(move || other.row(0x1010).is_none());
-    /// assert!(walker.join().unwrap());
+    /// // Threads clone the `Arc`, and read that process without the lock.
+    /// let current = RwLock::new(Arc::new(Process::new()));
+    /// let reader = Arc::clone(&current.read().unwrap());
+    ///
+    /// let mut changed = reader.share()?;
+    /// changed.remove(0x40_0000);
+    /// *current.write().unwrap() = Arc::new(changed);
+    /// assert!(reader.row(0x40_1010).is_none()); // still reads the old one
     /// # Ok::<(), dwcheck::Error>(())
     /// ```
     pub fn share(&self) -> Result<Process, Error> {
-        let other = Process::new();
-        // SAFETY: only this thread has the two processes, and they are different ones.
-        let status = unsafe { ffi::dwcheck_process_share(self.raw(), other.raw()) };
+        let mut other = Process::new();
+        // SAFETY: this process is only read, and the other one is a local.
+        let status = unsafe { ffi::dwcheck_process_share(&self.raw, &mut other.raw) };
         Error::check(status, ffi::Fault::default())?;
         Ok(other)
     }
@@ -223,11 +221,10 @@ impl Process {
         row: &mut Row,
     ) -> Option<()> {
         let mut raw = ffi::Row::default();
-        // SAFETY: only this thread has the process, `slots` is borrowed exclusively, and `raw` is a
-        // local.
+        // SAFETY: the process is only read, `slots` is borrowed exclusively, and `raw` is a local.
         let status = unsafe {
             ffi::dwcheck_row_at(
-                self.raw(),
+                &self.raw,
                 address,
                 &mut raw,
                 slots.as_mut_ptr(),
@@ -279,11 +276,11 @@ impl Process {
         let mut caller = ffi::Caller::default();
         let mut registers = [ffi::Register::default(); ffi::MAX_REGISTERS];
         let mut fault = ffi::Fault::default();
-        // SAFETY: only this thread has the process, what `state` borrows is only read, and the
-        // other pointers are to locals.
+        // SAFETY: the process and what `state` borrows are only read, and the other pointers are to
+        // locals.
         let status = unsafe {
             ffi::dwcheck_unwind(
-                self.raw(),
+                &self.raw,
                 address,
                 &state.raw(),
                 &mut caller,
@@ -376,11 +373,11 @@ impl Process {
         let mut count = 0;
         let mut stop = ffi::STOP_LIMIT;
         let mut fault = ffi::Fault::default();
-        // SAFETY: only this thread has the process, what `state` borrows is only read, `slots` is
-        // borrowed exclusively, and the other pointers are to locals.
+        // SAFETY: the process and what `state` borrows are only read, `slots` is borrowed
+        // exclusively, and the other pointers are to locals.
         let status = unsafe {
             ffi::dwcheck_backtrace(
-                self.raw(),
+                &self.raw,
                 address,
                 &state.raw(),
                 Frame::raw_slots(slots),

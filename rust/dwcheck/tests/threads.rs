@@ -1,10 +1,11 @@
-//! Tests of processes that move from thread to thread, and of processes that share their tables.
+//! Tests of processes that many threads read at once, that move from thread to thread, and that share
+//! their tables.
 
 mod common;
 
 use common::*;
-use dwcheck::{Abi, Block, Process, Registers, State, Stop};
-use std::sync::{mpsc, Mutex};
+use dwcheck::{Abi, Block, Process, Registers, Row, State, Stop};
+use std::sync::{mpsc, Barrier, Mutex, RwLock};
 use std::thread;
 
 fn is_send<T: Send>() {}
@@ -13,6 +14,8 @@ fn is_sync<T: Sync>() {}
 #[test]
 fn what_is_send_and_sync() {
     is_send::<Process>();
+    is_sync::<Process>();
+    is_sync::<dwcheck::Steps<'_>>();
     is_send::<State<'_>>();
     is_sync::<State<'_>>();
     is_send::<Block<'_>>();
@@ -21,8 +24,6 @@ fn what_is_send_and_sync() {
     is_send::<dwcheck::Backtrace>();
     is_sync::<dwcheck::Row>();
     is_sync::<dwcheck::Error>();
-    // several threads may use one process if it is in a `Mutex`
-    is_sync::<Mutex<Process>>();
 }
 
 /// Walks from the module at 0x200000 through the one at 0x100000. Returns whether the walk has the
@@ -46,6 +47,60 @@ fn two_modules() -> Process {
     let mut process = process_at(&row_1(), 0x100000);
     add(&mut process, &row_1(), 0x200000).unwrap();
     process
+}
+
+/// Looks up rows of both modules. Returns whether they are the right ones.
+fn looks_up_well(process: &Process) -> bool {
+    let mut rows = process.rows();
+    (0..0x20).all(|place| {
+        [0x101000, 0x201000].iter().all(|start| {
+            let alone = process.row(start + place);
+            let covers = |row: &Row| row.addresses.contains(&(0x1000 + place));
+            alone.as_ref().map_or(false, covers) && rows.row(start + place) == alone.as_ref()
+        })
+    })
+}
+
+/// The number of threads that read one process.
+const READERS: usize = 8;
+
+#[test]
+fn threads_read_one_process() {
+    let process = two_modules();
+    let meet = Barrier::new(READERS);
+    thread::scope(|scope| {
+        for _ in 0..READERS {
+            scope.spawn(|| {
+                meet.wait();
+                for _ in 0..10 {
+                    assert!(walks_well(&process) && looks_up_well(&process));
+                    assert!(process.row(0x301000).is_none());
+                }
+                assert!(walks_well(&process.share().unwrap()));
+            });
+        }
+    });
+}
+
+/// A process without modules can be a `static` itself. For one with modules, a `static` can have a
+/// reference to a process that is never dropped.
+#[test]
+fn threads_read_a_static_process() {
+    static EMPTY: Process = Process::new();
+    static CURRENT: RwLock<Option<&Process>> = RwLock::new(None);
+    *CURRENT.write().unwrap() = Some(Box::leak(Box::new(two_modules())));
+    let readers: Vec<_> = (0..READERS)
+        .map(|_| {
+            thread::spawn(|| {
+                let current: &'static Process = CURRENT.read().unwrap().unwrap();
+                assert!(EMPTY.row(0x101000).is_none() && !walks_well(&EMPTY));
+                (0..10).all(|_| walks_well(current) && looks_up_well(current))
+            })
+        })
+        .collect();
+    for reader in readers {
+        assert!(reader.join().unwrap());
+    }
 }
 
 #[test]
