@@ -32,14 +32,17 @@
      a process that the interrupted code, or another thread at the time of the fork, may be reading
      but not changing.
    - Those three calls may be left by siglongjmp, since they hold no lock and no memory. What their
-     pointers without const point to is then unspecified. The proofs don't cover a call that is left,
-     nor later changes of its process; c/tests/readers.c tests both.
+     pointers without const point to is then unspecified.
+   - The proofs cover calls in threads. They don't cover a call in a signal handler that interrupts
+     another call with the same process, a call in the child of a fork, a call that is left, nor
+     later changes of a process on which a call was left. c/tests/readers.c tests all of these.
    - The stack is large enough. As measured on x86-64, dwcheck_backtrace takes 3 KB of stack and
      dwcheck_unwind 7 KB, and both take up to 14 KB more if a rule is an expression.
      dwcheck_backtrace takes 41 KB if a register with a number of 96 or more has a known content.
      dwcheck_process_add takes 82 KB, dwcheck_check 41 KB, dwcheck_evaluate 12 KB, and every other
-     call less than 4 KB. So a signal handler on an alternate stack of the usual 8 KB can walk by
-     dwcheck_backtrace, unless a rule is an expression or names such a register.
+     call less than 4 KB. So a signal handler on an alternate stack of the usual 8 KB, of which the
+     kernel's own frame takes some 3 KB, can walk by dwcheck_backtrace, unless a rule is an
+     expression, or a rule or the ABI names such a register.
    - Fields called `reserved` are set to 0. A later version may give them a meaning.
 
    A later version may add values to enumerations, so treat a value that you don't know as

@@ -203,6 +203,32 @@ static void walks(void) {
     dwcheck_process_close(&p);
 }
 
+/* registers with numbers above 95 that have a content: walks keep them in another place than the others */
+static void high_registers(void) {
+    static uint64_t many[300];
+    static uint8_t bits[38];
+    static const uint16_t named[2] = {3, 264};
+    dwcheck_process p = DWCHECK_CLOSED;
+    dwcheck_caller caller;
+    dwcheck_state s = {many, 300, bits, 38, blocks, 1, named, 2, 7, 1, 0};
+    many[7] = contents[7]; many[264] = 0x264;
+    bits[0] = 0x80; bits[33] = 1;
+    IS(add(&p, 0x71f000000000), DWCHECK_DONE);
+    IS(add(&p, (uint64_t)-0x800), DWCHECK_DONE);
+    for (int pointer = 0; pointer < 2; pointer++) { /* at first the ABI keeps it; then it is the stack pointer, too */
+        IS(dwcheck_backtrace(&p, 0x810, &s, frames, 8, &count, &stop, &fault), DWCHECK_DONE); IS(count, pointer ? 2 : 3);
+        IS(stop, pointer ? DWCHECK_STOP_RETURN_UNREADABLE : DWCHECK_STOP_NOT_COVERED); IS(frames[0].address, 0x810);
+        IS(frames[0].cfa.value, 0x7f10); IS(frames[1].address, 0x71f000001020);
+        if (!pointer) { IS(frames[1].cfa.value, 0x7f18); IS(frames[2].address, 0x55005); }
+        IS(dwcheck_backtrace(&p, 0x810, &s, frames, 1, &count, &stop, &fault), DWCHECK_DONE); IS(count, 1); IS(stop, DWCHECK_STOP_LIMIT);
+        s.kept_length = 1; s.stack_pointer = 264;
+    }
+    s.kept_length = 2; s.stack_pointer = 7;
+    IS(dwcheck_unwind(&p, 0x810, &s, &caller, registers, 4, &fault), DWCHECK_DONE); IS(caller.count, 4);
+    IS(registers[3].number, 264); IS(registers[3].kind, DWCHECK_VALUE); IS(registers[3].value, 0x264);
+    dwcheck_process_close(&p);
+}
+
 /* after a module is added, the bytes of its section may be overwritten */
 static void own_bytes(void) {
     dwcheck_process p = DWCHECK_CLOSED;
@@ -517,6 +543,34 @@ static void room_bounds_what_a_table_takes(void) {
     IS(used - before, 0);
 }
 
+/* The same where nearly all bytes are those of one expression of 60,000 bytes, and of 101 sets of 1 to
+   101 rules: a table that stores anything twice takes more. The first FDE has the expression, and the
+   second one has a row for each set. */
+static void room_bounds_expressions_and_rules(void) {
+    enum { LENGTH = 60000, RULES = 100 };
+    static uint8_t s[24 + 24 + 4 + LENGTH + 24 + 4 * RULES];
+    const size_t sets = 64 * (RULES + 1) + 16 * ((RULES + 1) * (RULES + 2) / 2);
+    const size_t least = 16 * (1 + RULES + 1 + 1) + (64 + 16) + sets + 64 + (24 + LENGTH);
+    static const uint8_t begin[4] = {0x0f, (LENGTH & 127) | 128, (LENGTH >> 7 & 127) | 128, LENGTH >> 14};
+    uint32_t first = 20 + 4 + LENGTH, second = 20 + 4 * RULES;
+    dwcheck_process p = DWCHECK_CLOSED;
+    uint8_t *at = s + 24;
+    long before = used;
+    memcpy(s, good, 24);
+    memcpy(at, good + 24, 24); memcpy(at, &first, 4);
+    memcpy(at + 24, begin, 4);
+    memset(at + 28, 0x96, LENGTH - 2); /* DW_OP_nop */
+    at[28 + LENGTH - 2] = 0x77; at[28 + LENGTH - 1] = 8;
+    at += 28 + LENGTH;
+    memcpy(at, good + 24, 24); memcpy(at, &second, 4); at[9] = 0x11; /* 0x1100..0x1200 */
+    for (int i = 0; i < RULES; i++) memcpy(at + 24 + 4 * i, (uint8_t[]){0x41, 5, (uint8_t)(20 + i), 2}, 4);
+    IS(dwcheck_process_add(&p, s, sizeof s, DWCHECK_LITTLE, 8, 0, least - 1, &fault), DWCHECK_NO_ROOM);
+    IS(dwcheck_process_add(&p, s, sizeof s, DWCHECK_LITTLE, 8, 0, least, &fault), DWCHECK_DONE);
+    IS(used - before <= (long)least + 1000, 1);
+    dwcheck_process_close(&p);
+    IS(used - before, 0);
+}
+
 /* dwcheck_process_share allocates little, although the table is large: 1,000 FDEs */
 static void share_copies_no_table(void) {
     static uint8_t many[24 + 24 * 1000];
@@ -583,6 +637,7 @@ int main(void) {
     closed();
     refusals();
     walks();
+    high_registers();
     own_bytes();
     names();
     expressions();
@@ -597,6 +652,7 @@ int main(void) {
     last_remove_frees_the_table();
     share_copies_no_table();
     room_bounds_what_a_table_takes();
+    room_bounds_expressions_and_rules();
 #endif
     nothing();
     threads();

@@ -2,7 +2,8 @@
    The process is in a page that can't be written. Each call is interrupted, since it needs a page that
    can't be used. The handler of SIGSEGV reads the same process, makes the page usable, and returns;
    one time in four it leaves the call by siglongjmp. Then modules are added and removed while threads
-   read. Each answer is compared with what the section says. Prints a line with counts. */
+   read, and at last in the process itself. Each answer is compared with what the section says. Prints
+   a line with counts. */
 #include "dwcheck.h"
 #include <pthread.h>
 #include <sched.h>
@@ -14,6 +15,7 @@
 #include <string.h>
 #include <sys/mman.h>
 #include <sys/wait.h>
+#include <ucontext.h>
 #include <unistd.h>
 
 enum { FDES = 5000, STEP = 0x40, BASE = 0x100000, FRAMES = 32, PAGE = 4096 };
@@ -100,10 +102,15 @@ static uint64_t looked_up(size_t seed, size_t round) {
 static void check_row(const dwcheck_process *p, uint64_t linked, dwcheck_rule *slots) {
     uint64_t place = (linked - BASE) % STEP, start = place < 1 ? 0 : place < 4 ? 1 : place < 0x20 ? 4 : 0x20;
     unsigned offset = start == 1 ? 16 : start == 4 ? frame_size((linked - BASE) / STEP) : 8;
+    uint64_t end = start == 0 ? 1 : start == 1 ? 4 : start == 4 ? 0x20 : STEP;
+    size_t saved = start == 1 || start == 4; /* whether r6 is saved, at c-16 */
     dwcheck_row row;
     CHECK(dwcheck_row_at(p, load + linked, &row, slots, 4) == DWCHECK_DONE);
-    CHECK(row.load_address == load && row.start == linked - place + start);
-    CHECK(row.cfa.reg == 7 && row.cfa.offset == offset);
+    CHECK(row.load_address == load && row.start == linked - place + start && row.end == linked - place + end);
+    CHECK(row.cfa.kind == DWCHECK_RULE_VAL_OFFSET && row.cfa.reg == 7 && row.cfa.offset == offset);
+    CHECK(row.return_reg == 16 && row.count == 1 + saved);
+    CHECK(!saved || (slots[0].kind == DWCHECK_RULE_OFFSET && slots[0].reg == 6 && slots[0].offset == -16));
+    CHECK(slots[saved].kind == DWCHECK_RULE_OFFSET && slots[saved].reg == 16 && slots[saved].offset == -8);
     atomic_fetch_add(&rows, 1);
 }
 
@@ -112,7 +119,13 @@ static void check_caller(const dwcheck_process *p, struct stack *s) {
     dwcheck_register registers[16];
     dwcheck_fault fault;
     CHECK(dwcheck_unwind(p, s->addresses[0], &s->state, &caller, registers, 16, &fault) == DWCHECK_DONE);
-    CHECK(caller.cfa.value == s->cfas[0] && caller.return_address.value == s->addresses[1]);
+    CHECK(caller.cfa.kind == DWCHECK_VALUE && caller.cfa.value == s->cfas[0]);
+    CHECK(caller.return_address.kind == DWCHECK_VALUE && caller.return_address.value == s->addresses[1]);
+    /* of the callee-saved registers 3, 6 and 12 to 15 only r6 is known; 7 is the stack pointer */
+    CHECK(caller.count == 8 && registers[0].number == 3 && registers[0].kind == DWCHECK_UNREADABLE);
+    CHECK(registers[1].number == 6 && registers[1].kind == DWCHECK_VALUE && registers[1].value == 0);
+    CHECK(registers[2].number == 7 && registers[2].kind == DWCHECK_VALUE && registers[2].value == s->cfas[0]);
+    CHECK(registers[7].number == 16 && registers[7].kind == DWCHECK_VALUE && registers[7].value == s->addresses[1]);
 }
 
 static void check_walk(const dwcheck_process *p, struct stack *s) {
@@ -264,6 +277,38 @@ static void all_follow(const dwcheck_process *p) {
     free(current);
 }
 
+/* Adds a module to a process on which calls were left, and removes it again. */
+static void change_at_last(dwcheck_process *p) {
+    struct stack *s = new_stack(9);
+    dwcheck_row row;
+    change(p);
+    CHECK(dwcheck_row_at(p, second + BASE, &row, s->rules.slots, 4) == DWCHECK_DONE && row.load_address == second);
+    check_walk(p, s);
+    change(p);
+    CHECK(dwcheck_row_at(p, second + BASE, &row, s->rules.slots, 4) == DWCHECK_NONE);
+    check_walk(p, s);
+    munmap(s, sizeof *s);
+}
+
+/* Walks on a stack of 8 KB that has a page below it that can't be used. */
+static const dwcheck_process *walked;
+static struct stack *walked_stack;
+static ucontext_t returned;
+
+static void walk_walked(void) { check_walk(walked, walked_stack); }
+
+static void walk_on_a_small_stack(const dwcheck_process *p) {
+    char *small = mmap(NULL, 3 * PAGE, PROT_READ | PROT_WRITE, MAP_PRIVATE | MAP_ANONYMOUS, -1, 0);
+    ucontext_t there;
+    if (small == MAP_FAILED || getcontext(&there) != 0) abort();
+    mprotect(small, PAGE, PROT_NONE);
+    there.uc_stack.ss_sp = small + PAGE; there.uc_stack.ss_size = 2 * PAGE; there.uc_link = &returned;
+    walked = p; walked_stack = new_stack(3);
+    makecontext(&there, walk_walked, 0);
+    swapcontext(&returned, &there);
+    munmap(walked_stack, sizeof *walked_stack); munmap(small, 3 * PAGE);
+}
+
 static int counts(void) {
     printf("%ld rows, %ld walks, %ld calls interrupted, %ld of them left, ", rows, walks, interrupted, left);
     printf("%ld changes, %ld wrong\n", changes, wrong);
@@ -277,9 +322,11 @@ int main(void) {
     if (p == MAP_FAILED) return 1;
     if (dwcheck_process_add(p, section, size, DWCHECK_LITTLE, 8, load, SIZE_MAX, &fault) != DWCHECK_DONE) return 1;
     mprotect(p, PAGE, PROT_READ);
+    walk_on_a_small_stack(p);
     all_read(p);
     all_follow(p);
     mprotect(p, PAGE, PROT_READ | PROT_WRITE);
+    change_at_last(p);
     dwcheck_process_close(p);
     munmap(p, PAGE);
     return counts();
