@@ -9,13 +9,13 @@ set -euo pipefail
 here=$(cd "$(dirname "$0")" && pwd)
 work=$(mktemp -d)
 trap 'rm -rf "$work"' EXIT
-(cd "$here" && ../../rust/cargo.sh build --quiet --release)
+(cd "$here" && ../../rust/cargo.sh build --quiet)
 libraries=${DWCHECK_LIB_DIR:-$(pkg-config --variable=libdir dwcheck)}
 export LD_LIBRARY_PATH=$libraries${LD_LIBRARY_PATH:+:$LD_LIBRARY_PATH}
 gcc -O1 -g "$here/crash.c" -o "$work/crash" -pthread
 cd "$work"
 "$here/../../tools/make_core.sh" ./crash
-"${CARGO_TARGET_DIR:-$here/target}/release/stack" crash core | tee ours
+"${CARGO_TARGET_DIR:-$here/target}/debug/stack" crash core | tee ours
 
 addresses() { # FILE: prints a line for each thread, and one for the address of each of its frames
     awk 'tolower($1) ~ /^(thread|tid)$/ { print "thread", $2 + 0 } /^#/ { print $2 }' "$1"
