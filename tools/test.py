@@ -25,7 +25,8 @@ from typing import Callable
 TOP = pathlib.Path(__file__).resolve().parent.parent
 BUILD = TOP / "build"
 LOGS = BUILD / "test"
-RUST_LIBRARIES = {"DWCHECK_LIB_DIR": str(BUILD), "CARGO_TARGET_DIR": str(BUILD / "cargo-test")}
+# Without debug information the tests are compiled in less time.
+RUST = {"DWCHECK_LIB_DIR": str(BUILD), "CARGO_TARGET_DIR": str(BUILD / "cargo-test"), "CARGO_PROFILE_DEV_DEBUG": "0"}
 # How many seconds a stage may be silent before a line says that it goes on.
 SILENCE = 60
 
@@ -102,12 +103,12 @@ STAGES = [
     Stage("memory", "each request for memory refused in turn, in tests and in dwcheck",
           "bench/stress/refused_memory.py crates/dw_tests/out/dw_tests_tests build/dwcheck", counted_refusals),
     Stage("rust", "rust/dwcheck and its documentation, also under valgrind", "rust/dwcheck/run.sh", counted_by_cargo,
-          environment=RUST_LIBRARIES),
+          environment=RUST),
     Stage("elf", "rust/dwcheck-elf", "cd rust/dwcheck-elf && ../cargo.sh test", counted_by_cargo,
-          environment=RUST_LIBRARIES | {"DWCHECK": str(BUILD / "dwcheck")}),
-    Stage("lint", "clippy and rustfmt", "rust/lint.sh", counted_lines, progress="^(ok .*)", environment=RUST_LIBRARIES),
+          environment=RUST | {"DWCHECK": str(BUILD / "dwcheck")}),
+    Stage("lint", "clippy and rustfmt", "rust/lint.sh", counted_lines, progress="^(ok .*)", environment=RUST),
     Stage("examples", "frames of the examples beside those of gdb and eu-stack", "examples/run.sh", counted_lines,
-          progress="^(ok .*)", environment=RUST_LIBRARIES),
+          progress="^(ok .*)", environment=RUST),
     Stage("pages", "the commands in README.md and docs/", "bench/pages.py build/dwcheck --elf build/dwcheck-elf --slow", counted_pages,
           progress="^(.*): [0-9]+ commands, .*"),
 ]
