@@ -92,10 +92,18 @@ def counted_pages(text):
     return Counts(passed, differing + re.findall(r"^(\S+: left out: .*)", text, re.MULTILINE))
 
 
+def lanes():
+    """How many proofs and wrong bodies `rt ci` is to try side by side. By itself it lets processors
+    idle while the proof of dw_tests runs, for which it expects to need all memory. That proof takes
+    13 GB, and each of the others takes 2 GB or less."""
+    gigabytes = os.sysconf("SC_PAGE_SIZE") * os.sysconf("SC_PHYS_PAGES") / 1e9
+    return max(1, min(len(os.sched_getaffinity(0)), int((gigabytes - 15) / 2)))
+
+
 STAGES = [
     Stage("proofs", "every proof, the wrong bodies, the tests in Rattle", "rt ci", counted_by_rt,
           progress=r"^rt: (\w+(?:: its tests are)? (?:NOT )?proved|\w+(?= is kept)|\w+: trying its must-fail edits.*)",
-          needs_build=False),
+          needs_build=False, environment={"RT_JOBS": str(lanes())}),
     Stage("build", "the programs and the libraries", "make -s all && echo 'ok build' || echo 'FAILED build'", counted_lines,
           progress="^(proving .*)", needs_build=False),
     Stage("c", "the C library, with sanitizers and valgrind", "c/tests/run.sh", counted_lines, progress="^(ok .*)",
