@@ -47,6 +47,7 @@ library_over_proved_crates() {
         fi
     done
     cd crates/dwcheck_c
+    mkdir -p out
     "$kit/bin/rattle" build --crate-name dwcheck_c src/lib.rt --crate-type staticlib "${words[@]}" \
         -L "dependency=$kit/rlibs" --antt-project "$kit/rattle/logic/antt-project.json" \
         --logic-built "$kit/logic_built" --toolchain "$kit/toolchain" --backend llvm --jobs 2 \
