@@ -4,9 +4,10 @@
     tools/test.py [STAGE]..
 
 First it installs the Debian packages that are missing (tools/packages.sh). Then it runs the stages
-below, or only those that are named. Each prints a line when it begins, a line now and then while it
-runs, and a line with its counts when it ends. Its whole output goes to build/test/STAGE.log. The
-last line is `N passed, M failed`, the sum of all stages. A test that can't run is a failure, except
+below, or only those that are named: the first two one after the other, and then the others side by
+side. Each prints a line when it begins, a line now and then while it runs, and a line with its
+counts when it ends. Its whole output goes to build/test/STAGE.log. The last line is
+`N passed, M failed`, the sum of all stages. A test that can't run is a failure, except
 where the machine forbids perf or ptrace: then a line that begins with `note:` says what ran instead.
 
 The tests of Rust use Debian's cargo, so that results don't depend on other versions on the machine.
@@ -19,6 +20,7 @@ import subprocess
 import sys
 import threading
 import time
+from concurrent.futures import ThreadPoolExecutor
 from dataclasses import dataclass, field
 from typing import Callable
 
@@ -49,7 +51,7 @@ class Stage:
     command: str
     count: Callable[[str], Counts]
     progress: str = r"(?!)"
-    needs_build: bool = True
+    uses_build: bool = True
     environment: dict = field(default_factory=dict)
 
     @property
@@ -100,39 +102,42 @@ def lanes():
     return max(1, min(len(os.sched_getaffinity(0)), int((gigabytes - 15) / 2)))
 
 
+# Of those that run side by side, the longest come first.
 STAGES = [
     Stage("proofs", "every proof, the wrong bodies, the tests in Rattle", "rt ci", counted_by_rt,
           progress=r"^rt: (\w+(?:: its tests are)? (?:NOT )?proved|\w+(?= is kept)|\w+: trying its must-fail edits.*)",
-          needs_build=False, environment={"RT_JOBS": str(lanes())}),
+          uses_build=False, environment={"RT_JOBS": str(lanes())}),
     Stage("build", "the programs and the libraries", "make -s all && echo 'ok build' || echo 'FAILED build'", counted_lines,
-          progress="^(proving .*)", needs_build=False),
-    Stage("c", "the C library, with sanitizers and valgrind", "c/tests/run.sh", counted_lines, progress="^(ok .*)",
-          environment={"LIBRARY": str(BUILD / "libdwcheck.a")}),
-    Stage("memory", "each request for memory refused in turn, in tests and in dwcheck",
-          "bench/stress/refused_memory.py crates/dw_tests/out/dw_tests_tests build/dwcheck", counted_refusals),
+          progress="^(proving .*)", uses_build=False),
     Stage("rust", "rust/dwcheck and its documentation, also under valgrind", "rust/dwcheck/run.sh", counted_by_cargo,
           environment=RUST),
-    Stage("elf", "rust/dwcheck-elf", "cd rust/dwcheck-elf && ../cargo.sh test", counted_by_cargo,
-          environment=RUST | {"DWCHECK": str(BUILD / "dwcheck")}),
-    Stage("lint", "clippy and rustfmt", "rust/lint.sh", counted_lines, progress="^(ok .*)", environment=RUST),
-    Stage("examples", "frames of the examples beside those of gdb and eu-stack", "examples/run.sh", counted_lines,
-          progress="^(ok .*)", environment=RUST),
     Stage("pages", "the commands in README.md and docs/", "bench/pages.py build/dwcheck --elf build/dwcheck-elf --slow", counted_pages,
           progress="^(.*): [0-9]+ commands, .*"),
+    Stage("elf", "rust/dwcheck-elf", "cd rust/dwcheck-elf && ../cargo.sh test", counted_by_cargo,
+          environment=RUST | {"DWCHECK": str(BUILD / "dwcheck")}),
+    Stage("memory", "each request for memory refused in turn, in tests and in dwcheck",
+          "bench/stress/refused_memory.py crates/dw_tests/out/dw_tests_tests build/dwcheck", counted_refusals),
+    Stage("c", "the C library, with sanitizers and valgrind", "c/tests/run.sh", counted_lines, progress="^(ok .*)",
+          environment={"LIBRARY": str(BUILD / "libdwcheck.a")}),
+    Stage("examples", "frames of the examples beside those of gdb and eu-stack", "examples/run.sh", counted_lines,
+          progress="^(ok .*)", environment=RUST),
+    Stage("lint", "clippy and rustfmt", "rust/lint.sh", counted_lines, progress="^(ok .*)", environment=RUST),
 ]
 
 
 class Reporter:
-    """Prints lines with the time since the beginning."""
+    """Prints lines with the time since the beginning. Stages that run side by side share it."""
 
     def __init__(self):
         self.begun = time.monotonic()
         self.last = self.begun
+        self.lock = threading.Lock()
 
-    def say(self, text):
-        self.last = time.monotonic()
-        seconds = int(self.last - self.begun)
-        print(f"{seconds // 60:3d}:{seconds % 60:02d} {text}", flush=True)
+    def say(self, *lines):
+        with self.lock:
+            self.last = time.monotonic()
+            seconds = int(self.last - self.begun)
+            print(f"{seconds // 60:3d}:{seconds % 60:02d} " + "\n       ".join(lines), flush=True)
 
 
 def environment_of(stage):
@@ -177,34 +182,48 @@ def run(stage, reporter):
 
 def show(stage, counts, reporter):
     """Prints the counts of a stage that ended, and for failures their names and the end of the log."""
-    reporter.say(f"{stage.name}: {counts.passed} passed, {len(counts.failed)} failed")
+    lines = [f"{stage.name}: {counts.passed} passed, {len(counts.failed)} failed"]
     if counts.failed:
-        for line in stage.log.read_text(encoding="utf-8").splitlines()[-20:]:
-            print(f"       | {line}")
-        for name in counts.failed:
-            print(f"       FAILED {stage.name}: {name}")
-        print(f"       the whole log: {stage.log.relative_to(TOP)}", flush=True)
+        lines += [f"| {line}" for line in stage.log.read_text(encoding="utf-8").splitlines()[-20:]]
+        lines += [f"FAILED {stage.name}: {name}" for name in counts.failed]
+        lines.append(f"the whole log: {stage.log.relative_to(TOP)}")
+    reporter.say(*lines)
+
+
+def run_and_show(stage, reporter):
+    """Runs a stage, prints its counts, and returns them."""
+    reporter.say(f"{stage.name}: {stage.what}")
+    counts = run(stage, reporter)
+    show(stage, counts, reporter)
+    return counts
+
+
+def note_what_is_proved():
+    """Writes a checksum of what `rt ci` has proved, for tools/build.sh."""
+    proved = subprocess.run(["tools/build.sh", "sum"], cwd=TOP, capture_output=True, text=True, check=True)
+    (BUILD / "proved").write_text(proved.stdout, encoding="utf-8")
 
 
 def run_all(stages, reporter):
-    """Runs the stages. Returns how many tests passed, and how many failed."""
-    passed = failed = 0
-    is_built = True
+    """Runs the stages. Returns how many tests passed, and how many failed. Those that use what is
+    built run side by side. Most of the time they wait for one processor each."""
+    results = []
     for stage in stages:
-        if stage.needs_build and not is_built:
-            counts = Counts(0, ["not run, since build failed"])
-            stage.log.write_text("", encoding="utf-8")
-        else:
-            reporter.say(f"{stage.name}: {stage.what}")
-            counts = run(stage, reporter)
-        show(stage, counts, reporter)
-        if stage.name == "proofs" and not counts.failed:
-            proved = subprocess.run(["tools/build.sh", "sum"], cwd=TOP, capture_output=True, text=True, check=True)
-            (BUILD / "proved").write_text(proved.stdout, encoding="utf-8")
-        is_built = is_built and not (stage.name == "build" and counts.failed)
-        passed += counts.passed
-        failed += len(counts.failed)
-    return passed, failed
+        if not stage.uses_build:
+            results.append(run_and_show(stage, reporter))
+            if stage.name == "proofs" and not results[-1].failed:
+                note_what_is_proved()
+            if stage.name == "build" and results[-1].failed:
+                others = [other.name for other in stages if other.uses_build]
+                reporter.say("not run, since build failed: " + " ".join(others))
+                return total_of([*results, Counts(0, others)])
+    with ThreadPoolExecutor(max_workers=len(os.sched_getaffinity(0))) as pool:
+        results += pool.map(lambda stage: run_and_show(stage, reporter), (stage for stage in stages if stage.uses_build))
+    return total_of(results)
+
+
+def total_of(results):
+    return sum(counts.passed for counts in results), sum(len(counts.failed) for counts in results)
 
 
 def prepare():
