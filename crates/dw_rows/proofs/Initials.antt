@@ -1,17 +1,19 @@
 -- Rule sets that share one list of entries, and the rules that a section's CIEs leave.
 use Rattle.std.proofs.Common.{◌≡◌, ℕ, zero, suc, ◌≤◌, List, [], ◌∷◌, ◌++◌, length, drop, Some, None, refl, sym, ap, ◌∙◌, subst, arith}
 use Rattle.std.specs.Prelude.{slice_get, slice_range}
-use Rattle.std.proofs.lemmas.List.{map-append, length-append, take-append-le, drop_at}
+use Rattle.std.proofs.lemmas.List.{map-append, length-append, length-map, take-append-le, drop_at}
+use Rattle.std.proofs.lemmas.List.Sums.{sum_by-append}
 use Rattle.std.proofs.lemmas.Slice.{between_is, between_to_end}
+use Rattle.std.specs.List.{sum_by}
 use Rattle.dw_frame.specs.Records.{Cie}
 use Rattle.dw_rows.specs.declared.map.RuleEntry.{RuleEntry}
 use Rattle.dw_rows.specs.declared.map.TheConstants.{MAX_RULES}
 use Rattle.dw_rows.specs.declared.initial_rules.RuleSpan.{RuleSpan}
 use Rattle.dw_rows.specs.Rules.{IsTable}
 use Rattle.dw_rows.specs.RuleSet.{KeptRules}
-use Rattle.dw_rows.specs.Views.{entries_of}
+use Rattle.dw_rows.specs.Views.{entry_of, entries_of}
 use Rattle.dw_rows.specs.ProgramState.{IsLeftBy}
-use Rattle.dw_rows.specs.Initial.{AreLeftBy, kept_in_span, kept_in_spans, IsSpan, AreSpans}
+use Rattle.dw_rows.specs.Initial.{AreLeftBy, kept_in_span, kept_in_spans, IsSpan, AreSpans, AreAllEntries}
 
 -- ---- more entries at the end
 
@@ -29,11 +31,11 @@ span-grown entries more s h = record {
   table = subst (λ l. IsTable 0 (entries_of l)) (sym (range-front entries more s.start s.end h.within)) h.table;
 }
 
-pub spans-grown : (entries more : List RuleEntry) (spans : List RuleSpan) → AreSpans entries spans → AreSpans (entries ++ more) spans
+spans-grown : (entries more : List RuleEntry) (spans : List RuleSpan) → AreSpans entries spans → AreSpans (entries ++ more) spans
 spans-grown entries more [] all = tt
 spans-grown entries more (s ∷ spans) all = (span-grown entries more s all.0, spans-grown entries more spans all.1)
 
-pub kept-grown : (entries more : List RuleEntry) (spans : List RuleSpan) → AreSpans entries spans
+kept-grown : (entries more : List RuleEntry) (spans : List RuleSpan) → AreSpans entries spans
     → kept_in_spans (entries ++ more) spans ≡ kept_in_spans entries spans
 kept-grown entries more [] all = refl
 kept-grown entries more (s ∷ spans) all =
@@ -51,13 +53,13 @@ spans-one entries [] s all one = (one, tt)
 spans-one entries (x ∷ spans) s all one = (all.0, spans-one entries spans s all.1 one)
 
 -- the entries `more` of one more rule set, and their span s, were added at the end: all spans are
--- still valid, and they stand for one more rule set
+-- still valid, they stand for one more rule set, and there are no other entries
 pub record Pushed (entries more : List RuleEntry) (spans : List RuleSpan) (s : RuleSpan) : Type 0 where
-  pub are : AreSpans (entries ++ more) (spans ++ s ∷ [])
+  pub are : AreAllEntries (entries ++ more) (spans ++ s ∷ [])
   pub kept : kept_in_spans (entries ++ more) (spans ++ s ∷ []) ≡ kept_in_spans entries spans
       ++ record { cfa = (kept_in_span entries s).cfa; rules = entries_of more } ∷ []
 
-pub pushed : (entries more : List RuleEntry) (spans : List RuleSpan) (s : RuleSpan) → AreSpans entries spans → s.start ≡ length entries
+pub pushed : (entries more : List RuleEntry) (spans : List RuleSpan) (s : RuleSpan) → AreAllEntries entries spans → s.start ≡ length entries
     → s.end ≡ length (entries ++ more) → length more ≤ MAX_RULES → IsTable 0 (entries_of more) → Pushed entries more spans s
 pushed entries more spans s all here there few table =
     let long = length-append entries more in
@@ -70,11 +72,24 @@ pushed entries more spans s all here there few table =
     } in
     let last : kept_in_span (entries ++ more) s ≡ record { cfa = (kept_in_span entries s).cfa; rules = entries_of more } =
     ap (λ l. record { cfa = (kept_in_span entries s).cfa; rules = entries_of l }) rules in
+    let added : KeptRules = record { cfa = (kept_in_span entries s).cfa; rules = entries_of more } in
+    let kept : kept_in_spans (entries ++ more) (spans ++ s ∷ []) ≡ kept_in_spans entries spans ++ added ∷ [] =
+    map-append (kept_in_span (entries ++ more)) spans (s ∷ [])
+    ∙ (ap (λ l. l ++ kept_in_span (entries ++ more) s ∷ []) (kept-grown entries more spans all.lie)
+    ∙ ap (λ k. kept_in_spans entries spans ++ k ∷ []) last) in
     record {
-      are = spans-one (entries ++ more) spans s (spans-grown entries more spans all) one;
-      kept = map-append (kept_in_span (entries ++ more)) spans (s ∷ [])
-          ∙ (ap (λ l. l ++ kept_in_span (entries ++ more) s ∷ []) (kept-grown entries more spans all)
-          ∙ ap (λ k. kept_in_spans entries spans ++ k ∷ []) last);
+      are = record {
+        lie = spans-one (entries ++ more) spans s (spans-grown entries more spans all.lie) one;
+        together = omega (
+          arith,
+          all.together,
+          long,
+          ap (λ (l : List KeptRules). sum_by (λ k. length k.rules) l) kept,
+          sum_by-append (λ (k : KeptRules). length k.rules) (kept_in_spans entries spans) (added ∷ []),
+          length-map more entry_of,
+        );
+      };
+      kept = kept;
     }
 
 -- ---- the rules that the CIEs leave, in order

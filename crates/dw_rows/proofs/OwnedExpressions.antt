@@ -1,8 +1,10 @@
 -- Checked expressions whose bytes are stored together in one array.
 use Rattle.std.proofs.Common.{◌≡◌, ℕ, zero, suc, ◌+◌, ◌<◌, ◌≤◌, List, [], ◌∷◌, ◌++◌, length, get_or, take, drop, refl, sym, ap, ◌∙◌, subst, arith}
-use Rattle.std.proofs.lemmas.List.{length-append, length-drop, drop-append-le, take-append-le}
+use Rattle.std.proofs.lemmas.List.{length-append, length-drop, drop-append-le, map-append, take-append-le}
+use Rattle.std.proofs.lemmas.List.Sums.{sum_by-append}
 use Rattle.std.proofs.Math.Seq.{drop-append_seam, take-length}
 use Rattle.std.specs.Prelude.{Some, None, Ok, Err}
+use Rattle.std.specs.List.{sum_by}
 use Rattle.std.specs.List.Sorted.{IsBinarySearchResult}
 use Rattle.std.specs.Ordering.{nat_cmp}
 use Rattle.dw_bytes.specs.declared.target.Target.{Target}
@@ -16,7 +18,7 @@ use Rattle.dw_rows.specs.ExpressionOrder.{expression_offset}
 use Rattle.dw_rows.proofs.Search.{searched-found, searched-none, ascending-same}
 use Rattle.dw_rows.proofs.Elements.{ascending-back, contains-map, contained-map}
 use Rattle.dw_rows.proofs.ExpressionOrder.{found-at, absent-at}
-use Rattle.dw_rows.specs.OwnedExpressions.{bytes_in, owned_in, all_owned, IsOwned, AreOwned}
+use Rattle.dw_rows.specs.OwnedExpressions.{bytes_in, owned_in, all_owned, IsOwned, AreOwned, AreAllBytes}
 
 -- ---- more bytes at the end
 
@@ -37,7 +39,7 @@ bytes-behind bytes more start many at long =
 abbrev located_with : OwnedExpression → List ℕ → LocatedExpression
 located_with k bytes = record { offset = k.offset; kind = k.kind; target = k.target; bytes = bytes }
 
-pub all-grown : (bytes more : List ℕ) (kept : List OwnedExpression) → AreOwned bytes kept
+all-grown : (bytes more : List ℕ) (kept : List OwnedExpression) → AreOwned bytes kept
     → all_owned (bytes ++ more) kept ≡ all_owned bytes kept
 all-grown bytes more [] are = refl
 all-grown bytes more (k ∷ kept) are =
@@ -51,14 +53,36 @@ one-grown bytes more k is = record {
       (sym (bytes-grown bytes more k is.inside)) is.checked;
 }
 
-pub are-grown : (bytes more : List ℕ) (kept : List OwnedExpression) → AreOwned bytes kept → AreOwned (bytes ++ more) kept
+are-grown : (bytes more : List ℕ) (kept : List OwnedExpression) → AreOwned bytes kept → AreOwned (bytes ++ more) kept
 are-grown bytes more [] are = tt
 are-grown bytes more (k ∷ kept) are = (one-grown bytes more k are.0, are-grown bytes more kept are.1)
 
-pub are-more : (bytes : List ℕ) (kept : List OwnedExpression) (k : OwnedExpression) → AreOwned bytes kept → IsOwned bytes k
+are-more : (bytes : List ℕ) (kept : List OwnedExpression) (k : OwnedExpression) → AreOwned bytes kept → IsOwned bytes k
     → AreOwned bytes (kept ++ k ∷ [])
 are-more bytes [] k are is = (is, tt)
 are-more bytes (x ∷ kept) k are is = (are.0, are-more bytes kept k are.1 is)
+
+-- one more expression: all expressions, if the bytes of `k` were added at the end
+pub one-more : (bytes more : List ℕ) (kept : List OwnedExpression) (k : OwnedExpression) → AreOwned bytes kept
+    → all_owned (bytes ++ more) (kept ++ k ∷ []) ≡ all_owned bytes kept ++ owned_in (bytes ++ more) k ∷ []
+one-more bytes more kept k are =
+    map-append (owned_in (bytes ++ more)) kept (k ∷ [])
+    ∙ ap (λ (l : List LocatedExpression). l ++ owned_in (bytes ++ more) k ∷ []) (all-grown bytes more kept are)
+
+-- if exactly the bytes of `k` were added, the array still holds nothing else
+pub all-bytes-more : (bytes more : List ℕ) (kept : List OwnedExpression) (k : OwnedExpression) → AreAllBytes bytes kept
+    → IsOwned (bytes ++ more) k → bytes_in (bytes ++ more) k ≡ more → AreAllBytes (bytes ++ more) (kept ++ k ∷ [])
+all-bytes-more bytes more kept k all is same = record {
+  owned = are-more (bytes ++ more) kept k (are-grown bytes more kept all.owned) is;
+  together = omega (
+    arith,
+    all.together,
+    length-append bytes more,
+    ap (λ (l : List LocatedExpression). sum_by (λ e. length e.bytes) l) (one-more bytes more kept k all.owned),
+    sum_by-append (λ (e : LocatedExpression). length e.bytes) (all_owned bytes kept) (owned_in (bytes ++ more) k ∷ []),
+    ap (λ (l : List ℕ). length l) same,
+  );
+}
 
 -- the stored expression at an index has its bytes in the array, and passed its check (`IsOwned`)
 pub owned-at : (bytes : List ℕ) (kept : List OwnedExpression) (n : ℕ) (k : OwnedExpression) → AreOwned bytes kept → n < length kept

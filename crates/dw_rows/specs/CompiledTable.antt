@@ -28,6 +28,12 @@ paired [] sets = []
 paired (start ∷ starts) [] = []
 paired (start ∷ starts) (set ∷ sets) = record { start = start; set = set } ∷ paired starts sets
 
+-- The lists that the entries of a table are stored in: as many starts as rule set numbers, and at
+-- most two counts more than starts. The counts tell a look-up where to begin.
+pub record AreEntryLists (starts sets counts : List ℕ) : Type 0 where
+  pub even : length starts ≡ length sets
+  pub few : length counts ≤ length starts + 2
+
 -- ---- rows by where they begin
 
 -- a rule set, and the return address register of the rows that have the rule set

@@ -1,8 +1,8 @@
 -- The rules that the initial instructions of CIEs leave, as a checked section stores them. No
 -- contract of a public call uses this file.
-use Rattle.std.specs.Prelude.{◌+◌, ◌≤◌, List, [], ◌∷◌, length, map, slice_range}
+use Rattle.std.specs.Prelude.{◌≡◌, ◌+◌, ◌≤◌, List, [], ◌∷◌, length, map, slice_range}
 use Rattle.std.specs.Option.{option_map}
-use Rattle.std.specs.List.{AllByRecursion}
+use Rattle.std.specs.List.{AllByRecursion, sum_by}
 use Rattle.dw_frame.specs.Records.{Cie}
 use Rattle.dw_rows.specs.declared.map.RuleEntry.{RuleEntry}
 use Rattle.dw_rows.specs.declared.map.TheConstants.{MAX_RULES}
@@ -38,3 +38,9 @@ pub record IsSpan (entries : List RuleEntry) (s : RuleSpan) : Type 0 where
 
 abbrev pub AreSpans : List RuleEntry → List RuleSpan → Type 0
 AreSpans entries spans = AllByRecursion (IsSpan entries) spans
+
+-- The array `entries` holds the register rules of these rule sets, and nothing else: it is as long
+-- as the register rules of all sets together.
+pub record AreAllEntries (entries : List RuleEntry) (spans : List RuleSpan) : Type 0 where
+  pub lie : AreSpans entries spans
+  pub together : length entries ≡ sum_by (λ k. length k.rules) (kept_in_spans entries spans)

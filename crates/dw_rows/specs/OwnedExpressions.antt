@@ -1,7 +1,7 @@
 -- Checked expressions, stored together with a copy of their bytes. No contract of a public call
 -- uses this file.
-use Rattle.std.specs.Prelude.{◌≤◌, ℕ, ◌+◌, List, length, map, take, drop}
-use Rattle.std.specs.List.{AllByRecursion}
+use Rattle.std.specs.Prelude.{◌≡◌, ◌≤◌, ℕ, ◌+◌, List, length, map, take, drop}
+use Rattle.std.specs.List.{AllByRecursion, sum_by}
 use Rattle.dw_stack.specs.Expressions.{IsChecked}
 use Rattle.dw_stack.specs.Located.{LocatedExpression}
 use Rattle.dw_rows.specs.declared.owned_expressions.OwnedExpression.{OwnedExpression}
@@ -24,3 +24,9 @@ pub record IsOwned (bytes : List ℕ) (k : OwnedExpression) : Type 0 where
 
 abbrev pub AreOwned : List ℕ → List OwnedExpression → Type 0
 AreOwned bytes kept = AllByRecursion (IsOwned bytes) kept
+
+-- The array `bytes` holds the bytes of these expressions, and nothing else: it is as long as all
+-- expressions together.
+pub record AreAllBytes (bytes : List ℕ) (kept : List OwnedExpression) : Type 0 where
+  pub owned : AreOwned bytes kept
+  pub together : length bytes ≡ sum_by (λ e. length e.bytes) (all_owned bytes kept)

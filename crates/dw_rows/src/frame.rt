@@ -10,7 +10,7 @@ ghost use Rattle.dw_bytes.specs.Answers.{Judges, Answers, fault_in};
 ghost use Rattle.dw_rows.specs.Judgement.{cie_fault, fde_fault};
 ghost use Rattle.dw_rows.specs.Section.{IsCoverOf, first_fault, overlap_fault, programs_fault, parts_fault, section_fault, IsChecked};
 ghost use Rattle.dw_rows.specs.Section.{frame_of, cie_in, placed_rows, rows_in, row_count, row_of};
-ghost use Rattle.std.specs.List.{flat_map};
+ghost use Rattle.std.specs.List.{flat_map, sum_by};
 ghost use Rattle.dw_rows.specs.Overlap.{cie_offset, fde_offset, IsAddressIndex};
 ghost use Rattle.dw_frame.specs.Bounds.{Ascends};
 ghost use Rattle.dw_rows.specs.ProgramState.{IsLeftBy};
@@ -19,7 +19,7 @@ ghost use Rattle.dw_stack.specs.Located.{all_located};
 ghost use Rattle.dw_rows.specs.Expressions.{cie_expressions, frame_expressions};
 ghost use Rattle.dw_rows.specs.BorrowedExpressions.{borrowed_by};
 ghost use Rattle.dw_rows.specs.LentExpressions.{lent_by};
-ghost use Rattle.dw_rows.specs.UnwindTables.{IsTableOf, table_bytes};
+ghost use Rattle.dw_rows.specs.UnwindTables.{IsTableOf, expression_bytes, table_bytes};
 ghost use Rattle.dw_rows.specs.RowCursors.{Lends};
 
 use crate::borrowed_expressions::BorrowedExpressions;
@@ -374,11 +374,12 @@ impl<'a> CheckedFrame<'a> {
     ///
     /// `room` bounds what the table stores, counted as 16 bytes for each entry (each row has one,
     /// and so has each gap after a row), 64 for each rule set and 16 for each of its register
-    /// rules, and 24 for each expression and its length (clause `stored`). The arrays of a finished
-    /// table take at most that, and 8 bytes more: the two extra counts of a look-up's search
-    /// blocks. While the table is made, more memory is in use that isn't counted: the spare
-    /// capacity of arrays that grow, their copies without spare capacity, and 16 KB by which equal
-    /// rules are found again.
+    /// rules, and 24 for each expression and its length (clause `stored`). Each row of the table and
+    /// each expression of the section is counted (clause `counted`). The arrays of the table hold
+    /// nothing else, except for 8 bytes: two counts of a look-up's search blocks. That they have no
+    /// spare capacity is tested, not proved. While the table is made, more memory is in use that
+    /// isn't counted: the spare capacity of arrays that grow, the copies that they are cut to, and
+    /// 16 KB by which equal rules are found again.
     ///
     /// `Ok(None)` means that the sum would be more than `room`, and that no table was made. The
     /// rows of a section of N bytes may take 700 times N bytes. The result is never `Ok(None)` if
@@ -393,6 +394,8 @@ impl<'a> CheckedFrame<'a> {
         ensures table { IfOk result (λ made. IfSome made (IsTableOf self.now)) }
         ensures room { IfOk result
             (λ made. IfSome made (λ table. 16 * length table.rows ≤ room)) }
+        ensures counted { IfOk result (λ made. IfSome made (λ table. 16 * length table.rows
+            + sum_by expression_bytes self.now.expressions ≤ table.bytes)) }
         ensures stored { IfOk result (λ made. IfSome made (λ table. table.bytes ≤ room)) }
         ensures none { IfOk result (λ made. IfNone made (room < table_bytes self.now)) }
         ensures memory { IfErr result (λ fault. fault ≡ OUT_OF_MEMORY) }

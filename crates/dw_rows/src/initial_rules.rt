@@ -37,11 +37,11 @@ impl Model for InitialRules {
 
     ghost Value = { List KeptRules };
 
-    ghost use Rattle.dw_rows.specs.Initial.{kept_in_spans, AreSpans};
+    ghost use Rattle.dw_rows.specs.Initial.{kept_in_spans, AreAllEntries};
 
     ghost view = { λ r. kept_in_spans r.entries.items r.spans.items };
 
-    ghost invariant = { λ r. AreSpans r.entries.items r.spans.items };
+    ghost invariant = { λ r. AreAllEntries r.entries.items r.spans.items };
 }
 
 impl InitialRules {
@@ -69,12 +69,14 @@ impl InitialRules {
             end: self.entries.len(),
         };
         if self.spans.push(span).is_err() {
+            self.entries.truncate(start);
             return Err(AllocError);
         }
         Ok(())
     }
 
-    /// Moves the list into arrays without spare capacity.
+    /// Copies the list into new arrays, so that no capacity is spare. The contract doesn't say so:
+    /// it speaks only of the elements.
     pub fn cut(&mut self, alloc: Global) -> Result<(), AllocError>
         ensures { self.new ≡ self.old }
     {

@@ -54,11 +54,11 @@ impl Model for ExpressionList {
 
     ghost Value = { List LocatedExpression };
 
-    ghost use Rattle.dw_rows.specs.OwnedExpressions.{all_owned, AreOwned};
+    ghost use Rattle.dw_rows.specs.OwnedExpressions.{all_owned, AreAllBytes};
 
     ghost view = { λ l. all_owned l.bytes.items l.kept.items };
 
-    ghost invariant = { λ l. AreOwned l.bytes.items l.kept.items };
+    ghost invariant = { λ l. AreAllBytes l.bytes.items l.kept.items };
 }
 
 impl ExpressionList {
@@ -93,11 +93,15 @@ impl ExpressionList {
             target: checked.expression().target(),
         };
         self.bytes.extend_from_slice(bytes)?;
-        self.kept.push(kept)?;
+        if self.kept.push(kept).is_err() {
+            self.bytes.truncate(start as usize);
+            return Err(AllocError);
+        }
         Ok(())
     }
 
-    /// Moves the list into arrays without spare capacity.
+    /// Copies the list into new arrays, so that no capacity is spare. The contract doesn't say so:
+    /// it speaks only of the elements.
     pub fn cut(&mut self, alloc: Global) -> Result<(), AllocError>
         ensures { self.new ≡ self.old }
     {

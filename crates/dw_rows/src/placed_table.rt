@@ -23,9 +23,11 @@ use dw_frame::FrameDescriptionEntry;
 use std::alloc::Global;
 use std::marker::Model;
 
-/// How many bytes of the room an entry uses up, not counting its rule set. The memory of an entry,
-/// with its share of the counts in `Blocks`, is at most this.
+/// How many bytes of the room an entry uses up, not counting its rule set. Its start, the number of
+/// its rule set and a count in `Blocks` take at most this.
 pub const ROW_ROOM: usize = 16;
+
+const _: () = prove!(size_of::<u64>() + size_of::<u32>() + size_of::<u32>() <= ROW_ROOM);
 
 /// A compiled table while it is being filled.
 #[derive(Drop)]
@@ -187,8 +189,8 @@ impl Model for PlacedTable {
 }
 
 impl PlacedTable {
-    /// Compiles the rows of a checked section into at most `room` bytes. The spare capacity that
-    /// arrays have while they grow isn't counted.
+    /// Compiles the rows of a checked section into at most `room` bytes. Spare capacity of arrays
+    /// isn't counted.
     pub fn of(frame: &CheckedFrame<'_>, alloc: Global, room: usize) -> Result<Self, Unmade>
         ensures rows { IfOk result (λ table. ArePlacedRows frame.now table.rows) }
         ensures few { IfOk result (λ table. 16 * length table.rows ≤ table.bytes) }

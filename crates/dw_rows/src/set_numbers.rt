@@ -70,7 +70,8 @@ impl SetNumbers {
         self.wide.clear();
     }
 
-    /// Moves the list into arrays without spare capacity.
+    /// Copies the list into new arrays, so that no capacity is spare. The contract doesn't say so:
+    /// it speaks only of the elements.
     pub fn cut(&mut self, alloc: Global) -> Result<(), AllocError>
         ensures { self.new ≡ self.old }
     {

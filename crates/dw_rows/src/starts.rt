@@ -1,6 +1,6 @@
 //! A compact list of the addresses at which the entries of a compiled table begin.
 
-ghost use Rattle.std.specs.Prelude.{◌≡◌, ◌+◌, ◌<◌, [], ◌∷◌, ◌++◌, IfSome, IsTrue, MatchResult, length, slice_index_or, ℕ};
+ghost use Rattle.std.specs.Prelude.{◌≡◌, ◌+◌, ◌<◌, ◌≤◌, [], ◌∷◌, ◌++◌, IfSome, IsTrue, MatchResult, length, slice_index_or, ℕ};
 
 use std::alloc::{AllocError, Global};
 use std::marker::Model;
@@ -80,7 +80,8 @@ impl Starts {
         self.far.clear();
     }
 
-    /// Moves the list into arrays without spare capacity.
+    /// Copies the list into new arrays, so that no capacity is spare. The contract doesn't say so:
+    /// it speaks only of the elements.
     pub fn cut(&mut self, alloc: Global) -> Result<(), AllocError>
         ensures { self.new ≡ self.old }
     {
@@ -117,7 +118,9 @@ impl Starts {
     /// `base`, and the distances from `base` of the addresses that are stored in four bytes. Those
     /// are the first addresses of the list.
     #[inline(always)]
-    pub fn near(&self) -> (u64, &[u32]) {
+    pub fn near(&self) -> (u64, &[u32])
+        ensures { length (result.1).now ≤ length self.now }
+    {
         (self.base, self.near.as_slice())
     }
 }

@@ -1,9 +1,10 @@
 //! All rows of a checked section in order of address, compiled into a table that makes look-ups
 //! fast.
 
-ghost use Rattle.std.specs.Prelude.{◌≡◌, ◌*◌, ◌≤◌, IfOk, IfErr, IfSome, length};
+ghost use Rattle.std.specs.Prelude.{◌≡◌, ◌+◌, ◌*◌, ◌≤◌, IfOk, IfErr, IfSome, length};
 ghost use Rattle.std.specs.Option.{option_map};
-ghost use Rattle.dw_rows.specs.UnwindTables.{row_at, table_bytes, IsTableOf, IsRowUnder};
+ghost use Rattle.std.specs.List.{sum_by};
+ghost use Rattle.dw_rows.specs.UnwindTables.{row_at, expression_bytes, table_bytes, IsTableOf, IsRowUnder};
 ghost use Rattle.dw_rows.specs.CompiledTable.{LacksRoom};
 
 use crate::expressions::LentExpressions;
@@ -65,6 +66,8 @@ impl UnwindTable {
     pub(crate) fn of(frame: &CheckedFrame<'_>, alloc: Global, room: usize) -> Result<Self, Unmade>
         ensures table { IfOk result (IsTableOf frame.now) }
         ensures room { IfOk result (λ table. 16 * length table.rows ≤ room) }
+        ensures counted { IfOk result (λ table. 16 * length table.rows
+            + sum_by expression_bytes frame.now.expressions ≤ table.bytes) }
         ensures stored { IfOk result (λ table. table.bytes ≤ room) }
         ensures short { IfErr result (λ why. LacksRoom why room (table_bytes frame.now)) }
     {

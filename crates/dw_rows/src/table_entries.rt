@@ -1,6 +1,6 @@
 //! The entries of a compiled table. They say which rules hold from which address on.
 
-ghost use Rattle.std.specs.Prelude.{◌≡◌, ◌<◌, ◌≤◌, [], ◌∷◌, ◌++◌, IfOk, length, slice_get, slice_index_or, Some, ℕ};
+ghost use Rattle.std.specs.Prelude.{◌≡◌, ◌+◌, ◌<◌, ◌≤◌, [], ◌∷◌, ◌++◌, IfOk, length, slice_get, slice_index_or, Some, ℕ};
 ghost use Rattle.std.specs.Bool.{OnTrue};
 ghost use Rattle.std.specs.Option.{option_map};
 ghost use Rattle.std.specs.List.Sorted.{IsNonDecreasingBy};
@@ -53,7 +53,10 @@ fn block_of(shift: u32, offset: u32) -> usize
 }
 
 /// Makes the blocks. `offsets` are the distances of the starts from the base, in ascending order.
-fn blocks_of(alloc: Global, offsets: &[u32]) -> Result<Blocks, AllocError> {
+/// There are at most two more counts than offsets, and usually far fewer.
+fn blocks_of(alloc: Global, offsets: &[u32]) -> Result<Blocks, AllocError>
+    ensures { IfOk result (λ blocks. length blocks.counts.items ≤ length offsets.now + 2) }
+{
     let last = match offsets.last() {
         Some(last) => *last,
         None => 0,
@@ -67,7 +70,7 @@ fn blocks_of(alloc: Global, offsets: &[u32]) -> Result<Blocks, AllocError> {
             let Ok(count) = u32::try_from(place) else {
                 return Err(AllocError);
             };
-            for _ in counts.len()..block + 1 {
+            while counts.len() <= block {
                 counts.push(count)?;
             }
         }
@@ -183,16 +186,16 @@ pub struct TableEntries {
 }
 
 impl Model for TableEntries {
-    ghost use Rattle.std.specs.Prelude.{◌≡◌, List, length};
+    ghost use Rattle.std.specs.Prelude.{List};
     ghost use Rattle.dw_rows.specs.declared.table_entries.TableEntry.{TableEntry};
 
     ghost Value = { List TableEntry };
 
-    ghost use Rattle.dw_rows.specs.CompiledTable.{paired};
+    ghost use Rattle.dw_rows.specs.CompiledTable.{paired, AreEntryLists};
 
     ghost view = { λ t. paired t.starts t.sets };
 
-    ghost invariant = { λ t. length t.starts ≡ length t.sets };
+    ghost invariant = { λ t. AreEntryLists t.starts t.sets t.blocks.counts.items };
 }
 
 /// How many starts are at or below `address`, by binary search.
@@ -229,7 +232,7 @@ impl TableEntries {
         }
     }
 
-    /// Moves the entries into arrays without spare capacity, and makes the blocks that speed up
+    /// Copies the entries into new arrays (`Starts::cut`), and makes the blocks that speed up
     /// look-ups.
     pub fn finish(&mut self, alloc: Global) -> Result<(), AllocError>
         ensures { self.new ≡ self.old }
@@ -251,6 +254,7 @@ impl TableEntries {
             Err(_) => {
                 self.starts.clear();
                 self.sets.clear();
+                self.blocks.counts.clear();
                 Err(AllocError)
             }
         }

@@ -31,7 +31,7 @@ new-requires-in-Ok c =
     let inside : c.in-Ok.place < length c.self.inside.kept.items =
     omega (arith, c.in-Ok.ensures.bound, ap (λ (l : List OwnedExpression). length l) c.deref.ensures.value) in
     let one : IsOwned c.self.inside.bytes.items k =
-    owned-at c.self.inside.bytes.items c.self.inside.kept.items c.in-Ok.place k c.self.invariant inside (sym c.index-kept.ensures) in
+    owned-at c.self.inside.bytes.items c.self.inside.kept.items c.in-Ok.place k c.self.invariant.owned inside (sym c.index-kept.ensures) in
     subst (λ (t : Target). IsChecked (record { kind = k.kind; target = t; bytes = bytes_of c.new.result; depth = k.depth; count = k.count }))
     (sym c.new.ensures.target)
     (subst (λ (l : List ℕ). IsChecked (record { kind = k.kind; target = k.target; bytes = l; depth = k.depth; count = k.count }))

@@ -1,5 +1,6 @@
 use Rattle.std.proofs.Common.{◌≡◌, ◌++◌, ◌∷◌, [], List, ℕ, length, take, drop, sym, ap, subst, ◌∙◌, arith}
-use Rattle.std.proofs.lemmas.List.{map-append, length-append}
+use Rattle.std.proofs.lemmas.List.{length-append}
+use Rattle.std.proofs.Math.Seq.{take-append_seam}
 use Rattle.dw_bytes.specs.declared.target.Target.{Target}
 use Rattle.dw_stack.specs.declared.state.Kind.{Kind}
 use Rattle.dw_stack.specs.Expressions.{IsChecked}
@@ -7,18 +8,23 @@ use Rattle.dw_stack.specs.Certificates.{checked_of}
 use Rattle.dw_stack.specs.Located.{LocatedExpression, located_of}
 use Rattle.dw_rows.specs.declared.owned_expressions.OwnedExpression.{OwnedExpression}
 use Rattle.dw_rows.specs.OwnedExpressions.{owned_in, IsOwned}
-use Rattle.dw_rows.proofs.OwnedExpressions.{bytes-behind, all-grown, are-grown, are-more, owned-checked}
+use Rattle.dw_rows.proofs.OwnedExpressions.{bytes-behind, one-more, all-bytes-more, owned-checked}
 use Rattle.dw_rows.proofs.owned_expressions.ExpressionList.push.Goals as goal
 
-pub invariant_of-self-in_err-push : goal.invariant_of-self-in_err-push
-invariant_of-self-in_err-push c =
-    let more : c.extend_from_slice.new.self.items ≡ c.self.inside.bytes.items ++ c.bytes-bytes.result.now =
-    c.in_ok-extend_from_slice.ensures.items in
-    let kept : c.push.new.self.items ≡ c.self.inside.kept.items = c.in_err-push.ensures.items in
-    rw (more, kept) (are-grown c.self.inside.bytes.items c.bytes-bytes.result.now c.self.inside.kept.items c.self.invariant)
+pub invariant_of-self-then-is_err : goal.invariant_of-self-then-is_err
+invariant_of-self-then-is_err c =
+    let bytes = c.self.inside.bytes.items in
+    let its = c.bytes-bytes.result.now in
+    let more : c.extend_from_slice.new.self.items ≡ bytes ++ its = c.in_ok-extend_from_slice.ensures.items in
+    let begins : c.in-Ok.start ≡ length bytes = omega (arith, c.in-Ok.ensures, c.len.ensures, c.self.inside.bytes.ok.0) in
+    let back : c.truncate.new.self.items ≡ bytes =
+    c.truncate.ensures.items ∙ ap (λ (l : List ℕ). take c.in-Ok.start l) more ∙ ap (λ (n : ℕ). take n (bytes ++ its)) begins
+    ∙ take-append_seam bytes its in
+    let kept : c.push.new.self.items ≡ c.self.inside.kept.items = rw c.if-is_err.ensures.negation at c.push.ensures.items in
+    rw (back, kept) c.self.invariant
 
 -- the entry that is added
-abbrev one : goal.In_ok-push → OwnedExpression
+abbrev one : goal.Else-is_err → OwnedExpression
 one c = record {
   offset = c.args.offset;
   start = c.in-Ok.start;
@@ -29,21 +35,21 @@ one c = record {
   target = c.target.result;
 }
 
-begins : (c : goal.In_ok-push) → c.in-Ok.start ≡ length c.self.inside.bytes.items
+begins : (c : goal.Else-is_err) → c.in-Ok.start ≡ length c.self.inside.bytes.items
 begins c = omega (arith, c.in-Ok.ensures, c.len.ensures, c.self.inside.bytes.ok.0)
 
-long : (c : goal.In_ok-push) → c.in-Ok-try_from.length ≡ length c.bytes-bytes.result.now
+long : (c : goal.Else-is_err) → c.in-Ok-try_from.length ≡ length c.bytes-bytes.result.now
 long c = omega (arith, c.in-Ok-try_from.ensures)
 
-behind : (c : goal.In_ok-push) → take c.in-Ok-try_from.length (drop c.in-Ok.start (c.self.inside.bytes.items ++ c.bytes-bytes.result.now))
+behind : (c : goal.Else-is_err) → take c.in-Ok-try_from.length (drop c.in-Ok.start (c.self.inside.bytes.items ++ c.bytes-bytes.result.now))
     ≡ c.bytes-bytes.result.now
 behind c = bytes-behind c.self.inside.bytes.items c.bytes-bytes.result.now c.in-Ok.start c.in-Ok-try_from.length (begins c) (long c)
 
 -- the bytes that are added are the expression's bytes
-same : (c : goal.In_ok-push) → c.bytes-bytes.result.now ≡ (checked_of c.args.checked.now).bytes
+same : (c : goal.Else-is_err) → c.bytes-bytes.result.now ≡ (checked_of c.args.checked.now).bytes
 same c = c.bytes-bytes.ensures ∙ c.expression.ensures.bytes
 
-owned : (c : goal.In_ok-push) → IsOwned (c.self.inside.bytes.items ++ c.bytes-bytes.result.now) (one c)
+owned : (c : goal.Else-is_err) → IsOwned (c.self.inside.bytes.items ++ c.bytes-bytes.result.now) (one c)
 owned c =
     let is = checked_of c.args.checked.now in
     let bytes = c.self.inside.bytes.items ++ c.bytes-bytes.result.now in
@@ -56,20 +62,20 @@ owned c =
           c.depth.ensures.depth c.operation_count.ensures.count);
     }
 
-pub invariant_of-self-2 : goal.invariant_of-self-2
-invariant_of-self-2 c =
+pub invariant_of-self-else-is_err : goal.invariant_of-self-else-is_err
+invariant_of-self-else-is_err c =
     let more : c.extend_from_slice.new.self.items ≡ c.self.inside.bytes.items ++ c.bytes-bytes.result.now =
     c.in_ok-extend_from_slice.ensures.items in
-    let kept : c.push.new.self.items ≡ c.self.inside.kept.items ++ one c ∷ [] = c.in_ok-push.ensures.items in
-    rw (more, kept) (are-more _ c.self.inside.kept.items (one c)
-    (are-grown c.self.inside.bytes.items c.bytes-bytes.result.now c.self.inside.kept.items c.self.invariant) (owned c))
+    let kept : c.push.new.self.items ≡ c.self.inside.kept.items ++ one c ∷ [] = rw c.if-is_err.ensures.negation at c.push.ensures.items in
+    rw (more, kept)
+    (all-bytes-more c.self.inside.bytes.items c.bytes-bytes.result.now c.self.inside.kept.items (one c) c.self.invariant (owned c) (behind c))
 
 pub returns : goal.returns
 returns c =
     let bytes = c.self.inside.bytes.items in
     let its = c.bytes-bytes.result.now in
     let more : c.extend_from_slice.new.self.items ≡ bytes ++ its = c.in_ok-extend_from_slice.ensures.items in
-    let kept : c.push.new.self.items ≡ c.self.inside.kept.items ++ one c ∷ [] = c.in_ok-push.ensures.items in
+    let kept : c.push.new.self.items ≡ c.self.inside.kept.items ++ one c ∷ [] = rw c.if-is_err.ensures.negation at c.push.ensures.items in
     let is = checked_of c.args.checked.now in
     let with : Kind → Target → List ℕ → LocatedExpression =
     λ k t l. record { offset = c.args.offset; kind = k; target = t; bytes = l } in
@@ -78,7 +84,6 @@ returns c =
     ∙ ap (λ (k : Kind). with k c.target.result is.bytes) c.kind.ensures
     ∙ ap (λ (t : Target). with is.kind t is.bytes) (c.target.ensures ∙ c.expression-2.ensures.target) in
     rw (more, kept)
-    (map-append (owned_in (bytes ++ its)) c.self.inside.kept.items (one c ∷ [])
-    ∙ ap (λ (l : List LocatedExpression). l ++ owned_in (bytes ++ its) (one c) ∷ []) (all-grown bytes its c.self.inside.kept.items c.self.invariant)
+    (one-more bytes its c.self.inside.kept.items (one c) c.self.invariant.owned
     ∙ ap (λ (l : List LocatedExpression). l ++ owned_in (bytes ++ its) (one c) ∷ []) c.self.view_is
     ∙ ap (λ (x : LocatedExpression). c.args.self.now ++ x ∷ []) new)

@@ -1,8 +1,9 @@
-use Rattle.std.proofs.Common.{◌≡◌, All, Contains, List, sym, subst, ◌∙◌, arith}
+use Rattle.std.proofs.Common.{◌≡◌, All, Contains, List, sym, ap, subst, ◌∙◌, arith}
+use Rattle.std.specs.List.{sum_by}
 use Rattle.std.proofs.lemmas.List.{length-map}
 use Rattle.dw_bytes.specs.declared.target.Target.{Target}
 use Rattle.dw_stack.specs.Located.{LocatedExpression}
-use Rattle.dw_rows.specs.UnwindTables.{IsUnder}
+use Rattle.dw_rows.specs.UnwindTables.{IsUnder, expression_bytes}
 use Rattle.dw_rows.specs.CompiledTable.{LendsFound, given_found}
 use Rattle.dw_rows.proofs.CompiledTables.{table-of, all-under}
 use Rattle.dw_rows.proofs.table.UnwindTable.of.Goals as goal
@@ -29,6 +30,15 @@ returns-clause-room c =
       c.in_ok-placed.ensures.few,
       c.in_ok-placed.ensures.stored,
       c.in_ok-expressions.ensures.stored,
+      length-map c.in_ok-placed.placed.rows (given_found c.in_ok-expressions.expressions),
+    )
+
+pub returns-clause-counted : goal.returns-clause-counted
+returns-clause-counted c =
+    omega (
+      arith,
+      c.in_ok-placed.ensures.few,
+      ap (λ (es : List LocatedExpression). sum_by expression_bytes es) (c.in_ok-expressions.ensures.owned ∙ c.borrowed.ensures),
       length-map c.in_ok-placed.placed.rows (given_found c.in_ok-expressions.expressions),
     )
 

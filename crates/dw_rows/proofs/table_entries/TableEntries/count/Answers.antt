@@ -8,6 +8,6 @@ returns c =
     omega (
       arith,
       c.count.ensures,
-      paired-length c.self.inside.starts c.self.inside.sets c.self.invariant,
+      paired-length c.self.inside.starts c.self.inside.sets c.self.invariant.even,
       ap (λ (l : List TableEntry). length l) c.self.view_is,
     )

@@ -12,5 +12,5 @@ returns-in-Ok c =
     let more_starts : c.push-2.new.self ≡ starts ++ c.args.entry.start ∷ [] = c.in-Ok.ensures in
     ap (λ (l : List ℕ). paired l c.push.new.self) more_starts
     ∙ ap (λ (l : List ℕ). paired (starts ++ c.args.entry.start ∷ []) l) more_sets
-    ∙ paired-more starts sets c.args.entry.start c.args.entry.set c.self.invariant
+    ∙ paired-more starts sets c.args.entry.start c.args.entry.set c.self.invariant.even
     ∙ ap (λ (l : List TableEntry). l ++ c.args.entry ∷ []) c.self.view_is

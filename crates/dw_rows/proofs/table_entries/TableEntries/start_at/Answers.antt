@@ -11,7 +11,7 @@ pub at-requires : goal.at-requires
 at-requires c =
     omega (
       arith,
-      paired-length c.self.inside.starts c.self.inside.sets c.self.invariant,
+      paired-length c.self.inside.starts c.self.inside.sets c.self.invariant.even,
       ap (λ (l : List TableEntry). length l) c.self.view_is,
     )
 
@@ -21,8 +21,8 @@ returns c =
     let sets = c.self.inside.sets in
     let d : TableEntry = record { start = 0; set = 0 } in
     let x = c.at.result in
-    let long = paired-length starts sets c.self.invariant in
+    let long = paired-length starts sets c.self.invariant.even in
     let lt : c.args.place < length starts = omega (arith, ap (λ (l : List TableEntry). length l) c.self.view_is) in
     subst (λ (l : List TableEntry). option_map entry_start (slice_get l c.args.place) ≡ Some x) c.self.view_is
     (ap (λ (o : Option TableEntry). option_map entry_start o) (slice_get-get_or (paired starts sets) c.args.place d (omega arith))
-    ∙ ap Some (paired-start starts sets c.args.place x d c.self.invariant lt ∙ c.at.ensures x))
+    ∙ ap Some (paired-start starts sets c.args.place x d c.self.invariant.even lt ∙ c.at.ensures x))
