@@ -157,7 +157,7 @@ none-below low (entry ∷ rules) r table lt =
     go true same later = absurd (omega (arith, same refl, table.0, lt))
     go false same later = later
 
-or-some : (x y : Rule) → x ≢ default → or_rule x y ≡ x
+pub or-some : (x y : Rule) → x ≢ default → or_rule x y ≡ x
 or-some default y some = absurd (some refl)
 or-some RuleOver.undefined y some = refl
 or-some same_value y some = refl
@@ -189,7 +189,7 @@ overlaid e cfa (entry ∷ rules) low f base final table has over r =
 
 -- ---- a list of answers with these contents
 
-among : ℕ → List (ℕ × Rule) → Bool
+pub among : ℕ → List (ℕ × Rule) → Bool
 among r [] = false
 among r (entry ∷ rules) = if entry.0 == r then true else among r rules
 
@@ -203,7 +203,7 @@ absent r (entry ∷ rules) is = go (entry.0 == r) (absent r rules) is
     go true later h = absurd (cc)
     go false later h = later h
 
-listed : (e : World) (cfa : Answer) (f : ℕ → Rule) (final : ℕ → Option ℕ) (rules : List (ℕ × Rule)) → HasContents e cfa f final
+pub listed : (e : World) (cfa : Answer) (f : ℕ → Rule) (final : ℕ → Option ℕ) (rules : List (ℕ × Rule)) → HasContents e cfa f final
     → AllByRecursion (λ (entry : ℕ × Rule). entry.1 ≡ f entry.0) rules
     → (answers : List (ℕ × Answer)) × AreRegisters e cfa rules answers
     × ((r : ℕ) → contents_of answers r ≡ (if among r rules then final r else None))

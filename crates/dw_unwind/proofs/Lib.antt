@@ -7,5 +7,6 @@ pub mod GivenFrames
 pub mod ModuleWalks
 pub mod OneCaller
 pub mod OneWalk
+pub mod Places
 pub mod Walking
 pub mod WalksOver

@@ -23,5 +23,7 @@ pub mod FrameRegisters
 pub mod PackedRegisters
 -- the contents of registers by number, for walks that give no registers
 pub mod Contents
+-- which registers have no place among those contents
+pub mod Places
 -- translates the code's frames and walks
 pub mod WalkViews

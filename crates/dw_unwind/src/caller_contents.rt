@@ -1,26 +1,23 @@
 //! The contents of a caller's registers, by number, where a list of all answers isn't needed.
 
-ghost use Rattle.std.specs.Prelude.{◌≡◌, ℕ, IfErr, IfOk, All, None, Some};
-ghost use Rattle.std.specs.Bool.{OnTrue};
+ghost use Rattle.std.specs.Prelude.{◌≡◌, ℕ, IfOk, OnErr, All, None, Some};
 ghost use Rattle.dw_rows.specs.Abi.{Role, abi_of, is_among, rule_of_role, rule_under};
-ghost use Rattle.dw_rows.specs.Rules.{IsTable};
+ghost use Rattle.dw_rows.specs.Rules.{IsTable, rule_in};
 ghost use Rattle.dw_rows.specs.Views.{rule_of};
 ghost use Rattle.dw_rows.specs.GivenRows.{IsEntryOfKind, IsRuleOfKind};
 ghost use Rattle.dw_unwind.specs.Caller.{IsRegister, if_value, number_plus, word};
 ghost use Rattle.dw_unwind.specs.CallerViews.{answer_in, machine_in};
 ghost use Rattle.dw_unwind.specs.Contents.{HasContents, Keeps, Overlays, UnwindsTo, abi_rules, contents_in};
-ghost use Rattle.dw_unwind.specs.Modules.{over_modules_of_rows};
-ghost use Rattle.dw_unwind.specs.Walks.{address_before, content_of, over_rows};
+ghost use Rattle.dw_unwind.specs.Places.{Fills, LacksPlace};
+ghost use Rattle.dw_unwind.specs.Walks.{content_of, over_rows};
 
-use crate::modules::{Module, as_linked};
 use crate::present::Present;
 use crate::register_file::RegisterFile;
 use crate::unwinding::{Answer, Unwound};
 use dw_eval::{Memory, Registers};
 use dw_rows::{RegisterRule, RegisterRules, UnwindRow, UnwindRows};
-use std::marker::Model;
 
-/// A register has a content, but a `RegisterFile` has no place for it.
+/// A `RegisterFile` has no place for one of a caller's registers, whose number is `PLACES` or more.
 #[derive(Clone, Copy, Debug, PartialEq, Eq)]
 pub struct NoPlace;
 
@@ -75,22 +72,21 @@ fn rule_of_abi<'a>(kept: &[u16], stack_pointer: Option<u16>, number: u16) -> Reg
     }
 }
 
-/// Gives the registers `kept` the contents that they have now. Returns false if one has no place.
+/// Gives the registers `kept` the contents that they have now. Returns whether all have a place.
 #[inline(always)]
 fn keep_into<R: Registers, M: Memory>(
     present: &Present<'_, R, M>,
     kept: &[u16],
     into: &mut RegisterFile,
 ) -> bool
-    ensures { OnTrue result (Keeps (machine_in R.contents M.bytes present.now) kept.now
-        (contents_in into.old) (contents_in into.new)) }
+    ensures { Fills (Keeps (machine_in R.contents M.bytes present.now) kept.now
+        (contents_in into.old)) (abi_rules (abi_of kept.now None)) result (contents_in into.new) }
 {
+    let mut all_placed = true;
     for number in kept {
-        if !into.put(*number, content_of(present.content(*number))) {
-            return false;
-        }
+        all_placed &= into.put(*number, content_of(present.content(*number)));
     }
-    true
+    all_placed
 }
 
 /// The answer of the rule that a register is saved at the CFA plus `offset`.
@@ -141,8 +137,9 @@ fn found_by<R: Registers, M: Memory>(
     }
 }
 
-/// Gives each register in `rules` the content that its rule gives. Returns false if one has no
-/// place.
+/// Gives each register in `rules` the content that its rule gives. Returns whether all have a
+/// place. It goes on after a register that has none: the answers for all registers together show
+/// that the frame has a caller, which the contract of `NoPlace` says (`LacksPlace`).
 #[inline(always)]
 fn overlay_into<R: Registers, M: Memory>(
     present: &Present<'_, R, M>,
@@ -150,16 +147,16 @@ fn overlay_into<R: Registers, M: Memory>(
     rules: RegisterRules<'_, '_>,
     into: &mut RegisterFile,
 ) -> bool
-    requires { All IsEntryOfKind rules }
-    ensures { OnTrue result (Overlays (machine_in R.contents M.bytes present.now) (answer_in cfa)
-        rules.entry (contents_in into.old) (contents_in into.new)) }
+    requires kinds { All IsEntryOfKind rules }
+    requires table { IsTable 0 rules }
+    ensures { Fills (Overlays (machine_in R.contents M.bytes present.now) (answer_in cfa)
+        rules.entry (contents_in into.old)) (rule_in rules.entry) result (contents_in into.new) }
 {
+    let mut all_placed = true;
     for (number, rule) in rules {
-        if !into.put(number, content_of(found_by(present, cfa, number, rule))) {
-            return false;
-        }
+        all_placed &= into.put(number, content_of(found_by(present, cfa, number, rule)));
     }
-    true
+    all_placed
 }
 
 /// The content of the stack pointer in the caller, where the row gives it no rule.
@@ -175,7 +172,7 @@ fn pointed<R: Registers, M: Memory>(present: &Present<'_, R, M>, cfa: Answer) ->
 }
 
 /// Gives the registers that the ABI names the contents that they have in the caller if the row has
-/// no rules. No register may have a content before. Returns false if one has no place.
+/// no rules. No register may have a content before. Returns whether all have a place.
 #[inline(always)]
 fn abi_into<R: Registers, M: Memory>(
     present: &Present<'_, R, M>,
@@ -185,20 +182,19 @@ fn abi_into<R: Registers, M: Memory>(
     into: &mut RegisterFile,
 ) -> bool
     requires { (r : ℕ) → contents_in into.old r ≡ None }
-    ensures { OnTrue result (HasContents (machine_in R.contents M.bytes present.now)
-        (answer_in cfa) (abi_rules (abi_of kept.now stack_pointer)) (contents_in into.new)) }
+    ensures { Fills (HasContents (machine_in R.contents M.bytes present.now) (answer_in cfa)
+        (abi_rules (abi_of kept.now stack_pointer))) (abi_rules (abi_of kept.now stack_pointer))
+        result (contents_in into.new) }
 {
-    if !keep_into(present, kept, into) {
-        return false;
-    }
+    let all_placed = keep_into(present, kept, into);
     match stack_pointer {
-        Some(number) => into.put(number, content_of(pointed(present, cfa))),
-        None => true,
+        Some(number) => all_placed & into.put(number, content_of(pointed(present, cfa))),
+        None => all_placed,
     }
 }
 
 /// Fills `into` with the contents that the registers have in the caller, by the row's rules and the
-/// ABI. Returns false if a register with a content has no place.
+/// ABI. Returns whether all have a place.
 #[inline(always)]
 fn rules_into<R: Registers, M: Memory>(
     present: &Present<'_, R, M>,
@@ -210,15 +206,13 @@ fn rules_into<R: Registers, M: Memory>(
 ) -> bool
     requires kinds { All IsEntryOfKind rules }
     requires table { IsTable 0 rules }
-    ensures { OnTrue result (HasContents (machine_in R.contents M.bytes present.now)
-        (answer_in cfa) (rule_under (abi_of kept.now stack_pointer) rules.entry)
-        (contents_in into.new)) }
+    ensures { Fills (HasContents (machine_in R.contents M.bytes present.now) (answer_in cfa)
+        (rule_under (abi_of kept.now stack_pointer) rules.entry))
+        (rule_under (abi_of kept.now stack_pointer) rules.entry) result (contents_in into.new) }
 {
     into.clear();
-    if !abi_into(present, cfa, kept, stack_pointer, into) {
-        return false;
-    }
-    overlay_into(present, cfa, rules, into)
+    let all_placed = abi_into(present, cfa, kept, stack_pointer, into);
+    all_placed & overlay_into(present, cfa, rules, into)
 }
 
 /// The return address: the answer for the register `number`. It is the content of that register in
@@ -251,10 +245,10 @@ fn return_address<R: Registers, M: Memory>(
 }
 
 /// Finds the caller of the frame at `address` by the row of a section or a table. The contents of
-/// the caller's registers replace what is in `into`. If there is no caller, or a register with a
-/// content has no place, what is in `into` is unspecified.
+/// the caller's registers replace what is in `into`. If there is no caller, or one of its registers
+/// has no place, what is in `into` is unspecified.
 #[inline(always)]
-fn contents_by<T: UnwindRows, R: Registers, M: Memory>(
+pub(crate) fn contents_by<T: UnwindRows, R: Registers, M: Memory>(
     rows: &T,
     kept: &[u16],
     stack_pointer: Option<u16>,
@@ -263,10 +257,13 @@ fn contents_by<T: UnwindRows, R: Registers, M: Memory>(
     memory: &M,
     into: &mut RegisterFile,
 ) -> Result<Option<Unwound>, NoPlace>
-    ensures { IfOk result (λ unwound. UnwindsTo
+    ensures contents { IfOk result (λ unwound. UnwindsTo
         (over_rows (T.target_of rows.now) (T.finds rows.now) (abi_of kept.now stack_pointer)
         (M.bytes memory.now)) (R.contents registers.now) (Some address) unwound
         (contents_in into.new)) }
+    ensures no_place { OnErr result (LacksPlace
+        (over_rows (T.target_of rows.now) (T.finds rows.now) (abi_of kept.now stack_pointer)
+        (M.bytes memory.now)) (R.contents registers.now) (Some address)) }
 {
     dw_rows::laws::rules_under_abis();
     let mut slot = rows.slot();
@@ -288,162 +285,4 @@ fn contents_by<T: UnwindRows, R: Registers, M: Memory>(
         cfa,
         return_address,
     }))
-}
-
-/// Finds the caller of the frame at `address`, as `unwind_in` does, with an ABI of the callee-saved
-/// registers `kept` and the stack pointer `stack_pointer`. The contents of the caller's registers
-/// replace what is in `into`. If there is no caller, or a register with a content has no place,
-/// what is in `into` is unspecified.
-#[inline(never)]
-fn contents_of_caller<T: UnwindRows, R: Registers, M: Memory>(
-    modules: &[Module<T>],
-    kept: &[u16],
-    stack_pointer: Option<u16>,
-    address: u64,
-    registers: &R,
-    memory: &M,
-    into: &mut RegisterFile,
-) -> Result<Option<Unwound>, NoPlace>
-    ensures { IfOk result (λ unwound. UnwindsTo
-        (over_modules_of_rows T.target_of T.finds (abi_of kept.now stack_pointer)
-        (M.bytes memory.now) modules.now) (R.contents registers.now) (Some address) unwound
-        (contents_in into.new)) }
-{
-    for module in modules {
-        let rows = &module.rows;
-        let linked = as_linked(rows.rows_target(), module.load_address, address);
-        if let Some(unwound) = contents_by(
-            rows,
-            kept,
-            stack_pointer,
-            linked,
-            registers,
-            memory,
-            into,
-        )? {
-            return Ok(Some(unwound));
-        }
-    }
-    Ok(None)
-}
-
-/// The contents of a frame's registers, and a second file that the contents of its caller's
-/// registers are written to. It takes 2 KB, and a step copies nothing.
-#[derive(Drop)]
-pub struct WalkedContents {
-    one: RegisterFile,
-    other: RegisterFile,
-    /// Whether the frame's contents are in `other`; if not, they are in `one`.
-    is_other: bool,
-}
-
-impl Model for WalkedContents {
-    ghost use Rattle.std.specs.Prelude.{if◌then◌else◌};
-    ghost use Rattle.dw_unwind.specs.Contents.{File};
-
-    ghost Value = { File };
-
-    ghost view = { λ w. if w.is_other then w.other else w.one };
-}
-
-impl WalkedContents {
-    /// No register has a content.
-    pub fn none() -> Self
-        ensures { (r : ℕ) → contents_in result r ≡ None }
-    {
-        WalkedContents {
-            one: RegisterFile::none(),
-            other: RegisterFile::none(),
-            is_other: false,
-        }
-    }
-
-    /// The contents.
-    pub fn file(&self) -> &RegisterFile
-        ensures { result.now ≡ self.now }
-    {
-        if self.is_other {
-            &self.other
-        } else {
-            &self.one
-        }
-    }
-
-    /// Finds the caller of the frame at `address` with the registers `registers`, as `unwind_in`
-    /// does, and makes the contents those of the caller's registers. The ABI has the callee-saved
-    /// registers `kept` and the stack pointer `stack_pointer`. After `NoPlace` the contents are
-    /// unspecified.
-    pub fn begin<T: UnwindRows, R: Registers, M: Memory>(
-        &mut self,
-        modules: &[Module<T>],
-        kept: &[u16],
-        stack_pointer: Option<u16>,
-        address: u64,
-        registers: &R,
-        memory: &M,
-    ) -> Result<Option<Unwound>, NoPlace>
-        ensures { IfOk result (λ unwound. UnwindsTo
-            (over_modules_of_rows T.target_of T.finds (abi_of kept.now stack_pointer)
-            (M.bytes memory.now) modules.now) (R.contents registers.now) (Some address) unwound
-            (contents_in self.new)) }
-    {
-        self.is_other = false;
-        contents_of_caller(
-            modules,
-            kept,
-            stack_pointer,
-            address,
-            registers,
-            memory,
-            &mut self.one,
-        )
-    }
-
-    /// Finds the caller of the frame at the return address `address` whose registers have the
-    /// contents, and makes the contents those of the caller's registers. Looks up `address` minus
-    /// 1, which is inside the call. After `NoPlace` the contents are unchanged.
-    #[inline(always)]
-    pub fn advance<T: UnwindRows, M: Memory>(
-        &mut self,
-        modules: &[Module<T>],
-        kept: &[u16],
-        stack_pointer: Option<u16>,
-        address: u64,
-        memory: &M,
-    ) -> Result<Option<Unwound>, NoPlace>
-        ensures next { IfOk result (λ unwound. UnwindsTo
-            (over_modules_of_rows T.target_of T.finds (abi_of kept.now stack_pointer)
-            (M.bytes memory.now) modules.now) (contents_in self.old) (address_before address)
-            unwound (contents_in self.new)) }
-        ensures same { IfErr result (λ _. self.new ≡ self.old) }
-    {
-        let Some(before) = address.checked_sub(1) else {
-            return Ok(None);
-        };
-        if self.is_other {
-            let unwound = contents_of_caller(
-                modules,
-                kept,
-                stack_pointer,
-                before,
-                &self.other,
-                memory,
-                &mut self.one,
-            )?;
-            self.is_other = false;
-            Ok(unwound)
-        } else {
-            let unwound = contents_of_caller(
-                modules,
-                kept,
-                stack_pointer,
-                before,
-                &self.one,
-                memory,
-                &mut self.other,
-            )?;
-            self.is_other = true;
-            Ok(unwound)
-        }
-    }
 }

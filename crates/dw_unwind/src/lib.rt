@@ -15,16 +15,19 @@ mod register_list;
 mod unwinder;
 mod unwinding;
 mod walk;
+mod walked_contents;
 
 pub use backtraces::{backtrace_by, backtrace_by_section, backtrace_in};
-pub use caller_contents::{NoPlace, WalkedContents};
+pub use caller_contents::NoPlace;
 pub use frame_registers::FrameRegisters;
 pub use frames::{Backtrace, BriefFrame, Frame, Stop};
-pub use modules::{Module, as_linked, unwind_in, unwind_in_place};
+pub use modules::{Module, as_linked, unwind_in};
 pub use packed_registers::PackedRegisters;
 pub use register_file::RegisterFile;
 pub use unwinder::Unwinder;
 pub use unwinding::{
     Answer, Caller, FoundRegisters, MAX_FOUND, Unwound, unwind_by, unwind_by_section,
+    unwind_in_place,
 };
 pub use walk::{Walk, return_address};
+pub use walked_contents::WalkedContents;

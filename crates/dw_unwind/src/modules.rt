@@ -6,9 +6,9 @@ ghost use Rattle.dw_rows.specs.AbiViews.{roles_of};
 ghost use Rattle.dw_unwind.specs.CallerFits.{CallerFits};
 ghost use Rattle.dw_unwind.specs.CallerViews.{caller_in};
 ghost use Rattle.dw_unwind.specs.Modules.{AreBelow, as_linked, over_modules_of_rows};
-ghost use Rattle.dw_unwind.specs.UnwoundViews.{caller_with};
 
-use crate::packed_registers::PackedRegisters;
+use crate::caller_contents::{NoPlace, contents_by};
+use crate::register_file::RegisterFile;
 use crate::register_list::RegisterList;
 use crate::unwinder::Unwinder;
 use crate::unwinding::{Caller, Unwound, unwind_into, unwind_over};
@@ -83,6 +83,34 @@ impl<'m, T: UnwindRows> Unwinder for &'m [Module<T>] {
         }
         None
     }
+
+    #[inline(never)]
+    fn contents_into<R: Registers, M: Memory>(
+        &self,
+        kept: &[u16],
+        stack_pointer: Option<u16>,
+        address: u64,
+        registers: &R,
+        memory: &M,
+        into: &mut RegisterFile,
+    ) -> Result<Option<Unwound>, NoPlace> {
+        for module in *self {
+            let rows = &module.rows;
+            let linked = as_linked(rows.rows_target(), module.load_address, address);
+            if let Some(unwound) = contents_by(
+                rows,
+                kept,
+                stack_pointer,
+                linked,
+                registers,
+                memory,
+                into,
+            )? {
+                return Ok(Some(unwound));
+            }
+        }
+        Ok(None)
+    }
 }
 
 /// The caller of the frame at `address`, computed from the frame's registers and memory. `address`
@@ -114,21 +142,4 @@ pub fn unwind_in<T: UnwindRows, R: Registers, M: Memory>(
         → IfSome (option_map caller_in result) (CallerFits bound) }
 {
     unwind_over(&modules, abi, address, registers, memory)
-}
-
-/// Finds the caller of the frame at `address` as `unwind_in` does, but writes the caller's
-/// registers to `into`, replacing what is there. So no `Caller` of 6 KB is copied. If there is no
-/// caller, what is in `into` is unspecified.
-pub fn unwind_in_place<T: UnwindRows, R: Registers, M: Memory>(
-    modules: &[Module<T>],
-    abi: &Abi,
-    address: u64,
-    registers: &R,
-    memory: &M,
-    into: &mut PackedRegisters,
-) -> Option<Unwound>
-    ensures { over_modules_of_rows T.target_of T.finds (roles_of abi.now) (M.bytes memory.now)
-        modules.now (R.contents registers.now) address (option_map (caller_with into.new) result) }
-{
-    modules.unwind_into(abi, address, registers, memory, into)
 }

@@ -1,7 +1,7 @@
 //! The registers of a frame by number, for walks that give no registers.
 
-ghost use Rattle.std.specs.Prelude.{◌≡◌, ◌≤◌, ℕ, None, if◌then◌else◌, ◌==◌};
-ghost use Rattle.std.specs.Bool.{OnTrue};
+ghost use Rattle.std.specs.Prelude.{◌≡◌, ◌≤◌, ℕ, IsSome, None};
+ghost use Rattle.std.specs.Bool.{OnFalse, OnTrue};
 ghost use Rattle.dw_unwind.specs.Contents.{content_changed, contents_in};
 
 use dw_eval::Registers;
@@ -54,8 +54,9 @@ impl RegisterFile {
     /// no place for its content.
     #[inline(always)]
     pub(crate) fn put(&mut self, number: u16, content: Option<u64>) -> bool
-        ensures { OnTrue result ((r : ℕ) → contents_in self.new r
+        ensures puts { OnTrue result ((r : ℕ) → contents_in self.new r
             ≡ content_changed (contents_in self.old) number content r) }
+        ensures no_place { OnFalse result ((PLACES ≤ number) × IsSome content) }
     {
         let place = usize::from(number);
         match content {

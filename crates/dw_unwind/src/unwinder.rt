@@ -1,18 +1,23 @@
 //! The trait `Unwinder`, for types that can find the caller of a frame.
 
-ghost use Rattle.std.specs.Prelude.{IfSome, option_map};
+ghost use Rattle.std.specs.Prelude.{IfOk, IfSome, OnErr, Some, option_map};
+ghost use Rattle.dw_rows.specs.Abi.{abi_of};
 ghost use Rattle.dw_rows.specs.AbiViews.{roles_of};
 ghost use Rattle.dw_unwind.specs.CallerFits.{CallerFits};
+ghost use Rattle.dw_unwind.specs.Contents.{UnwindsTo, contents_in};
+ghost use Rattle.dw_unwind.specs.Places.{LacksPlace};
 ghost use Rattle.dw_unwind.specs.UnwoundViews.{caller_with};
 
+use crate::caller_contents::{NoPlace, contents_by};
+use crate::register_file::RegisterFile;
 use crate::register_list::RegisterList;
 use crate::unwinding::{Unwound, unwind_into};
 use dw_eval::{Memory, Registers};
 use dw_rows::{Abi, UnwindRows};
 
-/// Finds the caller of a frame, for `Walk`. It is implemented by a checked section (as
-/// `&&CheckedFrame`), by a compiled table (as `&UnwindTable`), and by the modules of a process (as
-/// `&[Module<T>]`). Other crates can't implement this trait: it writes registers to a
+/// Finds the caller of a frame, for `Walk` and `WalkedContents`. It is implemented by a checked
+/// section (as `&&CheckedFrame`), by a compiled table (as `&UnwindTable`), and by the modules of a
+/// process (as `&[Module<T>]`). Other crates can't implement this trait: it writes registers to a
 /// `RegisterList`, which is private to this crate.
 pub trait Unwinder {
     ghost use Rattle.std.specs.Prelude.{ℕ, Option};
@@ -43,6 +48,26 @@ pub trait Unwinder {
             (option_map (caller_with (L.registers into.new)) result) }
         ensures fits { (bound : ℕ) → is_bound self.now bound
             → IfSome (option_map (caller_with (L.registers into.new)) result) (CallerFits bound) };
+
+    /// Finds the caller of the frame at `address` under the ABI with the callee-saved registers
+    /// `kept` and the stack pointer `stack_pointer`. The contents of the caller's registers replace
+    /// what is in `into`. If there is no caller, or one of its registers has no place, what is in
+    /// `into` is unspecified.
+    fn contents_into<R: Registers, M: Memory>(
+        &self,
+        kept: &[u16],
+        stack_pointer: Option<u16>,
+        address: u64,
+        registers: &R,
+        memory: &M,
+        into: &mut RegisterFile,
+    ) -> Result<Option<Unwound>, NoPlace>
+        ensures contents { IfOk result (λ unwound. UnwindsTo
+            (unwinds self.now (abi_of kept.now stack_pointer) (M.bytes memory.now))
+            (R.contents registers.now) (Some address) unwound (contents_in into.new)) }
+        ensures no_place { OnErr result (LacksPlace
+            (unwinds self.now (abi_of kept.now stack_pointer) (M.bytes memory.now))
+            (R.contents registers.now) (Some address)) };
 }
 
 /// Unwinds with a checked section or a compiled table.
@@ -65,5 +90,18 @@ impl<'r, T: UnwindRows> Unwinder for &'r T {
         into: &mut L,
     ) -> Option<Unwound> {
         unwind_into(*self, abi, address, registers, memory, into)
+    }
+
+    #[inline(never)]
+    fn contents_into<R: Registers, M: Memory>(
+        &self,
+        kept: &[u16],
+        stack_pointer: Option<u16>,
+        address: u64,
+        registers: &R,
+        memory: &M,
+        into: &mut RegisterFile,
+    ) -> Result<Option<Unwound>, NoPlace> {
+        contents_by(*self, kept, stack_pointer, address, registers, memory, into)
     }
 }

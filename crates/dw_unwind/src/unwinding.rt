@@ -12,6 +12,7 @@ ghost use Rattle.dw_unwind.specs.UnwoundViews.{caller_with};
 ghost use Rattle.dw_unwind.specs.Walks.{over_rows};
 
 use crate::laws::unwinding_by_what_is_found;
+use crate::packed_registers::PackedRegisters;
 use crate::present::Present;
 use crate::register_list::RegisterList;
 use crate::unwinder::Unwinder;
@@ -154,6 +155,25 @@ pub(crate) fn unwind_over<U: Unwinder, R: Registers, M: Memory>(
     caller.cfa = unwound.cfa;
     caller.return_address = unwound.return_address;
     Some(caller)
+}
+
+/// Finds the caller of the frame at `address` with any unwinder, and writes the caller's registers
+/// to `into`, replacing what is there. So no `Caller` of 6 KB is copied. If there is no caller, what
+/// is in `into` is unspecified.
+pub fn unwind_in_place<U: Unwinder, R: Registers, M: Memory>(
+    unwinder: &U,
+    abi: &Abi,
+    address: u64,
+    registers: &R,
+    memory: &M,
+    into: &mut PackedRegisters,
+) -> Option<Unwound>
+    ensures unwinds { U.unwinds unwinder.now (roles_of abi.now) (M.bytes memory.now)
+        (R.contents registers.now) address (option_map (caller_with into.new) result) }
+    ensures fits { (bound : ℕ) → U.is_bound unwinder.now bound
+        → IfSome (option_map (caller_with into.new) result) (CallerFits bound) }
+{
+    unwinder.unwind_into(abi, address, registers, memory, into)
 }
 
 /// The caller of the frame at an address, computed from the frame's registers and memory by the row

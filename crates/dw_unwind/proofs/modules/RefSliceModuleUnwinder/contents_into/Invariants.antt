@@ -2,13 +2,13 @@ use Rattle.std.proofs.Common.{Option, drop}
 use Rattle.dw_rows.specs.Abi.{abi_of}
 use Rattle.dw_unwind.specs.Caller.{Caller}
 use Rattle.dw_unwind.specs.Modules.{over_modules_of_rows}
-use Rattle.dw_unwind.proofs.caller_contents.contents_of_caller.Given as goal
+use Rattle.dw_unwind.proofs.modules.RefSliceModuleUnwinder.contents_into.Given as goal
 
 -- what the remaining modules give at the address (a caller, or none) is what all modules give
 abbrev pub invariant-loop-module : goal.invariant-loop-module
 invariant-loop-module g l =
     (caller : Option Caller)
     → over_modules_of_rows g.T.UnwindRows.target_of g.T.UnwindRows.finds (abi_of l.kept l.stack_pointer) (g.M.Memory.bytes l.memory)
-    (drop l.module-index l.modules) (g.R.Registers.contents l.registers) l.address caller
-    → over_modules_of_rows g.T.UnwindRows.target_of g.T.UnwindRows.finds (abi_of l.kept l.stack_pointer) (g.M.Memory.bytes l.memory) l.modules
-    (g.R.Registers.contents l.registers) l.address caller
+    (drop l.module-index l.module-items) (g.R.Registers.contents l.registers) l.address caller
+    → over_modules_of_rows g.T.UnwindRows.target_of g.T.UnwindRows.finds (abi_of l.kept l.stack_pointer) (g.M.Memory.bytes l.memory)
+    l.fn.self.now (g.R.Registers.contents l.registers) l.address caller
