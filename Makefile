@@ -19,8 +19,8 @@ INSTALL ?= install
 
 # The version of the C interface. Its major and minor numbers are those of DWCHECK_VERSION in the
 # header.
-version := 1.0.0
-major := 1
+version := 2.0.0
+major := 2
 kit = $(dir $(shell rt doc))
 built := build/dwcheck build/libdwcheck.a build/libdwcheck.so.$(version) build/dwcheck.pc
 

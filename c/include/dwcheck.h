@@ -12,12 +12,12 @@
      length points to that many elements. If the length is 0, the pointer may be any address except
      NULL; with the macros at the end of this header, it may also be NULL. Pointers without a
      length, such as `fault`, `count`, `stop`, `size`, `row`, `state` and `context`, are never NULL.
-   - A call that takes a process by a pointer to const only reads it: dwcheck_row_at,
-     dwcheck_unwind, dwcheck_backtrace and dwcheck_process_share, for its first process. Any number
-     of calls may read a process at once, in any threads. A call that takes a pointer without const
-     changes the process, and no other call may use that process meanwhile. So a call that changes
-     it comes before or after each call that reads it, and threads synchronize for that: by a lock,
-     by an atomic of memory_order_seq_cst, or by a thread's start or join.
+   - A call that takes a process by a pointer to const only reads it: dwcheck_module_at,
+     dwcheck_row_at, dwcheck_unwind, dwcheck_backtrace and dwcheck_process_share, for its first
+     process. Any number of calls may read a process at once, in any threads. A call that takes a
+     pointer without const changes the process, and no other call may use that process meanwhile. So
+     a call that changes it comes before or after each call that reads it, and threads synchronize
+     for that: by a lock, by an atomic of memory_order_seq_cst, or by a thread's start or join.
    - To add or remove modules while others read: (1) make another process by dwcheck_process_share,
      which copies no table; (2) change that one; (3) publish a pointer to it by an atomic, from which
      each reader takes the process that it reads next; (4) close the old process once all calls that
@@ -28,10 +28,10 @@
      an open process, even if its modules have been removed.
    - malloc, realloc and free belong to one allocator, and the calling thread may call them. So
      neither a signal handler nor the child of a fork in a program with several threads makes a call
-     that allocates or frees. Both may call dwcheck_row_at, dwcheck_unwind and dwcheck_backtrace with
-     a process that the interrupted code, or another thread at the time of the fork, may be reading
-     but not changing.
-   - Those three calls may be left by siglongjmp, since they hold no lock and no memory. What their
+     that allocates or frees. Both may call dwcheck_module_at, dwcheck_row_at, dwcheck_unwind and
+     dwcheck_backtrace with a process that the interrupted code, or another thread at the time of the
+     fork, may be reading but not changing.
+   - Those four calls may be left by siglongjmp, since they hold no lock and no memory. What their
      pointers without const point to is then unspecified.
    - The proofs cover calls in threads. They don't cover a call in a signal handler that interrupts
      another call with the same process, a call in the child of a fork, a call that is left, nor
@@ -49,11 +49,11 @@
    "something else". It may add fields to structures, but only in place of fields named `reserved`.
 
    Registers are given by their DWARF numbers. A target is a byte order and an address size of 4 or
-   8 bytes; w is the address size in bits. An address as linked is an address in the module's file.
+   8 bytes; w is the address size in bits. All modules of a process have the same target: that of the
+   first one, until the process is closed. An address as linked is an address in the module's file.
    The address as loaded is where that place is in the process: the address as linked plus the
    module's load address, modulo 2^w. Contents of registers and values of a context are taken modulo
-   2^w. The modules of a process may have different targets. An address is looked up modulo 2^w in
-   each module, so an address of 2^32 or more may be found in a module with 4-byte addresses.
+   2^w.
    In all expressions, including those of rows, DW_OP_addr pushes an address as linked, while
    registers and memory contain addresses as loaded.
 
@@ -72,7 +72,7 @@ extern "C" {
 /* The version of the interface: 65536 * major + minor. DWCHECK_VERSION is that of this header,
    and dwcheck_version gives that of the library. A program keeps working with a library that has
    the same major version and the same or a later minor version. */
-#define DWCHECK_VERSION 0x10000u
+#define DWCHECK_VERSION 0x20000u
 uint32_t dwcheck_version(void);
 
 /* The statuses that calls return. Comments on calls leave out the prefix DWCHECK_. */
@@ -81,10 +81,13 @@ enum {
     DWCHECK_REFUSED = 1,    /* `fault` says why */
     DWCHECK_NO_MEMORY = 2,  /* malloc or realloc returned NULL */
     DWCHECK_NO_ROOM = 3,    /* the table of the section can take more than `room` bytes */
-    DWCHECK_BAD_TARGET = 4, /* `order` isn't 0 or 1, or `address_size` isn't 4 or 8 */
+    DWCHECK_BAD_TARGET = 4, /* `order` isn't 0 or 1, or `address_size` isn't 4 or 8; or the process is
+                               open for another target */
     DWCHECK_TOO_LONG = 5,   /* the section or expression has 2^32 bytes or more */
     DWCHECK_BAD_KIND = 6,   /* `kind` isn't 0, 1 or 2 */
-    DWCHECK_NONE = 7        /* what was looked up doesn't exist */
+    DWCHECK_NONE = 7,       /* what was looked up doesn't exist */
+    DWCHECK_OVERLAPS = 8,   /* the module's range shares an address with another module's range */
+    DWCHECK_BAD_RANGE = 9   /* the module has no range that it could answer for */
 };
 
 enum { DWCHECK_LITTLE = 0, DWCHECK_BIG = 1 }; /* byte orders */
@@ -125,40 +128,74 @@ uint32_t dwcheck_check(const uint8_t *frame, size_t frame_length, const uint8_t 
 typedef struct { void *opaque; uint64_t opaque_open; } dwcheck_process;
 #define DWCHECK_CLOSED {0, 0}
 
-/* Checks a .debug_frame section, compiles all its rows into a table, and adds the table to the
-   process as its last module. The section's bytes aren't needed after the call returns.
-   `load_address` is what is added to an address as linked, modulo 2^w, to get the address as
-   loaded: for a position-independent module, the dlpi_addr that dl_iterate_phdr gives; for any
-   other module, 0. `room` bounds the number of bytes that the table stores; SIZE_MAX sets no bound.
-   They are counted as 16 for each row and for each gap after a row, 64 for each set of rules, 16
-   for each register's rule in a set, and 24 for each expression and its length. The table of a
-   compiler's section takes some 1.5 times the section's length; that of a hostile section may take
-   700 times the section's length or more. In the table, rows may share their rules. Without
-   sharing, the table would take 80 bytes, plus 80 for each FDE and each row, plus 16 for each
-   register's rule in a row, plus 24 for each expression and its length. If `room` is at least that
-   much, the call never returns NO_ROOM. If `room` is less, the call may return NO_ROOM although the
-   table would fit thanks to sharing. `room` doesn't bound the memory that the call uses while it
-   checks and compiles.
-   Returns DONE; REFUSED with the first fault of the section; NO_MEMORY; NO_ROOM; BAD_TARGET; or
-   TOO_LONG. Only DONE changes the process, and only REFUSED writes `fault`. The call takes
-   O(n log n) time, where n is the number of bytes of the section's programs and of its rows. */
-uint32_t dwcheck_process_add(dwcheck_process *process, const uint8_t *frame, size_t frame_length, uint32_t order,
-                             uint32_t address_size, uint64_t load_address, size_t room, dwcheck_fault *fault);
+/* A module to be added: the executable or a library of the process.
+   - `frame` and `frame_length` are the bytes of its .debug_frame section. They aren't needed after
+     the module is added.
+   - `load_address` is what is added to an address as linked, modulo 2^w, to get the address as
+     loaded: for a position-independent module, the dlpi_addr that dl_iterate_phdr gives; for any
+     other module, 0.
+   - If has_range isn't 0, the module answers for the addresses as loaded from `first` up to and
+     including `last`, and for no others. Otherwise it answers for the addresses from the first to
+     the last one that its section covers.
+   - `cookie` is a number of the caller's own, such as a pointer. It is given back with the module's
+     rows.
+   - `room` bounds the number of bytes that the module's table stores; SIZE_MAX sets no bound. They
+     are counted as 16 for each row and for each gap after a row, 64 for each set of rules, 16 for
+     each register's rule in a set, and 24 for each expression and its length. The table's arrays are
+     proved to hold at most that and 8 bytes; that they have no spare capacity is tested. The table
+     of a compiler's section takes some 1.5 times the section's length; that of a hostile section may
+     take 700 times the section's length or more. In the table, rows may share their rules. Without
+     sharing, the table would take 80 bytes, plus 80 for each FDE and each row, plus 16 for each
+     register's rule in a row, plus 24 for each expression and its length. If `room` is at least that
+     much, the call never returns NO_ROOM. If `room` is less, the call may return NO_ROOM although
+     the table would fit thanks to sharing. `room` doesn't bound the memory that the call uses while
+     it checks and compiles. */
+typedef struct {
+    const uint8_t *frame;
+    size_t frame_length;
+    uint64_t load_address, first, last, cookie;
+    size_t room;
+    uint32_t order, address_size, has_range, reserved;
+    uint64_t reserved_section, reserved_length, reserved_address;
+} dwcheck_module;
 
-/* Removes the first module with this load address. All 64 bits are compared. Returns DONE; or NONE
-   if no module has this load address. The call doesn't allocate. It frees the module's table if no
-   other process shares the table. */
-uint32_t dwcheck_process_remove(dwcheck_process *process, uint64_t load_address);
+/* Checks a module's section, compiles all its rows into a table, and adds the module to the process.
+   `id` becomes the module's id. Ids count up from 1, so a process doesn't give an id twice while it
+   is open, even if the module is removed. A process that dwcheck_process_share makes counts on from
+   the same number, so of two processes that share modules, only one should get new ones.
+   No two modules may answer for the same address. Returns DONE; or the first of these for which
+   there is a reason: TOO_LONG; BAD_TARGET; REFUSED with the first fault of the section; BAD_RANGE;
+   OVERLAPS, and then `id` becomes the id of a module whose range shares an address with this one's;
+   NO_ROOM. NO_MEMORY may come in place of any but the first two. BAD_RANGE means that `first` is
+   above `last` or `last` is 2^w or more; or that has_range is 0, and the section covers no address,
+   or covers addresses on both sides of the highest one, 2^w - 1, as loaded. Only DONE changes the
+   process, only DONE and OVERLAPS write `id`, and only REFUSED writes `fault`. The call takes
+   O(n log n) time, where n is the number of bytes of the section's programs and of its rows, and
+   moves the entries of the modules that lie at higher addresses. */
+uint32_t dwcheck_process_add(dwcheck_process *process, const dwcheck_module *module, uint64_t *id, dwcheck_fault *fault);
+
+/* Removes the module with this id. Returns DONE; or NONE if no module has this id. The call doesn't
+   allocate. It frees the module's table if no other process shares the table. */
+uint32_t dwcheck_process_remove(dwcheck_process *process, uint64_t id);
 
 /* Makes `other` a process with the modules of `process`, after closing what `other` was before.
-   If `process` is closed, `other` is closed too. The tables are shared, not copied, and are
-   freed with the last process that has them. Adding modules to one of the two processes, or
-   removing them, doesn't change the other. Returns DONE; or NO_MEMORY, and then `other` is
-   unchanged. `process` is unchanged in either case. */
+   If `process` is closed, `other` is closed too, and the call returns DONE. The modules keep their
+   ids. The tables are shared, not copied, and are freed with the last process that has them. Adding
+   modules to one of the two processes, or removing them, doesn't change the other. Returns DONE; or
+   NO_MEMORY, and then `other` is unchanged. `process` is unchanged in either case. */
 uint32_t dwcheck_process_share(const dwcheck_process *process, dwcheck_process *other);
 
 /* Releases all modules and closes the process. A closed process may be closed again. */
 void dwcheck_process_close(dwcheck_process *process);
+
+/* A module of a process: its id, its cookie, its load address, and the first and the last address,
+   as loaded, that it answers for. */
+typedef struct { uint64_t id, cookie, load_address, first, last; } dwcheck_loaded;
+
+/* Writes the module that answers for `address`, an address as loaded. Returns DONE; or NONE if no
+   module does, and then nothing is written. The call takes O(log n) time among n modules. It
+   neither allocates nor frees. */
+uint32_t dwcheck_module_at(const dwcheck_process *process, uint64_t address, dwcheck_loaded *module);
 
 /* ---- the row of an address ----------------------------------------------------------------------------------------- */
 
@@ -178,20 +215,20 @@ typedef struct { int64_t offset; uint64_t length; uint16_t reg, source; uint32_t
 
 #define DWCHECK_MAX_RULES 128
 
-/* A row of the module that is loaded at `load_address`. The row covers the addresses as linked from
-   `start` up to, but not including, `end`. If cfa.kind is DWCHECK_RULE_VAL_OFFSET, the CFA is the
+/* A row of the module with this id, cookie and load address. The row covers the addresses as linked
+   from `start` up to, but not including, `end`. If cfa.kind is DWCHECK_RULE_VAL_OFFSET, the CFA is the
    value of register cfa.reg plus cfa.offset. If it is DWCHECK_RULE_VAL_EXPRESSION, the CFA is the
    value that an expression gives. */
 typedef struct {
-    uint64_t load_address, start, end;
+    uint64_t id, cookie, load_address, start, end;
     dwcheck_rule cfa;
     uint32_t return_reg; /* the register of the return address */
     uint32_t count;      /* the number of registers that have a rule, at most DWCHECK_MAX_RULES */
 } dwcheck_row;
 
-/* Writes the row that covers `address`, an address as loaded, from the first module that has such
-   a row. The rules of registers go into `rules` in ascending order of registers, as many as fit.
-   Returns DONE; or NONE if no module has a row, and then nothing is written. The call neither
+/* Writes the row that covers `address`, an address as loaded, from the module that answers for the
+   address. The rules of registers go into `rules` in ascending order of registers, as many as fit.
+   Returns DONE; or NONE if there is no such row, and then nothing is written. The call neither
    allocates nor frees. */
 uint32_t dwcheck_row_at(const dwcheck_process *process, uint64_t address, dwcheck_row *row, dwcheck_rule *rules,
                         size_t rules_length);
@@ -241,10 +278,10 @@ typedef struct { dwcheck_answer cfa, return_address; uint64_t count; } dwcheck_c
 
 #define DWCHECK_MAX_REGISTERS 256
 
-/* Writes the caller of the frame at `address`, an address as loaded, by the first module that has
-   a row for the address. The address itself is looked up, so to find the caller's own caller, pass
+/* Writes the caller of the frame at `address`, an address as loaded, by the row that dwcheck_row_at
+   gives for it. The address itself is looked up, so to find the caller's own caller, pass
    the caller's return address minus 1. The caller's registers go into `registers` in ascending
-   order, as many as fit. Returns DONE; NONE if no module has a row; or REFUSED if the ABI names too
+   order, as many as fit. Returns DONE; NONE if there is no row; or REFUSED if the ABI names too
    many registers or names one twice. Only DONE writes `caller` and `registers`, and only REFUSED
    writes `fault`. The call neither allocates nor frees. */
 uint32_t dwcheck_unwind(const dwcheck_process *process, uint64_t address, const dwcheck_state *state, dwcheck_caller *caller,
@@ -256,7 +293,7 @@ typedef struct { uint64_t address; dwcheck_answer cfa; } dwcheck_frame;
 /* Why a walk ends. */
 enum {
     DWCHECK_STOP_LIMIT = 0,            /* `frames` is full */
-    DWCHECK_STOP_NOT_COVERED = 1,      /* no module has a row for the last frame */
+    DWCHECK_STOP_NOT_COVERED = 1,      /* there is no row for the last frame */
     /* The return address of the last frame is undefined. Either the row's rule says so, and then
        the walk is complete (DWARF 5, section 6.4.4); or neither the row nor `kept` names the return
        address register. On targets where functions keep the return address in a register, put that
@@ -382,11 +419,11 @@ static inline uint32_t dwcheck_check_by(const uint8_t *frame, size_t frame_lengt
                          lists_length, order, address_size, fault);
 }
 
-static inline uint32_t dwcheck_process_add_by(dwcheck_process *process, const uint8_t *frame, size_t frame_length,
-                                              uint32_t order, uint32_t address_size, uint64_t load_address, size_t room,
+static inline uint32_t dwcheck_process_add_by(dwcheck_process *process, const dwcheck_module *module, uint64_t *id,
                                               dwcheck_fault *fault) {
-    return dwcheck_process_add(process, DWCHECK_OR_NOTHING(const uint8_t, frame), frame_length, order, address_size,
-                               load_address, room, fault);
+    dwcheck_module copy = *module;
+    copy.frame = DWCHECK_OR_NOTHING(const uint8_t, copy.frame);
+    return dwcheck_process_add(process, &copy, id, fault);
 }
 
 static inline uint32_t dwcheck_row_at_by(const dwcheck_process *process, uint64_t address, dwcheck_row *row, dwcheck_rule *rules,

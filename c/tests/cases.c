@@ -75,6 +75,7 @@ static uint64_t words[4] = {0, 0x71f000001020, 0x55005, 0};
 static dwcheck_block blocks[2] = {{0x7f00, NULL, 32}, {0x7f10, NULL, 8}};
 static dwcheck_frame frames[8];
 static dwcheck_rule rules[4];
+static dwcheck_loaded loaded;
 static dwcheck_register registers[4];
 
 static dwcheck_state state(size_t keeps) {
@@ -82,8 +83,34 @@ static dwcheck_state state(size_t keeps) {
     return s;
 }
 
-static uint32_t add(dwcheck_process *p, uint64_t load) {
-    return dwcheck_process_add(p, good, sizeof good, DWCHECK_LITTLE, 8, load, room, &fault);
+static uint64_t id; /* what the last add gave */
+
+/* a module with this section, for a little-endian target with 8-byte addresses, without a range */
+static dwcheck_module module_of(const uint8_t *frame, size_t length, uint64_t load) {
+    dwcheck_module m = {0};
+    m.frame = frame; m.frame_length = length; m.load_address = load; m.room = room; m.address_size = 8;
+    return m;
+}
+
+static uint32_t add_module(dwcheck_process *p, dwcheck_module m) { return dwcheck_process_add(p, &m, &id, &fault); }
+
+static uint32_t add(dwcheck_process *p, uint64_t load) { return add_module(p, module_of(good, sizeof good, load)); }
+
+static uint32_t add_section(dwcheck_process *p, const uint8_t *frame, size_t length, size_t its_room) {
+    dwcheck_module m = module_of(frame, length, 0);
+    m.room = its_room;
+    return add_module(p, m);
+}
+
+static uint32_t add_for(dwcheck_process *p, const uint8_t *frame, size_t length, uint32_t order, uint32_t address_size, uint64_t load) {
+    dwcheck_module m = module_of(frame, length, load);
+    m.order = order; m.address_size = address_size;
+    return add_module(p, m);
+}
+
+static uint32_t add_within(dwcheck_process *p, dwcheck_module m, uint64_t first, uint64_t last) {
+    m.has_range = 1; m.first = first; m.last = last;
+    return add_module(p, m);
 }
 
 static size_t count;
@@ -102,24 +129,25 @@ static void closed(void) {
     IS(frames[0].address, 0x1010); IS(frames[0].cfa.kind, DWCHECK_NOT_COVERED);
     IS(walk(&p, 0x1010, 0, 2), DWCHECK_DONE); IS(count, 0); IS(stop, DWCHECK_STOP_LIMIT);
     IS(dwcheck_row_at(&p, 0x1010, &row, rules, 4), DWCHECK_NONE);
+    IS(dwcheck_module_at(&p, 0x1010, &loaded), DWCHECK_NONE);
     IS(dwcheck_unwind(&p, 0x1010, &s, &caller, registers, 4, &fault), DWCHECK_NONE);
-    IS(dwcheck_process_remove(&p, 0), DWCHECK_NONE);
+    IS(dwcheck_process_remove(&p, 0), DWCHECK_NONE); IS(dwcheck_process_remove(&p, 1), DWCHECK_NONE);
     dwcheck_process_close(&p);
     dwcheck_process_close(&p);
 }
 
 static void refusals(void) {
     dwcheck_process p = DWCHECK_CLOSED;
-    fault.number = 9;
-    IS(dwcheck_process_add(&p, good, sizeof good, 2, 8, 0, room, &fault), DWCHECK_BAD_TARGET);
-    IS(dwcheck_process_add(&p, good, sizeof good, 256, 8, 0, room, &fault), DWCHECK_BAD_TARGET);
-    IS(dwcheck_process_add(&p, good, sizeof good, 0, 5, 0, room, &fault), DWCHECK_BAD_TARGET);
-    IS(dwcheck_process_add(&p, good, sizeof good, 0, 264, 0, room, &fault), DWCHECK_BAD_TARGET);
-    IS(dwcheck_process_add(&p, good, sizeof good, 0, 8, 0, 10, &fault), DWCHECK_NO_ROOM);
-    IS(dwcheck_process_add(&p, good, (size_t)1 << 32, 0, 8, 0, room, &fault), DWCHECK_TOO_LONG);
+    fault.number = 9; id = 99;
+    IS(add_for(&p, good, sizeof good, 2, 8, 0), DWCHECK_BAD_TARGET);
+    IS(add_for(&p, good, sizeof good, 256, 8, 0), DWCHECK_BAD_TARGET);
+    IS(add_for(&p, good, sizeof good, 0, 5, 0), DWCHECK_BAD_TARGET);
+    IS(add_for(&p, good, sizeof good, 0, 264, 0), DWCHECK_BAD_TARGET);
+    IS(add_section(&p, good, sizeof good, 10), DWCHECK_NO_ROOM);
+    IS(add_section(&p, good, (size_t)1 << 32, room), DWCHECK_TOO_LONG);
     IS(fault.number, 9);
-    IS(dwcheck_process_add(&p, bad, sizeof bad, 0, 8, 0, room, &fault), DWCHECK_REFUSED);
-    IS(fault.number, 1); IS(fault.within, DWCHECK_IN_FRAME);
+    IS(add_section(&p, bad, sizeof bad, room), DWCHECK_REFUSED);
+    IS(fault.number, 1); IS(fault.within, DWCHECK_IN_FRAME); IS(id, 99);
     IS(p.opaque == NULL, 1); /* `p` is still closed: there is nothing to release */
     IS(dwcheck_check(good, sizeof good, bad, 0, 0, 8, &fault), DWCHECK_DONE);
     IS(dwcheck_check(good, 0, bad, 0, 0, 8, &fault), DWCHECK_DONE);
@@ -135,9 +163,11 @@ static void walks(void) {
     dwcheck_state s = state(2);
     long before;
     size_t i;
-    /* an empty section is a module too; the others are loaded at 0x71f000000000, and at -0x800 modulo 2^64 */
-    IS(dwcheck_process_add(&p, good, 0, 0, 8, 0x5000, room, &fault), DWCHECK_DONE);
+    uint64_t upper;
+    /* one module has an empty section; the others are loaded at 0x71f000000000, and at -0x800 modulo 2^64 */
+    IS(add_within(&p, module_of(good, 0, 0), 0x5000, 0x5fff), DWCHECK_DONE);
     IS(add(&p, 0x71f000000000), DWCHECK_DONE);
+    upper = id;
     IS(add(&p, (uint64_t)-0x800), DWCHECK_DONE);
     IS(walk(&p, 0x810, 8, 2), DWCHECK_DONE); IS(count, 3); IS(stop, DWCHECK_STOP_NOT_COVERED);
     IS(frames[0].cfa.value, 0x7f10); IS(frames[0].cfa.kind, DWCHECK_VALUE); IS(frames[1].address, 0x71f000001020);
@@ -192,14 +222,166 @@ static void walks(void) {
     IS(walk(&p, 0x810, 8, 2), DWCHECK_DONE);
     IS(dwcheck_row_at(&p, 0x810, &row, rules, 4), DWCHECK_DONE);
     IS(dwcheck_unwind(&p, 0x810, &s, &caller, registers, 4, &fault), DWCHECK_DONE);
-    IS(dwcheck_process_remove(&p, 0x71f000000000), DWCHECK_DONE);
+    IS(dwcheck_module_at(&p, 0x810, &loaded), DWCHECK_DONE);
+    IS(dwcheck_process_remove(&p, upper), DWCHECK_DONE);
     IS(asked - before, 0);
     IS(walk(&p, 0x810, 8, 2), DWCHECK_DONE); IS(count, 2); IS(stop, DWCHECK_STOP_NOT_COVERED);
-    IS(dwcheck_process_remove(&p, 0x71f000000000), DWCHECK_NONE);
     dwcheck_process_close(&p);
     IS(walk(&p, 0x810, 8, 2), DWCHECK_DONE); IS(count, 1);
-    IS(dwcheck_process_add(&p, four, sizeof four, 0, 4, 0xfffff000, room, &fault), DWCHECK_DONE); /* 0x1010 is loaded at 0x10 */
+}
+
+/* Ids count up from 1, and none is given twice while a process is open. A process that shares modules
+   has their ids and counts on. Rows and modules have the id and the cookie. */
+static void ids_and_cookies(void) {
+    dwcheck_process p = DWCHECK_CLOSED, q = DWCHECK_CLOSED;
+    dwcheck_module m = module_of(good, sizeof good, 0x10000);
+    dwcheck_row row;
+    m.cookie = UINT64_MAX;
+    IS(add_module(&p, m), DWCHECK_DONE); IS(id, 1);
+    IS(add_section(&p, bad, sizeof bad, room), DWCHECK_REFUSED); IS(id, 1);
+    IS(add(&p, 0x20000), DWCHECK_DONE); IS(id, 2);
+    IS(dwcheck_row_at(&p, 0x11010, &row, rules, 4), DWCHECK_DONE); IS(row.id, 1); IS(row.cookie, UINT64_MAX); IS(row.load_address, 0x10000);
+    IS(dwcheck_row_at(&p, 0x21010, &row, rules, 4), DWCHECK_DONE); IS(row.id, 2); IS(row.cookie, 0); IS(row.load_address, 0x20000);
+    IS(dwcheck_process_remove(&p, 0), DWCHECK_NONE); IS(dwcheck_process_remove(&p, 3), DWCHECK_NONE);
+    IS(dwcheck_process_remove(&p, 2), DWCHECK_DONE); IS(dwcheck_process_remove(&p, 2), DWCHECK_NONE);
+    IS(dwcheck_row_at(&p, 0x21010, &row, rules, 4), DWCHECK_NONE); IS(dwcheck_module_at(&p, 0x21010, &loaded), DWCHECK_NONE);
+    IS(add(&p, 0x20000), DWCHECK_DONE); IS(id, 3);
+    IS(dwcheck_process_share(&p, &q), DWCHECK_DONE);
+    IS(add(&q, 0x30000), DWCHECK_DONE); IS(id, 4);
+    IS(add(&p, 0x40000), DWCHECK_DONE); IS(id, 4);
+    IS(dwcheck_process_remove(&q, 1), DWCHECK_DONE); IS(dwcheck_module_at(&q, 0x11010, &loaded), DWCHECK_NONE);
+    IS(dwcheck_module_at(&q, 0x21010, &loaded), DWCHECK_DONE); IS(loaded.id, 3);
+    IS(dwcheck_module_at(&p, 0x11010, &loaded), DWCHECK_DONE); IS(loaded.id, 1); IS(loaded.cookie, UINT64_MAX);
+    IS(loaded.load_address, 0x10000); IS(loaded.first, 0x11000); IS(loaded.last, 0x110ff);
+    dwcheck_process_close(&p);
+    IS(add(&p, 0), DWCHECK_DONE); IS(id, 1);
+    dwcheck_process_close(&p);
+    dwcheck_process_close(&q);
+}
+
+static void answers(dwcheck_process *p, uint64_t address, uint32_t has_module, uint32_t has_row) {
+    dwcheck_row row;
+    memset(&loaded, 0x55, sizeof loaded);
+    IS(dwcheck_module_at(p, address, &loaded), has_module ? DWCHECK_DONE : DWCHECK_NONE);
+    IS(dwcheck_row_at(p, address, &row, rules, 4), has_row ? DWCHECK_DONE : DWCHECK_NONE);
+    if (!has_module) IS(loaded.last, 0x5555555555555555); /* then nothing is written */
+}
+
+/* `good` covers 0x1000 up to 0x10ff */
+static void ranges(void) {
+    dwcheck_process p = DWCHECK_CLOSED;
+    dwcheck_module m = module_of(good, sizeof good, 0x10000), without_fdes = module_of(good, 24, 0x10000);
+    m.room = 10; /* a range is refused before the room is */
+    IS(add_within(&p, m, 5, 4), DWCHECK_BAD_RANGE); IS(add_within(&p, m, UINT64_MAX, 0), DWCHECK_BAD_RANGE);
+    m.room = room;
+    IS(add_module(&p, module_of(good, 0, 0)), DWCHECK_BAD_RANGE); IS(add_module(&p, without_fdes), DWCHECK_BAD_RANGE);
+    IS(p.opaque == NULL, 1);
+    IS(add_module(&p, m), DWCHECK_DONE); /* module 1 has no range: what the section covers */
+    answers(&p, 0x10fff, 0, 0); answers(&p, 0x11000, 1, 1); answers(&p, 0x110ff, 1, 1); answers(&p, 0x11100, 0, 0);
+    IS(add_within(&p, m, 0x11100, 0x111ff), DWCHECK_DONE); /* module 2 begins where 1 ends, and has no row there */
+    answers(&p, 0x11100, 1, 0); IS(loaded.id, 2); answers(&p, 0x110ff, 1, 1); IS(loaded.id, 1);
+    IS(add_within(&p, m, 0x10fff, 0x10fff), DWCHECK_DONE); /* module 3 has one address and ends where 1 begins */
+    answers(&p, 0x10ffe, 0, 0); answers(&p, 0x10fff, 1, 0); IS(loaded.id, 3);
+    IS(add_within(&p, m, 0x110ff, 0x110ff), DWCHECK_OVERLAPS); IS(id, 1);
+    IS(add_within(&p, m, 0x111ff, 0x20000), DWCHECK_OVERLAPS); IS(id, 2);
+    IS(add_within(&p, m, 0, 0x10fff), DWCHECK_OVERLAPS); IS(id, 3);
+    IS(add_within(&p, m, 0x11010, 0x11020), DWCHECK_OVERLAPS); IS(id, 1);
+    IS(add_within(&p, m, 0, UINT64_MAX), DWCHECK_OVERLAPS); IS(id >= 1 && id <= 3, 1);
+    IS(add_module(&p, m), DWCHECK_OVERLAPS); IS(id, 1);
+    m.load_address = 0x20000;
+    IS(add_within(&p, m, 0x21010, 0x21020), DWCHECK_DONE); IS(id, 4); /* fewer addresses than the section covers */
+    answers(&p, 0x2100f, 0, 0); answers(&p, 0x21010, 1, 1); answers(&p, 0x21020, 1, 1); answers(&p, 0x21021, 0, 0);
+    IS(walk(&p, 0x2100f, 8, 2), DWCHECK_DONE); IS(count, 1); IS(stop, DWCHECK_STOP_NOT_COVERED);
+    IS(add_within(&p, without_fdes, 0x30000, 0x30fff), DWCHECK_DONE); answers(&p, 0x30000, 1, 0);
+    dwcheck_process_close(&p);
+    IS(add_within(&p, m, 0, UINT64_MAX), DWCHECK_DONE);
+    answers(&p, 0, 1, 0); answers(&p, UINT64_MAX, 1, 0); answers(&p, 0x21000, 1, 1);
+    dwcheck_process_close(&p);
+}
+
+/* modules that reach the highest address, and that would reach past it */
+static void ranges_at_the_top(void) {
+    dwcheck_process p = DWCHECK_CLOSED;
+    dwcheck_module m = module_of(four, sizeof four, 0xffffef01);
+    dwcheck_row row;
+    IS(add(&p, (uint64_t)-0x10ff), DWCHECK_BAD_RANGE); IS(add(&p, (uint64_t)-0x1001), DWCHECK_BAD_RANGE);
+    IS(add(&p, (uint64_t)-0x1100), DWCHECK_DONE); answers(&p, UINT64_MAX, 1, 1); IS(loaded.first, UINT64_MAX - 0xff);
+    IS(add(&p, (uint64_t)-0x1000), DWCHECK_DONE); answers(&p, 0, 1, 1); IS(loaded.last, 0xff); answers(&p, UINT64_MAX, 1, 1);
+    /* a process has the target of its first module, until it is closed */
+    IS(add_for(&p, four, sizeof four, DWCHECK_LITTLE, 4, 0x20000), DWCHECK_BAD_TARGET);
+    IS(add_for(&p, big, sizeof big, DWCHECK_BIG, 8, 0x20000), DWCHECK_BAD_TARGET);
+    IS(dwcheck_process_remove(&p, 1), DWCHECK_DONE); IS(dwcheck_process_remove(&p, 2), DWCHECK_DONE);
+    IS(add_for(&p, four, sizeof four, DWCHECK_LITTLE, 4, 0x20000), DWCHECK_BAD_TARGET);
+    dwcheck_process_close(&p);
+    m.address_size = 4;
+    IS(add_module(&p, m), DWCHECK_BAD_RANGE);
+    IS(add_within(&p, m, 0, 0x100000000), DWCHECK_BAD_RANGE);
+    IS(add_for(&p, four, sizeof four, 0, 4, 0xffffef00), DWCHECK_DONE); answers(&p, 0xffffffff, 1, 1);
+    IS(add_for(&p, four, sizeof four, 0, 4, 0xfffff000), DWCHECK_DONE); /* 0x1010 is loaded at 0x10 */
     IS(dwcheck_row_at(&p, 0x10, &row, rules, 4), DWCHECK_DONE); IS(row.start, 0x1000); IS(row.return_reg, 8);
+    answers(&p, 0x100000010, 0, 0); /* addresses of 2^32 and more have no row */
+    dwcheck_process_close(&p);
+}
+
+/* The checks come in this order: each module here passes all of them up to one. */
+static void first_refusals(void) {
+    dwcheck_process p = DWCHECK_CLOSED;
+    dwcheck_module m = module_of(bad, (size_t)1 << 32, 0);
+    IS(add(&p, 0), DWCHECK_DONE);
+    m.address_size = 4; m.has_range = 1; m.first = 0x1001; m.last = 0x1000; m.room = 10;
+    IS(add_module(&p, m), DWCHECK_TOO_LONG);
+    m.frame_length = sizeof bad;
+    IS(add_module(&p, m), DWCHECK_BAD_TARGET);
+    m.address_size = 8;
+    IS(add_module(&p, m), DWCHECK_REFUSED);
+    m.frame = good; m.frame_length = sizeof good;
+    IS(add_module(&p, m), DWCHECK_BAD_RANGE);
+    m.last = 0x1001;
+    IS(add_module(&p, m), DWCHECK_OVERLAPS); IS(id, 1);
+    m.first = m.last = 0x1100;
+    IS(add_module(&p, m), DWCHECK_NO_ROOM);
+    m.room = room;
+    IS(add_module(&p, m), DWCHECK_DONE); IS(id, 2);
+    dwcheck_process_close(&p);
+}
+
+enum { MANY = 1000 };
+
+/* Module `i` of many answers for the addresses 0x200 * i + 0x1000 up to 0x200 * i + 0x10ff. Checks what
+   answers for its first and last address, for one between, and for those beside. */
+static void answers_as(dwcheck_process *p, uint64_t i, uint64_t its_id) {
+    static const uint64_t inside[3] = {0, 0x7b, 0xff};
+    const uint64_t load = 0x200 * i, first = load + 0x1000;
+    dwcheck_row row;
+    for (int n = 0; n < 3; n++) {
+        answers(p, first + inside[n], its_id != 0, its_id != 0);
+        if (its_id == 0) continue;
+        IS(loaded.id, its_id); IS(loaded.cookie, i); IS(loaded.load_address, load); IS(loaded.first, first); IS(loaded.last, first + 0xff);
+        IS(dwcheck_row_at(p, first + inside[n], &row, rules, 4), DWCHECK_DONE);
+        IS(row.id, its_id); IS(row.cookie, i); IS(row.load_address, load); IS(row.start, 0x1000);
+    }
+    answers(p, first - 1, 0, 0); answers(p, first + 0x100, 0, 0);
+}
+
+/* many modules, which are added and removed in orders that aren't that of their addresses */
+static void many_modules(void) {
+    static uint64_t ids[MANY];
+    dwcheck_process p = DWCHECK_CLOSED;
+    for (uint64_t n = 0; n < MANY; n++) {
+        uint64_t i = n * 379 % MANY; /* each number once: 379 and 1000 have no common divisor */
+        dwcheck_module m = module_of(good, sizeof good, 0x200 * i);
+        m.cookie = i;
+        IS(add_module(&p, m), DWCHECK_DONE); IS(id, n + 1);
+        ids[i] = id;
+        if (n % 100 == 0) answers_as(&p, i, id);
+    }
+    for (uint64_t i = 0; i < MANY; i++) answers_as(&p, i, ids[i]);
+    for (uint64_t n = 0; n < MANY / 2; n++) {
+        uint64_t i = n * 617 % MANY;
+        IS(dwcheck_process_remove(&p, ids[i]), DWCHECK_DONE);
+        ids[i] = 0;
+    }
+    for (uint64_t i = 0; i < MANY; i++) answers_as(&p, i, ids[i]);
     dwcheck_process_close(&p);
 }
 
@@ -235,7 +417,7 @@ static void own_bytes(void) {
     dwcheck_row row;
     uint8_t own[sizeof good];
     memcpy(own, good, sizeof good);
-    IS(dwcheck_process_add(&p, own, sizeof own, 0, 8, 0, room, &fault), DWCHECK_DONE);
+    IS(add_section(&p, own, sizeof own, room), DWCHECK_DONE);
     memset(own, 0xff, sizeof own);
     IS(dwcheck_row_at(&p, 0x1010, &row, rules, 4), DWCHECK_DONE);
     dwcheck_process_close(&p);
@@ -266,7 +448,7 @@ static void threads(void) {
     IS(add(&p, 0x71f000000000), DWCHECK_DONE);
     IS(add(&p, (uint64_t)-0x800), DWCHECK_DONE);
     for (i = 0; i < 4; i++) IS(dwcheck_process_share(&p, &others[i]), DWCHECK_DONE);
-    IS(dwcheck_process_remove(&p, 0x71f000000000), DWCHECK_DONE); /* the other processes still have the module */
+    IS(dwcheck_process_remove(&p, 1), DWCHECK_DONE); /* the other processes still have the module */
     for (i = 0; i < 4; i++) pthread_create(&ids[i], NULL, in_thread, &others[i]);
     dwcheck_process_close(&p);
     for (i = 0; i < 4; i++) { pthread_join(ids[i], &errors); IS((long)errors, 0); }
@@ -435,7 +617,7 @@ static void rules_of_each_kind(void) {
     dwcheck_rule found[DWCHECK_MAX_RULES];
     dwcheck_row row;
     size_t i;
-    IS(dwcheck_process_add(&p, section, length, DWCHECK_LITTLE, 8, 0, SIZE_MAX, &fault), DWCHECK_DONE); /* no bound */
+    IS(add_section(&p, section, length, SIZE_MAX), DWCHECK_DONE); /* no bound */
     IS(dwcheck_row_at(&p, 0x1010, &row, found, DWCHECK_MAX_RULES), DWCHECK_DONE); IS(row.count, 7);
     for (i = 0; i < 7; i++) { IS(found[i].kind, kinds[i]); IS(found[i].reg, numbers[i]); }
     IS(found[2].source, 9); IS(found[5].offset, -8); IS(found[6].offset, -8);
@@ -447,7 +629,7 @@ static void rules_of_each_kind(void) {
 static void walk_of(const char *instructions, size_t length, size_t keeps) {
     dwcheck_process p = DWCHECK_CLOSED;
     uint8_t section[80];
-    IS(dwcheck_process_add(&p, section, section_with(instructions, length, section), DWCHECK_LITTLE, 8, 0, room, &fault), DWCHECK_DONE);
+    IS(add_section(&p, section, section_with(instructions, length, section), room), DWCHECK_DONE);
     IS(walk(&p, 0x1010, 8, keeps), DWCHECK_DONE);
     dwcheck_process_close(&p);
 }
@@ -472,7 +654,7 @@ static void big_endian(void) {
     dwcheck_block stack = {0x7f08, word, 8};
     dwcheck_state s = state(2);
     s.blocks = &stack;
-    IS(dwcheck_process_add(&p, big, sizeof big, DWCHECK_BIG, 8, 0, room, &fault), DWCHECK_DONE);
+    IS(add_for(&p, big, sizeof big, DWCHECK_BIG, 8, 0), DWCHECK_DONE);
     IS(dwcheck_row_at(&p, 0x10ff, &row, rules, 4), DWCHECK_DONE); IS(row.start, 0x1000); IS(row.end, 0x1100); IS(row.return_reg, 16);
     IS(dwcheck_backtrace(&p, 0x1010, &s, frames, 8, &count, &stop, &fault), DWCHECK_DONE); IS(count, 2); IS(frames[1].address, 0x55005);
     dwcheck_process_close(&p);
@@ -504,8 +686,8 @@ static void last_remove_frees_the_table(void) {
     IS(add(&p, 0), DWCHECK_DONE);
     IS(dwcheck_process_share(&p, &q), DWCHECK_DONE);
     with_it = held;
-    IS(dwcheck_process_remove(&p, 0), DWCHECK_DONE); IS(held, with_it); /* the other process still has the module */
-    IS(dwcheck_process_remove(&q, 0), DWCHECK_DONE); IS(held < with_it, 1);
+    IS(dwcheck_process_remove(&p, id), DWCHECK_DONE); IS(held, with_it); /* the other process still has the module */
+    IS(dwcheck_process_remove(&q, id), DWCHECK_DONE); IS(held < with_it, 1);
     dwcheck_process_close(&p);
     dwcheck_process_close(&q);
 }
@@ -534,9 +716,9 @@ static void room_bounds_what_a_table_takes(void) {
     long before = used;
     fill(many);
     memcpy(many + 24 + 24 * 1000, last, sizeof last);
-    IS(dwcheck_process_add(&p, many, sizeof many, DWCHECK_LITTLE, 8, 0, least - 1, &fault), DWCHECK_NO_ROOM);
+    IS(add_section(&p, many, sizeof many, least - 1), DWCHECK_NO_ROOM);
     IS(used - before, 0);
-    IS(dwcheck_process_add(&p, many, sizeof many, DWCHECK_LITTLE, 8, 0, least, &fault), DWCHECK_DONE);
+    IS(add_section(&p, many, sizeof many, least), DWCHECK_DONE);
     IS(used - before <= (long)least + 1000, 1);
     IS(dwcheck_row_at(&p, 0x3f8ff, &row, rules, 4), DWCHECK_DONE); IS(row.cfa.kind, DWCHECK_RULE_VAL_EXPRESSION);
     dwcheck_process_close(&p);
@@ -564,8 +746,8 @@ static void room_bounds_expressions_and_rules(void) {
     at += 28 + LENGTH;
     memcpy(at, good + 24, 24); memcpy(at, &second, 4); at[9] = 0x11; /* 0x1100..0x1200 */
     for (int i = 0; i < RULES; i++) memcpy(at + 24 + 4 * i, (uint8_t[]){0x41, 5, (uint8_t)(20 + i), 2}, 4);
-    IS(dwcheck_process_add(&p, s, sizeof s, DWCHECK_LITTLE, 8, 0, least - 1, &fault), DWCHECK_NO_ROOM);
-    IS(dwcheck_process_add(&p, s, sizeof s, DWCHECK_LITTLE, 8, 0, least, &fault), DWCHECK_DONE);
+    IS(add_section(&p, s, sizeof s, least - 1), DWCHECK_NO_ROOM);
+    IS(add_section(&p, s, sizeof s, least), DWCHECK_DONE);
     IS(used - before <= (long)least + 1000, 1);
     dwcheck_process_close(&p);
     IS(used - before, 0);
@@ -579,7 +761,7 @@ static void share_copies_no_table(void) {
     long before;
     fill(many);
     before = given;
-    IS(dwcheck_process_add(&p, many, sizeof many, DWCHECK_LITTLE, 8, 0, room, &fault), DWCHECK_DONE); IS(given - before > 16000, 1);
+    IS(add_section(&p, many, sizeof many, room), DWCHECK_DONE); IS(given - before > 16000, 1);
     before = given;
     IS(dwcheck_process_share(&p, &q), DWCHECK_DONE); IS(given - before < 1000, 1);
     dwcheck_process_close(&p);
@@ -610,7 +792,7 @@ static void nothing(void) {
     dwcheck_caller caller;
     dwcheck_lookup lookup = {0, 0x10, 0, 0};
     IS(dwcheck_check(NULL, 0, NULL, 0, DWCHECK_LITTLE, 8, &fault), DWCHECK_DONE);
-    IS(dwcheck_process_add(&p, NULL, 0, DWCHECK_BIG, 4, 0, room, &fault), DWCHECK_DONE);
+    IS(add_within(&p, module_of(NULL, 0, 0), 0, 0), DWCHECK_DONE);
     IS(add(&p, 0x5000), DWCHECK_DONE);
     IS(dwcheck_row_at(&p, 0x6010, &row, NULL, 0), DWCHECK_DONE);
     IS(row.count, 1);
@@ -637,6 +819,11 @@ int main(void) {
     closed();
     refusals();
     walks();
+    ids_and_cookies();
+    ranges();
+    ranges_at_the_top();
+    first_refusals();
+    many_modules();
     high_registers();
     own_bytes();
     names();

@@ -51,7 +51,7 @@ void *realloc(void *p, size_t n) {
 
 int main(void) {
     size_t room = (size_t)256 << 20;
-    dwcheck_fault fault;
+    uint64_t id;
     dwcheck_process *p;
     make_section();
     next = arena = mmap(NULL, room, PROT_READ | PROT_WRITE, MAP_PRIVATE | MAP_ANONYMOUS | MAP_NORESERVE, -1, 0);
@@ -60,7 +60,7 @@ int main(void) {
     p = (dwcheck_process *)take(sizeof *p);
     *p = (dwcheck_process)DWCHECK_CLOSED;
     in_arena = 1;
-    if (dwcheck_process_add(p, section, size, DWCHECK_LITTLE, 8, load, SIZE_MAX, &fault) != DWCHECK_DONE) return 1;
+    if (add(p, size, load, cookie, &id) != DWCHECK_DONE) return 1;
     in_arena = 0;
     mprotect(arena, room, PROT_READ);
     all_read(p);

@@ -1,7 +1,7 @@
 /* Tests calls that read one process at once: in threads, in signal handlers and in children of fork.
    The process is in a page that can't be written. Each call is interrupted, since it needs a page that
    can't be used. The handler of SIGSEGV reads the same process, makes the page usable, and returns;
-   one time in four it leaves the call by siglongjmp. Then modules are added and removed while threads
+   one time in five it leaves the call by siglongjmp. Then modules are added and removed while threads
    read, and at last in the process itself. Each answer is compared with what the section says. Prints
    a line with counts. */
 #include "dwcheck.h"
@@ -19,8 +19,9 @@
 #include <unistd.h>
 
 enum { FDES = 5000, STEP = 0x40, BASE = 0x100000, FRAMES = 32, PAGE = 4096 };
-enum { THREADS = 8, ROUNDS = 1000, CALLS = 3, LEAVES = 4, CHILDREN = 8, CHANGES = 1000 };
-static const uint64_t load = 0x7f0000000000;
+/* Of the CALLS of a round each is left in its turn, since CALLS and LEAVES have no common divisor. */
+enum { THREADS = 8, ROUNDS = 1000, CALLS = 4, LEAVES = 5, CHILDREN = 8, CHANGES = 1000 };
+static const uint64_t load = 0x7f0000000000, cookie = 0x1234567890;
 static const uint64_t second = 0x7e0000000000; /* where a module is loaded that comes and goes */
 static const uint64_t top = 0x7ffc00000000;    /* the stack pointer of the innermost frame */
 
@@ -33,6 +34,14 @@ static atomic_long wrong, rows, walks, interrupted, left, changes;
 /* The section: FDE i covers STEP addresses, and its rows begin at the places 0, 1, 4 and 0x20. */
 static uint8_t section[32 + FDES * 48];
 static size_t size, first_fde; /* the section's length, and its length up to the end of its first FDE */
+
+static uint32_t add(dwcheck_process *p, size_t length, uint64_t load_address, uint64_t its_cookie, uint64_t *id) {
+    dwcheck_module module = {0};
+    dwcheck_fault fault;
+    module.frame = section; module.frame_length = length; module.load_address = load_address; module.cookie = its_cookie;
+    module.room = SIZE_MAX; module.address_size = 8;
+    return dwcheck_process_add(p, &module, id, &fault);
+}
 
 static unsigned frame_size(size_t fde) {
     return 16 + 8 * (unsigned)(fde % 50);
@@ -66,10 +75,10 @@ static void make_section(void) {
 }
 
 /* A stack of FRAMES frames, each in a function of its own, at the place 12 of its FDE. Calls can be
-   interrupted at its words, and at the rules that they write. */
+   interrupted at its words, and at the rules or the module that they write. */
 struct stack {
     uint64_t words[FRAMES * 64];
-    union { dwcheck_rule slots[4]; char page[PAGE]; } rules;
+    union { dwcheck_rule slots[4]; dwcheck_loaded module; char page[PAGE]; } written;
     uint64_t addresses[FRAMES], cfas[FRAMES], contents[17];
     uint8_t known[3];
     dwcheck_block block;
@@ -106,12 +115,20 @@ static void check_row(const dwcheck_process *p, uint64_t linked, dwcheck_rule *s
     size_t saved = start == 1 || start == 4; /* whether r6 is saved, at c-16 */
     dwcheck_row row;
     CHECK(dwcheck_row_at(p, load + linked, &row, slots, 4) == DWCHECK_DONE);
-    CHECK(row.load_address == load && row.start == linked - place + start && row.end == linked - place + end);
+    CHECK(row.id == 1 && row.cookie == cookie && row.load_address == load);
+    CHECK(row.start == linked - place + start && row.end == linked - place + end);
     CHECK(row.cfa.kind == DWCHECK_RULE_VAL_OFFSET && row.cfa.reg == 7 && row.cfa.offset == offset);
     CHECK(row.return_reg == 16 && row.count == 1 + saved);
     CHECK(!saved || (slots[0].kind == DWCHECK_RULE_OFFSET && slots[0].reg == 6 && slots[0].offset == -16));
     CHECK(slots[saved].kind == DWCHECK_RULE_OFFSET && slots[saved].reg == 16 && slots[saved].offset == -8);
     atomic_fetch_add(&rows, 1);
+}
+
+/* The module at `load` has no range, so it answers for the addresses that its FDEs cover. */
+static void check_module(const dwcheck_process *p, uint64_t linked, dwcheck_loaded *module) {
+    CHECK(dwcheck_module_at(p, load + linked, module) == DWCHECK_DONE);
+    CHECK(module->id == 1 && module->cookie == cookie && module->load_address == load);
+    CHECK(module->first == load + BASE && module->last == load + BASE + FDES * STEP - 1);
 }
 
 static void check_caller(const dwcheck_process *p, struct stack *s) {
@@ -150,7 +167,8 @@ static void on_signal(int signal, siginfo_t *why, void *context) {
     uintptr_t at = (uintptr_t)why->si_addr, from = (uintptr_t)mine, to = from + offsetof(struct stack, addresses);
     (void)signal; (void)context;
     if (!mine || at < from || at >= to) _exit(1); /* a write to memory that is only read, for example */
-    check_row(shared, looked_up((size_t)handled, 1), handlers->rules.slots);
+    check_row(shared, looked_up((size_t)handled, 1), handlers->written.slots);
+    check_module(shared, looked_up((size_t)handled, 2), &handlers->written.module);
     check_caller(shared, handlers);
     check_walk(shared, handlers);
     mprotect(mine, to - from, PROT_READ | PROT_WRITE);
@@ -158,12 +176,13 @@ static void on_signal(int signal, siginfo_t *why, void *context) {
     if (++handled % LEAVES == 0) { atomic_fetch_add(&left, 1); siglongjmp(back, 1); }
 }
 
-static void read_row(void) { check_row(shared, linked, mine->rules.slots); }
+static void read_row(void) { check_row(shared, linked, mine->written.slots); }
+static void read_module(void) { check_module(shared, linked, &mine->written.module); }
 static void read_caller(void) { check_caller(shared, mine); }
 static void read_walk(void) { check_walk(shared, mine); }
 
 /* Makes a call that is interrupted when it gets to the words of its stack from this page on, or to the
-   rules that it writes. */
+   rules or the module that it writes. */
 static void interrupt(void (*call)(void), size_t page) {
     char *from = (char *)mine + page * PAGE;
     mprotect(from, offsetof(struct stack, addresses) - page * PAGE, PROT_NONE);
@@ -177,6 +196,7 @@ static void *reader(void *seed) {
     for (size_t round = 0; round < ROUNDS; round++) {
         linked = looked_up(me, round);
         interrupt(read_row, 0);
+        interrupt(read_module, 0);
         interrupt(read_caller, 0);
         interrupt(read_walk, round % 2);
     }
@@ -191,7 +211,8 @@ static void child_reads(void) {
         struct stack *s = new_stack(7);
         wrong = 0;
         for (size_t round = 0; round < 100; round++) {
-            check_row(shared, looked_up(7, round), s->rules.slots);
+            check_row(shared, looked_up(7, round), s->written.slots);
+            check_module(shared, looked_up(7, round), &s->written.module);
             check_caller(shared, s);
             check_walk(shared, s);
         }
@@ -226,13 +247,17 @@ static void *follower(void *number) {
     for (size_t round = 0; go_on; round++) {
         dwcheck_rule slots[4];
         dwcheck_row row;
+        dwcheck_loaded module;
         const dwcheck_process *p;
         uint32_t status;
         reading_since[me] = epoch;
         p = current;
         check_row(p, looked_up(me, round), slots);
+        check_module(p, looked_up(me, round), &module);
         status = dwcheck_row_at(p, second + BASE, &row, slots, 4);
         CHECK(status == DWCHECK_NONE || (status == DWCHECK_DONE && row.load_address == second && row.start == BASE));
+        CHECK(dwcheck_module_at(p, second + BASE, &module) == status);
+        CHECK(status == DWCHECK_NONE || (module.id == row.id && module.cookie == second));
         reading_since[me] = 0;
         sched_yield(); /* so that it is seldom stopped while it reads, and `publish` need not wait */
     }
@@ -257,9 +282,9 @@ static dwcheck_process *share(const dwcheck_process *p) {
 }
 
 static void change(dwcheck_process *p) {
-    dwcheck_fault fault;
-    if (changes++ % 2) CHECK(dwcheck_process_remove(p, second) == DWCHECK_DONE);
-    else CHECK(dwcheck_process_add(p, section, first_fde, DWCHECK_LITTLE, 8, second, SIZE_MAX, &fault) == DWCHECK_DONE);
+    static uint64_t id; /* of the module that comes and goes */
+    if (changes++ % 2) CHECK(dwcheck_process_remove(p, id) == DWCHECK_DONE);
+    else CHECK(add(p, first_fde, second, second, &id) == DWCHECK_DONE);
 }
 
 static void all_follow(const dwcheck_process *p) {
@@ -282,10 +307,10 @@ static void change_at_last(dwcheck_process *p) {
     struct stack *s = new_stack(9);
     dwcheck_row row;
     change(p);
-    CHECK(dwcheck_row_at(p, second + BASE, &row, s->rules.slots, 4) == DWCHECK_DONE && row.load_address == second);
+    CHECK(dwcheck_row_at(p, second + BASE, &row, s->written.slots, 4) == DWCHECK_DONE && row.load_address == second);
     check_walk(p, s);
     change(p);
-    CHECK(dwcheck_row_at(p, second + BASE, &row, s->rules.slots, 4) == DWCHECK_NONE);
+    CHECK(dwcheck_row_at(p, second + BASE, &row, s->written.slots, 4) == DWCHECK_NONE);
     check_walk(p, s);
     munmap(s, sizeof *s);
 }
@@ -316,11 +341,11 @@ static int counts(void) {
 }
 
 int main(void) {
-    dwcheck_fault fault;
+    uint64_t id;
     dwcheck_process *p = mmap(NULL, PAGE, PROT_READ | PROT_WRITE, MAP_PRIVATE | MAP_ANONYMOUS, -1, 0);
     make_section();
     if (p == MAP_FAILED) return 1;
-    if (dwcheck_process_add(p, section, size, DWCHECK_LITTLE, 8, load, SIZE_MAX, &fault) != DWCHECK_DONE) return 1;
+    if (add(p, size, load, cookie, &id) != DWCHECK_DONE) return 1;
     mprotect(p, PAGE, PROT_READ);
     walk_on_a_small_stack(p);
     all_read(p);

@@ -1,64 +1,126 @@
 -- The modules of a process: how adding and removing changes them, and which row an address as
 -- loaded (in the running process) has.
-use Rattle.std.specs.Prelude.{◌≡◌, ℕ, ◌*◌, ◌==◌, ◌≤◌, if◌then◌else◌, List, [], ◌∷◌, ◌++◌, length, Contains, Option, None, Some}
-use Rattle.std.specs.Option.{option_or, option_map}
+use Rattle.std.specs.Prelude.{◌≡◌, ◌≢◌, ℕ, ◌*◌, ◌==◌, ◌≤◌, ◌<◌, ◌+◌, if◌then◌else◌, List, [], ◌∷◌, All, AllPairs, length, true, Contains, Option, None, Some}
+use Rattle.std.specs.List.{insert, sum_by}
+use Rattle.std.specs.Option.{option_and_then, option_map}
 use Rattle.dw_bytes.specs.declared.target.Target.{Target}
 use Rattle.dw_rows.specs.Rules.{Row}
-use Rattle.dw_rows.specs.Section.{frame_of, section_fault}
-use Rattle.dw_rows.specs.UnwindTables.{RowTable, IsRowUnder, IsTableOf, row_at}
+use Rattle.dw_rows.specs.Section.{FrameSection, frame_of, section_fault}
+use Rattle.dw_rows.specs.UnwindTables.{IsRowUnder, IsTableOf, RowTable, expression_bytes, row_at}
 use Rattle.dw_unwind.specs.Modules.{as_linked}
-use Rattle.dw_unwind.specs.declared.modules.Module.{Module}
+use Rattle.dw_process.specs.ModuleMaps.{AreInOrder, IsPlaceFor, is_in, module_at}
+use Rattle.dw_process.specs.Ranges.{IsRangeFor}
+use Rattle.dw_process.specs.declared.address_range.AddressRange.{AddressRange}
 use Rattle.dw_process.specs.declared.found_row.FoundRow.{FoundRow}
+use Rattle.dw_process.specs.declared.loaded_module.LoadedModule.{LoadedModule}
+use Rattle.dw_process.specs.declared.process.ReadyModule.{ReadyModule}
 
--- a process: its modules, each a table of rows with a load address
-abbrev pub Modules : Type 0
-Modules = List (Module RowTable)
+-- A process: the target of its modules, the id that the next module gets, and its modules in order
+-- of address.
+pub record ProcessState : Type 0 where
+  pub target : Target
+  pub next_id : ℕ
+  pub modules : List LoadedModule
+
+-- a process without modules; ids count up from 1
+abbrev pub no_modules : Target → ProcessState
+no_modules target = record { target = target; next_id = 1; modules = [] }
+
+-- no two modules have the same id
+abbrev pub AreDistinct : List LoadedModule → Type 0
+AreDistinct modules = AllPairs (λ m n. m.id ≢ n.id) modules
+
+-- what holds of the modules of a process
+pub record AreModulesOf (target : Target) (next_id : ℕ) (modules : List LoadedModule) : Type 0 where
+  pub order : AreInOrder modules
+  pub distinct : AreDistinct modules
+  pub given : All (λ m. m.id < next_id) modules
+  pub targets : All (λ m. m.rows.target ≡ target) modules
 
 -- ---- added and removed
 
--- The section has no fault, and a table of its rows is added as the last module. What the table
--- stores is at most `room` bytes, and it has at most one row for every 16 bytes of `room`.
-pub record IsAdded (target : Target) (section : List ℕ) (load_address room : ℕ) (old new : Modules) : Type 0 where
-  pub accepted : section_fault target section ≡ None
-  pub table : RowTable
-  pub table_is : IsTableOf (frame_of target section) table
-  pub within : 16 * length table.rows ≤ room
+-- The table has the rows of a section, and what it stores is at most `room` bytes. They are counted
+-- as at least 16 for each row, and as 24 and its length for each of the section's expressions.
+pub record IsStored (frame : FrameSection) (room : ℕ) (table : RowTable) : Type 0 where
+  pub is : IsTableOf frame table
+  pub counted : 16 * length table.rows + sum_by expression_bytes frame.expressions ≤ table.bytes
   pub stored : table.bytes ≤ room
-  pub modules : new ≡ old ++ record { rows = table; load_address = load_address } ∷ []
 
--- the modules without the first one that is loaded at `load_address`
-abbrev pub without : ℕ → Modules → Modules
-without load_address [] = []
-without load_address (m ∷ modules) = if m.load_address == load_address then modules else m ∷ without load_address modules
+-- The section has no fault, and a table is made of its rows, as `IsStored` says. The module has a
+-- range and may be inserted at its place among the modules.
+pub record IsReady (target : Target) (section : List ℕ) (load_address : ℕ) (given : Option AddressRange) (room : ℕ)
+    (modules : List LoadedModule) (ready : ReadyModule) : Type 0 where
+  pub accepted : section_fault target section ≡ None
+  pub table : IsStored (frame_of target section) room ready.rows
+  pub range : IsRangeFor (frame_of target section) load_address given ready.range
+  pub place : IsPlaceFor ready.range modules ready.place
+
+-- The section has no fault, and a table of its rows is added, at some place, to the modules, which
+-- are in order of address. The new module has the id `id`, which is counted up. What the table
+-- stores is at most `room` bytes (`IsStored`).
+pub record IsAdded (section : List ℕ) (load_address : ℕ) (given : Option AddressRange) (cookie room : ℕ) (old : ProcessState) (id : ℕ)
+    (new : ProcessState) : Type 0 where
+  pub accepted : section_fault old.target section ≡ None
+  pub added : LoadedModule
+  pub table : IsStored (frame_of old.target section) room added.rows
+  pub range : IsRangeFor (frame_of old.target section) load_address given added.range
+  pub load_address_is : added.load_address ≡ load_address
+  pub cookie_is : added.cookie ≡ cookie
+  pub id_is : added.id ≡ id
+  pub place : ℕ
+  pub place_is : place ≤ length old.modules
+  pub modules : new.modules ≡ insert old.modules place added
+  pub order : AreInOrder new.modules
+  pub id_new : id ≡ old.next_id
+  pub next : new.next_id ≡ old.next_id + 1
+  pub target : new.target ≡ old.target
+
+-- the modules without the one with this id
+abbrev pub without : ℕ → List LoadedModule → List LoadedModule
+without id [] = []
+without id (m ∷ modules) = if m.id == id then modules else m ∷ without id modules
+
+-- the process without the module with this id
+abbrev pub removed : ℕ → ProcessState → ProcessState
+removed id p = record { target = p.target; next_id = p.next_id; modules = without id p.modules }
 
 -- ---- rows
 
--- a row and its return address register, with the load address and the target of their module
-abbrev pub found_with : Module RowTable → Row × ℕ → FoundRow
-found_with m found = record {
+-- the row that a module has for an address as loaded, with its return address register: the row of
+-- the address as linked
+abbrev pub row_of_module : LoadedModule → ℕ → Option (Row × ℕ)
+row_of_module m address = row_at m.rows (as_linked m.rows.target m.load_address address)
+
+-- the row of an address as loaded, from the module whose range contains the address
+abbrev pub row_in : ProcessState → ℕ → Option (Row × ℕ)
+row_in p address = option_and_then (λ m. row_of_module m address) (module_at p.modules address)
+
+-- a row and its return address register, with what is known of their module, whose target is given
+abbrev pub found_with : Target → LoadedModule → Row × ℕ → FoundRow
+found_with target m found = record {
+  id = m.id;
+  cookie = m.cookie;
   load_address = m.load_address;
-  target = m.rows.target;
+  target = target;
   row = found.0;
   return_register = found.1;
 }
 
--- What was found for an address as loaded comes from a module of the process: it is that module's
--- row, with its return address register, at the address as linked in the module. `found` has the
--- module's load address and its target, and the row's expressions have that target. Of the modules
--- that have a row there, `row_in` says which one it is.
-pub record IsFoundIn (modules : Modules) (address : ℕ) (found : FoundRow) : Type 0 where
-  pub its_module : Module RowTable
-  pub among : Contains modules its_module
+-- the same with what is known of the module
+abbrev pub found_at : ProcessState → ℕ → Option FoundRow
+found_at p address = option_and_then (λ m. option_map (found_with p.target m) (row_of_module m address)) (module_at p.modules address)
+
+-- What was found for an address as loaded comes from the module of the process whose range contains
+-- the address: it is that module's row, with its return address register, at the address as linked
+-- in the module. `found` has the module's id, cookie, load address and target, and the row's
+-- expressions have that target.
+pub record IsFoundIn (p : ProcessState) (address : ℕ) (found : FoundRow) : Type 0 where
+  pub its_module : LoadedModule
+  pub among : Contains p.modules its_module
+  pub inside : is_in its_module.range address ≡ true
+  pub id : found.id ≡ its_module.id
+  pub cookie : found.cookie ≡ its_module.cookie
   pub load_address : found.load_address ≡ its_module.load_address
   pub target : found.target ≡ its_module.rows.target
-  pub row : row_at its_module.rows (as_linked its_module.rows.target its_module.load_address address)
-      ≡ Some (found.row, found.return_register)
+  pub row : row_of_module its_module address ≡ Some (found.row, found.return_register)
   pub under : IsRowUnder its_module.rows.target found.row
-
--- the row of an address as loaded, from the first module that has one, none if no module has one;
--- in each module the address as linked is looked up
-abbrev pub row_in : Modules → ℕ → Option FoundRow
-row_in [] address = None
-row_in (m ∷ modules) address = option_or
-    (option_map (found_with m) (row_at m.rows (as_linked m.rows.target m.load_address address)))
-    (row_in modules address)

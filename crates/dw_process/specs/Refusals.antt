@@ -1,14 +1,24 @@
 -- What the code's `Refusal` means: why a module isn't added to a process.
-use Rattle.std.specs.Prelude.{◌≡◌, ◌⊎◌, ℕ, ◌<◌, List, Some, None}
+use Rattle.std.specs.Prelude.{◌≡◌, ◌⊎◌, ℕ, ◌<◌, List, Option, Some, None}
 use Rattle.dw_bytes.specs.declared.target.Target.{Target}
 use Rattle.dw_bytes.specs.Answers.{memory}
 use Rattle.dw_rows.specs.Section.{frame_of, section_fault}
 use Rattle.dw_rows.specs.UnwindTables.{table_bytes}
+use Rattle.dw_process.specs.ModuleMaps.{IsTaken}
+use Rattle.dw_process.specs.Ranges.{HasNoRange, IsRangeFor}
+use Rattle.dw_process.specs.declared.address_range.AddressRange.{AddressRange}
+use Rattle.dw_process.specs.declared.loaded_module.LoadedModule.{LoadedModule}
 use Rattle.dw_process.specs.declared.refusal.Refusal.{Refusal}
-use Rattle.dw_process.specs.declared.refusal.Refusal.TheVariants.{Section, Room}
+use Rattle.dw_process.specs.declared.refusal.Refusal.TheVariants.{Section, Room, Range, Overlaps}
 
--- `Section fault`: memory ran out, or `fault` is the first fault of the section. `Room`: the
--- section has no fault, but its compiled table may need more than `room` bytes.
-abbrev pub IsRefused : Target → List ℕ → ℕ → Refusal → Type 0
-IsRefused target section room (Section fault) = (fault ≡ memory) ⊎ (section_fault target section ≡ Some fault)
-IsRefused target section room Room = (section_fault target section ≡ None) × (room < table_bytes (frame_of target section))
+-- `Section fault`: memory ran out, or `fault` is the first fault of the section. In the other cases
+-- the section has no fault. `Range`: the module has no range. `Overlaps id`: its range shares an
+-- address with the range of the module with that id. `Room`: the compiled table may need more than
+-- `room` bytes.
+abbrev pub IsRefused : Target → List ℕ → ℕ → Option AddressRange → ℕ → List LoadedModule → Refusal → Type 0
+IsRefused target section load_address given room modules (Section fault) = (fault ≡ memory) ⊎ (section_fault target section ≡ Some fault)
+IsRefused target section load_address given room modules Room = (section_fault target section ≡ None) × (room < table_bytes (frame_of target section))
+IsRefused target section load_address given room modules Range =
+    (section_fault target section ≡ None) × HasNoRange (frame_of target section) load_address given
+IsRefused target section load_address given room modules (Overlaps id) = (section_fault target section ≡ None) × (range : AddressRange)
+    × IsRangeFor (frame_of target section) load_address given range × IsTaken range modules id

@@ -3,10 +3,13 @@
 use dw_bytes::Target;
 use dw_rows::UnwindRow;
 
-/// The row found for an address of a running process, and the load address and the target of its
-/// module.
+/// The row found for an address of a running process, and its module.
 #[derive(Debug, Drop)]
 pub struct FoundRow<'p> {
+    /// The id of the module.
+    pub id: u64,
+    /// The number that the caller gave to the module.
+    pub cookie: u64,
     /// The load address of the module.
     pub load_address: u64,
     /// The target of the module: it says how to read the expressions of the row.

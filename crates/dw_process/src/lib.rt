@@ -1,12 +1,19 @@
 //! The modules of a process, with compiled tables that processes share.
 #![tactic(auto)]
 
+mod address_range;
 mod found_row;
+pub mod laws;
+mod loaded_module;
+mod module_map;
 mod process;
+mod ranges;
 mod refusal;
 mod shared_table;
 
+pub use address_range::AddressRange;
 pub use found_row::FoundRow;
+pub use loaded_module::LoadedModule;
 pub use process::Process;
 pub use refusal::Refusal;
 pub use shared_table::SharedTable;

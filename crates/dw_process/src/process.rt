@@ -1,104 +1,203 @@
 //! The modules of a process, which are added, removed and looked up at run time.
 
 ghost use Rattle.std.specs.List.{list_any, position};
-ghost use Rattle.std.specs.Prelude.{◌==◌, ◌≡◌, ◌<◌, ◌^◌, IfErr, IfOk, IfSome, length, []};
-ghost use Rattle.dw_process.specs.Processes.{IsAdded, IsFoundIn, row_in, without};
+ghost use Rattle.std.specs.Option.{option_map};
+ghost use Rattle.std.specs.Prelude.{◌==◌, ◌≡◌, ◌<◌, ◌^◌, All, IfErr, IfOk, IfSome, length};
+ghost use Rattle.dw_process.specs.ModuleMaps.{AreInOrder, module_at};
+ghost use Rattle.dw_process.specs.Processes.{AreDistinct, IsAdded, IsFoundIn, IsReady, found_at, no_modules, removed};
 ghost use Rattle.dw_process.specs.Refusals.{IsRefused};
 
+use crate::address_range::AddressRange;
 use crate::found_row::FoundRow;
+use crate::loaded_module::LoadedModule;
+use crate::module_map::ModuleMap;
+use crate::ranges::range_for;
 use crate::refusal::Refusal;
 use crate::shared_table::SharedTable;
 use dw_bytes::{OUT_OF_MEMORY, Target};
-use dw_rows::{UnwindRows, check_frame};
-use dw_unwind::{Module, as_linked};
+use dw_rows::{UnwindRow, UnwindRows, check_frame};
+use dw_unwind::as_linked;
 use std::alloc::Global;
 use std::marker::Model;
 
-/// The modules of a process: its executable and its libraries, in the order in which they were
-/// added, each as a compiled table with its load address. The module of an address is the first one
-/// that has a row for it.
+/// The modules of a process: its executable and its libraries. Each module has a compiled table, a
+/// load address, and a range of addresses as loaded, which no other module shares. The module of an
+/// address is the one whose range contains it, and is found in O(log n) steps among n modules.
 ///
 /// A `Process` borrows nothing: a module's section may be dropped once the module is added. `share`
-/// makes another `Process` with the same tables and doesn't copy them.
+/// makes another `Process` with the same tables and doesn't copy them. A `&Process` is an
+/// `Unwinder`, so it can be passed to `Walk::new`, `unwind_by` and `backtrace_by`.
 #[derive(Drop)]
 pub struct Process {
-    modules: Vec<Module<SharedTable>>,
+    target: Target,
+    next_id: u64,
+    modules: ModuleMap,
 }
 
 impl Model for Process {
-    ghost use Rattle.dw_process.specs.Processes.{Modules};
+    ghost use Rattle.dw_process.specs.Processes.{AreModulesOf, ProcessState};
 
-    ghost Value = { Modules };
+    ghost Value = { ProcessState };
 
-    ghost view = { λ p. p.modules.items };
+    ghost view = { λ p. record { target = p.target; next_id = p.next_id; modules = p.modules } };
+
+    ghost invariant = { λ p. AreModulesOf p.target p.next_id p.modules };
 }
 
-/// The index of the first module that is loaded at `load_address`; none if there is no such module.
-fn place_of(modules: &[Module<SharedTable>], load_address: u64) -> Option<usize>
-    ensures place { result
-        ≡ position (λ m. m.load_address == load_address) modules.now }
+/// The index of the module with this id; none if there is no such module.
+fn place_of(modules: &[LoadedModule], id: u64) -> Option<usize>
+    ensures place { result ≡ position (λ m. m.id == id) modules.now }
     ensures inside { IfSome result (λ index. index < length modules.now) }
 {
-    modules
-        .iter()
-        .position(|module| module.load_address == load_address)
+    modules.iter().position(|loaded| loaded.id == id)
+}
+
+/// A module that isn't yet added to a process.
+#[derive(Drop)]
+struct ReadyModule {
+    /// The module's range.
+    range: AddressRange,
+    /// The index at which the module may be inserted.
+    place: usize,
+    /// The module's rows.
+    rows: SharedTable,
+}
+
+/// Checks and compiles a module's section, and finds the module's range and its place.
+fn prepare(
+    alloc: Global,
+    modules: &ModuleMap,
+    target: Target,
+    section: &[u8],
+    load_address: u64,
+    given: Option<AddressRange>,
+    room: usize,
+) -> Result<ReadyModule, Refusal>
+    requires { length section.now < 2 ^ 32 }
+    ensures ready { IfOk result
+        (IsReady target section.now load_address given room modules.now) }
+    ensures refused { IfErr result
+        (IsRefused target section.now load_address given room modules.now) }
+{
+    let frame = check_frame(alloc, section, target)?;
+    let Some(range) = range_for(&frame, load_address, given) else {
+        return Err(Refusal::Range);
+    };
+    let place = match modules.place_for(range) {
+        Ok(place) => place,
+        Err(id) => return Err(Refusal::Overlaps(id)),
+    };
+    let Some(table) = frame.compile(alloc, room)? else {
+        return Err(Refusal::Room);
+    };
+    match SharedTable::new(alloc, table) {
+        Some(rows) => Ok(ReadyModule { range, place, rows }),
+        None => Err(Refusal::Section(OUT_OF_MEMORY)),
+    }
 }
 
 impl Process {
-    /// A process without modules.
-    pub fn new(alloc: Global) -> Self
-        ensures { result ≡ [] }
+    /// A process without modules. Its modules' sections are encoded for `target`.
+    pub fn new(alloc: Global, target: Target) -> Self
+        ensures { result ≡ no_modules target }
     {
         Process {
-            modules: Vec::new(alloc),
+            target,
+            next_id: 1,
+            modules: ModuleMap::new(alloc),
         }
     }
 
-    /// The modules, to be passed to `unwind_in` and `Walk`.
-    pub fn modules(&self) -> &[Module<SharedTable>]
-        ensures { result.now ≡ self.now }
+    /// The byte order and the address size of the modules' sections.
+    pub fn target(&self) -> Target
+        ensures { result ≡ self.now.target }
+    {
+        self.target
+    }
+
+    /// The modules in order of address. No address is in the ranges of two modules. No two modules
+    /// have the same id, and each id is below the one that the next module gets.
+    pub fn modules(&self) -> &[LoadedModule]
+        ensures modules { result.now ≡ self.now.modules }
+        ensures order { AreInOrder self.now.modules }
+        ensures ids { AreDistinct self.now.modules }
+        ensures given { All (λ m. m.id < self.now.next_id) self.now.modules }
+        ensures targets { All (λ m. m.rows.target ≡ self.now.target) self.now.modules }
     {
         self.modules.as_slice()
     }
 
-    /// Checks a `.debug_frame` section of fewer than 2^32 bytes, encoded for `target`, compiles it,
-    /// and adds it as the last module, loaded at `load_address`. `room` bounds what the compiled
-    /// table stores, copied expressions included (`CheckedFrame::compile` says how the bytes are
-    /// counted). Checking and compiling may need more memory than that while they run. After an
-    /// error the modules are unchanged.
+    /// The module whose range contains the address; none if there is no such module.
+    #[inline(always)]
+    pub fn module_at(&self, address: u64) -> Option<&LoadedModule>
+        ensures { option_map (λ m. m.now) result ≡ module_at self.now.modules address }
+    {
+        self.modules.at(address)
+    }
+
+    /// Checks a `.debug_frame` section of fewer than 2^32 bytes, encoded for the process's target,
+    /// compiles it, and adds it as a module, loaded at `load_address`. Returns the module's id,
+    /// which no other module of this process has had. `cookie` is a number of the caller's own.
+    ///
+    /// The module answers for the addresses in `range`, and for no others. If no range is given, it
+    /// answers for the addresses from the first to the last one that the section covers. The range
+    /// may not share an address with the range of another module.
+    ///
+    /// `room` bounds what the compiled table stores, copied expressions included
+    /// (`CheckedFrame::compile` says how the bytes are counted). Checking and compiling may need
+    /// more memory than that while they run. After an error the process is unchanged.
     pub fn add(
         &mut self,
         alloc: Global,
         section: &[u8],
-        target: Target,
         load_address: u64,
+        range: Option<AddressRange>,
+        cookie: u64,
         room: usize,
-    ) -> Result<(), Refusal>
+    ) -> Result<u64, Refusal>
         requires { length section.now < 2 ^ 32 }
         ensures added { IfOk result
-            (λ _. IsAdded target section.now load_address room self.old self.new) }
-        ensures refused { IfErr result (λ why. IsRefused target section.now room why) }
+            (λ id. IsAdded section.now load_address range cookie room self.old id self.new) }
+        ensures refused { IfErr result
+            (IsRefused self.old.target section.now load_address range room self.old.modules) }
         ensures same { IfErr result (λ _. self.new ≡ self.old) }
     {
-        let Some(table) = check_frame(alloc, section, target)?.compile(alloc, room)? else {
-            return Err(Refusal::Room);
-        };
-        let Some(rows) = SharedTable::new(alloc, table) else {
+        let ready = prepare(
+            alloc,
+            &self.modules,
+            self.target,
+            section,
+            load_address,
+            range,
+            room,
+        )?;
+        let id = self.next_id;
+        let Some(next_id) = id.checked_add(1) else {
             return Err(Refusal::Section(OUT_OF_MEMORY));
         };
-        match self.modules.push(Module { rows, load_address }) {
-            Ok(()) => Ok(()),
+        let added = LoadedModule {
+            id,
+            cookie,
+            load_address,
+            range: ready.range,
+            rows: ready.rows,
+        };
+        match self.modules.insert(ready.place, added) {
+            Ok(()) => {
+                self.next_id = next_id;
+                Ok(id)
+            }
             Err(_) => Err(Refusal::Section(OUT_OF_MEMORY)),
         }
     }
 
-    /// Removes the first module that is loaded at `load_address`. Returns whether there was one.
+    /// Removes the module with this id. Returns whether there was one.
     #[tactic(auto, using(crate::proofs::Removing::removes))]
-    pub fn remove(&mut self, load_address: u64) -> bool
-        ensures removed { self.new ≡ without load_address self.old }
-        ensures found { result ≡ list_any (λ m. m.load_address == load_address) self.old }
+    pub fn remove(&mut self, id: u64) -> bool
+        ensures removed { self.new ≡ removed id self.old }
+        ensures found { result ≡ list_any (λ m. m.id == id) self.old.modules }
     {
-        match place_of(&self.modules, load_address) {
+        match place_of(self.modules.as_slice(), id) {
             Some(index) => {
                 self.modules.remove(index);
                 true
@@ -107,44 +206,71 @@ impl Process {
         }
     }
 
-    /// The row of an address as loaded (in the running process), from the first module that has a
-    /// row for the address; none if no module has one. Allocates nothing. The cost is one look-up
-    /// in each module up to the one that has the row.
+    /// The row of an address as loaded (in the running process), from the module whose range
+    /// contains the address; none if there is no such module, or if it has no row for the address.
+    /// Allocates nothing.
     pub fn row_for_address(&self, address: u64) -> Option<FoundRow<'_>>
-        ensures row { result ≡ row_in self.now address }
+        ensures row { result ≡ found_at self.now address }
         ensures found { IfSome result (IsFoundIn self.now address) }
     {
-        for module in &self.modules {
-            let rows = &module.rows;
-            let target = rows.rows_target();
-            let linked = as_linked(target, module.load_address, address);
-            if let Some((row, return_register)) = rows.row_and_return_register(linked) {
-                return Some(FoundRow {
-                    load_address: module.load_address,
-                    target,
-                    row,
-                    return_register,
-                });
-            }
+        let Some(found) = self.modules.at(address) else {
+            return None;
+        };
+        let linked = as_linked(self.target, found.load_address, address);
+        match found.rows.row_and_return_register(linked) {
+            Some((row, return_register)) => Some(FoundRow {
+                id: found.id,
+                cookie: found.cookie,
+                load_address: found.load_address,
+                target: self.target,
+                row,
+                return_register,
+            }),
+            None => None,
         }
-        None
     }
 
-    /// Makes another process with the same modules. Both processes share the compiled tables, which
-    /// are freed with the last process that has them. Each process may be used by a different
-    /// thread. None if there isn't enough memory, or if a table already has 2^63 - 1 owners.
+    /// Makes another process with the same modules, which have the same ids. Both processes share
+    /// the compiled tables, which are freed with the last process that has them. Each process may
+    /// be used by a different thread. None if there isn't enough memory, or if a table already has
+    /// 2^63 - 1 owners.
     pub fn share(&self, alloc: Global) -> Option<Process>
         ensures { IfSome result (λ other. other ≡ self.now) }
     {
-        let mut modules = Vec::with_capacity(alloc, self.modules.len()).ok()?;
-        for module in &self.modules {
-            let rows = module.rows.share()?;
-            let shared = Module {
-                rows,
-                load_address: module.load_address,
-            };
-            modules.push(shared).ok()?;
-        }
-        Some(Process { modules })
+        let modules = self.modules.share(alloc)?;
+        Some(Process {
+            target: self.target,
+            next_id: self.next_id,
+            modules,
+        })
+    }
+}
+
+/// Looks rows up in the module whose range contains the address.
+impl UnwindRows for Process {
+    type Slot = ();
+
+    ghost use Rattle.std.specs.Prelude.{◌≡◌};
+    ghost use Rattle.dw_process.specs.Processes.{row_in};
+
+    ghost target_of = { λ p. p.target };
+
+    ghost finds = { λ p address found. found ≡ row_in p address };
+
+    #[inline(always)]
+    fn rows_target(&self) -> Target {
+        self.target
+    }
+
+    #[inline(always)]
+    fn slot(&self) -> () {}
+
+    #[inline(always)]
+    fn find_row<'p>(&'p self, address: u64, _slot: &'p mut ()) -> Option<(UnwindRow<'p, 'p>, u16)> {
+        let Some(found) = self.modules.at(address) else {
+            return None;
+        };
+        let linked = as_linked(self.target, found.load_address, address);
+        found.rows.row_and_return_register(linked)
     }
 }

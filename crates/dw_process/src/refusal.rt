@@ -13,6 +13,12 @@ pub enum Refusal {
     /// The compiled table of the module's section may need more bytes than the argument `room`
     /// allows.
     Room,
+    /// The module has no range: the given range is empty or goes past the greatest address, or no
+    /// range is given, and the section covers no address, or its addresses as loaded would go on at
+    /// address 0 after the greatest address.
+    Range,
+    /// The module's range shares an address with the range of the module that has this id.
+    Overlaps(u64),
 }
 
 impl From<Fault> for Refusal {

@@ -416,8 +416,8 @@ fn has_modules(rt: &impl Abort, process: &Process, count: usize) {
 fn add_modules(rt: &impl Abort, alloc: Global, process: &mut Process) -> bool {
     for number in 0..4usize {
         let (load_address, _) = PLACES[number];
-        match process.add(alloc, &FUNCTION, LITTLE, load_address, 1 << 20) {
-            Ok(()) => has_modules(rt, process, number + 1),
+        match process.add(alloc, &FUNCTION, load_address, None, 0, 1 << 20) {
+            Ok(_) => has_modules(rt, process, number + 1),
             Err(why) => {
                 assert_eq!(rt; why, Refusal::Section(OUT_OF_MEMORY));
                 has_modules(rt, process, number);
@@ -429,13 +429,13 @@ fn add_modules(rt: &impl Abort, alloc: Global, process: &mut Process) -> bool {
 }
 
 fn adds_modules(rt: &impl Abort, alloc: Global) -> bool {
-    let mut process = Process::new(alloc);
+    let mut process = Process::new(alloc, LITTLE);
     add_modules(rt, alloc, &mut process)
 }
 
 /// Shares a process of four modules, which keeps its modules in any case.
 fn shares(rt: &impl Abort, alloc: Global) -> bool {
-    let mut process = Process::new(alloc);
+    let mut process = Process::new(alloc, LITTLE);
     if !add_modules(rt, alloc, &mut process) {
         return false;
     }

@@ -5,5 +5,6 @@ mod FirstTwice
 mod NameLengths
 mod PartFields
 mod Putting
+mod Uncovered
 mod RightFields
 mod WrittenFrames

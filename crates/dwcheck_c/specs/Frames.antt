@@ -2,15 +2,13 @@
 use Rattle.std.specs.Prelude.{◌≡◌, ℕ, List, length, map, Option, Some, None}
 use Rattle.dw_rows.specs.Abi.{Abi}
 use Rattle.dw_unwind.specs.Caller.{Answer, value, undefined, unreadable, division_by_zero}
-use Rattle.dw_unwind.specs.Modules.{over_modules_of_rows, over_tables}
-use Rattle.dw_rows.specs.UnwindTables.{RowTable, row_at}
-use Rattle.dw_unwind.specs.Walks.{CallerRelation, IsFrameAt, Place, WalkedFrame, Walks, first_place, next_place}
+use Rattle.dw_unwind.specs.Walks.{CallerRelation, IsFrameAt, Place, WalkedFrame, Walks, first_place, next_place, over_rows}
 use Rattle.dw_unwind.specs.Contents.{place_before}
 use Rattle.dw_unwind.specs.WalkViews.{brief_of}
 use Rattle.dw_unwind.specs.WalkSteps.{Progress, GivesFrames, about_to_give, after, has_given}
 use Rattle.dw_unwind.specs.declared.frames.Stop.{Stop}
 use Rattle.dw_unwind.specs.declared.frames.Stop.TheVariants.{Limit, NotCovered, ReturnUndefined, ReturnUnreadable, ReturnDivisionByZero}
-use Rattle.dw_process.specs.Processes.{Modules}
+use Rattle.dw_process.specs.Processes.{ProcessState, row_in}
 use Rattle.dwcheck_c.specs.Slots.{put_into}
 use Rattle.dwcheck_c.specs.declared.answer.CAnswer.{CAnswer}
 use Rattle.dwcheck_c.specs.declared.answer.CFrame.{CFrame}
@@ -54,12 +52,22 @@ pub record AreWritten (u : CallerRelation) (first : Place) (old new : List CFram
   pub count_is : count ≡ length frames
   pub stop_is : stop ≡ stop_number why
 
+-- unwinding through the modules of an open process: by the row of the module whose range contains
+-- the address
+abbrev pub over_process : Abi → (ℕ → Option ℕ) → ProcessState → CallerRelation
+over_process abi memory p = over_rows p.target (λ address found. found ≡ row_in p address) abi memory
+
+-- unwinding through the modules of a process; a closed process has none, so no frame has a caller
+abbrev pub over_held : Abi → (ℕ → Option ℕ) → Option ProcessState → CallerRelation
+over_held abi memory None = λ registers address caller. caller ≡ None
+over_held abi memory (Some p) = over_process abi memory p
+
 -- The frames of a walk through the modules of a process are written to the slots, as `AreWritten`
 -- says. The walk starts at the frame at `address` with `registers`. All frames have the same ABI
 -- and memory.
-pub record IsBacktrace (modules : Modules) (abi : Abi) (memory registers : ℕ → Option ℕ) (address : ℕ) (old new : List CFrame)
+pub record IsBacktrace (held : Option ProcessState) (abi : Abi) (memory registers : ℕ → Option ℕ) (address : ℕ) (old new : List CFrame)
     (count stop : ℕ) : Type 0 where
-  pub frames : AreWritten (over_tables abi memory modules) (first_place address registers) old new count stop
+  pub frames : AreWritten (over_held abi memory held) (first_place address registers) old new count stop
 
 -- the walk has given `count` frames, its progress is p, and the frames are written to the front of
 -- the slots, which were `old` before and are `new` now
@@ -79,9 +87,3 @@ pub record IsLeftAt (u : CallerRelation) (first : Place) (begin last : WalkedFra
   pub under_way : UnderWay u begin (has_given last) old new count
   pub next : next_place last.caller ≡ Some (place_before address registers)
   pub long : length new ≡ length old
-
--- unwinding through the modules of a process, by the rows that their tables find; a law of
--- dw_unwind says that its walks are those of `over_tables`
-abbrev pub over_found : Abi → (ℕ → Option ℕ) → Modules → CallerRelation
-over_found abi memory modules =
-    over_modules_of_rows (λ (t : RowTable). t.target) (λ t address found. found ≡ row_at t address) abi memory modules

@@ -6,8 +6,10 @@ pub mod Frames
 pub mod Handles
 pub mod Held
 pub mod Lent
+pub mod LoadedModules
 pub mod Locations
 pub mod Machine
+pub mod NotAdded
 pub mod Rows
 pub mod Slots
 pub mod Targets

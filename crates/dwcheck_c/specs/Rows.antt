@@ -1,7 +1,9 @@
 -- What C gets as a row.
-use Rattle.std.specs.Prelude.{◌≡◌, ℕ, pos, List, length, map, Some, option_map}
+use Rattle.std.specs.Prelude.{◌≡◌, ℕ, pos, List, length, map, Option, Some, option_map}
+use Rattle.std.specs.Option.{option_and_then}
 use Rattle.dw_rows.specs.Rules.{Rule, Cfa, default, undefined, same_value, offset, val_offset, register, expression, val_expression}
 use Rattle.dw_rows.specs.Rules.{register_and_offset, cfa_expression}
+use Rattle.dw_process.specs.Processes.{ProcessState, found_at}
 use Rattle.dw_process.specs.declared.found_row.FoundRow.{FoundRow}
 use Rattle.dwcheck_c.specs.Slots.{put_into}
 use Rattle.dwcheck_c.specs.declared.row.CRule.{CRule}
@@ -28,9 +30,15 @@ abbrev pub cfa_coded : Cfa → CRule
 cfa_coded (register_and_offset r n) = record { offset = n; length = 0; register = r; source = 0; kind = 4 }
 cfa_coded (cfa_expression e) = record { offset = pos e.offset; length = length e.bytes; register = 0; source = 0; kind = 7 }
 
+-- the row of an address as loaded, with its module; None if the process is closed
+abbrev pub found_in : Option ProcessState → ℕ → Option FoundRow
+found_in held address = option_and_then (λ p. found_at p address) held
+
 -- `row` is C's struct for the found row, and the rules of the row's registers are written to the
 -- front of the slots, as many as fit
 pub record IsRowOf (found : FoundRow) (row : CRow) (old new : List CRule) : Type 0 where
+  pub id : row.id ≡ found.id
+  pub cookie : row.cookie ≡ found.cookie
   pub load_address : row.load_address ≡ found.load_address
   pub start : row.start ≡ found.row.start
   pub end : row.end ≡ found.row.end

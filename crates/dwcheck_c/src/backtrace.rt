@@ -1,23 +1,21 @@
 //! Walks up a stack, and writes its frames to an array that C passes.
 
-ghost use Rattle.std.specs.Prelude.{◌≡◌, ◌≤◌, ℕ, List, None, length, option_map};
-ghost use Rattle.dw_rows.specs.Abi.{abi_fault, abi_of};
+ghost use Rattle.std.specs.Prelude.{◌≡◌, ◌≤◌, ℕ, List, None, Option, Some, length, option_map};
+ghost use Rattle.dw_rows.specs.Abi.{Abi as Roles, abi_fault, abi_of};
 ghost use Rattle.dw_rows.specs.AbiViews.{roles_of};
 ghost use Rattle.dw_unwind.specs.Caller.{Answer};
 ghost use Rattle.dw_unwind.specs.UnwoundViews.{caller_with};
 ghost use Rattle.dw_unwind.specs.WalkViews.{brief_in, brief_of};
 ghost use Rattle.dw_unwind.specs.Walks.{Place, WalkedFrame, first_place};
-ghost use Rattle.dwcheck_c.specs.Frames.{AreWritten, IsBacktrace, IsLeftAt, over_found, stop_number};
+ghost use Rattle.dwcheck_c.specs.Frames.{AreWritten, IsBacktrace, IsLeftAt, over_held, over_process, stop_number};
 ghost use Rattle.dwcheck_c.specs.declared.answer.CFrame.{CFrame as Slot};
 
 use crate::answer::{CFrame, shown_frame};
 use dw_eval::{Memory, Registers};
-use dw_process::SharedTable;
+use dw_process::Process;
 use dw_rows::Abi;
-use dw_unwind::laws::{frames_that_are_given_are_a_walk, walks_through_what_is_found};
-use dw_unwind::{
-    BriefFrame, Module, Stop, Unwinder, Unwound, Walk, WalkedContents, return_address,
-};
+use dw_unwind::laws::frames_that_are_given_are_a_walk;
+use dw_unwind::{BriefFrame, Stop, Unwinder, Unwound, Walk, WalkedContents, return_address};
 
 /// Walks up a stack from the frame at `address`, and writes its frames to `slots`, as many as fit.
 /// Returns the number of frames written, and why there are no more.
@@ -90,7 +88,7 @@ fn write_rest<U: Unwinder + Drop, R: Registers, M: Memory>(
 /// callee-saved registers `kept` and the stack pointer `pointer`.
 #[inline(never)]
 fn write_all<R: Registers, M: Memory>(
-    modules: &[Module<SharedTable>],
+    process: &Process,
     kept: &[u16],
     pointer: Option<u16>,
     address: u64,
@@ -99,12 +97,12 @@ fn write_all<R: Registers, M: Memory>(
     slots: &mut [CFrame],
 ) -> (usize, Stop)
     requires { abi_fault kept.now pointer ≡ None }
-    ensures { AreWritten (over_found (abi_of kept.now pointer) (M.bytes memory.now)
-        modules.now) (first_place address (R.contents registers.now)) slots.old slots.new result.0
+    ensures { AreWritten (over_process (abi_of kept.now pointer) (M.bytes memory.now)
+        process.now) (first_place address (R.contents registers.now)) slots.old slots.new result.0
         (stop_number result.1) }
 {
     match Abi::new(kept, pointer) {
-        Ok(abi) => write_frames(modules, &abi, address, registers, memory, slots),
+        Ok(abi) => write_frames(process, &abi, address, registers, memory, slots),
         Err(_) => unreachable!(),
     }
 }
@@ -112,7 +110,7 @@ fn write_all<R: Registers, M: Memory>(
 /// Goes on with a walk as `write_rest` does, with the modules and the ABI of `write_all`.
 #[inline(never)]
 fn write_more<R: Registers, M: Memory>(
-    modules: &[Module<SharedTable>],
+    process: &Process,
     kept: &[u16],
     pointer: Option<u16>,
     address: u64,
@@ -124,13 +122,13 @@ fn write_more<R: Registers, M: Memory>(
     requires abi { abi_fault kept.now pointer ≡ None }
     requires within { from ≤ length slots.old }
     ensures { (first : Place) (begin last : WalkedFrame) (old : List Slot)
-        → IsLeftAt (over_found (abi_of kept.now pointer) (M.bytes memory.now) modules.now)
+        → IsLeftAt (over_process (abi_of kept.now pointer) (M.bytes memory.now) process.now)
         first begin last address (R.contents registers.now) old slots.old from
-        → AreWritten (over_found (abi_of kept.now pointer) (M.bytes memory.now) modules.now)
+        → AreWritten (over_process (abi_of kept.now pointer) (M.bytes memory.now) process.now)
         first old slots.new result.0 (stop_number result.1) }
 {
     match Abi::new(kept, pointer) {
-        Ok(abi) => write_rest(modules, &abi, address, registers, memory, slots, from),
+        Ok(abi) => write_rest(process, &abi, address, registers, memory, slots, from),
         Err(_) => unreachable!(),
     }
 }
@@ -157,7 +155,7 @@ fn brief(address: u64, unwound: Option<Unwound>) -> BriefFrame
 /// registers by number, which takes less room and time than lists of answers. If a register has no
 /// place there, `write_all` or `write_more` walks on with lists.
 fn write_brief<R: Registers, M: Memory>(
-    modules: &[Module<SharedTable>],
+    process: &Process,
     kept: &[u16],
     pointer: Option<u16>,
     address: u64,
@@ -166,14 +164,14 @@ fn write_brief<R: Registers, M: Memory>(
     slots: &mut [CFrame],
 ) -> (usize, Stop)
     requires { abi_fault kept.now pointer ≡ None }
-    ensures { AreWritten (over_found (abi_of kept.now pointer) (M.bytes memory.now)
-        modules.now) (first_place address (R.contents registers.now)) slots.old slots.new result.0
+    ensures { AreWritten (over_process (abi_of kept.now pointer) (M.bytes memory.now)
+        process.now) (first_place address (R.contents registers.now)) slots.old slots.new result.0
         (stop_number result.1) }
 {
-    frames_that_are_given_are_a_walk::<&[Module<SharedTable>]>();
+    frames_that_are_given_are_a_walk::<&Process>();
     let mut contents = WalkedContents::none();
-    let Ok(first) = contents.begin(modules, kept, pointer, address, registers, memory) else {
-        return write_all(modules, kept, pointer, address, registers, memory, slots);
+    let Ok(first) = contents.begin(&process, kept, pointer, address, registers, memory) else {
+        return write_all(process, kept, pointer, address, registers, memory, slots);
     };
     let mut unwound = first;
     let mut at = address;
@@ -188,25 +186,45 @@ fn write_brief<R: Registers, M: Memory>(
             Ok(next) => next,
             Err(stop) => return (count, stop),
         };
-        match contents.advance(modules, kept, pointer, next, memory) {
+        match contents.advance(&process, kept, pointer, next, memory) {
             Ok(caller) => {
                 unwound = caller;
                 at = next;
             }
             Err(_) => {
                 let file = contents.file();
-                return write_more(modules, kept, pointer, next, file, memory, slots, count);
+                return write_more(process, kept, pointer, next, file, memory, slots, count);
             }
         }
     }
     (count, Stop::Limit)
 }
 
+/// Writes the only frame of a walk through a closed process: no module has a row for `address`.
+/// Returns the number of frames written, and why there are no more.
+pub(crate) fn write_uncovered(address: u64, slots: &mut [CFrame]) -> (usize, Stop)
+    ensures { (abi : Roles) (memory registers : ℕ → Option ℕ) → IsBacktrace None abi memory registers
+        address slots.old slots.new result.0 (stop_number result.1) }
+{
+    let only = shown_frame(brief(address, None));
+    match slots.len() {
+        0 => (0, Stop::Limit),
+        1 => {
+            slots[0] = only;
+            (1, Stop::Limit)
+        }
+        _ => {
+            slots[0] = only;
+            (1, Stop::NotCovered)
+        }
+    }
+}
+
 /// Walks up a stack with the tables of a process's modules, and writes its frames to `slots`, as
 /// many as fit. Returns the number of frames written, and why there are no more. The ABI has the
 /// callee-saved registers `kept` and the stack pointer `pointer`.
 pub(crate) fn write_backtrace<R: Registers, M: Memory>(
-    modules: &[Module<SharedTable>],
+    process: &Process,
     kept: &[u16],
     pointer: Option<u16>,
     address: u64,
@@ -215,10 +233,9 @@ pub(crate) fn write_backtrace<R: Registers, M: Memory>(
     slots: &mut [CFrame],
 ) -> (usize, Stop)
     requires { abi_fault kept.now pointer ≡ None }
-    ensures { IsBacktrace modules.now (abi_of kept.now pointer) (M.bytes memory.now)
+    ensures { IsBacktrace (Some process.now) (abi_of kept.now pointer) (M.bytes memory.now)
         (R.contents registers.now) address slots.old slots.new result.0
         (stop_number result.1) }
 {
-    walks_through_what_is_found();
-    write_brief(modules, kept, pointer, address, registers, memory, slots)
+    write_brief(process, kept, pointer, address, registers, memory, slots)
 }

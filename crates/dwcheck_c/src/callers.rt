@@ -1,20 +1,22 @@
 //! C's structs for the caller of a frame and for a register of that caller, and functions that find
 //! a caller and write it to these structs.
 
-ghost use Rattle.std.specs.Prelude.{◌≡◌, ◌≤◌, map, option_map};
+ghost use Rattle.std.specs.Prelude.{◌≡◌, ◌≤◌, ◌^◌, IfSome, map, option_map};
+ghost use Rattle.dw_eval.specs.Numbers.{width_of};
 ghost use Rattle.dw_rows.specs.AbiViews.{roles_of};
+ghost use Rattle.dw_unwind.specs.CallerFits.{CallerFits};
 ghost use Rattle.dw_unwind.specs.CallerViews.{answer_in};
 ghost use Rattle.dw_unwind.specs.UnwoundViews.{caller_with};
-ghost use Rattle.dwcheck_c.specs.Callers.{ShowsCaller, Unwinds, cregister_of};
+ghost use Rattle.dwcheck_c.specs.Callers.{ShowsCaller, cregister_of};
+ghost use Rattle.dwcheck_c.specs.Frames.{over_process};
 ghost use Rattle.dwcheck_c.specs.Slots.{put_into};
 
 use crate::answer::{CAnswer, shown_answer};
 use crate::slots::put;
 use dw_eval::{Memory, Registers};
-use dw_process::SharedTable;
+use dw_process::Process;
 use dw_rows::Abi;
-use dw_unwind::laws::unwindings_through_what_is_found;
-use dw_unwind::{Answer, MAX_FOUND, Module, PackedRegisters, Unwound, unwind_in_place};
+use dw_unwind::{Answer, MAX_FOUND, PackedRegisters, Unwound, unwind_in_place};
 
 /// A register of a caller: its number, and what is known of its content. `kind` and `value` have
 /// the same meaning as in `CAnswer`.
@@ -77,19 +79,20 @@ pub(crate) fn write_caller(
     };
 }
 
-/// The caller of the frame at `address`, computed with the first module that has a row for
+/// The caller of the frame at `address`, computed with the row of the module whose range contains
 /// `address`. Its registers replace what is in `into`. `None` if no module has a row for it.
 pub(crate) fn caller_through<R: Registers, M: Memory>(
-    modules: &[Module<SharedTable>],
+    process: &Process,
     abi: &Abi,
     address: u64,
     registers: &R,
     memory: &M,
     into: &mut PackedRegisters,
 ) -> Option<Unwound>
-    ensures { Unwinds modules.now (roles_of abi.now) (M.bytes memory.now)
+    ensures unwinds { over_process (roles_of abi.now) (M.bytes memory.now) process.now
         (R.contents registers.now) address (option_map (caller_with into.new) result) }
+    ensures fits { IfSome (option_map (caller_with into.new) result)
+        (CallerFits (2 ^ width_of process.now.target.address_size)) }
 {
-    unwindings_through_what_is_found();
-    unwind_in_place(modules, abi, address, registers, memory, into)
+    unwind_in_place(&process, abi, address, registers, memory, into)
 }

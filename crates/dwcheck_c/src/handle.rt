@@ -13,7 +13,7 @@ use std::mem::replace;
 pub struct CProcess {
     pub(crate) held: Held,
     is_open: bool,
-    ghost tied: { IsTrue is_open ↔ IsSome held.modules },
+    ghost tied: { IsTrue is_open ↔ IsSome held.process },
 }
 
 impl CProcess {

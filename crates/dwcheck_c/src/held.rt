@@ -1,7 +1,7 @@
 //! The pointer to the modules of a process, which is a field of C's struct for a process.
 
 ghost use Rattle.std.specs.Prelude.{◌≡◌, None, Some, Option, IsSome};
-ghost use Rattle.dw_process.specs.Processes.{Modules};
+ghost use Rattle.dw_process.specs.Processes.{ProcessState};
 ghost use Rattle.dwcheck_c.specs.Held.{held_if, process_coded};
 
 mod parts;
@@ -19,17 +19,17 @@ use std::ptr::null_mut;
 pub struct Held {
     at: *mut u8,
     alloc: Global,
-    pub ghost modules: { Option Modules } by { process_coded },
+    pub ghost process: { Option ProcessState } by { process_coded },
 }
 
 impl Model for Held {
-    ghost also_owns = { λ h. held_if h.alloc h.at h.modules };
+    ghost also_owns = { λ h. held_if h.alloc h.at h.process };
 }
 
 impl Held {
     /// A null pointer: there is no process.
     pub fn none(alloc: Global) -> Held
-        ensures { result.modules ≡ None }
+        ensures { result.process ≡ None }
     {
         Held {
             at: null_mut(),
@@ -39,21 +39,21 @@ impl Held {
 
     /// Takes ownership of `process`.
     pub fn of(process: Box<Process>) -> Held
-        ensures { result.modules ≡ Some process.value }
+        ensures { result.process ≡ Some process.value }
     {
         Held::of_parts(Parts::of(process))
     }
 
     /// Gives back the box that was passed to `of`.
     pub fn into_box(self) -> Box<Process>
-        requires { IsSome self.modules }
-        ensures { self.modules ≡ Some result.value }
+        requires { IsSome self.process }
+        ensures { self.process ≡ Some result.value }
     {
         self.into_parts().into_box()
     }
 
     fn of_parts(parts: Parts<Process, Global>) -> Held
-        ensures { result.modules ≡ Some parts.value }
+        ensures { result.process ≡ Some parts.value }
     {
         let Parts { ptr, alloc } = parts;
         Held {
@@ -63,8 +63,8 @@ impl Held {
     }
 
     fn into_parts(self) -> Parts<Process, Global>
-        requires { IsSome self.modules }
-        ensures { self.modules ≡ Some result.value }
+        requires { IsSome self.process }
+        ensures { self.process ≡ Some result.value }
     {
         let Held { at, alloc } = self;
         Parts {

@@ -23,8 +23,8 @@ impl LentProcess {
     pub(crate) fn take(&self, right: &mut Right) -> Option<Part<Process>>
         requires { Reads right.old self.now }
         ensures { MatchOption result
-            ((right.old.modules ≡ None) × (loan_of right.new ≡ loan_of right.old))
-            (λ p. (right.old.modules ≡ Some p.value) × (loan_of right.old ≡ loan_by p)) }
+            ((right.old.process ≡ None) × (loan_of right.new ≡ loan_of right.old))
+            (λ p. (right.old.process ≡ Some p.value) × (loan_of right.old ≡ loan_by p)) }
     {
         if self.is_open {
             let old = replace(right, Right::none());

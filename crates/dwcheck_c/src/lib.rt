@@ -15,6 +15,7 @@ mod lent;
 mod lists;
 mod location;
 mod memory;
+mod module;
 mod names;
 mod part;
 mod processes;

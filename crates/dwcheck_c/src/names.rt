@@ -13,7 +13,7 @@ use dw_bytes::FaultKind;
 
 /// The version of this interface: 65536 times the major version, plus the minor version. As long as
 /// the major version stays the same, existing programs keep working.
-const VERSION: u32 = 0x1_0000;
+const VERSION: u32 = 0x2_0000;
 
 /// All kinds of faults.
 const KINDS: [FaultKind; 47] = [

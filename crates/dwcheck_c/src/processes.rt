@@ -2,127 +2,171 @@
 //! close a process.
 
 ghost use Rattle.std.specs.Prelude.{◌≡◌, ◌≢◌, ◌≤◌, ◌<◌, ◌^◌, ◌⊎◌, ◌==◌, false, true, IfErr, IfOk, IfSome, None, Some, length, option_map};
-ghost use Rattle.std.specs.Option.{IsSomeAnd};
 ghost use Rattle.std.specs.List.{list_any};
-ghost use Rattle.dw_rows.specs.Section.{frame_of, section_fault};
-ghost use Rattle.dw_rows.specs.UnwindTables.{table_bytes};
-ghost use Rattle.dw_process.specs.Processes.{IsAdded, without};
-ghost use Rattle.dw_process.specs.Refusals.{IsRefused};
+ghost use Rattle.dw_bytes.specs.declared.target.Target.{Target};
+ghost use Rattle.dw_rows.specs.Section.{section_fault};
+ghost use Rattle.dw_process.specs.Processes.{IsAdded, removed};
 ghost use Rattle.dwcheck_c.specs.Faults.{Reports};
 ghost use Rattle.dwcheck_c.specs.Handles.{held_in, modules_of};
 ghost use Rattle.dwcheck_c.specs.Lent.{Reads, loan_of};
+ghost use Rattle.dwcheck_c.specs.LoadedModules.{IsModuleAdded, IsModuleRefused, IsTargetFor, range_in};
+ghost use Rattle.dwcheck_c.specs.NotAdded.{IsNotAdded, IsNotAddedTo};
 ghost use Rattle.dwcheck_c.specs.Targets.{target_by};
+ghost use Rattle.dw_process.specs.declared.refusal.Refusal.TheVariants as refusal;
 
 use crate::fault::{CFault, IN_FRAME, report};
 use crate::handle::CProcess;
 use crate::lent::{LentProcess, put};
+use crate::module::CModule;
 use crate::right::Right;
-use crate::status::{BAD_TARGET, DONE, NO_MEMORY, NO_ROOM, NONE, REFUSED, TOO_LONG};
+use crate::status::{
+    BAD_RANGE, BAD_TARGET, DONE, NO_MEMORY, NO_ROOM, NONE, OVERLAPS, REFUSED, TOO_LONG,
+};
 use crate::target::target;
 use dw_bytes::{FaultKind, OUT_OF_MEMORY, Target};
 use dw_process::{Process, Refusal};
 use std::alloc::Global;
 
+/// Why a module isn't added: its target isn't one, or isn't that of the process; or `Process::add`
+/// refuses it.
+#[derive(Drop)]
+enum NotAdded {
+    BadTarget,
+    Refused(Refusal),
+}
+
+/// Adds a module to an open process, if it has the process's target.
+fn add_to(
+    alloc: Global,
+    process: &mut Process,
+    module: &CModule<'_>,
+    target: Target,
+) -> Result<u64, NotAdded>
+    requires { length module.now.frame.now < 2 ^ 32 }
+    ensures added { IfOk result (λ id. (process.old.target ≡ target)
+        × IsAdded module.now.frame.now module.now.load_address (range_in module.now)
+        module.now.cookie module.now.room process.old id process.new) }
+    ensures why { IfErr result (IsNotAddedTo process.old module.now target) }
+    ensures same { IfErr result (λ _. process.new ≡ process.old) }
+{
+    if process.target() != target {
+        return Err(NotAdded::BadTarget);
+    }
+    match process.add(
+        alloc,
+        module.frame,
+        module.load_address,
+        module.range(),
+        module.cookie,
+        module.room,
+    ) {
+        Ok(id) => Ok(id),
+        Err(why) => Err(NotAdded::Refused(why)),
+    }
+}
+
 /// Adds a module to a process, which may be closed. A closed process is opened only if the module
 /// is added.
-fn add(
-    alloc: Global,
-    process: &mut CProcess,
-    section: &[u8],
-    target: Target,
-    load_address: u64,
-    room: usize,
-) -> Result<(), Refusal>
-    requires { length section.now < 2 ^ 32 }
-    ensures added { IfOk result (λ _. IsAdded target section.now load_address room
-        (modules_of process.old) (modules_of process.new)) }
-    ensures refused { IfErr result (λ why. IsRefused target section.now room why) }
+fn add(alloc: Global, process: &mut CProcess, module: &CModule<'_>) -> Result<u64, NotAdded>
+    requires { length module.now.frame.now < 2 ^ 32 }
+    ensures added { IfOk result (λ id. IsModuleAdded module.now (held_in process.old) id
+        (held_in process.new)) }
+    ensures why { IfErr result (IsNotAdded module.now (held_in process.old)) }
     ensures same { IfErr result (λ _. held_in process.new ≡ held_in process.old) }
 {
+    let Some(target) = target(module.order, module.address_size) else {
+        return Err(NotAdded::BadTarget);
+    };
     match process.take(alloc) {
         Some(mut held) => {
-            let added = held.add(alloc, section, target, load_address, room);
+            let added = add_to(alloc, &mut held, module, target);
             *process = CProcess::open(held);
             added
         }
         None => {
-            let mut new = Process::new(alloc);
-            new.add(alloc, section, target, load_address, room)?;
+            let mut new = Process::new(alloc, target);
+            let id = add_to(alloc, &mut new, module, target)?;
             let Ok(held) = Box::new(alloc, new) else {
-                return Err(Refusal::Section(OUT_OF_MEMORY));
+                return Err(NotAdded::Refused(Refusal::Section(OUT_OF_MEMORY)));
             };
             *process = CProcess::open(held);
-            Ok(())
+            Ok(id)
         }
     }
 }
 
-/// Checks a frame section, compiles its rows, and adds them to a process as a module. What the
-/// compiled table stores, copied expressions included, may take at most `room` bytes.
+/// Checks a module's frame section, compiles its rows, and adds them to a process as a module, whose
+/// id is written to `id`. If the module's range shares an address with the range of another module,
+/// that module's id is written to `id`.
 #[unsafe(no_mangle)]
 pub extern "C" fn dwcheck_process_add(
     alloc: Global,
     process: &mut CProcess,
-    section: &[u8],
-    order: u32,
-    address_size: u32,
-    load_address: u64,
-    room: usize,
+    module: &CModule<'_>,
+    id: &mut u64,
     fault: &mut CFault,
 ) -> u32
-    ensures added { result ≡ DONE → IsSomeAnd (target_by order address_size) (λ target.
-        IsAdded target section.now load_address room (modules_of process.old)
-        (modules_of process.new)) }
-    ensures refused { result ≡ REFUSED → IsSomeAnd (target_by order address_size) (λ target.
-        Reports IN_FRAME (section_fault target section.now) fault.new) }
-    ensures room { result ≡ NO_ROOM → IsSomeAnd (target_by order address_size) (λ target.
-        (section_fault target section.now ≡ None)
-        × (room < table_bytes (frame_of target section.now))) }
-    ensures target { result ≡ BAD_TARGET → target_by order address_size ≡ None }
-    ensures bad { target_by order address_size ≡ None → result ≡ BAD_TARGET }
-    ensures long { result ≡ TOO_LONG → 2 ^ 32 ≤ length section.now }
-    ensures short { result ≢ BAD_TARGET → result ≢ TOO_LONG → length section.now < 2 ^ 32 }
-    ensures codes { result ≤ TOO_LONG }
+    ensures added { result ≡ DONE
+        → IsModuleAdded module.now (held_in process.old) id.new (held_in process.new) }
+    ensures refused { result ≡ REFUSED → (target : Target)
+        × IsTargetFor module.now (held_in process.old) target
+        × Reports IN_FRAME (section_fault target module.now.frame.now) fault.new }
+    ensures room { result ≡ NO_ROOM
+        → IsModuleRefused module.now (held_in process.old) refusal.Room }
+    ensures range { result ≡ BAD_RANGE
+        → IsModuleRefused module.now (held_in process.old) refusal.Range }
+    ensures overlaps { result ≡ OVERLAPS
+        → IsModuleRefused module.now (held_in process.old) (refusal.Overlaps id.new) }
+    ensures target { result ≡ BAD_TARGET
+        → (target : Target) → ¬ IsTargetFor module.now (held_in process.old) target }
+    ensures good { result ≢ BAD_TARGET → result ≢ TOO_LONG
+        → (target : Target) × IsTargetFor module.now (held_in process.old) target }
+    ensures long { result ≡ TOO_LONG → 2 ^ 32 ≤ length module.now.frame.now }
+    ensures short { result ≢ TOO_LONG → length module.now.frame.now < 2 ^ 32 }
+    ensures codes { (result ≤ TOO_LONG) ⊎ (result ≡ OVERLAPS) ⊎ (result ≡ BAD_RANGE) }
     ensures same { result ≢ DONE → held_in process.new ≡ held_in process.old }
+    ensures unnamed { result ≢ DONE → result ≢ OVERLAPS → id.new ≡ id.old }
     ensures unreported { result ≢ REFUSED → fault.new ≡ fault.old }
 {
-    let Some(target) = target(order, address_size) else {
-        return BAD_TARGET;
-    };
-    if section.len() >= 1 << 32 {
+    if module.frame.len() >= 1 << 32 {
         return TOO_LONG;
     }
-    match add(alloc, process, section, target, load_address, room) {
-        Ok(()) => DONE,
-        Err(Refusal::Room) => NO_ROOM,
-        Err(Refusal::Section(found)) if found.kind == FaultKind::Memory => NO_MEMORY,
-        Err(Refusal::Section(found)) => {
+    match add(alloc, process, module) {
+        Ok(added) => {
+            *id = added;
+            DONE
+        }
+        Err(NotAdded::BadTarget) => BAD_TARGET,
+        Err(NotAdded::Refused(Refusal::Room)) => NO_ROOM,
+        Err(NotAdded::Refused(Refusal::Range)) => BAD_RANGE,
+        Err(NotAdded::Refused(Refusal::Overlaps(other))) => {
+            *id = other;
+            OVERLAPS
+        }
+        Err(NotAdded::Refused(Refusal::Section(found))) if found.kind == FaultKind::Memory => {
+            NO_MEMORY
+        }
+        Err(NotAdded::Refused(Refusal::Section(found))) => {
             *fault = report(IN_FRAME, found);
             REFUSED
         }
     }
 }
 
-/// Removes the first module whose load address is `load_address` from a process. Returns `NONE` if
-/// there is no such module.
+/// Removes the module with this id from a process. Returns `NONE` if there is no such module.
 #[unsafe(no_mangle)]
-pub extern "C" fn dwcheck_process_remove(
-    alloc: Global,
-    process: &mut CProcess,
-    load_address: u64,
-) -> u32
-    ensures removed { held_in process.new
-        ≡ option_map (without load_address) (held_in process.old) }
+pub extern "C" fn dwcheck_process_remove(alloc: Global, process: &mut CProcess, id: u64) -> u32
+    ensures removed { held_in process.new ≡ option_map (removed id) (held_in process.old) }
     ensures found { result ≡ DONE
-        → list_any (λ m. m.load_address == load_address) (modules_of process.old) ≡ true }
+        → list_any (λ m. m.id == id) (modules_of (held_in process.old)) ≡ true }
     ensures none { result ≡ NONE
-        → list_any (λ m. m.load_address == load_address) (modules_of process.old) ≡ false }
+        → list_any (λ m. m.id == id) (modules_of (held_in process.old)) ≡ false }
     ensures codes { (result ≡ DONE) ⊎ (result ≡ NONE) }
 {
     let Some(mut held) = process.take(alloc) else {
         return NONE;
     };
-    let found = held.remove(load_address);
+    let found = held.remove(id);
     *process = CProcess::open(held);
     if found { DONE } else { NONE }
 }
@@ -155,8 +199,9 @@ pub extern "C" fn dwcheck_process_share(
     other: &mut SharePlace,
 ) -> u32
     requires { Reads other.old.right process.now }
-    ensures shared { result ≡ DONE → held_in other.new.process ≡ other.old.right.modules }
+    ensures shared { result ≡ DONE → held_in other.new.process ≡ other.old.right.process }
     ensures lacks { result ≡ NO_MEMORY → held_in other.new.process ≡ held_in other.old.process }
+    ensures closed { other.old.right.process ≡ None → result ≡ DONE }
     ensures codes { (result ≡ DONE) ⊎ (result ≡ NO_MEMORY) }
     ensures same { loan_of other.new.right ≡ loan_of other.old.right }
 {

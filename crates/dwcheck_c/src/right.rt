@@ -2,7 +2,7 @@
 
 ghost use Rattle.std.specs.Prelude.{◌≡◌, ℕ, None, Some, Option, IsSome};
 ghost use denote.RawPtr.{Ptr};
-ghost use Rattle.dw_process.specs.Processes.{Modules};
+ghost use Rattle.dw_process.specs.Processes.{ProcessState};
 ghost use Rattle.dwcheck_c.specs.Held.{lent_if, process_coded};
 
 use crate::part::Part;
@@ -16,26 +16,26 @@ use std::marker::{Model, Send};
 #[derive(Drop)]
 pub struct Right {
     pub ghost at: { Ptr },
-    pub ghost modules: { Option Modules } by { process_coded },
+    pub ghost process: { Option ProcessState } by { process_coded },
     pub ghost round: { ℕ },
     pub ghost count: { ℕ },
 }
 
 impl Model for Right {
-    ghost also_owns = { λ h. lent_if h.at h.round h.count h.modules };
+    ghost also_owns = { λ h. lent_if h.at h.round h.count h.process };
 }
 
 impl Right {
     /// A right to read nothing.
     pub fn none() -> Right
-        ensures { result.modules ≡ None }
+        ensures { result.process ≡ None }
     {
         Right {}
     }
 
     /// The right that `part` is, without its pointer.
     pub fn of_part(part: Part<Process>) -> Right
-        ensures { (result.at ≡ part.ptr) × (result.modules ≡ Some part.value)
+        ensures { (result.at ≡ part.ptr) × (result.process ≡ Some part.value)
             × (result.round ≡ part.round) × (result.count ≡ part.count) }
     {
         let Part { ptr: _ } = part;
@@ -44,9 +44,9 @@ impl Right {
 
     /// The part that this right is, with its pointer.
     pub fn into_part(self, at: *const u8) -> Part<Process>
-        requires open { IsSome self.modules }
+        requires open { IsSome self.process }
         requires at { self.at ≡ at }
-        ensures { (self.at ≡ result.ptr) × (self.modules ≡ Some result.value)
+        ensures { (self.at ≡ result.ptr) × (self.process ≡ Some result.value)
             × (self.round ≡ result.round) × (self.count ≡ result.count) }
     {
         let Right {} = self;

@@ -30,6 +30,10 @@ pub struct CRule {
 #[repr(C)]
 #[derive(Clone, Copy, Debug)]
 pub struct CRow {
+    /// The id of the module.
+    pub id: u64,
+    /// The number that C gave to the module.
+    pub cookie: u64,
     /// The load address of the module.
     pub load_address: u64,
     /// The row covers the addresses from `start` up to, not including, `end`. Both are addresses as
@@ -139,6 +143,8 @@ pub(crate) fn write_row(found: &FoundRow<'_>, row: &mut CRow, rules: &mut [CRule
 {
     let count = write_rules(found.row.rules(), rules);
     *row = CRow {
+        id: found.id,
+        cookie: found.cookie,
         load_address: found.load_address,
         start: found.row.start_address(),
         end: found.row.end_address(),

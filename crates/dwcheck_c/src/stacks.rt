@@ -4,16 +4,15 @@ ghost use Rattle.std.specs.Prelude.{◌≡◌, ◌≢◌, ◌≤◌, ◌⊎◌, 
 ghost use Rattle.std.specs.Bool.{OnTrue, OnFalse};
 ghost use Rattle.std.specs.Option.{IsSomeAnd};
 ghost use Rattle.dw_rows.specs.AbiViews.{roles_of};
-ghost use Rattle.dw_process.specs.Processes.{row_in};
 ghost use Rattle.dwcheck_c.specs.Callers.{IsCaller, Unwinds};
 ghost use Rattle.dwcheck_c.specs.Faults.{Reports};
 ghost use Rattle.dwcheck_c.specs.Frames.{IsBacktrace, stop_number};
 ghost use Rattle.dwcheck_c.specs.Lent.{Reads, loan_of, read_by};
 ghost use Rattle.dwcheck_c.specs.Machine.{abi_fault_of, abi_in, memory_of, registers_of};
-ghost use Rattle.dwcheck_c.specs.Rows.{IsRowOf};
+ghost use Rattle.dwcheck_c.specs.Rows.{IsRowOf, found_in};
 
 use crate::answer::{CFrame, stop_code};
-use crate::backtrace::write_backtrace;
+use crate::backtrace::{write_backtrace, write_uncovered};
 use crate::callers::{CCaller, CRegister, caller_through, write_caller};
 use crate::fault::{CFault, IN_ABI, report};
 use crate::lent::{LentProcess, put};
@@ -21,9 +20,9 @@ use crate::right::Right;
 use crate::row::{CRow, CRule, write_row};
 use crate::state::CState;
 use crate::status::{DONE, NONE, REFUSED};
-use dw_process::SharedTable;
+use dw_process::Process;
 use dw_rows::Abi;
-use dw_unwind::{Module, PackedRegisters, Stop};
+use dw_unwind::{PackedRegisters, Stop};
 
 /// Where a row is written, with a part of the right to read the process, which takes no bytes: C
 /// passes a pointer to a row.
@@ -57,10 +56,10 @@ pub extern "C" fn dwcheck_row_at(
     rules: &mut [CRule],
 ) -> u32
     requires { Reads row.old.right process.now }
-    ensures row { result ≡ DONE → IsSomeAnd (row_in (read_by row.old.right) address)
+    ensures row { result ≡ DONE → IsSomeAnd (found_in (read_by row.old.right) address)
         (λ found. IsRowOf found row.new.row rules.old rules.new) }
     ensures few { result ≡ DONE → row.new.row.count ≤ 128 }
-    ensures none { result ≡ NONE → row_in (read_by row.old.right) address ≡ None }
+    ensures none { result ≡ NONE → found_in (read_by row.old.right) address ≡ None }
     ensures codes { (result ≡ DONE) ⊎ (result ≡ NONE) }
     ensures unwritten { result ≡ NONE → (row.new.row ≡ row.old.row) × (rules.new ≡ rules.old) }
     ensures same { loan_of row.new.right ≡ loan_of row.old.right }
@@ -85,23 +84,23 @@ pub extern "C" fn dwcheck_row_at(
 /// registers takes no more stack than `CState::set_abi` took before.
 #[inline(never)]
 fn write_caller_of(
-    modules: &[Module<SharedTable>],
+    process: &Process,
     abi: &Abi,
     address: u64,
     state: &CState<'_>,
     out: &mut CCaller,
     slots: &mut [CRegister],
 ) -> bool
-    ensures written { OnTrue result (IsCaller modules.now (roles_of abi.now) (memory_of state.now)
+    ensures written { OnTrue result (IsCaller (Some process.now) (roles_of abi.now) (memory_of state.now)
         (registers_of state.now) address out.new slots.old slots.new) }
     ensures few { OnTrue result (out.new.count ≤ 256) }
-    ensures none { OnFalse result (Unwinds modules.now (roles_of abi.now) (memory_of state.now)
+    ensures none { OnFalse result (Unwinds (Some process.now) (roles_of abi.now) (memory_of state.now)
         (registers_of state.now) address None) }
     ensures unwritten { OnFalse result ((out.new ≡ out.old) × (slots.new ≡ slots.old)) }
 {
     let mut found = PackedRegisters::none();
     match caller_through(
-        modules,
+        process,
         abi,
         address,
         &state.registers(),
@@ -116,7 +115,7 @@ fn write_caller_of(
     }
 }
 
-/// Calls `write_caller_of` with the modules of `process`. A closed process has no modules.
+/// Calls `write_caller_of` if `process` is open. A closed process has no modules.
 fn write_caller_within(
     process: &LentProcess,
     right: &mut Right,
@@ -137,12 +136,11 @@ fn write_caller_within(
 {
     match process.take(right) {
         Some(part) => {
-            let modules = part.get().modules();
-            let is_written = write_caller_of(modules, abi, address, state, out, slots);
+            let is_written = write_caller_of(part.get(), abi, address, state, out, slots);
             put(part, right);
             is_written
         }
-        None => write_caller_of(&[], abi, address, state, out, slots),
+        None => false,
     }
 }
 
@@ -198,17 +196,17 @@ pub extern "C" fn dwcheck_unwind(
 /// writes its frames to `frames`, as many as fit. Returns the number of frames written, and why
 /// there are no more.
 fn frames_of(
-    modules: &[Module<SharedTable>],
+    process: &Process,
     address: u64,
     state: &CState<'_>,
     frames: &mut [CFrame],
 ) -> (usize, Stop)
     requires { abi_fault_of state.now ≡ None }
-    ensures { IsBacktrace modules.now (abi_in state.now) (memory_of state.now)
+    ensures { IsBacktrace (Some process.now) (abi_in state.now) (memory_of state.now)
         (registers_of state.now) address frames.old frames.new result.0 (stop_number result.1) }
 {
     write_backtrace(
-        modules,
+        process,
         state.kept,
         state.pointer(),
         address,
@@ -218,7 +216,7 @@ fn frames_of(
     )
 }
 
-/// Calls `frames_of` with the modules of `process`. A closed process has no modules.
+/// Calls `frames_of` if `process` is open. A closed process has no modules.
 fn frames_in(
     process: &LentProcess,
     right: &mut Right,
@@ -234,11 +232,11 @@ fn frames_in(
 {
     match process.take(right) {
         Some(part) => {
-            let written = frames_of(part.get().modules(), address, state, frames);
+            let written = frames_of(part.get(), address, state, frames);
             put(part, right);
             written
         }
-        None => frames_of(&[], address, state, frames),
+        None => write_uncovered(address, frames),
     }
 }
 

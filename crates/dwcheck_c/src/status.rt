@@ -12,7 +12,7 @@ pub const NO_MEMORY: u32 = 2;
 /// The compiled table of the section can take more bytes than `room`, the limit that C passed.
 pub const NO_ROOM: u32 = 3;
 
-/// The byte order or the address size is invalid.
+/// The byte order or the address size is invalid, or isn't that of the process.
 pub const BAD_TARGET: u32 = 4;
 
 /// A section or an expression has 2^32 bytes or more.
@@ -23,3 +23,9 @@ pub const BAD_KIND: u32 = 6;
 
 /// What was looked up doesn't exist.
 pub const NONE: u32 = 7;
+
+/// The module's range shares an address with another module's range.
+pub const OVERLAPS: u32 = 8;
+
+/// The module has no range that it could answer for.
+pub const BAD_RANGE: u32 = 9;

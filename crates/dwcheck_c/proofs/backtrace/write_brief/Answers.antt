@@ -7,14 +7,14 @@ use Rattle.dw_unwind.specs.UnwoundViews.{caller_with}
 use Rattle.dw_unwind.specs.Walks.{CallerRelation, Place, WalkedFrame, first_place}
 use Rattle.dw_unwind.specs.WalkSteps.{has_given, stop_of}
 use Rattle.dw_unwind.specs.declared.frames.Stop.TheVariants.{Limit}
-use Rattle.dwcheck_c.specs.Frames.{cframe_by, cframe_of, over_found}
+use Rattle.dwcheck_c.specs.Frames.{cframe_by, cframe_of, over_process}
 use Rattle.dwcheck_c.proofs.WrittenFrames.{comes-first, comes-next, comes-written, ends-with, next-is, written}
 use Rattle.dwcheck_c.proofs.backtrace.write_brief.Goals as goal
 
 pub loop-count-init : goal.loop-count-init
 loop-count-init g c =
-    let u : CallerRelation = over_found (abi_of c.args.kept.now c.args.pointer) (g.M.Memory.bytes c.args.memory.now) c.args.modules.now in
-    let h = c.in-Ok.ensures in
+    let u : CallerRelation = over_process (abi_of c.args.kept.now c.args.pointer) (g.M.Memory.bytes c.args.memory.now) c.args.process.now in
+    let h = (c.in-Ok.ensures).first in
     record {
       begin = record { address = c.args.address; caller = option_map (caller_with h.found) c.in-Ok.first };
       begins = (refl, h.unwinds);
@@ -28,13 +28,13 @@ pub loop-count-preserved : goal.loop-count-preserved
 loop-count-preserved g c =
     let abi = abi_of c.args.kept.now c.args.pointer in
     let memory = g.M.Memory.bytes c.args.memory.now in
-    let u : CallerRelation = over_found abi memory c.args.modules.now in
+    let u : CallerRelation = over_process abi memory c.args.process.now in
     let keeps = c.loop-count.invariant in
     let h = keeps.comes in
     let slots = c.loop-count.slots in let count = c.loop-count.count in
     let f : WalkedFrame = record { address = c.loop-count.at; caller = option_map (caller_with h.found) c.loop-count.unwound } in
     let shown : c.shown_frame.result ≡ cframe_of f = c.shown_frame.ensures ∙ ap cframe_by (c.brief.ensures h.found) in
-    let here = comes-written u keeps.begin (c.frames_that_are_given_are_a_walk.ensures.more c.args.modules abi memory) c.loop-count.at
+    let here = comes-written u keeps.begin (c.frames_that_are_given_are_a_walk.ensures.more c.args.process abi memory) c.loop-count.at
     c.loop-count.unwound (contents_in c.loop-count.contents) c.args.slots.now slots count c.shown_frame.result h shown in
     let next = c.in-Ok-return_address.next in
     record {
@@ -52,17 +52,17 @@ pub returns-then-count-slots : goal.returns-then-count-slots
 returns-then-count-slots g c =
     let abi = abi_of c.args.kept.now c.args.pointer in
     let memory = g.M.Memory.bytes c.args.memory.now in
-    let u : CallerRelation = over_found abi memory c.args.modules.now in
+    let u : CallerRelation = over_process abi memory c.args.process.now in
     let first : Place = first_place c.args.address (g.R.Registers.contents c.args.registers.now) in
     let keeps = c.loop-count.invariant in
     let h = keeps.comes in
     let slots = c.loop-count.slots in let count = c.loop-count.count in
     let f : WalkedFrame = record { address = c.loop-count.at; caller = option_map (caller_with h.found) c.loop-count.unwound } in
     let shown : c.shown_frame.result ≡ cframe_of f = c.shown_frame.ensures ∙ ap cframe_by (c.brief.ensures h.found) in
-    let here = comes-written u keeps.begin (c.frames_that_are_given_are_a_walk.ensures.more c.args.modules abi memory) c.loop-count.at
+    let here = comes-written u keeps.begin (c.frames_that_are_given_are_a_walk.ensures.more c.args.process abi memory) c.loop-count.at
     c.loop-count.unwound (contents_in c.loop-count.contents) c.args.slots.now slots count c.shown_frame.result h shown in
     written u first keeps.begin (has_given f) c.args.slots.now (slice_set slots count c.shown_frame.result) (count + 1) Limit here
-    (c.frames_that_are_given_are_a_walk.ensures.fills c.args.modules abi memory first keeps.begin (length c.args.slots.now) here.frames
+    (c.frames_that_are_given_are_a_walk.ensures.fills c.args.process abi memory first keeps.begin (length c.args.slots.now) here.frames
     keeps.begins here.given
     (omega (arith, here.counted, c.if-count-slots.true, length-set slots count c.shown_frame.result, keeps.long)))
 
@@ -70,18 +70,18 @@ pub returns-in-Err : goal.returns-in-Err
 returns-in-Err g c =
     let abi = abi_of c.args.kept.now c.args.pointer in
     let memory = g.M.Memory.bytes c.args.memory.now in
-    let u : CallerRelation = over_found abi memory c.args.modules.now in
+    let u : CallerRelation = over_process abi memory c.args.process.now in
     let first : Place = first_place c.args.address (g.R.Registers.contents c.args.registers.now) in
     let keeps = c.loop-count.invariant in
     let h = keeps.comes in
     let slots = c.loop-count.slots in let count = c.loop-count.count in
     let f : WalkedFrame = record { address = c.loop-count.at; caller = option_map (caller_with h.found) c.loop-count.unwound } in
     let shown : c.shown_frame.result ≡ cframe_of f = c.shown_frame.ensures ∙ ap cframe_by (c.brief.ensures h.found) in
-    let here = comes-written u keeps.begin (c.frames_that_are_given_are_a_walk.ensures.more c.args.modules abi memory) c.loop-count.at
+    let here = comes-written u keeps.begin (c.frames_that_are_given_are_a_walk.ensures.more c.args.process abi memory) c.loop-count.at
     c.loop-count.unwound (contents_in c.loop-count.contents) c.args.slots.now slots count c.shown_frame.result h shown in
     let stop = c.in-Err.stop in
     written u first keeps.begin (has_given f) c.args.slots.now (slice_set slots count c.shown_frame.result) (count + 1) stop here
-    (c.frames_that_are_given_are_a_walk.ensures.ends c.args.modules abi memory first keeps.begin (length c.args.slots.now) here.frames
+    (c.frames_that_are_given_are_a_walk.ensures.ends c.args.process abi memory first keeps.begin (length c.args.slots.now) here.frames
     stop keeps.begins here.given (ap stop_of here.come ∙ ends-with c.loop-count.unwound h.found stop c.in-Err.ensures)
     (omega (arith, here.counted, c.loop-count-test.true, c.if-count-slots.false, length-set slots count c.shown_frame.result, keeps.long)))
 
@@ -89,14 +89,14 @@ pub returns-in-Err-advance : goal.returns-in-Err-advance
 returns-in-Err-advance g c =
     let abi = abi_of c.args.kept.now c.args.pointer in
     let memory = g.M.Memory.bytes c.args.memory.now in
-    let u : CallerRelation = over_found abi memory c.args.modules.now in
+    let u : CallerRelation = over_process abi memory c.args.process.now in
     let first : Place = first_place c.args.address (g.R.Registers.contents c.args.registers.now) in
     let keeps = c.loop-count.invariant in
     let h = keeps.comes in
     let slots = c.loop-count.slots in let count = c.loop-count.count in
     let f : WalkedFrame = record { address = c.loop-count.at; caller = option_map (caller_with h.found) c.loop-count.unwound } in
     let shown : c.shown_frame.result ≡ cframe_of f = c.shown_frame.ensures ∙ ap cframe_by (c.brief.ensures h.found) in
-    let here = comes-written u keeps.begin (c.frames_that_are_given_are_a_walk.ensures.more c.args.modules abi memory) c.loop-count.at
+    let here = comes-written u keeps.begin (c.frames_that_are_given_are_a_walk.ensures.more c.args.process abi memory) c.loop-count.at
     c.loop-count.unwound (contents_in c.loop-count.contents) c.args.slots.now slots count c.shown_frame.result h shown in
     let next = c.in-Ok-return_address.next in
     c.write_more.ensures first keeps.begin f c.args.slots.now (record {
@@ -112,11 +112,11 @@ pub returns : goal.returns
 returns g c =
     let abi = abi_of c.args.kept.now c.args.pointer in
     let memory = g.M.Memory.bytes c.args.memory.now in
-    let u : CallerRelation = over_found abi memory c.args.modules.now in
+    let u : CallerRelation = over_process abi memory c.args.process.now in
     let first : Place = first_place c.args.address (g.R.Registers.contents c.args.registers.now) in
     let keeps = c.loop-count.invariant in
     let h = keeps.comes in
     written u first keeps.begin h.p c.args.slots.now c.loop-count.slots c.loop-count.count Limit h.under_way
-    (c.frames_that_are_given_are_a_walk.ensures.fills c.args.modules abi memory first keeps.begin (length c.args.slots.now) h.under_way.frames
+    (c.frames_that_are_given_are_a_walk.ensures.fills c.args.process abi memory first keeps.begin (length c.args.slots.now) h.under_way.frames
     keeps.begins h.under_way.given
     (omega (arith, h.under_way.counted, c.loop-count-test.false, keeps.long, keeps.few)))

@@ -2,7 +2,7 @@
 -- owns what the `Held` owned.
 use mathlib.Core.Path.{◌≡◌, refl, sym, subst}
 use Rattle.std.specs.Prelude.{Option, None, Some, IsSome}
-use Rattle.dw_process.specs.Processes.{Modules}
+use Rattle.dw_process.specs.Processes.{ProcessState}
 use mathlib.Core.Bool.{Bool, not}
 use lib.Dec.{T}
 use Rattle.dwcheck_c.specs.Held.{held_if}
@@ -40,7 +40,7 @@ use Rattle.dwcheck_c.proofs.held.Held.into_parts.Code as code
 abbrev stayed : Stays (F.ended).signature.params (F.ended).kept
 stayed = (stay_dropped From yes, tt)
 
-some_of : (f : Option Modules) → IsSome f → (g : Modules) × (f ≡ Some g)
+some_of : (f : Option ProcessState) → IsSome f → (g : ProcessState) × (f ≡ Some g)
 some_of None is = absurd (subst (λ (b : Bool). T (not b)) is tt)
 some_of (Some g) is = (g, refl)
 
@@ -52,10 +52,10 @@ module _ {M : Type 1} {𝓤 : Ura M} (𝓛 : Logic 𝓤) (at_mem : Memory → SP
   walk z =
       let Post = (walk_of 𝓛 F.ended stayed (F.clauses 𝓛 at_mem run)).post z in
       let To = type_at (F.signature).result tt in
-      qed 𝓛 ((‵ ftrue ⊛ ‵ (fsep (Held.the_row.own_val z.0.3.0 z.0.4.0) ftrue)) ∷ raw (fact 𝓤 (IsSome z.0.3.0.modules)) ∷ []) ∵ move ! (1 ∷ []) $ heard ! (IsSome z.0.3.0.modules) (λ some. let got = some_of z.0.3.0.modules some in let there = got.1 in
+      qed 𝓛 ((‵ ftrue ⊛ ‵ (fsep (Held.the_row.own_val z.0.3.0 z.0.4.0) ftrue)) ∷ raw (fact 𝓤 (IsSome z.0.3.0.process)) ∷ []) ∵ move ! (1 ∷ []) $ heard ! (IsSome z.0.3.0.process) (λ some. let got = some_of z.0.3.0.process some in let there = got.1 in
       let v : D E = record { ptr = z.0.3.0.at; alloc = z.0.3.0.alloc; value = got.0 } in
       let made : To.Denot = record { ptr = v.ptr; alloc = v.alloc; value = v.value } in split ! $ drop ! $ fsplit ! $ fsplit ! $
-      rewrite ! 1 (λ (f : Option Modules). ‵ (held_if v.alloc v.ptr f)) there refl $ fjoin ! $ use1 𝓛 (‵ ((B E).own_val v z.0.4.0)) (id⊢ 𝓤 _) $
+      rewrite ! 1 (λ (f : Option ProcessState). ‵ (held_if v.alloc v.ptr f)) there refl $ fjoin ! $ use1 𝓛 (‵ ((B E).own_val v z.0.4.0)) (id⊢ 𝓤 _) $
       box_out E ! v z.0.4.0 (λ b o hv e ws fa. box_in E ! v b o v.value e refl $ use1 𝓛 (‵ (To.own_val made (word E hv b o ∷ []))) (id⊢ 𝓤 _) $ move ! (1 ∷ 2 ∷ []) $ drop ! $ drop ! $
       let w = word E hv b o in
       let Γ : List (Item 𝓤) = ‵ (To.own_val made (w ∷ [])) ∷ [] in

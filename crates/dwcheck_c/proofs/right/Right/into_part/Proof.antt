@@ -23,7 +23,7 @@ use Rattle.atomic_table.proofs.Walks.{proved}
 use Rattle.atomic_table.proofs.Fields.{Ptr-Good, strip_good}
 use Rattle.left_right.specs.Parted.{part_owns}
 use Rattle.left_right.proofs.PartSteps.{part_lies}
-use Rattle.dw_process.specs.Processes.{Modules}
+use Rattle.dw_process.specs.Processes.{ProcessState}
 use Rattle.dwcheck_c.specs.Held.{the_process, lent_if}
 use Rattle.dwcheck_c.specs.contracts.part.Part as part
 use Rattle.dwcheck_c.specs.contracts.right.Right as right
@@ -34,7 +34,7 @@ use Rattle.dwcheck_c.specs.contracts.right.Right.into_part.Key.{name as #self}
 use Rattle.dwcheck_c.proofs.right.Right.into_part.Statement.{statement}
 use Rattle.dwcheck_c.proofs.right.Right.into_part.Code as code
 
-some_of : (f : Option Modules) → IsSome f → (g : Modules) × (f ≡ Some g)
+some_of : (f : Option ProcessState) → IsSome f → (g : ProcessState) × (f ≡ Some g)
 some_of None is = absurd (subst (λ (b : Bool). T (not b)) is tt)
 some_of (Some g) is = (g, refl)
 
@@ -47,11 +47,11 @@ into_part_spec 𝓤 𝓛 𝓜 𝓡 wired =
     (λ κs. ((λ e. of_a_right.mark ∷ []), (rawptr_vals, tt))) (λ κs. ((λ e vs so. of_a_right.told vs so.0), (rawptr_Tells, tt))) (λ κs qs bounds a gh are.
     let d : From.Denot = a.0 in let p : Ptr = a.1.0 in let v : Val = of_a_part.word p in let mark : Val = of_a_right.mark in
     let y : (walk_of 𝓛 ended hs c).Ghost = ((κs, qs, bounds, a, (mark ∷ [], (rawptr_vals p, tt))), gh) in let Post : Val → SProp 𝓤 = (walk_of 𝓛 ended hs c).post y in
-    qed 𝓛 ((‵ ftrue ⊛ ‵ (owns (types_at ended.signature.params κs) a y.0.4)) ∷ raw (fact 𝓤 (IsSome d.modules)) ∷ raw (fact 𝓤 (d.at ≡ p)) ∷ []) ∵ move ! (1 ∷ 2 ∷ []) $
-    heard ! (IsSome d.modules) (λ some. heard ! (d.at ≡ p) (λ same.
-    let got = some_of d.modules some in let x : Modules = got.0 in let there : d.modules ≡ Some x = got.1 in
+    qed 𝓛 ((‵ ftrue ⊛ ‵ (owns (types_at ended.signature.params κs) a y.0.4)) ∷ raw (fact 𝓤 (IsSome d.process)) ∷ raw (fact 𝓤 (d.at ≡ p)) ∷ []) ∵ move ! (1 ∷ 2 ∷ []) $
+    heard ! (IsSome d.process) (λ some. heard ! (d.at ≡ p) (λ same.
+    let got = some_of d.process some in let x : ProcessState = got.0 in let there : d.process ≡ Some x = got.1 in
     let new : To.Denot = record { ptr = p; value = x; round = d.round; count = d.count } in
-    split ! $ move ! (1 ∷ []) $ fsplit ! $ fsplit ! $ keep ! (1 ∷ []) $ rewrite ! 0 (λ (f : Option Modules). ‵ (lent_if d.at d.round d.count f)) there refl $
+    split ! $ move ! (1 ∷ []) $ fsplit ! $ fsplit ! $ keep ! (1 ∷ []) $ rewrite ! 0 (λ (f : Option ProcessState). ‵ (lent_if d.at d.round d.count f)) there refl $
     rewrite ! 0 (λ (r : Ptr). ‵ (part_owns the_process r x d.round d.count)) same refl $
     use1 𝓛 (given (InBlock p) (‵ (part_owns the_process p x d.round d.count)))
     (fact_use 𝓤 _ (part_lies 𝓛 the_process p x d.round d.count) (guard_i 𝓤 (InBlock p) (sem 𝓛 (part_owns the_process p x d.round d.count)))) $ learn ! (λ inb.

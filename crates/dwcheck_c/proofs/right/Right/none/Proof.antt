@@ -27,7 +27,7 @@ none_spec 𝓤 𝓛 𝓜 𝓡 wired =
     proved 𝓛 ended tt c 𝓜 𝓡 tt #self fn (code.unfolded 𝓤 H 𝓜 𝓡 wired) (λ κs. tt) (λ κs. tt) (λ κs qs bounds a gh are.
     let y : (walk_of 𝓛 ended tt c).Ghost = ((κs, qs, bounds, a, tt), gh) in let Post : Val → SProp 𝓤 = (walk_of 𝓛 ended tt c).post y in
     let v : Val = of_a_right.mark in
-    let new : To.Denot = record { at = null_ptr; modules = None; round = 0; count = 0 } in
+    let new : To.Denot = record { at = null_ptr; process = None; round = 0; count = 0 } in
     qed 𝓛 ((‵ ftrue ⊛ ‵ ftrue) ∷ raw (emp 𝓤) ∷ []) ∵ keep ! [] $ nothing ! $
     use0 𝓛 (‵ (of_a_right.Data.own_val tt (v ∷ []))) (of_a_right.made 𝓛) $ fjoin ! $ use1 𝓛 (‵ (To.own_val new (v ∷ []))) (id⊢ 𝓤 _) $
     enter ! 𝓣.C 𝓣.Λ fn [] Post $ alloc_all ! (λ l. pass_all ! refl tt $

@@ -21,7 +21,7 @@ use Rattle.atomic_table.proofs.Walks.{proved}
 use Rattle.atomic_table.proofs.Fields.{strip_good}
 use Rattle.left_right.specs.Parted.{part_owns}
 use Rattle.left_right.proofs.PartSteps.{part_lies}
-use Rattle.dw_process.specs.Processes.{Modules}
+use Rattle.dw_process.specs.Processes.{ProcessState}
 use Rattle.dwcheck_c.specs.Held.{the_process}
 use Rattle.dwcheck_c.specs.contracts.part.Part as part
 use Rattle.dwcheck_c.specs.contracts.right.Right as right
@@ -39,9 +39,9 @@ of_part_spec 𝓤 𝓛 𝓜 𝓡 wired =
     let self = plain (λ _. From) in let hs : Stays ended.signature.params ended.kept = (stay_dropped self yes, tt) in
     proved 𝓛 ended hs c 𝓜 𝓡 (Goes-dropped 𝓛 0 self yes (λ κs x f. refl), tt) #self fn (code.unfolded 𝓤 H 𝓜 𝓡 wired)
     (λ κs. ((λ e. of_a_part.word e.ptr ∷ []), tt)) (λ κs. ((λ e vs so. of_a_part.told the_process e.ptr vs so.0), tt)) (λ κs qs bounds a gh are.
-    let d : From.Denot = a.0 in let p : Ptr = d.ptr in let x : Modules = d.value in let w : Val = of_a_part.word p in let v : Val = of_a_right.mark in
+    let d : From.Denot = a.0 in let p : Ptr = d.ptr in let x : ProcessState = d.value in let w : Val = of_a_part.word p in let v : Val = of_a_right.mark in
     let y : (walk_of 𝓛 ended hs c).Ghost = ((κs, qs, bounds, a, (w ∷ [], tt)), gh) in let Post : Val → SProp 𝓤 = (walk_of 𝓛 ended hs c).post y in
-    let new : To.Denot = record { at = p; modules = Some x; round = d.round; count = d.count } in
+    let new : To.Denot = record { at = p; process = Some x; round = d.round; count = d.count } in
     qed 𝓛 ((‵ ftrue ⊛ ‵ (owns (types_at ended.signature.params κs) a y.0.4)) ∷ raw (emp 𝓤) ∷ []) ∵ split ! $ move ! (1 ∷ []) $ fsplit ! $ fsplit ! $ keep ! (1 ∷ []) $
     use1 𝓛 (given (InBlock p) (‵ (part_owns the_process p x d.round d.count)))
     (fact_use 𝓤 _ (part_lies 𝓛 the_process p x d.round d.count) (guard_i 𝓤 (InBlock p) (sem 𝓛 (part_owns the_process p x d.round d.count)))) $ learn ! (λ inb.

@@ -1,0 +1,76 @@
+-- Lemmas about the row of an address, from the module whose range contains the address.
+use Rattle.std.proofs.Common.{◌≡◌, ℕ, suc, List, [], ◌∷◌, Bool, true, false, Option, Some, None, refl, sym, subst, ap, ◌∙◌, arith}
+use Rattle.std.specs.Prelude.{cond, Contains, IfSome}
+use Rattle.std.specs.Option.{option_and_then, option_map}
+use Rattle.std.proofs.lemmas.List.Elements.{All-contains}
+use Rattle.dw_bytes.specs.declared.target.Target.{Target}
+use Rattle.dw_rows.specs.Rules.{Row}
+use Rattle.dw_rows.specs.UnwindTables.{IsRowUnder, row_at}
+use Rattle.dw_unwind.specs.Modules.{as_linked}
+use Rattle.dw_process.specs.declared.loaded_module.LoadedModule.{LoadedModule}
+use Rattle.dw_process.specs.ModuleMaps.{is_in, module_at}
+use Rattle.dw_process.specs.Processes.{AreModulesOf, IsFoundIn, ProcessState, found_at, found_with, row_in}
+
+some_inside : {X : Type 0} (x y : X) → Some x ≡ Some y → x ≡ y
+some_inside x y is = cc
+
+found_among : (modules : List LoadedModule) (a : ℕ) (m : LoadedModule) → Some m ≡ module_at modules a → Contains modules m
+found_among [] a m is = cc
+found_among (n ∷ modules) a m is = by_test (is_in n.range a) is (found_among modules a m)
+  where
+    by_test : (b : Bool) → Some m ≡ cond b (Some n) (module_at modules a) → (Some m ≡ module_at modules a → Contains modules m) → Contains (n ∷ modules) m
+    by_test true here rest = (0, omega arith, sym (some_inside m n here))
+    by_test false later rest = let w = rest later in (suc w.0, omega (arith, w.1), w.2)
+
+found_inside : (modules : List LoadedModule) (a : ℕ) (m : LoadedModule) → Some m ≡ module_at modules a → is_in m.range a ≡ true
+found_inside [] a m is = cc
+found_inside (n ∷ modules) a m is = by_test (is_in n.range a) refl is (found_inside modules a m)
+  where
+    by_test : (b : Bool) → is_in n.range a ≡ b → Some m ≡ cond b (Some n) (module_at modules a)
+        → (Some m ≡ module_at modules a → is_in m.range a ≡ true) → is_in m.range a ≡ true
+    by_test true inside here rest = subst (λ (k : LoadedModule). is_in k.range a ≡ true) (sym (some_inside m n here)) inside
+    by_test false outside later rest = rest later
+
+module _ (p : ProcessState) (are : AreModulesOf p.target p.next_id p.modules) (a : ℕ) where
+  pub nothing : None ≡ module_at p.modules a → None ≡ row_in p a
+  nothing is = ap (λ (o : Option LoadedModule). option_and_then (λ m. row_at m.rows (as_linked m.rows.target m.load_address a)) o) is
+
+  pub nothing_found : None ≡ module_at p.modules a → None ≡ found_at p a
+  nothing_found is =
+      ap (λ (o : Option LoadedModule). option_and_then (λ m. option_map (found_with p.target m) (row_at m.rows (as_linked m.rows.target m.load_address a))) o) is
+
+  its_target : (m : LoadedModule) → Some m ≡ module_at p.modules a → m.rows.target ≡ p.target
+  its_target m is = All-contains (λ (m : LoadedModule). m.rows.target ≡ p.target) p.modules m are.targets (found_among p.modules a m is)
+
+  its_row : (m : LoadedModule) → Some m ≡ module_at p.modules a → (o : Option (Row × ℕ))
+      → o ≡ row_at m.rows (as_linked p.target m.load_address a) → o ≡ row_at m.rows (as_linked m.rows.target m.load_address a)
+  its_row m is o row = row ∙ ap (λ (t : Target). row_at m.rows (as_linked t m.load_address a)) (sym (its_target m is))
+
+  module _ (m : LoadedModule) (is : Some m ≡ module_at p.modules a) (o : Option (Row × ℕ))
+      (row : o ≡ row_at m.rows (as_linked p.target m.load_address a)) where
+    pub its_row_in : o ≡ row_in p a
+    its_row_in =
+        its_row m is o row ∙ ap (λ (o : Option LoadedModule). option_and_then (λ m. row_at m.rows (as_linked m.rows.target m.load_address a)) o) is
+
+    pub its_row_found : option_map (found_with p.target m) o ≡ found_at p a
+    its_row_found =
+        ap (λ (o : Option (Row × ℕ)). option_map (found_with p.target m) o) (its_row m is o row)
+        ∙ ap (λ (o : Option LoadedModule). option_and_then (λ m. option_map (found_with p.target m) (row_at m.rows (as_linked m.rows.target m.load_address a))) o) is
+
+    pub under : IfSome o (λ found. IsRowUnder m.rows.target found.0) → IfSome o (λ found. IsRowUnder p.target found.0)
+    under h = subst (λ (t : Target). IfSome o (λ found. IsRowUnder t found.0)) (its_target m is) h
+
+  pub its_module : (m : LoadedModule) → Some m ≡ module_at p.modules a → (row : Row) (register : ℕ)
+      → Some (row, register) ≡ row_at m.rows (as_linked p.target m.load_address a) → IsRowUnder m.rows.target row
+      → IsFoundIn p a (found_with p.target m (row, register))
+  its_module m is row register found h = record {
+    its_module = m;
+    among = found_among p.modules a m is;
+    inside = found_inside p.modules a m is;
+    id = refl;
+    cookie = refl;
+    load_address = refl;
+    target = sym (its_target m is);
+    row = sym (its_row m is (Some (row, register)) found);
+    under = h;
+  }
