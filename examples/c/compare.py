@@ -1,45 +1,60 @@
-"""A script for gdb. It runs the example program `stack`, stops it in the function `printed`, and
-checks that the frames that the program printed are those that gdb finds.
+"""A script for gdb. It runs the example program `stack` or `crash`, and checks that the frames that the
+program prints are those that gdb finds. `stack` is stopped in its function `printed`, `crash` where
+it crashes, before its handler runs.
 
-gdb's level 0 is the frame of `printed`, which `stack` didn't print. gdb's level 1 is frame 0 of
-`stack`. Its address isn't compared, because the function has run on since it took its registers. If
-no module covers the last frame, `stack` prints no canonical frame address for it.
+gdb's level 0 is the frame of `printed`, or of the null pointer that `crash` has called. Neither is
+printed, so gdb's level 1 is frame 0. The address of frame 0 of `stack` isn't compared, because the
+function has run on since it took its registers. If no module covers the last frame, no canonical
+frame address is printed for it.
 """
 import re
+import signal
 import sys
 
 import gdb
 
-LINE = re.compile(r"frame (\d+) (0x[0-9a-f]{16})(?: cfa (0x[0-9a-f]{16}))?$")
+LINE = re.compile(r"frame (\d+) (0x[0-9a-f]{16})(?: cfa (0x[0-9a-f]{16}))?(?: \S+\+0x[0-9a-f]+)?$")
 
 
-def level(number):
-    """The address and the canonical frame address of the frame at a level in gdb."""
-    gdb.execute("frame %d" % number, to_string=True)
-    text = gdb.execute("info frame", to_string=True)
-    cfa = re.search(r"frame at (0x[0-9a-f]+)", text).group(1)
-    return gdb.selected_frame().pc(), int(cfa, 16)
+def levels():
+    """The address and the canonical frame address of each of gdb's frames, those of level 1 first.
+    Frames of inlined functions are left out, since they aren't on the stack."""
+    found, frame = [], gdb.newest_frame().older()
+    while frame is not None:
+        if frame.type() != gdb.INLINE_FRAME:
+            frame.select()
+            cfa = re.search(r"frame at (0x[0-9a-f]+)", gdb.execute("info frame", to_string=True))
+            found.append((frame.pc(), int(cfa.group(1), 16) if cfa else None))
+        frame = frame.older()
+    return found
 
 
-def compare(path):
+def compare(path, expected, has_run_on):
     """Compares the frames in the file `path` with gdb's. Exits at the first that differs; otherwise
     returns their number."""
     frames = [m.groups() for m in map(LINE.match, open(path)) if m]
-    for number, address, cfa in frames:
-        pc, at = level(int(number) + 1)
-        if int(number) > 0 and int(address, 16) != pc:
+    for (number, address, cfa), (pc, at) in zip(frames, expected):
+        if int(address, 16) != pc and not (has_run_on and int(number) == 0):
             sys.exit("frame %s: %s, and gdb's is 0x%x" % (number, address, pc))
         if cfa is not None and int(cfa, 16) != at:
             sys.exit("frame %s: cfa %s, and gdb's is 0x%x" % (number, cfa, at))
+    if len(frames) > len(expected):
+        sys.exit("%d frames, and gdb's are %d" % (len(frames), len(expected)))
     print("%d frames are gdb's" % len(frames))
     return len(frames)
 
 
 try:
+    path = gdb.convenience_variable("written").string()
     gdb.execute("set backtrace past-main on")
+    gdb.execute("set breakpoint pending on")
     gdb.execute("break printed")
-    gdb.execute("run > " + gdb.convenience_variable("written").string())
-    if compare(gdb.convenience_variable("written").string()) < 43:
+    gdb.execute("run > %s 2>&1" % path)
+    expected = levels()
+    has_crashed = int(gdb.parse_and_eval("$_siginfo.si_signo")) == signal.SIGSEGV
+    if has_crashed:
+        gdb.execute("continue")
+    if compare(path, expected, not has_crashed) < int(gdb.convenience_variable("least")):
         sys.exit("too few frames")
     gdb.execute("kill")
 except (SystemExit, gdb.error) as why:

@@ -3,6 +3,7 @@
 #include "modules.h"
 
 #include <elf.h>
+#include <errno.h>
 #include <fcntl.h>
 #include <link.h>
 #include <pthread.h>
@@ -63,22 +64,40 @@ struct adding {
     int count;
 };
 
+/* Makes the module answer for the addresses of its code: from the first to the last one of the
+   segments that may be executed. Returns whether there are any. */
+static int set_range(dwcheck_module *module, const struct dl_phdr_info *info) {
+    for (size_t i = 0; i < info->dlpi_phnum; i++) {
+        const ElfW(Phdr) *segment = &info->dlpi_phdr[i];
+        if (segment->p_type != PT_LOAD || !(segment->p_flags & PF_X) || segment->p_memsz == 0) continue;
+        uint64_t first = info->dlpi_addr + segment->p_vaddr, last = first + (segment->p_memsz - 1);
+        if (!module->has_range || first < module->first) module->first = first;
+        if (!module->has_range || last > module->last) module->last = last;
+        module->has_range = 1;
+    }
+    return module->has_range != 0;
+}
+
 static int add_module(struct dl_phdr_info *info, size_t size, void *data) {
     (void)size;
     struct adding *adding = data;
     /* For the executable, dl_iterate_phdr gives an empty name. For the vDSO it gives a name that
        isn't a file's, so it is left out. */
-    struct file file = map_file(info->dlpi_name[0] ? info->dlpi_name : "/proc/self/exe");
+    int is_library = info->dlpi_name[0] != 0;
+    const char *name = is_library ? info->dlpi_name : program_invocation_name;
+    struct file file = map_file(is_library ? name : "/proc/self/exe");
     if (file.bytes == NULL) return 0;
     struct file section = frame_section(&file);
-    dwcheck_fault fault;
-    if (section.length > 0) {
-        uint32_t status = dwcheck_process_add(adding->process, section.bytes, section.length, DWCHECK_LITTLE, sizeof(void *),
-                                              info->dlpi_addr, SIZE_MAX, &fault);
+    dwcheck_module module = {.frame = section.bytes, .frame_length = section.length, .load_address = info->dlpi_addr,
+                             .cookie = (uintptr_t)name, .room = SIZE_MAX, .order = DWCHECK_LITTLE,
+                             .address_size = sizeof(void *)};
+    if (section.length > 0 && set_range(&module, info)) {
+        dwcheck_fault fault;
+        uint64_t id;
+        uint32_t status = dwcheck_process_add(adding->process, &module, &id, &fault);
         if (status == DWCHECK_DONE) adding->count++;
-        else if (status == DWCHECK_REFUSED)
-            fprintf(stderr, "%s: fault %u at 0x%x\n", info->dlpi_name, fault.number, fault.offset);
-        else fprintf(stderr, "%s: not added (%u)\n", info->dlpi_name, status);
+        else if (status == DWCHECK_REFUSED) fprintf(stderr, "%s: fault %u at 0x%x\n", name, fault.number, fault.offset);
+        else fprintf(stderr, "%s: not added (%u)\n", name, status);
     }
     munmap((void *)file.bytes, file.length);
     return 0;
@@ -94,6 +113,13 @@ void copy_registers(const ucontext_t *context, uint64_t registers[REGISTERS]) {
     static const int places[REGISTERS] = {REG_RAX, REG_RDX, REG_RCX, REG_RBX, REG_RSI, REG_RDI, REG_RBP, REG_RSP, REG_R8,
                                           REG_R9,  REG_R10, REG_R11, REG_R12, REG_R13, REG_R14, REG_R15, REG_RIP};
     for (int i = 0; i < REGISTERS; i++) registers[i] = (uint64_t)context->uc_mcontext.gregs[places[i]];
+}
+
+dwcheck_block stack_block(const uint64_t registers[REGISTERS], uintptr_t end) {
+    enum { RED_ZONE = 128 };
+    uintptr_t base = registers[7] - RED_ZONE;
+    dwcheck_block block = {base, (const uint8_t *)base, base < end ? end - base : 0};
+    return block;
 }
 
 dwcheck_state state_of(const uint64_t registers[REGISTERS], const dwcheck_block *stack) {

@@ -1,6 +1,7 @@
-/* An example program: a small sampling profiler. A signal handler copies the registers and the top
-   of the stack of the thread that is profiled. The main thread walks these copies, and counts how
-   often each stack occurs. At the end it prints the stacks that occurred most often. */
+/* An example program: a small sampling profiler. Its signal handler walks the stack of the thread that
+   it interrupts, whichever thread that is, and stores the frames. All threads walk with one process,
+   without a lock. At the end the main thread counts how often each stack occurs, and prints the
+   stacks that occurred most often. */
 #define _GNU_SOURCE
 #include "modules.h"
 
@@ -14,39 +15,41 @@
 #include <sys/time.h>
 #include <unistd.h>
 
-enum { SLOTS = 64, STACK = 16384, FRAMES = 32, STACKS = 1000, SHOWN = 3 };
+enum { WORKERS = 2, SAMPLES = 4096, FRAMES = 32, STACKS = 1000, SHOWN = 3 };
 
-/* A sample. The handler writes it while `full` is 0, and the main thread reads it while `full`
-   is 1. */
 struct sample {
-    atomic_int full;
-    uint64_t registers[REGISTERS];
+    dwcheck_frame frames[FRAMES];
     size_t length;
-    uint8_t stack[STACK];
 };
 
-static struct sample samples[SLOTS];
-static uintptr_t end_of_stack;
+/* The process has no module at first. Modules are added before the first signal, and none is added
+   or removed while the handler may run. */
+static dwcheck_process process;
+static struct sample samples[SAMPLES];
+static atomic_size_t sample_count;
+static _Thread_local uintptr_t end_of_stack;
 static atomic_int is_done;
 
-/* The handler only copies: it takes no lock, doesn't allocate, and doesn't call the library. */
+/* The handler takes no lock and allocates nothing. It names the live stack as the memory of the walk:
+   its own frame lies below the red zone, and no other thread writes to the worker's stack. Each call
+   has a slot of its own, so handlers may run in several threads at once. */
 static void on_profile(int signal, siginfo_t *info, void *context) {
     (void)signal, (void)info;
-    for (int i = 0; i < SLOTS; i++) {
-        struct sample *sample = &samples[i];
-        if (atomic_load(&sample->full)) continue;
-        copy_registers(context, sample->registers);
-        size_t length = end_of_stack - sample->registers[7];
-        sample->length = length < STACK ? length : STACK;
-        memcpy(sample->stack, (const void *)(uintptr_t)sample->registers[7], sample->length);
-        atomic_store(&sample->full, 1);
-        return;
-    }
+    size_t number = atomic_fetch_add(&sample_count, 1);
+    if (number >= SAMPLES) return;
+    struct sample *sample = &samples[number];
+    uint64_t registers[REGISTERS];
+    copy_registers(context, registers);
+    dwcheck_block stack = stack_block(registers, end_of_stack);
+    dwcheck_state state = state_of(registers, &stack);
+    dwcheck_fault fault;
+    uint32_t stop;
+    dwcheck_backtrace(&process, registers[16], &state, sample->frames, FRAMES, &sample->length, &stop, &fault);
 }
 
 /* ---- the code to profile: it spends most of its time in `square_roots`, called by `often` */
 
-static volatile double sink;
+static _Thread_local volatile double sink;
 __attribute__((noinline)) double square_roots(int count) {
     double sum = 0;
     for (int i = 1; i < count; i++) sum += 1.0 / i;
@@ -63,6 +66,7 @@ void *work(void *unused) {
     sigaddset(&profile, SIGPROF);
     pthread_sigmask(SIG_UNBLOCK, &profile, NULL);
     while (!atomic_load(&is_done)) often(), seldom();
+    pthread_sigmask(SIG_BLOCK, &profile, NULL);
     return NULL;
 }
 
@@ -95,17 +99,10 @@ static uint64_t function_of(uint64_t address) {
     return dladdr((void *)(uintptr_t)address, &info) && info.dli_saddr ? (uintptr_t)info.dli_saddr : address;
 }
 
-static void count_sample(const dwcheck_process *process, struct sample *sample) {
-    dwcheck_block stack = {sample->registers[7], sample->stack, sample->length};
-    dwcheck_state state = state_of(sample->registers, &stack);
-    dwcheck_frame frames[FRAMES];
+static void count_sample(const struct sample *sample) {
     uint64_t functions[FRAMES];
-    dwcheck_fault fault;
-    size_t count;
-    uint32_t stop;
-    if (dwcheck_backtrace(process, sample->registers[16], &state, frames, FRAMES, &count, &stop, &fault) != DWCHECK_DONE) return;
-    for (size_t i = 0; i < count; i++) functions[i] = function_of(frames[i].address - (i > 0));
-    count_stack(functions, count);
+    for (size_t i = 0; i < sample->length; i++) functions[i] = function_of(sample->frames[i].address - (i > 0));
+    count_stack(functions, sample->length);
 }
 
 static int by_count(const void *a, const void *b) {
@@ -126,29 +123,24 @@ static void print_stacks(void) {
 }
 
 int main(void) {
-    dwcheck_process process = DWCHECK_CLOSED;
     add_modules(&process);
     struct sigaction action = {.sa_sigaction = on_profile, .sa_flags = SA_SIGINFO | SA_RESTART};
     sigaction(SIGPROF, &action, NULL);
     sigset_t profile;
     sigemptyset(&profile);
     sigaddset(&profile, SIGPROF);
-    pthread_sigmask(SIG_BLOCK, &profile, NULL); /* so the signal interrupts only the worker */
-    pthread_t worker;
-    if (pthread_create(&worker, NULL, work, NULL) != 0) return 1;
+    pthread_sigmask(SIG_BLOCK, &profile, NULL); /* so the signal interrupts only the workers */
+    pthread_t workers[WORKERS];
+    for (int i = 0; i < WORKERS; i++)
+        if (pthread_create(&workers[i], NULL, work, NULL) != 0) return 1;
     struct itimerval every = {{0, 1000}, {0, 1000}};
     setitimer(ITIMER_PROF, &every, NULL);
-    for (int round = 0; round < 100; round++) {
-        usleep(10000);
-        for (int i = 0; i < SLOTS; i++)
-            if (atomic_load(&samples[i].full)) {
-                count_sample(&process, &samples[i]);
-                atomic_store(&samples[i].full, 0);
-            }
-    }
+    sleep(1);
     setitimer(ITIMER_PROF, &(struct itimerval){0}, NULL);
     atomic_store(&is_done, 1);
-    pthread_join(worker, NULL);
+    for (int i = 0; i < WORKERS; i++) pthread_join(workers[i], NULL);
+    size_t count = atomic_load(&sample_count);
+    for (size_t i = 0; i < count && i < SAMPLES; i++) count_sample(&samples[i]);
     print_stacks();
     dwcheck_process_close(&process);
     return 0;

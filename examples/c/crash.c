@@ -1,0 +1,122 @@
+/* An example program: it crashes in a thread, by a call of a null pointer, and prints the stack of that
+   thread. The handler of SIGSEGV runs on an alternate stack of 8 KB, and makes only calls that a
+   signal handler may make. */
+#define _GNU_SOURCE
+#include "modules.h"
+
+#include <pthread.h>
+#include <signal.h>
+#include <string.h>
+#include <sys/mman.h>
+#include <unistd.h>
+
+enum { DEPTH = 10, FRAMES = 64, ALTERNATE = 8192, GUARD = 4096 };
+
+static dwcheck_process process; /* it has no module at first, and isn't changed once threads run */
+static _Thread_local uintptr_t end_of_stack;
+
+/* ---- writing text: a line is put together here, and written by one call */
+
+static char line[512];
+static size_t line_length;
+
+static void put_text(const char *text) {
+    while (*text && line_length < sizeof line - 1) line[line_length++] = *text++;
+}
+
+static void put_decimal(size_t number) {
+    if (number > 9) put_decimal(number / 10);
+    put_text((const char[]){(char)('0' + number % 10), 0});
+}
+
+static void put_address(uint64_t address) {
+    put_text("0x");
+    for (int shift = 60; shift >= 0; shift -= 4) put_text((const char[]){"0123456789abcdef"[address >> shift & 15], 0});
+}
+
+static void write_line(void) {
+    line[line_length++] = '\n';
+    for (size_t done = 0; done < line_length;) {
+        ssize_t written = write(STDERR_FILENO, line + done, line_length - done);
+        if (written <= 0) break;
+        done += (size_t)written;
+    }
+    line_length = 0;
+}
+
+/* ---- the handler. What is large is static, so as not to be on the alternate stack. SA_RESETHAND lets
+   only one crash come here. When the handler returns, the program crashes again, and the signal ends
+   it. */
+
+static uint64_t registers[REGISTERS];
+static dwcheck_frame frames[FRAMES];
+static dwcheck_state state;
+static dwcheck_block stack;
+
+/* Writes a frame. `inside` is an address within its instruction, and is the frame's own address or,
+   where that is a return address, the one before. The module's file and the address in the file are
+   what addr2line needs. */
+static void write_frame(size_t number, const dwcheck_frame *frame, uint64_t inside) {
+    dwcheck_loaded module;
+    put_text("frame "), put_decimal(number), put_text(" "), put_address(frame->address);
+    if (frame->cfa.kind == DWCHECK_VALUE) put_text(" cfa "), put_address(frame->cfa.value);
+    if (dwcheck_module_at(&process, inside, &module) == DWCHECK_DONE) {
+        put_text(" "), put_text((const char *)(uintptr_t)module.cookie);
+        put_text("+"), put_address(inside - module.load_address);
+    }
+    write_line();
+}
+
+static void on_crash(int signal, siginfo_t *why, void *context) {
+    (void)signal, (void)why;
+    copy_registers(context, registers);
+    /* A call of a null pointer has pushed its return address and done nothing else, and there is no
+       row for the address 0. So the walk begins with the function that made the call. */
+    size_t is_after_call = registers[16] == 0 && registers[7] < end_of_stack;
+    if (is_after_call) {
+        registers[16] = *(const uint64_t *)(uintptr_t)registers[7];
+        registers[7] += 8;
+    }
+    stack = stack_block(registers, end_of_stack);
+    state = state_of(registers, &stack);
+    size_t count = 0;
+    uint32_t stop;
+    dwcheck_fault fault;
+    dwcheck_backtrace(&process, registers[16] - is_after_call, &state, frames, FRAMES, &count, &stop, &fault);
+    frames[0].address = registers[16]; /* and not the address that was looked up */
+    for (size_t i = 0; i < count; i++) write_frame(i, &frames[i], frames[i].address - (i > 0 || is_after_call));
+}
+
+/* Gives the calling thread an alternate stack for the handler, since its own stack may have no room
+   left. Each thread needs one. If it overflows, it meets a page that can't be used. */
+static int prepare_thread(void) {
+    char *bytes = mmap(NULL, GUARD + ALTERNATE, PROT_READ | PROT_WRITE, MAP_PRIVATE | MAP_ANONYMOUS, -1, 0);
+    if (bytes == MAP_FAILED || mprotect(bytes, GUARD, PROT_NONE) != 0) return 0;
+    end_of_stack = stack_end();
+    return sigaltstack(&(stack_t){.ss_sp = bytes + GUARD, .ss_size = ALTERNATE}, NULL) == 0;
+}
+
+/* ---- the code that crashes */
+
+static int (*volatile missing)(int);
+
+__attribute__((noinline)) static int deep(int depth) {
+    if (depth == 0) return missing(depth) + 1;
+    return deep(depth - 1) + 1;
+}
+
+static void *work(void *unused) {
+    (void)unused;
+    return (void *)(intptr_t)(prepare_thread() ? deep(DEPTH) : 0);
+}
+
+int main(void) {
+    pthread_t worker;
+    if (!prepare_thread()) return 1;
+    add_modules(&process);
+    struct sigaction action = {.sa_sigaction = on_crash, .sa_flags = SA_SIGINFO | SA_ONSTACK | SA_RESETHAND};
+    sigaction(SIGSEGV, &action, NULL);
+    if (pthread_create(&worker, NULL, work, NULL) != 0) return 1;
+    pthread_join(worker, NULL);
+    return 0;
+}
