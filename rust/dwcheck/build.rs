@@ -1,5 +1,6 @@
 //! Finds the C library `dwcheck` and tells cargo to link it. The library is looked for in the
-//! folders that DWCHECK_LIB_DIR lists, or, if that variable isn't set, with pkg-config.
+//! folders that DWCHECK_LIB_DIR lists, or, if that variable isn't set, with pkg-config, which also
+//! tells its version.
 
 use std::env;
 use std::ffi::{OsStr, OsString};
@@ -8,6 +9,9 @@ use std::process::{exit, Command};
 
 const DIRS: &str = "DWCHECK_LIB_DIR";
 const NAMES: &str = "DWCHECK_LIBS";
+
+/// The versions of the library's interface that this crate is for, in pkg-config's words.
+const VERSIONS: &str = "dwcheck >= 2 dwcheck < 3";
 
 /// The libraries to link if DWCHECK_LIBS isn't set: one library that has everything, or, if it
 /// isn't there, the C interface and the library through which that calls malloc and free.
@@ -95,14 +99,14 @@ fn find(folders: &[PathBuf], name: &str) -> Result<Found, String> {
 fn from_pkg_config() -> Result<(), String> {
     let program = env::var_os("PKG_CONFIG").unwrap_or_else(|| OsString::from("pkg-config"));
     let output = Command::new(program)
-        .args(["--libs", "dwcheck"])
+        .args(["--libs", VERSIONS])
         .output()
         .map_err(|why| format!("pkg-config doesn't run ({}); set {}", why, DIRS))?;
     if !output.status.success() {
         let why = String::from_utf8_lossy(&output.stderr).into_owned();
         return Err(format!(
-            "pkg-config finds no dwcheck; set {}\n{}",
-            DIRS, why
+            "pkg-config doesn't find {}; set {}\n{}",
+            VERSIONS, DIRS, why
         ));
     }
     let words = String::from_utf8(output.stdout).map_err(|why| why.to_string())?;

@@ -2,11 +2,12 @@
 //! as a whole.
 
 use crate::bridge::RecordKind;
+use crate::covered::Covered;
 use crate::debug_frame::{records, Kind, Record};
 use crate::frames::Frames;
 use crate::target::Target;
 use dwcheck::{Fault, FaultKind, Section};
-use std::collections::{BTreeMap, HashMap, HashSet};
+use std::collections::{HashMap, HashSet};
 
 /// Lists the first fault of each CIE and of each FDE of a refused section, and every overlap of
 /// FDEs. Each CIE is checked as a section of its own. Each FDE is checked as a section that has
@@ -134,34 +135,18 @@ fn moved(fault: Fault, from: usize, to: usize) -> Fault {
 
 /// The fault Overlap for each FDE that shares an address with an earlier FDE of the section.
 fn overlaps(frames: &Frames<'_>) -> Vec<Fault> {
-    let mut taken: BTreeMap<u64, u64> = BTreeMap::new();
+    let mut covered = Covered::default();
     let mut found = Vec::new();
     for record in frames.bridged().records() {
         let (begin, end) = match record.kind {
             RecordKind::Fde { begin, size, .. } if size > 0 => (begin, begin.saturating_add(size)),
             _ => continue,
         };
-        let meets = |(start, stop): (&u64, &u64)| *start < end && begin < *stop;
-        if taken.range(..end).next_back().map_or(false, meets) {
+        if covered.meets(begin, end) {
             let offset = record.bridged as u32;
             found.push(Fault { kind: FaultKind::Overlap, offset, section: Section::Frame });
         }
-        insert(&mut taken, begin, end);
+        covered.insert(begin, end);
     }
     found
-}
-
-/// Adds a range of addresses to `taken`, which maps the start of each range to its end. No two
-/// ranges in `taken` share an address: the new range is merged with those that it overlaps or
-/// touches.
-fn insert(taken: &mut BTreeMap<u64, u64>, mut begin: u64, mut end: u64) {
-    while let Some((start, stop)) = taken.range(..=end).next_back().map(|(start, stop)| (*start, *stop)) {
-        if stop < begin {
-            break;
-        }
-        taken.remove(&start);
-        begin = begin.min(start);
-        end = end.max(stop);
-    }
-    taken.insert(begin, end);
 }

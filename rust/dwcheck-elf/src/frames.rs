@@ -3,7 +3,7 @@
 use crate::bridge::{bridge, without_empty_records, BridgeError, Bridged, Edge, EhFrame, Options, Place};
 use crate::program::{Program, ProgramError, Section};
 use crate::target::Target;
-use dwcheck::{Error, Process};
+use dwcheck::{Error, Module, Process};
 use std::fmt;
 
 /// A section's compiled rows may take this many times the section's bytes in memory. For sections
@@ -13,6 +13,11 @@ const ROOM_TIMES: usize = 64;
 /// A section's compiled rows may always take this many bytes in memory, however short the section
 /// is.
 const LEAST_ROOM: usize = 64 << 20;
+
+/// How many bytes the compiled rows of a section may take in memory.
+pub(crate) fn room(section: &[u8]) -> usize {
+    section.len().saturating_mul(ROOM_TIMES).max(LEAST_ROOM)
+}
 
 /// A section that can be checked.
 #[derive(Clone, Copy, Debug, PartialEq, Eq, PartialOrd, Ord)]
@@ -146,27 +151,18 @@ impl<'data> Frames<'data> {
         self.bridged.place(offset, edge)
     }
 
-    /// Makes a process with this section as its only module, loaded at `load`. This checks the
-    /// section, and compiles all its rows.
+    /// Makes a process with this section as its only module, which is loaded at `load` and answers
+    /// for all addresses. This checks the section, and compiles all its rows.
     ///
     /// # Errors
     ///
     /// [`Error::Refused`] with the first fault; [`Error::NoMemory`]; or [`Error::NoRoom`] if the
     /// rows may take more than 64 times the section's bytes and more than 64 MiB.
     pub fn process(&self, load: u64) -> Result<Process, Error> {
-        let mut process = Process::new();
-        self.add_to(&mut process, load)?;
+        let mut process = Process::new(self.target.into());
+        let whole = Module::at(load).range(0..=self.target.address_size.highest());
+        process.add(self.bytes(), whole.room(room(self.bytes())))?;
         Ok(process)
-    }
-
-    /// Adds the section to a process, as a module that is loaded at `load`.
-    ///
-    /// # Errors
-    ///
-    /// The same as for [`process`](Self::process).
-    pub fn add_to(&self, process: &mut Process, load: u64) -> Result<(), Error> {
-        let room = self.bytes().len().saturating_mul(ROOM_TIMES).max(LEAST_ROOM);
-        process.add(self.bytes(), self.target.into(), load, room)
     }
 }
 

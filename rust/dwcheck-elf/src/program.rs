@@ -10,6 +10,7 @@ use object::read::{CompressionFormat, Object, ObjectSection, ObjectSegment};
 use object::SegmentFlags;
 use std::borrow::Cow;
 use std::fmt;
+use std::ops::RangeInclusive;
 
 /// A compressed section may have at most this many bytes when it is decompressed.
 pub const DECOMPRESSED_LIMIT: u64 = 1 << 30;
@@ -174,6 +175,18 @@ impl<'data> Program<'data> {
             Segment { address: segment.address(), size: segment.size(), offset, file_size, is_executable }
         };
         self.file.segments().map(segment).collect()
+    }
+
+    /// The addresses of the file's code in a process where the file is loaded at `load`: from the
+    /// first to the last one of its executable segments. `None` if it has no such segments. Empty if
+    /// the addresses would pass the highest one.
+    pub fn code(&self, load: u64) -> Option<RangeInclusive<u64>> {
+        let segments = self.segments();
+        let code = segments.iter().filter(|segment| segment.is_executable && segment.size > 0);
+        let first = code.clone().map(|segment| segment.address).min()?;
+        let last = code.map(|segment| segment.address.saturating_add(segment.size - 1)).max()?;
+        let loaded = |address: u64| self.target.wrap(address.wrapping_add(load));
+        Some(loaded(first)..=loaded(last))
     }
 
     fn section(&self, name: &'static str) -> Result<Option<Section<'data>>, ProgramError> {

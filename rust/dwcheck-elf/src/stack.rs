@@ -5,10 +5,12 @@ use crate::bridge::{Options, RecordKind};
 use crate::core_file::{CoreFile, Files, Memory, Module, Thread};
 use crate::frames::Frames;
 use crate::functions::Functions;
+use crate::modules::Modules;
 use crate::names::Spot;
 use crate::program::Program;
 use crate::text::Address;
-use dwcheck::{Abi, Answer, Block, Process, Registers, State, Stop};
+use dwcheck::{Abi, Answer, Block, Registers, State, Stop};
+use std::borrow::Cow;
 use std::fmt;
 use std::ops::Range;
 use std::path::{Path, PathBuf};
@@ -42,7 +44,7 @@ struct Loaded<'a> {
 pub struct Stacks<'a> {
     core: &'a CoreFile<'a>,
     memory: Memory<'a>,
-    process: Process,
+    modules: Modules,
     loaded: Vec<Loaded<'a>>,
     /// The address ranges in the process of the FDEs of signal frames.
     signals: Vec<Range<u64>>,
@@ -88,7 +90,7 @@ impl<'a> Stacks<'a> {
         let mut stacks = Stacks {
             core,
             memory,
-            process: Process::new(),
+            modules: Modules::new(core.target()),
             loaded: Vec::new(),
             signals: Vec::new(),
             missing: Vec::new(),
@@ -117,16 +119,23 @@ impl<'a> Stacks<'a> {
             Ok(program) => program,
             Err(error) => return self.missing.push((module.path, error.to_string())),
         };
-        for frames in Frames::all(&program, Options::default()) {
-            let added = match &frames {
-                Ok(frames) => {
-                    self.signals.extend(signal_frames(frames, module.bias));
-                    add_section(&mut self.process, frames, module.bias)
+        let (all, mut problems) = readable(&program);
+        let mut sections = Vec::new();
+        for frames in &all {
+            self.signals.extend(signal_frames(frames, module.bias));
+            match accepted(frames) {
+                Ok((section, problem)) => {
+                    sections.push(section);
+                    problems.extend(problem);
                 }
-                Err(error) => Err(error.to_string()),
-            };
-            self.missing.extend(added.err().map(|problem| (module.path.clone(), problem)));
+                Err(problem) => problems.push(problem),
+            }
         }
+        match self.modules.add(&module.path, &program, &sections, module.bias) {
+            Ok(lost) => problems.extend(lost.map(|lost| lost.to_string())),
+            Err(error) => problems.push(error.to_string()),
+        }
+        self.missing.extend(problems.into_iter().map(|problem| (module.path.clone(), problem)));
         self.loaded.push(Loaded { functions: program.functions(), module });
     }
 
@@ -163,7 +172,7 @@ impl<'a> Stacks<'a> {
             frames.push(next);
             let abi = Abi::new(abi.kept, Some(abi.stack_pointer));
             let state = State { registers: &registers, memory: &blocks, abi };
-            let caller = match self.process.unwind(next.looked_up(), &state).map_err(StackError::Dwcheck)? {
+            let caller = match self.modules.process().unwind(next.looked_up(), &state).map_err(StackError::Dwcheck)? {
                 Some(caller) => caller,
                 None => break Stop::NotCovered,
             };
@@ -201,18 +210,30 @@ impl<'a> Stacks<'a> {
     }
 }
 
-/// Adds a section of a module to a process. A refused section is added without its refused CIEs and
-/// FDEs, and the error says how many these are.
-fn add_section(process: &mut Process, frames: &Frames<'_>, bias: u64) -> Result<(), String> {
-    match frames.add_to(process, bias) {
-        Err(dwcheck::Error::Refused(fault)) => {
-            let AcceptedPart { bytes, left_out } = accepted_part(frames, fault);
-            let added = process.add(&bytes, frames.target().into(), bias, Process::NO_BOUND);
-            let used =
-                if added.is_ok() { format!("{} of its records aren't used", left_out) } else { "not used".to_string() };
-            Err(format!("{}: {}: {}", frames.name(), fault.kind, used))
+/// The frame sections of a program, and why the others can't be rewritten for `dwcheck`.
+fn readable<'data>(program: &Program<'data>) -> (Vec<Frames<'data>>, Vec<String>) {
+    let mut problems = Vec::new();
+    let all = Frames::all(program, Options::default());
+    let sections = all.filter_map(|frames| frames.map_err(|error| problems.push(error.to_string())).ok()).collect();
+    (sections, problems)
+}
+
+/// The bytes of a section for `dwcheck`, without the CIEs and FDEs that it refuses. If there are such,
+/// the second part of the result says how many.
+fn accepted<'f>(frames: &'f Frames<'_>) -> Result<(Cow<'f, [u8]>, Option<String>), String> {
+    let check = |bytes: &[u8]| dwcheck::check(bytes, &[], frames.target().into());
+    let fault = match check(frames.bytes()) {
+        Ok(()) => return Ok((frames.bytes().into(), None)),
+        Err(dwcheck::Error::Refused(fault)) => fault,
+        Err(error) => return Err(format!("{}: {}", frames.name(), error)),
+    };
+    let AcceptedPart { bytes, left_out } = accepted_part(frames, fault);
+    match check(&bytes) {
+        Ok(()) => {
+            let problem = format!("{}: {}: {} of its records aren't used", frames.name(), fault.kind, left_out);
+            Ok((bytes.into(), Some(problem)))
         }
-        added => added.map_err(|error| format!("{}: {}", frames.name(), error)),
+        Err(_) => Err(format!("{}: {}: not used", frames.name(), fault.kind)),
     }
 }
 

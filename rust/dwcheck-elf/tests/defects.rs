@@ -295,8 +295,8 @@ fn a_wrong_row_of_dwcheck_is_a_difference() {
     let mut changed = frames.bytes().to_vec();
     let place = place_of(&changed, &[0x0e, 16]);
     changed[place + 1] = 24;
-    let mut process = dwcheck::Process::new();
-    process.add(&changed, frames.target().into(), 0, dwcheck::Process::NO_BOUND).unwrap();
+    let mut process = dwcheck::Process::new(frames.target().into());
+    process.add(&changed, dwcheck::Module::at(0)).unwrap();
     let difference = validate_rows(&frames, &process).unwrap_err();
     match &difference.what {
         What::Row { number: 1, section, bridged } => {

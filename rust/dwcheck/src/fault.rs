@@ -1,6 +1,7 @@
 //! Faults, which say why an input is refused, and errors, which say why a call failed.
 
 use crate::ffi;
+use crate::module::ModuleId;
 use std::error;
 use std::fmt;
 
@@ -315,11 +316,18 @@ pub enum Error {
     Refused(Fault),
     /// Memory ran out.
     NoMemory,
-    /// The table of the section can take more bytes than the `room` that was passed to
-    /// [`Process::add`](crate::Process::add).
+    /// The table of the section can take more bytes than the module's
+    /// [`room`](crate::Module::room).
     NoRoom,
     /// The section or the expression has 2^32 bytes or more.
     TooLong,
+    /// The module's range shares an address with the range of this other module of the process.
+    Overlaps(ModuleId),
+    /// The module has no range that it could answer for. Either its range is given and is empty, or
+    /// passes the highest address, 2^w - 1 (w is the address size in bits). Or no range is given,
+    /// and its section covers no address, or covers addresses on both sides of the highest one, as
+    /// loaded.
+    Range,
     /// The number of a status that this crate doesn't know, because the library is newer.
     Other(u32),
 }
@@ -334,7 +342,7 @@ impl Error {
     }
 
     /// Turns the status that a call returned into a result. `fault` is used only if the status is
-    /// `REFUSED`.
+    /// `REFUSED`. Only adding a module has the status `OVERLAPS`, which isn't known here.
     pub(crate) fn check(status: u32, fault: ffi::Fault) -> Result<(), Error> {
         match status {
             ffi::DONE => Ok(()),
@@ -342,6 +350,7 @@ impl Error {
             ffi::NO_MEMORY => Err(Error::NoMemory),
             ffi::NO_ROOM => Err(Error::NoRoom),
             ffi::TOO_LONG => Err(Error::TooLong),
+            ffi::BAD_RANGE => Err(Error::Range),
             other => Err(Error::Other(other)),
         }
     }
@@ -354,6 +363,8 @@ impl fmt::Display for Error {
             Error::NoMemory => f.pad("out of memory"),
             Error::NoRoom => f.pad("the rows of the section may take more than the room given"),
             Error::TooLong => f.pad("2^32 bytes or more"),
+            Error::Overlaps(id) => write!(f, "the range shares addresses with module {}", id),
+            Error::Range => f.pad("no range of addresses to answer for"),
             Error::Other(status) => write!(f, "unknown status {}", status),
         }
     }

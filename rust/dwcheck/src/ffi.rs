@@ -23,7 +23,7 @@
 //!   each process.
 //! - "malloc, realloc and free belong to one allocator, and the calling thread may call them. So
 //!   neither a signal handler nor the child of a fork in a program with several threads makes a call
-//!   that allocates or frees .. Those three calls may be left by siglongjmp .." In Rust, a user needs
+//!   that allocates or frees .. Those four calls may be left by siglongjmp .." In Rust, a user needs
 //!   `unsafe` code for signal handlers, for `fork` and for `siglongjmp`.
 //! - "The stack is large enough." The library touches each page of its stack in turn. So if the
 //!   stack is too small, the program ends at the guard page, which each of Rust's threads has.
@@ -44,11 +44,16 @@ pub const REFUSED: u32 = 1;
 pub const NO_MEMORY: u32 = 2;
 /// The table of the section can take more than `room` bytes.
 pub const NO_ROOM: u32 = 3;
-/// The section or expression has 2^32 bytes or more. (The statuses 4 and 6 are missing here: they
-/// are for byte orders, address sizes and kinds of expressions that this crate never passes.)
+/// The section or expression has 2^32 bytes or more. (The statuses 4 and 6 are missing here: this
+/// crate passes only byte orders, address sizes and kinds of expressions that the library knows, and
+/// all modules of a process with the same target.)
 pub const TOO_LONG: u32 = 5;
 /// What was looked up doesn't exist.
 pub const NONE: u32 = 7;
+/// The module's range shares an address with another module's range.
+pub const OVERLAPS: u32 = 8;
+/// The module has no range that it could answer for.
+pub const BAD_RANGE: u32 = 9;
 
 /// Byte orders: the least significant byte first, or last.
 pub const LITTLE: u32 = 0;
@@ -84,6 +89,40 @@ pub struct Process {
     pub opaque_open: MaybeUninit<u64>,
 }
 
+/// A module to be added: `frame_length` bytes of its .debug_frame section, its load address and, if
+/// has_range isn't 0, the first and the last address, as loaded, that it answers for. Otherwise these
+/// are the first and the last address that the section covers. `cookie` is a number of the caller's
+/// own. `room` bounds the number of bytes that the module's table stores; SIZE_MAX sets no bound.
+#[repr(C)]
+pub struct Module {
+    pub frame: *const u8,
+    pub frame_length: usize,
+    pub load_address: u64,
+    pub first: u64,
+    pub last: u64,
+    pub cookie: u64,
+    pub room: usize,
+    pub order: u32,
+    pub address_size: u32,
+    pub has_range: u32,
+    pub reserved: u32,
+    pub reserved_section: u64,
+    pub reserved_length: u64,
+    pub reserved_address: u64,
+}
+
+/// A module of a process: its id, its cookie, its load address, and the first and the last address,
+/// as loaded, that it answers for.
+#[repr(C)]
+#[derive(Clone, Copy, Debug, Default)]
+pub struct Loaded {
+    pub id: u64,
+    pub cookie: u64,
+    pub load_address: u64,
+    pub first: u64,
+    pub last: u64,
+}
+
 /// The value isn't available. (The seven RULE_ constants are the values of a rule's `kind`.)
 pub const RULE_UNDEFINED: u32 = 1;
 /// The value that the register has now.
@@ -113,7 +152,7 @@ pub struct Rule {
 
 pub const MAX_RULES: usize = 128;
 
-/// A row of the module that is loaded at `load_address`. The row covers the addresses as linked
+/// A row of the module with this id, cookie and load address. The row covers the addresses as linked
 /// from `start` up to, but not including, `end`. If cfa.kind is RULE_VAL_OFFSET, the CFA is the
 /// value of register cfa.reg plus cfa.offset. If it is RULE_VAL_EXPRESSION, the CFA is the value
 /// that an expression gives. `return_reg` is the register of the return address, and `count` the
@@ -121,6 +160,8 @@ pub const MAX_RULES: usize = 128;
 #[repr(C)]
 #[derive(Clone, Copy, Debug, Default)]
 pub struct Row {
+    pub id: u64,
+    pub cookie: u64,
     pub load_address: u64,
     pub start: u64,
     pub end: u64,
@@ -215,7 +256,7 @@ pub struct Frame {
 
 /// The walk ends because `frames` has no room for more. (The five STOP_ constants are the reasons.)
 pub const STOP_LIMIT: u32 = 0;
-/// No module has a row for the last frame.
+/// There is no row for the last frame.
 pub const STOP_NOT_COVERED: u32 = 1;
 /// The return address of the last frame is undefined. Either the row's rule says so, and then the
 /// walk is complete (DWARF 5, section 6.4.4); or neither the row nor `kept` names the return
@@ -349,43 +390,48 @@ extern "C" {
         fault: *mut Fault,
     ) -> u32;
 
-    /// Checks a .debug_frame section, compiles all its rows into a table, and adds the table to the
-    /// process as its last module. The section's bytes aren't needed after the call returns.
-    /// `load_address` is what is added to an address as linked, modulo 2^w, to get the address as
-    /// loaded. `room` bounds the number of bytes that the table stores, copies of expressions
-    /// included; SIZE_MAX sets no bound. In the table, rows may share their rules. The call may
-    /// return NO_ROOM although the table would fit thanks to this sharing. `room` doesn't bound the
-    /// memory that the call uses while it checks and compiles. Returns DONE; REFUSED with the first
-    /// fault of the section; NO_MEMORY; NO_ROOM; BAD_TARGET; or TOO_LONG. Only DONE changes the
-    /// process, and only REFUSED writes `fault`.
+    /// Checks a module's section, compiles all its rows into a table, and adds the module to the
+    /// process. The section's bytes aren't needed after the call returns. `id` becomes the module's
+    /// id. Ids count up from 1, so a process doesn't give an id twice while it is open, even if the
+    /// module is removed. A process that dwcheck_process_share makes counts on from the same number.
+    /// In the table, rows may share their rules. The call may return NO_ROOM although the table
+    /// would fit thanks to this sharing. `room` doesn't bound the memory that the call uses while it
+    /// checks and compiles. No two modules may answer for the same address. Returns DONE; REFUSED
+    /// with the first fault of the section; NO_MEMORY; NO_ROOM; BAD_TARGET; TOO_LONG; OVERLAPS, and
+    /// then `id` becomes the id of a module whose range shares an address with this one's; or
+    /// BAD_RANGE. BAD_RANGE means that `first` is above `last` or `last` is 2^w or more; or that
+    /// has_range is 0, and the section covers no address, or covers addresses on both sides of the
+    /// highest one, 2^w - 1, as loaded. Only DONE changes the process, only DONE and OVERLAPS write
+    /// `id`, and only REFUSED writes `fault`.
     pub fn dwcheck_process_add(
         process: *mut Process,
-        frame: *const u8,
-        frame_length: usize,
-        order: u32,
-        address_size: u32,
-        load_address: u64,
-        room: usize,
+        module: *const Module,
+        id: *mut u64,
         fault: *mut Fault,
     ) -> u32;
 
-    /// Removes the first module with this load address. All 64 bits are compared. Returns DONE; or
-    /// NONE if no module has this load address. The call doesn't allocate. It frees the module's
-    /// table if no other process shares the table.
-    pub fn dwcheck_process_remove(process: *mut Process, load_address: u64) -> u32;
+    /// Removes the module with this id. Returns DONE; or NONE if no module has this id. The call
+    /// doesn't allocate. It frees the module's table if no other process shares the table.
+    pub fn dwcheck_process_remove(process: *mut Process, id: u64) -> u32;
 
     /// Makes `other` a process with the modules of `process`, after closing what `other` was
-    /// before. If `process` is closed, `other` is closed too. The tables are shared, not copied,
-    /// and are freed with the last process that has them. Returns DONE; or NO_MEMORY, and then
-    /// `other` is unchanged. `process` is unchanged in either case.
+    /// before. If `process` is closed, `other` is closed too, and the call returns DONE. The modules
+    /// keep their ids. The tables are shared, not copied, and are freed with the last process that
+    /// has them. Returns DONE; or NO_MEMORY, and then `other` is unchanged. `process` is unchanged in
+    /// either case.
     pub fn dwcheck_process_share(process: *const Process, other: *mut Process) -> u32;
 
     /// Releases all modules and closes the process. A closed process may be closed again.
     pub fn dwcheck_process_close(process: *mut Process);
 
-    /// Writes the row that covers `address`, an address as loaded, from the first module that has
-    /// such a row. The rules of registers go into `rules` in ascending order of registers, as many
-    /// as fit. Returns DONE; or NONE if no module has a row, and then nothing is written. The call
+    /// Writes the module that answers for `address`, an address as loaded. Returns DONE; or NONE if
+    /// no module does, and then nothing is written. The call takes O(log n) time among n modules. It
+    /// neither allocates nor frees.
+    pub fn dwcheck_module_at(process: *const Process, address: u64, module: *mut Loaded) -> u32;
+
+    /// Writes the row that covers `address`, an address as loaded, from the module that answers for
+    /// the address. The rules of registers go into `rules` in ascending order of registers, as many
+    /// as fit. Returns DONE; or NONE if there is no such row, and then nothing is written. The call
     /// neither allocates nor frees.
     pub fn dwcheck_row_at(
         process: *const Process,
@@ -395,12 +441,12 @@ extern "C" {
         rules_length: usize,
     ) -> u32;
 
-    /// Writes the caller of the frame at `address`, an address as loaded, by the first module that
-    /// has a row for the address. The address itself is looked up, so to find the caller's own
+    /// Writes the caller of the frame at `address`, an address as loaded, by the row that
+    /// dwcheck_row_at gives for it. The address itself is looked up, so to find the caller's own
     /// caller, pass the caller's return address minus 1. The caller's registers go into `registers`
-    /// in ascending order, as many as fit. Returns DONE; NONE if no module has a row; or REFUSED if
-    /// the ABI names too many registers or names one twice. Only DONE writes `caller` and
-    /// `registers`, and only REFUSED writes `fault`. The call neither allocates nor frees.
+    /// in ascending order, as many as fit. Returns DONE; NONE if there is no row; or REFUSED if the
+    /// ABI names too many registers or names one twice. Only DONE writes `caller` and `registers`,
+    /// and only REFUSED writes `fault`. The call neither allocates nor frees.
     pub fn dwcheck_unwind(
         process: *const Process,
         address: u64,

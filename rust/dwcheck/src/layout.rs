@@ -43,8 +43,11 @@ fn layouts() -> (String, String) {
     let all = [
         layout!(Fault, "dwcheck_fault": number offset within reserved),
         layout!(Process, "dwcheck_process": opaque opaque_open),
+        layout!(Module, "dwcheck_module": frame frame_length load_address first last cookie room
+            order address_size has_range reserved reserved_section reserved_length reserved_address),
+        layout!(Loaded, "dwcheck_loaded": id cookie load_address first last),
         layout!(Rule, "dwcheck_rule": offset length reg source kind),
-        layout!(Row, "dwcheck_row": load_address start end cfa return_reg count),
+        layout!(Row, "dwcheck_row": id cookie load_address start end cfa return_reg count),
         layout!(Block, "dwcheck_block": base bytes length),
         layout!(State, "dwcheck_state": contents contents_length known known_length blocks blocks_length
             kept kept_length stack_pointer has_stack_pointer reserved),
@@ -73,8 +76,9 @@ macro_rules! numbers {
 fn constants() -> (String, String) {
     let all = numbers! {
         DONE "DONE" REFUSED "REFUSED" NO_MEMORY "NO_MEMORY" NO_ROOM "NO_ROOM" TOO_LONG "TOO_LONG"
-        NONE "NONE" LITTLE "LITTLE" BIG "BIG" IN_FRAME "IN_FRAME" IN_LISTS "IN_LISTS"
-        IN_EXPRESSION "IN_EXPRESSION" IN_ABI "IN_ABI" RULE_UNDEFINED "RULE_UNDEFINED"
+        NONE "NONE" OVERLAPS "OVERLAPS" BAD_RANGE "BAD_RANGE" LITTLE "LITTLE" BIG "BIG"
+        IN_FRAME "IN_FRAME" IN_LISTS "IN_LISTS" IN_EXPRESSION "IN_EXPRESSION" IN_ABI "IN_ABI"
+        RULE_UNDEFINED "RULE_UNDEFINED"
         RULE_SAME_VALUE "RULE_SAME_VALUE" RULE_OFFSET "RULE_OFFSET"
         RULE_VAL_OFFSET "RULE_VAL_OFFSET" RULE_REGISTER "RULE_REGISTER"
         RULE_EXPRESSION "RULE_EXPRESSION" RULE_VAL_EXPRESSION "RULE_VAL_EXPRESSION"

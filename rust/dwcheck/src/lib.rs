@@ -5,8 +5,8 @@
 //! library. They don't cover this crate, which uses `unsafe` to declare and call the C interface.
 //!
 //! - [`check`] checks a frame section and location lists.
-//! - A [`Process`] has modules, each a frame section with a load address. It gives the [`Row`] of
-//!   an address, the [`Caller`] of a frame, and the frames of a stack.
+//! - A [`Process`] has modules, each a frame section with a load address and a range of addresses.
+//!   It gives the [`Row`] of an address, the [`Caller`] of a frame, and the frames of a stack.
 //! - [`locations`] gives the expressions of a location list that apply at an address.
 //! - [`evaluate`] gives the result of an expression.
 //!
@@ -47,6 +47,7 @@ mod ffi;
 #[cfg(test)]
 mod layout;
 mod lists;
+mod module;
 mod process;
 mod row;
 mod rows;
@@ -64,6 +65,7 @@ pub use expression::{
 };
 pub use fault::{Error, Fault, FaultKind, Section};
 pub use lists::{locations, Lookup};
+pub use module::{LoadedModule, Module, ModuleId};
 pub use process::Process;
 pub use row::{CfaRule, Row, Rule, Span};
 pub use rows::Rows;
@@ -102,10 +104,10 @@ pub fn check(frame: &[u8], lists: &[u8], target: Target) -> Result<(), Error> {
 /// The version of the library's interface: the major number, then the minor number. A new minor
 /// version only adds calls, fields or values.
 ///
-/// This crate is for major version 1.
+/// This crate is for major version 2.
 ///
 /// ```
-/// assert_eq!(dwcheck::version().0, 1);
+/// assert_eq!(dwcheck::version().0, 2);
 /// ```
 pub fn version() -> (u16, u16) {
     // SAFETY: the call has no arguments.

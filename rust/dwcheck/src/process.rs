@@ -3,6 +3,7 @@
 use crate::caller::Caller;
 use crate::fault::Error;
 use crate::ffi;
+use crate::module::{LoadedModule, Module, ModuleId};
 use crate::row::Row;
 use crate::rows::Rows;
 use crate::state::State;
@@ -15,10 +16,12 @@ use std::ptr::null_mut;
 /// The number of frames for which the first walk of [`Process::backtrace`] has room.
 const FIRST_FRAMES: usize = 64;
 
-/// A process: its modules, each a compiled `.debug_frame` section with a load address.
+/// A process: its modules, each a compiled `.debug_frame` section with a load address and the range of
+/// addresses that it answers for.
 ///
-/// A look-up uses the first module that has a row for the address. The addresses that are passed to
-/// look-ups and walks are as loaded: they are those of the running process.
+/// A look-up uses the module that answers for the address. It finds that module in O(log n) time
+/// among n modules. The addresses that are passed to look-ups and walks are as loaded: they are those
+/// of the running process.
 ///
 /// A `Process` is `Send` and `Sync`: any number of threads may look up and walk with one `Process`
 /// at once, by `&self`, and no lock is taken. To change modules while others read, change another
@@ -35,11 +38,11 @@ const FIRST_FRAMES: usize = 64;
 /// #     0x1c, 0, 0, 0, 0, 0, 0, 0, 0, 0x10, 0, 0, 0, 0, 0, 0, 0x20, 0, 0, 0, 0, 0, 0, 0,
 /// #     0x41, 0x0e, 0x10, 0x86, 2, 0x43, 0x0d, 6,
 /// # ];
-/// use dwcheck::{Abi, Block, Process, Registers, State, Stop, Target};
+/// use dwcheck::{Abi, Block, Module, Process, Registers, State, Stop, Target};
 ///
 /// // SECTION covers the addresses 0x1000 to 0x101f; the module is loaded at 0x40_0000.
-/// let mut process = Process::new();
-/// process.add(SECTION, Target::LITTLE_64, 0x40_0000, Process::NO_BOUND)?;
+/// let mut process = Process::new(Target::LITTLE_64);
+/// process.add(SECTION, Module::at(0x40_0000))?;
 ///
 /// // The stopped thread: the instruction pointer, rbp, and a copy of the top of the stack.
 /// let registers = Registers::from([(6, 0x7f00)]);
@@ -56,88 +59,114 @@ const FIRST_FRAMES: usize = 64;
 /// ```
 pub struct Process {
     raw: ffi::Process,
+    target: Target,
 }
 
 // SAFETY: the library allows a process to go from one thread to another if the threads synchronize.
 // In safe Rust they do so for every value that goes from one to another.
 unsafe impl Send for Process {}
 
-// SAFETY: the calls that this crate makes with a `&Process` only read: `dwcheck_row_at`,
-// `dwcheck_unwind`, `dwcheck_backtrace` and `dwcheck_process_share` take the process by a pointer to
-// const, and the library allows any number of them at once, in any threads. The calls that change a
-// process, `dwcheck_process_add`, `_remove` and `_close`, are made with a `&mut Process`.
+// SAFETY: the calls that this crate makes with a `&Process` only read: `dwcheck_module_at`,
+// `dwcheck_row_at`, `dwcheck_unwind`, `dwcheck_backtrace` and `dwcheck_process_share` take the process
+// by a pointer to const, and the library allows any number of them at once, in any threads. The calls
+// that change a process, `dwcheck_process_add`, `_remove` and `_close`, are made with a
+// `&mut Process`.
 unsafe impl Sync for Process {}
 
 impl Process {
-    /// For the `room` of [`add`](Process::add): no bound on the bytes that the table of a section
-    /// may take.
-    ///
-    /// The rows of a compiler's section take some 1.5 times the section's length. Those of a
-    /// hostile section may take 700 times its length or more.
-    pub const NO_BOUND: usize = usize::MAX;
-
-    /// A process without modules. This allocates nothing.
-    pub const fn new() -> Process {
+    /// A process without modules, whose modules' sections are for this target. This allocates
+    /// nothing.
+    pub const fn new(target: Target) -> Process {
         Process {
             raw: ffi::Process {
                 opaque: null_mut(),
                 opaque_open: MaybeUninit::new(0),
             },
+            target,
         }
     }
 
-    /// Checks a `.debug_frame` section, compiles all its rows, and adds them as the last module.
+    /// The byte order and the address size that the sections of all modules have.
+    pub fn target(&self) -> Target {
+        self.target
+    }
+
+    /// Checks a module's `.debug_frame` section, compiles all its rows, and adds the module.
     ///
-    /// The section's bytes aren't needed after the call. `load_address` is what is added to an
-    /// address as linked, modulo 2^w (w is the address size in bits), to get the address as loaded:
-    /// for a position-independent module, the `dlpi_addr` that `dl_iterate_phdr` gives; for any
-    /// other module, 0. `room` bounds the number of bytes that the compiled rows take: 16 for each
-    /// row and for each gap after a row, 64 for each set of rules (rows may share one), 16 for each
-    /// register's rule in a set, and 24 for each expression and its length. There is no bound if it
-    /// is [`NO_BOUND`](Process::NO_BOUND). It doesn't bound the memory that the call uses while it
-    /// checks and compiles.
+    /// The section's bytes aren't needed after the call. `module` says where the module is loaded,
+    /// and for which addresses it answers. No two modules may answer for the same address.
     ///
     /// This takes O(n log n) time, where n is the number of bytes of the section's programs and of
-    /// the rows. The number of rows may be in proportion to the section's length.
+    /// the rows. The number of rows may be in proportion to the section's length. Also, the entries
+    /// of the modules at higher addresses are moved.
     ///
     /// # Errors
     ///
-    /// [`Error::Refused`] with the first fault of the section, [`Error::NoRoom`],
-    /// [`Error::NoMemory`] or [`Error::TooLong`]. After an error the process is unchanged.
-    pub fn add(
-        &mut self,
-        section: &[u8],
-        target: Target,
-        load_address: u64,
-        room: usize,
-    ) -> Result<(), Error> {
+    /// [`Error::Refused`] with the first fault of the section, [`Error::Range`],
+    /// [`Error::Overlaps`] with the id of the other module, [`Error::NoRoom`], [`Error::NoMemory`]
+    /// or [`Error::TooLong`]. After an error the process is unchanged.
+    ///
+    /// ```
+    /// # const SECTION: &[u8] = &[
+    /// #     0x14, 0, 0, 0, 0xff, 0xff, 0xff, 0xff, 4, 0, 8, 0, 1, 0x78, 0x10, 0x0c, 7, 8, 0x90, 1, 0, 0, 0, 0,
+    /// #     0x1c, 0, 0, 0, 0, 0, 0, 0, 0, 0x10, 0, 0, 0, 0, 0, 0, 0x20, 0, 0, 0, 0, 0, 0, 0,
+    /// #     0x41, 0x0e, 0x10, 0x86, 2, 0x43, 0x0d, 6,
+    /// # ];
+    /// use dwcheck::{Error, Module, Process, Target};
+    ///
+    /// // The file's code is mapped at 0x40_1000, and its section covers a part of that.
+    /// let module = Module::at(0x40_0000).range(0x40_1000..=0x40_1fff).cookie(5);
+    /// let mut process = Process::new(Target::LITTLE_64);
+    /// let id = process.add(SECTION, module)?;
+    /// let overlaps = process.add(SECTION, Module::at(0x40_0fe0));
+    /// assert_eq!(overlaps, Err(Error::Overlaps(id)));
+    ///
+    /// let found = process.module_at(0x40_1010).unwrap();
+    /// assert_eq!((found.id, found.cookie), (id, 5));
+    /// assert!(process.remove(id));
+    /// # Ok::<(), dwcheck::Error>(())
+    /// ```
+    pub fn add(&mut self, section: &[u8], module: Module) -> Result<ModuleId, Error> {
+        let mut id = 0;
         let mut fault = ffi::Fault::default();
-        // SAFETY: the process is borrowed exclusively, the section is only read, and `fault` is a
-        // local.
+        // SAFETY: the process is borrowed exclusively, the section is only read, and the other
+        // pointers are to locals.
         let status = unsafe {
             ffi::dwcheck_process_add(
                 &mut self.raw,
-                section.as_ptr(),
-                section.len(),
-                target.order_number(),
-                target.address_bytes(),
-                load_address,
-                room,
+                &module.raw(section, self.target),
+                &mut id,
                 &mut fault,
             )
         };
-        Error::check(status, fault)
+        if status == ffi::OVERLAPS {
+            return Err(Error::Overlaps(ModuleId(id)));
+        }
+        Error::check(status, fault)?;
+        Ok(ModuleId(id))
     }
 
-    /// Removes the first module whose load address is `load_address`; all 64 bits are compared.
-    /// Returns whether there was such a module.
-    pub fn remove(&mut self, load_address: u64) -> bool {
+    /// Removes the module with this id. Returns whether there was such a module.
+    pub fn remove(&mut self, id: ModuleId) -> bool {
         // SAFETY: the process is borrowed exclusively.
-        let status = unsafe { ffi::dwcheck_process_remove(&mut self.raw, load_address) };
+        let status = unsafe { ffi::dwcheck_process_remove(&mut self.raw, id.0) };
         status == ffi::DONE
     }
 
-    /// Removes all modules.
+    /// The module that answers for an address, as loaded. `None` if no module does.
+    ///
+    /// This takes O(log n) time among n modules, and allocates nothing.
+    pub fn module_at(&self, address: u64) -> Option<LoadedModule> {
+        let mut raw = ffi::Loaded::default();
+        // SAFETY: the process is only read, and `raw` is a local.
+        let status = unsafe { ffi::dwcheck_module_at(&self.raw, address, &mut raw) };
+        if status != ffi::DONE {
+            return None;
+        }
+        Some(LoadedModule::of(&raw))
+    }
+
+    /// Removes all modules. The ids of modules that are added later count up from 1 again.
     pub fn clear(&mut self) {
         // SAFETY: the process is borrowed exclusively. A process may be closed more than once.
         unsafe { ffi::dwcheck_process_close(&mut self.raw) }
@@ -146,41 +175,13 @@ impl Process {
     /// Makes another process with the same modules, for example to change its modules while other
     /// threads read this one.
     ///
-    /// The tables are shared, not copied, and are freed with the last process that has them.
-    /// Modules that are later added to or removed from one of the two processes don't change the
-    /// other.
+    /// The modules keep their ids. The tables are shared, not copied, and are freed with the last
+    /// process that has them. Modules that are later added to or removed from one of the two
+    /// processes don't change the other.
     ///
     /// # Errors
     ///
     /// [`Error::NoMemory`] is the only error.
-    ///
-    /// ```
-    /// use dwcheck::Process;
-    /// use std::sync::{Arc, RwLock};
-    ///
-    /// // Threads clone the `Arc`, and read that process without the lock.
-    /// let current = RwLock::new(Arc::new(Process::new()));
-    /// let reader = Arc::clone(&current.read().unwrap());
-    ///
-    /// let mut changed = reader.share()?;
-    /// changed.remove(0x40_0000);
-    /// *current.write().unwrap() = Arc::new(changed);
-    /// assert!(reader.row(0x40_1010).is_none()); // still reads the old one
-    /// # Ok::<(), dwcheck::Error>(())
-    /// ```
-    pub fn share(&self) -> Result<Process, Error> {
-        let mut other = Process::new();
-        // SAFETY: this process is only read, and the other one is a local.
-        let status = unsafe { ffi::dwcheck_process_share(&self.raw, &mut other.raw) };
-        Error::check(status, ffi::Fault::default())?;
-        Ok(other)
-    }
-
-    /// The row that covers an address, from the first module that has such a row. `None` if no
-    /// module has one.
-    ///
-    /// This takes O(log n) time for each module, where n is the module's number of rows. Memory is
-    /// allocated only for the `Vec` of rules in the returned [`Row`].
     ///
     /// ```
     /// # const SECTION: &[u8] = &[
@@ -188,10 +189,44 @@ impl Process {
     /// #     0x1c, 0, 0, 0, 0, 0, 0, 0, 0, 0x10, 0, 0, 0, 0, 0, 0, 0x20, 0, 0, 0, 0, 0, 0, 0,
     /// #     0x41, 0x0e, 0x10, 0x86, 2, 0x43, 0x0d, 6,
     /// # ];
-    /// use dwcheck::{CfaRule, Process, Rule, Target};
+    /// use dwcheck::{Module, Process, Target};
+    /// use std::sync::{Arc, RwLock};
     ///
-    /// let mut process = Process::new();
-    /// process.add(SECTION, Target::LITTLE_64, 0, Process::NO_BOUND)?;
+    /// // Threads clone the `Arc`, and read that process without the lock.
+    /// let current = RwLock::new(Arc::new(Process::new(Target::LITTLE_64)));
+    /// let reader = Arc::clone(&current.read().unwrap());
+    ///
+    /// let mut changed = reader.share()?;
+    /// changed.add(SECTION, Module::at(0x40_0000))?;
+    /// *current.write().unwrap() = Arc::new(changed);
+    /// assert!(current.read().unwrap().row(0x40_1010).is_some());
+    /// assert!(reader.row(0x40_1010).is_none()); // still reads the old one
+    /// # Ok::<(), dwcheck::Error>(())
+    /// ```
+    pub fn share(&self) -> Result<Process, Error> {
+        let mut other = Process::new(self.target);
+        // SAFETY: this process is only read, and the other one is a local.
+        let status = unsafe { ffi::dwcheck_process_share(&self.raw, &mut other.raw) };
+        Error::check(status, ffi::Fault::default())?;
+        Ok(other)
+    }
+
+    /// The row that covers an address, from the module that answers for the address. `None` if there
+    /// is no such row.
+    ///
+    /// This takes O(log m + log n) time, where m is the number of modules and n the number of the
+    /// module's rows. Memory is allocated only for the `Vec` of rules in the returned [`Row`].
+    ///
+    /// ```
+    /// # const SECTION: &[u8] = &[
+    /// #     0x14, 0, 0, 0, 0xff, 0xff, 0xff, 0xff, 4, 0, 8, 0, 1, 0x78, 0x10, 0x0c, 7, 8, 0x90, 1, 0, 0, 0, 0,
+    /// #     0x1c, 0, 0, 0, 0, 0, 0, 0, 0, 0x10, 0, 0, 0, 0, 0, 0, 0x20, 0, 0, 0, 0, 0, 0, 0,
+    /// #     0x41, 0x0e, 0x10, 0x86, 2, 0x43, 0x0d, 6,
+    /// # ];
+    /// use dwcheck::{CfaRule, Module, Process, Rule, Target};
+    ///
+    /// let mut process = Process::new(Target::LITTLE_64);
+    /// process.add(SECTION, Module::at(0))?;
     /// let row = process.row(0x1003).unwrap();
     /// assert_eq!(row.addresses, 0x1001..0x1004);
     /// assert_eq!(row.cfa, CfaRule::RegisterAndOffset { register: 7, offset: 16 });
@@ -213,7 +248,7 @@ impl Process {
     }
 
     /// Writes the row that covers `address` into `row`. `slots` is where the library writes the
-    /// row's rules. `None` if no module has a row.
+    /// row's rules. `None` if there is no row.
     pub(crate) fn row_into(
         &self,
         address: u64,
@@ -237,9 +272,9 @@ impl Process {
         row.set(&raw, slots)
     }
 
-    /// The caller of the frame at an address, from the first module that has a row for the address.
+    /// The caller of the frame at an address, by the row that [`row`](Process::row) gives.
     ///
-    /// The result is `None` if no module has a row. To find the caller's own caller, call this
+    /// The result is `None` if there is no row. To find the caller's own caller, call this
     /// again with [`Caller::known`] as the registers, and with the caller's return address minus
     /// one, which is an address within the call instruction; or use [`backtrace`]. Memory is
     /// allocated only for the `Vec` of registers in the returned [`Caller`].
@@ -256,10 +291,10 @@ impl Process {
     /// #     0x1c, 0, 0, 0, 0, 0, 0, 0, 0, 0x10, 0, 0, 0, 0, 0, 0, 0x20, 0, 0, 0, 0, 0, 0, 0,
     /// #     0x41, 0x0e, 0x10, 0x86, 2, 0x43, 0x0d, 6,
     /// # ];
-    /// use dwcheck::{Abi, Answer, Block, Process, Registers, State, Target};
+    /// use dwcheck::{Abi, Answer, Block, Module, Process, Registers, State, Target};
     ///
-    /// let mut process = Process::new();
-    /// process.add(SECTION, Target::LITTLE_64, 0, Process::NO_BOUND)?;
+    /// let mut process = Process::new(Target::LITTLE_64);
+    /// process.add(SECTION, Module::at(0))?;
     /// let registers = Registers::from([(6, 5), (7, 0x7f08)]);
     /// let memory = [Block::new(0x7f08, &[0x34, 0x12, 0, 0, 0, 0, 0, 0])];
     /// let abi = Abi::new(&[6], Some(7));
@@ -341,9 +376,9 @@ impl Process {
     /// [`Error::Refused`] if the ABI names too many registers or a register twice.
     ///
     /// ```
-    /// use dwcheck::{Abi, Frame, Process, Registers, State, Stop};
+    /// use dwcheck::{Abi, Frame, Process, Registers, State, Stop, Target};
     ///
-    /// let process = Process::new();
+    /// let process = Process::new(Target::LITTLE_64);
     /// let state = State { registers: &Registers::new(), memory: &[], abi: Abi::NONE };
     /// let mut slots = [Frame::default(); 8];
     /// let (frames, stop) = process.backtrace_into(0x1010, &state, &mut slots)?;
@@ -392,12 +427,6 @@ impl Process {
     }
 }
 
-impl Default for Process {
-    fn default() -> Process {
-        Process::new()
-    }
-}
-
 impl Drop for Process {
     fn drop(&mut self) {
         self.clear();
@@ -406,6 +435,8 @@ impl Drop for Process {
 
 impl fmt::Debug for Process {
     fn fmt(&self, f: &mut fmt::Formatter<'_>) -> fmt::Result {
-        f.debug_struct("Process").finish_non_exhaustive()
+        f.debug_struct("Process")
+            .field("target", &self.target)
+            .finish_non_exhaustive()
     }
 }

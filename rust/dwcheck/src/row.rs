@@ -1,6 +1,7 @@
 //! Rows of unwind tables, and their rules.
 
 use crate::ffi;
+use crate::module::ModuleId;
 use std::ops::Range;
 
 /// Where an expression lies in a section. For an expression of a row, the section is the one that
@@ -117,6 +118,10 @@ impl CfaRule {
 #[derive(Clone, Debug, PartialEq, Eq, Hash)]
 #[non_exhaustive]
 pub struct Row {
+    /// The id of the module.
+    pub id: ModuleId,
+    /// The [cookie](crate::Module::cookie) of the module.
+    pub cookie: u64,
     /// The load address of the module.
     pub load_address: u64,
     /// The addresses that the row covers, as linked. To get them as loaded, add the load address,
@@ -144,6 +149,8 @@ impl Row {
     /// A row without addresses, which [`set`](Row::set) overwrites.
     pub(crate) fn empty() -> Row {
         Row {
+            id: ModuleId(0),
+            cookie: 0,
             load_address: 0,
             addresses: 0..0,
             cfa: CfaRule::Other(0),
@@ -157,6 +164,8 @@ impl Row {
     /// the return address register doesn't fit 16 bits, which never happens.
     pub(crate) fn set(&mut self, raw: &ffi::Row, rules: &[ffi::Rule]) -> Option<()> {
         let count = usize::try_from(raw.count).ok()?.min(rules.len());
+        self.id = ModuleId(raw.id);
+        self.cookie = raw.cookie;
         self.load_address = raw.load_address;
         self.addresses = raw.start..raw.end;
         self.cfa = CfaRule::of(&raw.cfa);

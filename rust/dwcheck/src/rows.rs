@@ -16,10 +16,10 @@ use std::fmt;
 /// #     0x1c, 0, 0, 0, 0, 0, 0, 0, 0, 0x10, 0, 0, 0, 0, 0, 0, 0x20, 0, 0, 0, 0, 0, 0, 0,
 /// #     0x41, 0x0e, 0x10, 0x86, 2, 0x43, 0x0d, 6,
 /// # ];
-/// use dwcheck::{Process, Target};
+/// use dwcheck::{Module, Process, Target};
 ///
-/// let mut process = Process::new();
-/// process.add(SECTION, Target::LITTLE_64, 0, Process::NO_BOUND)?;
+/// let mut process = Process::new(Target::LITTLE_64);
+/// process.add(SECTION, Module::at(0))?;
 ///
 /// // All rows of an FDE: each begins where the one before it ends.
 /// let mut rows = process.rows();
@@ -47,8 +47,8 @@ impl<'p> Rows<'p> {
         }
     }
 
-    /// The row that covers an address, from the first module that has such a row. `None` if no
-    /// module has one. The next look-up overwrites the row.
+    /// The row that covers an address, from the module that answers for the address. `None` if there
+    /// is no such row. The next look-up overwrites the row.
     pub fn row(&mut self, address: u64) -> Option<&Row> {
         self.process
             .row_into(address, &mut self.slots, &mut self.row)?;

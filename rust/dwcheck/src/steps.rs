@@ -13,7 +13,7 @@ pub struct Step {
     /// The frame's address, as loaded: the walk's first address, or a return address.
     pub address: u64,
     /// What is known about the frame's caller. [`Caller::cfa`] is the CFA of this frame. `None` if
-    /// no module has a row for this frame.
+    /// there is no row for this frame.
     pub caller: Option<Caller>,
 }
 
@@ -37,9 +37,9 @@ impl Process {
     /// The frames are the same as those of [`backtrace`](Process::backtrace), which is much faster.
     /// Each step calls [`unwind`](Process::unwind): for the first frame with its address and with
     /// the registers of `state`; for each later frame with its address minus one, and with the
-    /// registers whose values the step before found. The walk ends after a frame that no module
-    /// covers, or whose return address has no value. On a corrupt stack the walk may never end, so
-    /// use [`take`](Iterator::take) to limit the number of steps.
+    /// registers whose values the step before found. The walk ends after a frame that has no row, or
+    /// whose return address has no value. On a corrupt stack the walk may never end, so use
+    /// [`take`](Iterator::take) to limit the number of steps.
     ///
     /// If the ABI names too many registers or a register twice, the only step is an error.
     ///
@@ -49,10 +49,10 @@ impl Process {
     /// #     0x1c, 0, 0, 0, 0, 0, 0, 0, 0, 0x10, 0, 0, 0, 0, 0, 0, 0x20, 0, 0, 0, 0, 0, 0, 0,
     /// #     0x41, 0x0e, 0x10, 0x86, 2, 0x43, 0x0d, 6,
     /// # ];
-    /// use dwcheck::{Abi, Answer, Block, Process, Registers, State, Target};
+    /// use dwcheck::{Abi, Answer, Block, Module, Process, Registers, State, Target};
     ///
-    /// let mut process = Process::new();
-    /// process.add(SECTION, Target::LITTLE_64, 0, Process::NO_BOUND)?;
+    /// let mut process = Process::new(Target::LITTLE_64);
+    /// process.add(SECTION, Module::at(0))?;
     /// let registers = Registers::from([(6, 0x7f00)]);
     /// let stack = [0, 0x80, 0, 0, 0, 0, 0, 0, 0x34, 0x12, 0, 0, 0, 0, 0, 0];
     /// let memory = [Block::new(0x7f00, &stack)];
@@ -80,7 +80,7 @@ impl Process {
 
 impl Steps<'_> {
     /// The caller of the frame that is looked up at `address`. `None` if `address` is `None`, or if
-    /// no module has a row for the address.
+    /// there is no row for the address.
     fn caller(&self, address: Option<u64>) -> Result<Option<Caller>, Error> {
         let state = State {
             registers: &self.registers,

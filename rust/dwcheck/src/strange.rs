@@ -31,6 +31,8 @@ fn statuses() {
         (3, Err(Error::NoRoom)),
         (4, Err(Error::Other(4))),
         (5, Err(Error::TooLong)),
+        (8, Err(Error::Other(8))),
+        (9, Err(Error::Range)),
         (1000, Err(Error::Other(1000))),
     ] {
         assert_eq!(Error::check(status, fault), want);

@@ -23,7 +23,7 @@ impl Frame {
         self.raw.address
     }
 
-    /// The frame's canonical frame address (CFA). `None` if no module has a row for the frame.
+    /// The frame's canonical frame address (CFA). `None` if there is no row for the frame.
     pub fn cfa(&self) -> Option<Answer> {
         match self.raw.cfa.kind {
             ffi::NOT_COVERED => None,
@@ -61,7 +61,7 @@ impl fmt::Debug for Frame {
 pub enum Stop {
     /// The walk has as many frames as its limit allows.
     Limit,
-    /// No module has a row for the last frame.
+    /// There is no row for the last frame.
     NotCovered,
     /// The return address of the last frame is undefined. Either the row's rule says so, and then
     /// the walk is complete (DWARF 5, section 6.4.4); or neither the row nor the ABI's callee-saved

@@ -5,7 +5,7 @@ mod common;
 
 use common::*;
 use dwcheck::{
-    evaluate, Abi, Block, Context, ExpressionKind, Frame, Process, Registers, State, Target,
+    evaluate, Abi, Block, Context, ExpressionKind, Frame, Module, Process, Registers, State, Target,
 };
 
 /// A generator of pseudorandom numbers, which are the same in each run of the tests.
@@ -61,6 +61,12 @@ fn changed(numbers: &mut Numbers) -> Vec<u8> {
 
 fn ask_all(process: &Process, address: u64, state: &State<'_>, expression: &[u8]) {
     let row = process.row(address);
+    let module = process.module_at(address);
+    if let Some(row) = &row {
+        let module = module.as_ref().expect("a module with the row");
+        assert_eq!((module.id, module.cookie), (row.id, row.cookie));
+    }
+    assert!(module.map_or(true, |module| module.range.contains(&address)));
     let caller = process.unwind(address, state);
     let walk = process.backtrace(address, state, 70);
     assert_eq!(caller.is_err(), walk.is_err());
@@ -107,12 +113,15 @@ fn rounds() -> usize {
 fn every_call_has_an_answer() {
     let mut numbers = Numbers(7);
     for _ in 0..rounds() {
-        let mut process = Process::new();
+        let mut process = Process::new(numbers.target());
         for _ in 0..numbers.below(3) {
-            let (section, target) = (changed(&mut numbers), numbers.target());
-            let (load, room) = (numbers.address(), numbers.below(1 << 20));
-            let _ = process.add(&section, target, load, room);
-            let _ = add(&mut process, &section, 0);
+            let section = changed(&mut numbers);
+            let mut module = Module::at(numbers.address()).cookie(numbers.next());
+            if numbers.below(2) == 0 {
+                module = module.range(numbers.address()..=numbers.address());
+            }
+            let _ = process.add(&section, module.room(numbers.below(1 << 20)));
+            let _ = process.add(&section, Module::at(0));
         }
         let registers: Registers = (0..numbers.below(40))
             .map(|_| {

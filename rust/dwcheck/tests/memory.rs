@@ -104,11 +104,13 @@ fn processes() {
         return eprintln!("another allocator is in place: nothing is refused");
     }
     let section = row_1();
-    let mut process = Process::new();
+    let mut process = Process::new(Target::LITTLE_64);
     assert!(refuse_each(|| add(&mut process, &section, 0)) > 0);
     assert!(refuse_each(|| add(&mut process, &section, 0x10000)) > 0);
-    // 0x10000 was added only once: the rounds in which memory ran out added no module
-    assert!(process.remove(0x10000) && !process.remove(0x10000));
+    // the rounds in which memory ran out added no module, and used up no id
+    let id = process.module_at(0x11000).unwrap().id;
+    assert_eq!(id.number(), 2);
+    assert!(process.remove(id) && process.module_at(0x11000).is_none());
     assert!(process.row(0x1000).is_some());
     assert!(refuse_each(|| process.share()) > 0);
 }

@@ -3,7 +3,7 @@
 mod common;
 
 use common::*;
-use dwcheck::{CfaRule, Error, Process, Row, Rule, Span, Target};
+use dwcheck::{CfaRule, Module, Process, Row, Rule, Span, Target};
 
 fn cfa(register: u16, offset: i64) -> CfaRule {
     CfaRule::RegisterAndOffset { register, offset }
@@ -127,11 +127,8 @@ fn many_fdes() {
 fn other_targets() {
     let section = hex("00000010 ffffffff 04 00 04 00 04 7c 0e 0c0d00 0000
          00000014 00000000 00008000 00000010 42 0e08 8e01 000000");
-    let mut process = Process::new();
-    let room = Process::NO_BOUND;
-    process
-        .add(&section, Target::BIG_32, 0xffff_8000, room)
-        .unwrap();
+    let mut process = Process::new(Target::BIG_32);
+    process.add(&section, Module::at(0xffff_8000)).unwrap();
     // the rows begin at 0x8000 and 0x8008 as linked; the load address is -0x8000 modulo 2^32, so as
     // loaded they begin at 0 and 8
     assert_eq!(process.row(0).unwrap().cfa, cfa(13, 0));
@@ -140,45 +137,6 @@ fn other_targets() {
     assert_eq!((found.cfa, found.return_register), (cfa(13, 8), 14));
     assert_eq!(found.rules, [(14, Rule::Offset(-4))]);
     assert_eq!(found.load_address, 0xffff_8000);
-}
-
-#[test]
-fn modules_come_and_go() {
-    let mut process = Process::new();
-    assert!(!process.remove(0));
-    {
-        let section = row_1();
-        add(&mut process, &section, 0x100000).unwrap();
-        add(&mut process, &section, 0u64.wrapping_sub(0x1000)).unwrap();
-    }
-    add(&mut process, &[], 0x5000).unwrap();
-    assert_eq!(
-        process.row(0x10).unwrap().load_address,
-        0u64.wrapping_sub(0x1000)
-    );
-    assert_eq!(process.row(0x101010).unwrap().load_address, 0x100000);
-    assert!(process.remove(0x100000));
-    assert!(!process.remove(0x100000));
-    assert_eq!(process.row(0x101010), None);
-    assert!(process.row(0x10).is_some());
-    process.clear();
-    process.clear();
-    assert_eq!(process.row(0x10), None);
-}
-
-#[test]
-fn room_is_a_bound_and_no_request() {
-    let section = row_1();
-    let mut process = Process::new();
-    let refused = process.add(&section, Target::LITTLE_64, 0, 10);
-    assert_eq!(refused, Err(Error::NoRoom));
-    assert_eq!(process.row(0x1000), None);
-    process
-        .add(&section, Target::LITTLE_64, 0, usize::MAX)
-        .unwrap();
-    assert!(process.row(0x1000).is_some());
-    // adding a section that is refused changes nothing
-    let refused = add(&mut process, &section[..5], 0x5000);
-    assert_eq!(refusal(refused), Some(("Truncated", 4)));
-    assert!(process.row(0x1000).is_some());
+    // addresses of 2^32 and more have no row
+    assert_eq!(process.row(1 << 32), None);
 }

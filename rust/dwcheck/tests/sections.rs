@@ -3,7 +3,7 @@
 mod common;
 
 use common::*;
-use dwcheck::{check, Error, FaultKind, Process, Section, Target};
+use dwcheck::{check, Error, FaultKind, Section, Target};
 
 fn frame(bytes: &[u8]) -> Option<(&'static str, u32)> {
     refusal(check(bytes, &[], Target::LITTLE_64))
@@ -76,7 +76,7 @@ fn row_1_changed() {
         section[place] = byte;
         assert_eq!(frame(&section), want, "{:#x} at {}", byte, place);
         // adding the section to a process is refused with the same fault
-        let added = add(&mut Process::new(), &section, 0);
+        let added = add_alone(&section);
         assert_eq!(refusal(added), want, "{:#x} at {}", byte, place);
     }
 }
@@ -177,8 +177,7 @@ fn each_small_change_has_an_answer() {
                 changed[place] = byte;
                 let _ = check(&changed, &changed, Target::BIG_32);
                 let both = check(&changed, &[], Target::LITTLE_64);
-                let added = add(&mut Process::new(), &changed, u64::MAX);
-                assert_eq!(both, added);
+                assert_eq!(both, add_alone(&changed));
             }
         }
     }

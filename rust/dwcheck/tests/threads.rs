@@ -4,7 +4,7 @@
 mod common;
 
 use common::*;
-use dwcheck::{Abi, Block, Process, Registers, Row, State, Stop};
+use dwcheck::{Abi, Block, Process, Registers, Row, State, Stop, Target};
 use std::sync::{mpsc, Barrier, Mutex, RwLock};
 use std::thread;
 
@@ -49,14 +49,18 @@ fn two_modules() -> Process {
     process
 }
 
-/// Looks up rows of both modules. Returns whether they are the right ones.
+/// Looks up both modules and their rows. Returns whether they are the right ones.
 fn looks_up_well(process: &Process) -> bool {
     let mut rows = process.rows();
     (0..0x20).all(|place| {
-        [0x101000, 0x201000].iter().all(|start| {
+        [(1, 0x101000), (2, 0x201000)].iter().all(|(id, start)| {
             let alone = process.row(start + place);
-            let covers = |row: &Row| row.addresses.contains(&(0x1000 + place));
-            alone.as_ref().map_or(false, covers) && rows.row(start + place) == alone.as_ref()
+            let covers =
+                |row: &Row| row.id.number() == *id && row.addresses.contains(&(0x1000 + place));
+            let module = process.module_at(start + place);
+            module.map_or(false, |module| module.id.number() == *id)
+                && alone.as_ref().map_or(false, covers)
+                && rows.row(start + place) == alone.as_ref()
         })
     })
 }
@@ -86,7 +90,7 @@ fn threads_read_one_process() {
 /// reference to a process that is never dropped.
 #[test]
 fn threads_read_a_static_process() {
-    static EMPTY: Process = Process::new();
+    static EMPTY: Process = Process::new(Target::LITTLE_64);
     static CURRENT: RwLock<Option<&Process>> = RwLock::new(None);
     *CURRENT.write().unwrap() = Some(Box::leak(Box::new(two_modules())));
     let readers: Vec<_> = (0..READERS)
@@ -118,7 +122,7 @@ fn threads_share_tables() {
         })
         .collect();
     // the processes of the threads still have both modules
-    assert!(process.remove(0x100000));
+    assert!(process.remove(process.module_at(0x101000).unwrap().id));
     drop(process);
     for walker in walkers {
         assert!(walker.join().unwrap());
@@ -147,9 +151,10 @@ fn a_process_goes_through_a_channel_and_a_lock() {
 fn a_shared_process_is_its_own() {
     let mut process = two_modules();
     let mut other = process.share().unwrap();
-    assert!(other.remove(0x200000));
+    assert!(other.remove(process.module_at(0x201000).unwrap().id));
     assert!(walks_well(&process) && !walks_well(&other));
-    add(&mut other, &row_1(), 0x300000).unwrap();
+    let third = add(&mut other, &row_1(), 0x300000).unwrap();
+    assert_eq!(third.number(), 3);
     assert!(process.row(0x301010).is_none() && other.row(0x301010).is_some());
     process.clear();
     assert!(other.row(0x101010).is_some());
@@ -169,7 +174,7 @@ fn calls_fit_a_small_stack() {
             abi: Abi::X86_64,
         };
         let unwound = process.unwind(0x201010, &state).unwrap();
-        let checked = dwcheck::check(&row_1(), &row_16(), dwcheck::Target::LITTLE_64);
+        let checked = dwcheck::check(&row_1(), &row_16(), Target::LITTLE_64);
         let good = walks_well(&process) && unwound.is_some() && checked.is_ok();
         good && process.row(0x201010).is_some()
     });

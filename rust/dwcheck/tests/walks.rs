@@ -6,6 +6,7 @@ mod common;
 use common::*;
 use dwcheck::{
     Abi, Answer, Backtrace, Block, Error, Frame, Process, Registers, Section, State, Step, Stop,
+    Target,
 };
 
 fn words(words: &[u64]) -> Vec<u8> {
@@ -375,7 +376,7 @@ fn single_calls_through_modules() {
 
 #[test]
 fn without_a_module_nothing_is_covered() {
-    let process = Process::default();
+    let process = Process::new(Target::LITTLE_64);
     let state = State {
         registers: &Registers::from([(65535, 1)]),
         memory: &[Block::new(u64::MAX, &[1, 2, 3])],

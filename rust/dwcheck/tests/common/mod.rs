@@ -2,7 +2,7 @@
 //! file uses all of them, so unused code is allowed.
 #![allow(dead_code)]
 
-use dwcheck::{Error, Process, Target};
+use dwcheck::{Error, Module, ModuleId, Process, Target};
 
 /// Converts hexadecimal digits to bytes. Spaces and line breaks are skipped.
 pub fn hex(text: &str) -> Vec<u8> {
@@ -68,21 +68,29 @@ pub fn fde(initial: u64, range: u64) -> Vec<u8> {
 
 /// A process with one module, whose section is for a little-endian target with 8-byte addresses.
 pub fn process_at(section: &[u8], load_address: u64) -> Process {
-    let mut process = Process::new();
+    let mut process = Process::new(Target::LITTLE_64);
     add(&mut process, section, load_address).expect("a good section");
     process
 }
 
-pub fn add(process: &mut Process, section: &[u8], load_address: u64) -> Result<(), Error> {
-    let room = Process::NO_BOUND;
-    process.add(section, Target::LITTLE_64, load_address, room)
+pub fn add(process: &mut Process, section: &[u8], load_address: u64) -> Result<ModuleId, Error> {
+    process.add(section, Module::at(load_address))
+}
+
+/// Adds a section to a process without modules, as a module that answers for all addresses, so that
+/// it isn't refused if it covers no address.
+pub fn add_alone(section: &[u8]) -> Result<(), Error> {
+    let whole = Module::at(u64::MAX).range(0..=u64::MAX);
+    Process::new(Target::LITTLE_64)
+        .add(section, whole)
+        .map(drop)
 }
 
 /// The name and the offset of the fault in a refusal, such as `NoSuchCie` and 28. `None` if the
 /// result is `Ok`.
-pub fn refusal(result: Result<(), Error>) -> Option<(&'static str, u32)> {
+pub fn refusal<T>(result: Result<T, Error>) -> Option<(&'static str, u32)> {
     match result {
-        Ok(()) => None,
+        Ok(_) => None,
         Err(Error::Refused(fault)) => Some((fault.name(), fault.offset)),
         Err(other) => panic!("{}", other),
     }

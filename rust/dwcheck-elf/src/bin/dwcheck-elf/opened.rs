@@ -2,7 +2,7 @@
 //! and names.
 
 use crate::end::Failure;
-use dwcheck::{Error, Process};
+use dwcheck::Process;
 use dwcheck_elf::bridge::Options;
 use dwcheck_elf::fault::Defect;
 use dwcheck_elf::frames::{Frames, Name};
@@ -12,6 +12,7 @@ use dwcheck_elf::names::Spot;
 use dwcheck_elf::program::Program;
 use dwcheck_elf::state_file::address as number;
 use dwcheck_elf::target::Target;
+use std::fmt;
 use std::fs::File;
 use std::io::{self, Read, Write};
 use std::path::Path;
@@ -54,18 +55,11 @@ pub fn accepted_frames<'data>(
     match refused.into_iter().next() {
         None => Ok(Ok(accepted)),
         Some(defect) if defect.section == Name::DebugFrame && !accepted.is_empty() => {
-            note_eh_frame(path, &defect);
+            note(path, format_args!(".debug_frame is refused, so .eh_frame is used: {}", defect));
             Ok(Ok(accepted))
         }
         Some(defect) => Ok(Err(defect)),
     }
-}
-
-/// Says, on standard error, that `.debug_frame` is refused and `.eh_frame` is used.
-fn note_eh_frame(path: &Path, defect: &Defect) {
-    let note = format!(".debug_frame is refused, so .eh_frame is used: {}", defect);
-    // If standard error is closed, nobody can read the note, so it doesn't matter that this fails.
-    let _ = writeln!(io::stderr(), "dwcheck-elf: {}: {}", path.display(), note);
 }
 
 /// Writes a fault in two lines. The first says where it is, such as in which FDE, and gives its
@@ -79,10 +73,16 @@ pub fn write_defect(out: &mut impl Write, path: &Path, defect: &Defect) -> io::R
     }
 }
 
-/// Adds the sections of a module to a process, at the module's load address.
-pub fn add(process: &mut Process, path: &Path, frames: &[Frames<'_>], load: u64) -> Result<(), Failure> {
-    let failed = |name, error: Error| Failure::judging(path, &InspectError::Dwcheck(name, error));
-    frames.iter().try_for_each(|one| one.add_to(process, load).map_err(|error| failed(one.name(), error)))
+/// Makes a process with a frame section as its only module, at the addresses that it is linked for.
+pub fn process(path: &Path, frames: &Frames<'_>) -> Result<Process, Failure> {
+    let failed = |error| Failure::judging(path, &InspectError::Dwcheck(frames.name(), error));
+    frames.process(0).map_err(failed)
+}
+
+/// Writes a note on standard error.
+pub fn note(path: &Path, text: impl fmt::Display) {
+    // If standard error is closed, nobody can read the note, so it doesn't matter that this fails.
+    let _ = writeln!(io::stderr(), "dwcheck-elf: {}: {}", path.display(), text);
 }
 
 /// The name of the function that contains an address, in parentheses after a space. Empty if the

@@ -3,7 +3,7 @@
 use crate::arguments::{RowWords, RowsWords};
 use crate::check::write_notes;
 use crate::end::{Done, Failure};
-use crate::opened::{accepted_frames, add, address, named, number_argument, program, read, write_defect};
+use crate::opened::{accepted_frames, address, named, number_argument, process, program, read, write_defect};
 use dwcheck::Process;
 use dwcheck_elf::debug_frame::{records, Kind, Record};
 use dwcheck_elf::frames::Frames;
@@ -29,8 +29,7 @@ pub fn rows(words: &RowsWords, out: &mut impl Write) -> Result<Done, Failure> {
     };
     let functions = program.functions();
     for frames in &accepted {
-        let mut process = Process::new();
-        add(&mut process, &words.program, std::slice::from_ref(frames), 0)?;
+        let process = process(&words.program, frames)?;
         writeln!(out, "section {}", frames.name())?;
         write_section(out, frames, &process, &functions)?;
         if words.notes.notes {
@@ -96,8 +95,7 @@ pub fn row(words: &RowWords, out: &mut impl Write) -> Result<Done, Failure> {
         }
     };
     for frames in &accepted {
-        let mut process = Process::new();
-        add(&mut process, &words.program, std::slice::from_ref(frames), 0)?;
+        let process = process(&words.program, frames)?;
         if process.row(linked).is_some() {
             let mut row = Row::default();
             let end = linked.saturating_add(1);

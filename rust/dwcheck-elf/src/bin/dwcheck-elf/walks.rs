@@ -3,10 +3,11 @@
 
 use crate::arguments::{BacktraceWords, UnwindWords};
 use crate::end::{Done, Failure};
-use crate::opened::{accepted_frames, add, address, number_argument, program, read, write_defect};
-use dwcheck::{Answer, Error, Frame, Process};
+use crate::opened::{accepted_frames, address, note, number_argument, program, read, write_defect};
+use dwcheck::{Answer, Error, Frame};
 use dwcheck_elf::fault::Defect;
 use dwcheck_elf::functions::Functions;
+use dwcheck_elf::modules::Modules;
 use dwcheck_elf::names::Spot;
 use dwcheck_elf::program::Program;
 use dwcheck_elf::state_file::{short, StateFile};
@@ -26,7 +27,7 @@ struct Given {
 
 /// A process that has the program and the further modules that the command line names.
 struct Loaded<'a> {
-    process: Process,
+    modules: Modules,
     target: Target,
     /// The functions of each module, and the module's load address.
     functions: Vec<(Functions<'a>, u64)>,
@@ -66,22 +67,33 @@ fn given(words: &UnwindWords, target: Target, data: Vec<u8>) -> Result<Vec<Given
 }
 
 /// Checks all modules and puts them into a process. If a module is refused, the inner error is the
-/// module's file and the fault.
+/// module's file and the fault. If something of a module isn't used, such as all of it if its addresses
+/// overlap those of an earlier module, a note on standard error says so.
 fn loaded<'a>(
     words: &UnwindWords,
     given: &'a [Given],
     target: Target,
 ) -> Result<Result<Loaded<'a>, (PathBuf, Defect)>, Failure> {
     let options = words.modules.reading.options();
-    let mut all = Loaded { process: Process::new(), target, functions: Vec::new() };
+    let mut all = Loaded { modules: Modules::new(target), target, functions: Vec::new() };
     for Given { path, load, data } in given {
         let program = program(path, data)?;
         if program.target() != target {
             return Err(Failure::File(format!("{}: another byte order or address size", path.display())));
         }
-        match accepted_frames(path, &program, options)? {
-            Ok(frames) => add(&mut all.process, path, &frames, *load)?,
+        let frames = match accepted_frames(path, &program, options)? {
+            Ok(frames) => frames,
             Err(defect) => return Ok(Err((path.clone(), defect))),
+        };
+        let sections: Vec<_> = frames.iter().map(|one| one.bytes().into()).collect();
+        let added = all.modules.add(path, &program, &sections, *load);
+        let lost = added.map_err(|error| Failure::File(format!("{}: {}", path.display(), error)))?;
+        if let Some(lost) = &lost {
+            note(path, lost);
+        }
+        // Without its addresses, a further module's functions have no names here either.
+        if lost.map_or(false, |lost| lost.is_whole()) && !all.functions.is_empty() {
+            continue;
         }
         all.functions.push((program.functions(), *load));
     }
@@ -129,7 +141,7 @@ pub fn unwind(words: &UnwindWords, out: &mut impl Write) -> Result<Done, Failure
     run(words, out, |loaded, address, file, out| {
         let blocks = file.blocks();
         let target = loaded.target;
-        match loaded.process.unwind(address, &file.state(&blocks)).map_err(no_answer)? {
+        match loaded.modules.process().unwind(address, &file.state(&blocks)).map_err(no_answer)? {
             None => writeln!(out, "none")?,
             Some(caller) => {
                 writeln!(out, "cfa {}", Known(target, caller.cfa))?;
@@ -153,7 +165,8 @@ pub fn backtrace(words: &BacktraceWords, out: &mut impl Write) -> Result<Done, F
     let limit = short(&words.limit).ok_or_else(bad)?;
     run(&words.frame, out, |loaded, address, file, out| {
         let blocks = file.blocks();
-        let walk = loaded.process.backtrace(address, &file.state(&blocks), usize::from(limit)).map_err(no_answer)?;
+        let walk =
+            loaded.modules.process().backtrace(address, &file.state(&blocks), usize::from(limit)).map_err(no_answer)?;
         for (number, frame) in walk.frames.iter().enumerate() {
             write_frame(out, loaded, number, frame)?;
         }
