@@ -5,8 +5,8 @@
 # libunwind's unw_step caches what it found for an address. unw_backtrace also caches where the
 # frame with a given return address saves its registers, so it needs no rules the next time.
 #   bench/beside_libunwind/run.sh [SECTION]..    some seconds once crates/dw_times is built
-# Each SECTION is a raw .debug_frame section. It becomes another module, which every look-up
-# searches before the modules of the program. If Debian's libdw-dev is installed, elfutils'
+# Each SECTION is a raw .debug_frame section. It becomes another module, which every look-up of
+# bench_walk searches before the modules of the program. If Debian's libdw-dev is installed, elfutils'
 # dwfl_getthread_frames is timed on the same stack. These variables may be set:
 #   PREFIX   the folder to which `make install` installed libdwcheck: then dwcheck_backtrace and
 #            dwcheck_row_at are timed too

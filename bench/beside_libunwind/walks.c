@@ -3,7 +3,8 @@
        walks OWN LIBRARY [SECTION]..
    OWN and LIBRARY are files with the .debug_frame sections of this program and of libthrough.so.
    Each SECTION becomes a module before these two. Its load address is one at which this process has
-   nothing, so each look-up searches this module first and finds nothing. The exit status is 1 if a
+   nothing, so each look-up of bench_walk searches this module first and finds nothing. Through C, a
+   look-up searches for the module of an address by the modules' ranges. The exit status is 1 if a
    frame differs. */
 #define _GNU_SOURCE
 #define UNW_LOCAL_ONLY
@@ -183,6 +184,17 @@ static void by_elfutils(const WalkStart *start, uint64_t our_count)
 #endif
 
 #ifdef THROUGH_C
+/* Adds a section to a process as a module. */
+static void add_module(dwcheck_process *process, const LoadedSection *section, uint64_t load_address)
+{
+    dwcheck_module module = {.frame = section->bytes, .frame_length = section->count, .load_address = load_address, .room = SIZE_MAX,
+                             .order = DWCHECK_LITTLE, .address_size = 8};
+    dwcheck_fault fault;
+    uint64_t id;
+    if (dwcheck_process_add(process, &module, &id, &fault) != DWCHECK_DONE)
+        status = 1;
+}
+
 /* For the frames in one module, prints the nanoseconds that it takes to get the row with all its
    rules, first with dwcheck's libraries and then with dwcheck_row_at of libdwcheck. */
 static void rows_through_c(const LoadedSection *module, uint64_t frame_count)
@@ -191,12 +203,10 @@ static void rows_through_c(const LoadedSection *module, uint64_t frame_count)
     static uint64_t linked[PLACES];
     static dwcheck_rule rules[RULES];
     dwcheck_process process = DWCHECK_CLOSED;
-    dwcheck_fault fault;
     dwcheck_row row;
     size_t count = 0;
     double once = 1e30, more = 1e30, through = 1e30;
-    if (dwcheck_process_add(&process, module->bytes, module->count, DWCHECK_LITTLE, 8, 0, SIZE_MAX, &fault) != DWCHECK_DONE)
-        status = 1;
+    add_module(&process, module, 0);
     for (uint64_t i = 0; i < frame_count; i++)
         if (dwcheck_row_at(&process, frames[i].address - module->load_address, &row, rules, RULES) == DWCHECK_DONE)
             linked[count++] = frames[i].address - module->load_address;
@@ -233,8 +243,7 @@ static void through_c(const LoadedSection *first, size_t count, const WalkStart 
     uint32_t stop;
     double time = 1e30;
     for (size_t i = 0; i < count; i++)
-        if (dwcheck_process_add(&process, first[i].bytes, first[i].count, DWCHECK_LITTLE, 8, first[i].load_address, SIZE_MAX, &fault) != DWCHECK_DONE)
-            status = 1;
+        add_module(&process, &first[i], first[i].load_address);
     for (int round = 0; round < ROUNDS * WALKS; round++) {
         double begun = now();
         if (dwcheck_backtrace(&process, start->address, &state, found, PLACES, &frame_count, &stop, &fault) != DWCHECK_DONE)
@@ -244,7 +253,8 @@ static void through_c(const LoadedSection *first, size_t count, const WalkStart 
     for (size_t i = 0; i < frame_count; i++)
         if (found[i].address != frames[i].address || found[i].cfa.value != frames[i].cfa)
             status = 1;
-    printf("  ns a frame through C: %.1f; %zu frames, stop %u; %s\n", time, frame_count, stop, status ? "not ours" : "ours");
+    printf("  ns a frame through C: %.1f; %zu modules; %zu frames, stop %u; %s\n", time, count, frame_count, stop,
+           status ? "not ours" : "ours");
     dwcheck_process_close(&process);
 }
 #endif
@@ -272,8 +282,12 @@ static __attribute__((noinline)) int measured(void)
     rows_through_c(sections + section_count - 2, frame_count);
 #endif
     (void)frame_count;
-    if (section_count > 2)
+    if (section_count > 2) {
         compared("with the others in front", sections, section_count, &start, &context);
+#ifdef THROUGH_C
+        through_c(sections, section_count, &start);
+#endif
+    }
     free(copy);
     return 1;
 }
