@@ -115,6 +115,7 @@ STAGES = [
           progress="^(.*): [0-9]+ commands, .*"),
     Stage("elf", "rust/dwcheck-elf", "cd rust/dwcheck-elf && ../cargo.sh test", counted_by_cargo,
           environment=RUST | {"DWCHECK": str(BUILD / "dwcheck")}),
+    Stage("code", "rust/dwcheck-lint", "cd rust/dwcheck-lint && ../cargo.sh test", counted_by_cargo, environment=RUST),
     Stage("memory", "each request for memory refused in turn, in tests and in dwcheck",
           "bench/stress/refused_memory.py crates/dw_tests/out/dw_tests_tests build/dwcheck", counted_refusals),
     Stage("c", "the C library, with sanitizers and valgrind", "c/tests/run.sh", counted_lines, progress="^(ok .*)",

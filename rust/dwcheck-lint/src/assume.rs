@@ -1,0 +1,106 @@
+//! The state that a row describes, for code that nothing is seen to reach.
+
+use crate::expression::{simple, Context};
+use crate::machine::Machine;
+use crate::register::Register;
+use crate::state::State;
+use crate::stores::Stores;
+use crate::table::{Cfa, Row, Rule};
+use crate::value::{Base, Value};
+
+/// The state at the entry of a function that is called.
+pub fn entered(machine: &Machine, row: &Row<'_>) -> State {
+    let mut state = State::unknown(false);
+    for register in (0..).map(Register).take_while(|register| machine.is_followed(*register)) {
+        let is_kept = machine.kept.contains(&register);
+        state.set(register, if is_kept { Value::Entry(register) } else { Value::Clobbered });
+    }
+    state.set(machine.stack_pointer, Value::from_cfa(-machine.entry_offset));
+    state.put(Base::CFA, machine.return_slot, Value::Entry(machine.return_address));
+    // A function such as vfork begins with its return address in a register.
+    if let Some(Rule::Register(register)) = row.rule(machine.return_address) {
+        state.set(register, Value::Entry(machine.return_address));
+    }
+    state
+}
+
+/// The state in which a row is right, at an offset in its function. Nothing else is known in it.
+pub fn assumed(machine: &Machine, row: &Row<'_>, offset: u32, address: u64) -> State {
+    let mut assumption = Assumption { machine, offset, state: State::unknown(true) };
+    assumption.assume_cfa(row, address);
+    assumption.assume_registers(row);
+    if assumption.state.get(machine.stack_pointer) == Value::Unknown {
+        assumption.base_of(machine.stack_pointer);
+    }
+    assumption.state
+}
+
+struct Assumption<'a> {
+    machine: &'a Machine,
+    offset: u32,
+    state: State,
+}
+
+impl Assumption<'_> {
+    /// The address that a register holds. If it isn't known, the register gets a base of its own.
+    fn base_of(&mut self, register: Register) -> (Base, i64) {
+        if let Value::Address { base, offset } = self.state.get(register) {
+            return (base, offset);
+        }
+        let base = Base::assumed(self.offset, register);
+        self.state.set(register, Value::Address { base, offset: 0 });
+        (base, 0)
+    }
+
+    fn assume_cfa(&mut self, row: &Row<'_>, address: u64) {
+        match row.cfa {
+            Cfa::Offset(register, offset) => self.state.set(register, Value::from_cfa(offset.wrapping_neg())),
+            Cfa::Expression(expression) => match simple(expression) {
+                Some(found) if found.is_loaded => {
+                    let (base, offset) = self.base_of(found.register);
+                    let value = Value::from_cfa(found.added.wrapping_neg());
+                    self.state.put(base, offset.wrapping_add(found.offset), value);
+                }
+                Some(found) => {
+                    let distance = found.offset.wrapping_add(found.added);
+                    self.state.set(found.register, Value::from_cfa(distance.wrapping_neg()));
+                }
+                None => self.assume_expression(expression, address),
+            },
+        }
+    }
+
+    /// An expression that adds numbers to the stack pointer gives its distance from the CFA.
+    fn assume_expression(&mut self, expression: &[u8], address: u64) {
+        let pointer = self.machine.stack_pointer;
+        self.state.set(pointer, Value::from_cfa(0));
+        let stores = Stores::new(self.machine);
+        let context = Context { machine: self.machine, state: &self.state, stores: &stores, address };
+        let distance = context.evaluate(expression, None).cfa_offset();
+        self.state.set(pointer, distance.map_or(Value::Unknown, |distance| Value::from_cfa(distance.wrapping_neg())));
+    }
+
+    fn assume_registers(&mut self, row: &Row<'_>) {
+        let kept = self.machine.kept.iter().copied();
+        for register in kept.chain([self.machine.return_address]) {
+            let value = Value::Entry(register);
+            match row.rule(register) {
+                None | Some(Rule::Same) => {
+                    let is_free = self.state.get(register) == Value::Unknown;
+                    if is_free && register != self.machine.return_address {
+                        self.state.set(register, value);
+                    }
+                }
+                Some(Rule::Offset(offset)) => self.state.put(Base::CFA, offset, value),
+                Some(Rule::Register(other)) => self.state.set(other, value),
+                Some(Rule::Expression(expression)) => {
+                    if let Some(found) = simple(expression).filter(|found| !found.is_loaded) {
+                        let (base, offset) = self.base_of(found.register);
+                        self.state.put(base, offset.wrapping_add(found.offset).wrapping_add(found.added), value);
+                    }
+                }
+                Some(Rule::Undefined | Rule::Value) => {}
+            }
+        }
+    }
+}

@@ -1,0 +1,289 @@
+//! Follows the flow of control through an FDE's code until nothing new is found.
+
+use crate::assume::{assumed, entered};
+use crate::callees::Callees;
+use crate::code::Code;
+use crate::instruction::Effect;
+use crate::judge::{unjudged, Judge, Verdict};
+use crate::module::{Convention, Module};
+use crate::register::Registers;
+use crate::rules::is_only_padding;
+use crate::state::State;
+use crate::stores::Stores;
+use crate::table::{row_at, Cfa, Fde, Row};
+use crate::walk::{Edge, EdgeKind, Exit, Visitor};
+use std::collections::{BTreeMap, BTreeSet};
+
+/// How often the flow of an FDE is followed at most, each time with more stores known.
+const MOST_ROUNDS: usize = 12;
+
+/// How many entries of tables are read at most, and how many more for each byte of the code. A block that
+/// jumps by a table is passed a few times, and reads the table each time.
+const MOST_ENTRIES: u64 = 200_000;
+const ENTRIES_A_BYTE: u64 = 64;
+
+/// How many bytes of code an FDE has at most.
+const MOST_BYTES: usize = 2 << 20;
+
+/// No block was reached at an offset.
+const NONE: u32 = u32::MAX;
+
+/// A block that was reached.
+struct Reached {
+    /// What is known at its beginning.
+    state: State,
+    /// Whether only calls that perhaps don't return lead to it.
+    is_soft: bool,
+    /// The region in which it was reached: 0 from the entry, or the number of the assumption.
+    region: u32,
+}
+
+/// The flow through an FDE's code.
+pub struct Flow<'m, 'c> {
+    /// The module.
+    pub module: &'m Module<'m>,
+    /// What is known of other functions.
+    pub callees: &'c mut Callees,
+    /// The FDE.
+    pub fde: &'m Fde,
+    /// Its rows.
+    pub rows: Vec<Row<'m>>,
+    /// Its code.
+    pub code: Code<'m>,
+    /// What it stores.
+    pub stores: Stores,
+    /// The addresses of the tables of jumps that it uses, ascending.
+    pub tables: Vec<u64>,
+    /// How many entries of tables may still be read.
+    pub entries_left: u64,
+    /// Whether it matters which registers its callees write.
+    pub needs_callees: bool,
+    reached: Vec<Reached>,
+    /// For each offset, the index of the block that was reached there.
+    blocks: Vec<u32>,
+    work: BTreeSet<u32>,
+    region: u32,
+    has_new_leader: bool,
+}
+
+/// Merges the state of each edge into the block that it leads to.
+struct Follow;
+
+impl<'m> Visitor<'m> for Follow {
+    fn edge(&mut self, flow: &mut Flow<'m, '_>, edge: Edge, state: &State) {
+        flow.reach(edge.to, state, matches!(edge.kind, EdgeKind::AfterCall | EdgeKind::Padding));
+    }
+
+    fn exit(&mut self, _: &mut Flow<'m, '_>, _: u32, _: Exit, _: &State) {}
+}
+
+/// Whether a row is the one with which a function begins that is called.
+pub fn is_entry_row(module: &Module<'_>, row: &Row<'_>) -> bool {
+    row.cfa == Cfa::Offset(module.machine.stack_pointer, module.machine.entry_offset)
+}
+
+impl<'m, 'c> Flow<'m, 'c> {
+    /// Decodes an FDE's code. The reason if it isn't in the file, or its rows can't be read.
+    pub fn new(module: &'m Module<'m>, callees: &'c mut Callees, fde: &'m Fde) -> Result<Self, String> {
+        let bytes = usize::try_from(fde.end - fde.begin).ok().and_then(|size| module.bytes_at(fde.begin).get(..size));
+        let bytes = bytes.filter(|bytes| bytes.len() <= MOST_BYTES).ok_or("the code isn't in the file, or too long")?;
+        let rows = module.rows.rows(fde)?;
+        let code = Code::decode(module.machine, fde.begin, bytes, fde.landings.iter().map(|landing| landing.pad));
+        let mut flow = Flow {
+            module,
+            callees,
+            fde,
+            rows,
+            stores: Stores::new(module.machine),
+            tables: Vec::new(),
+            entries_left: 0,
+            needs_callees: false,
+            reached: Vec::new(),
+            blocks: vec![NONE; bytes.len()],
+            work: BTreeSet::new(),
+            region: 0,
+            has_new_leader: false,
+            code,
+        };
+        flow.needs_callees = flow.frame_is_in_changeable_register();
+        Ok(flow)
+    }
+
+    /// Whether the CFA or the stack pointer is ever computed from a register that callees may change.
+    fn frame_is_in_changeable_register(&self) -> bool {
+        let (changeable, pointer) = (self.module.machine.changeable, self.module.machine.stack_pointer);
+        let in_rows = |row: &Row<'_>| matches!(row.cfa, Cfa::Offset(register, _) if changeable.contains(register));
+        let sets_pointer = |effect: &Effect| match *effect {
+            Effect::Move { to, from } | Effect::Add { to, from, .. } => to == pointer && changeable.contains(from),
+            Effect::SubtractRegister { to, by } => to == pointer && by.map_or(false, |by| changeable.contains(by)),
+            _ => false,
+        };
+        self.rows.iter().any(in_rows) || self.code.instructions().iter().any(|found| sets_pointer(&found.effect))
+    }
+
+    /// Follows the flow from the entry, from the states that jumps of other FDEs bring, and at last
+    /// from rows, for code that nothing reaches.
+    pub fn run(&mut self, brought: &BTreeMap<u64, State>) {
+        for _ in 0..MOST_ROUNDS {
+            self.stores.restart();
+            self.entries_left = MOST_ENTRIES + ENTRIES_A_BYTE * u64::from(self.code.length());
+            self.reached.clear();
+            self.blocks.iter_mut().for_each(|block| *block = NONE);
+            self.region = 0;
+            self.has_new_leader = false;
+            let start = self.start(brought);
+            // Rule "padding": GCC begins a cold part with a `nop` that nothing jumps to.
+            if !start.is_assumed || is_only_padding(&self.code, 0).is_none() {
+                self.follow(0, &start);
+            }
+            for (address, state) in brought.range(self.fde.begin..self.fde.end) {
+                let offset = (*address - self.fde.begin) as u32;
+                if self.state_at(offset).is_none() {
+                    self.follow(offset, state);
+                }
+            }
+            self.follow_rows();
+            if !self.stores.is_outdated() && !self.has_new_leader {
+                return;
+            }
+        }
+    }
+
+    /// The state at the FDE's first address.
+    fn start(&self, brought: &BTreeMap<u64, State>) -> State {
+        let machine = self.module.machine;
+        let is_called = |row| is_entry_row(self.module, row) || self.module.convention == Convention::Go;
+        match (self.rows.first(), brought.get(&self.fde.begin)) {
+            (Some(row), _) if is_called(row) => entered(machine, row),
+            (_, Some(state)) => state.clone(),
+            (Some(row), None) => assumed(machine, row, 0, self.fde.begin),
+            (None, None) => State::unknown(true),
+        }
+    }
+
+    fn follow(&mut self, offset: u32, state: &State) {
+        self.reach(offset, state, false);
+        while let Some(leader) = self.work.iter().next().copied() {
+            self.work.remove(&leader);
+            self.walk(leader, &mut Follow);
+        }
+    }
+
+    /// Takes up each block that isn't reached from its row. What is followed from there never merges
+    /// into code that was reached before.
+    fn follow_rows(&mut self) {
+        let mut offset = 0;
+        while offset < self.code.length() {
+            let is_open = self.code.is_leader(offset) && self.state_at(offset).is_none();
+            if is_open && self.code.effect(offset) != Effect::Invalid {
+                if let Some(after) = is_only_padding(&self.code, offset) {
+                    self.lead_after_padding(after);
+                    offset = after;
+                    continue;
+                }
+                self.assume(offset);
+            }
+            offset = self.code.next(offset);
+            if offset < self.code.length() && self.code.get(offset).is_none() {
+                self.code.lead(offset);
+            }
+        }
+    }
+
+    fn lead_after_padding(&mut self, offset: u32) {
+        if offset < self.code.length() {
+            self.code.lead(offset);
+        }
+    }
+
+    fn assume(&mut self, offset: u32) {
+        let address = self.code.address(offset);
+        if let Some(row) = row_at(&self.rows, address) {
+            self.region += 1;
+            let state = assumed(self.module.machine, &self.rows[row], offset, address);
+            self.follow(offset, &state);
+        }
+    }
+
+    /// Merges a state into the block at an offset.
+    fn reach(&mut self, offset: u32, state: &State, is_soft: bool) {
+        self.has_new_leader |= self.code.lead(offset);
+        let index = self.blocks[offset as usize];
+        if index == NONE {
+            self.blocks[offset as usize] = self.reached.len() as u32;
+            self.reached.push(Reached { state: state.clone(), is_soft, region: self.region });
+            self.work.insert(offset);
+            return;
+        }
+        let (pointer, frame) = (self.module.machine.stack_pointer, self.module.machine.frame_pointer);
+        let block = &mut self.reached[index as usize];
+        if block.region != self.region {
+            return;
+        }
+        let differs = |register| block.state.get(register).contradicts(state.get(register));
+        match (differs(pointer) || differs(frame), is_soft, block.is_soft) {
+            // Rule "soft edges": the call before it perhaps doesn't return.
+            (true, true, false) => return,
+            (true, false, true) => {
+                block.state = state.clone();
+                block.is_soft = false;
+                self.work.insert(offset);
+                return;
+            }
+            _ => {}
+        }
+        block.is_soft &= is_soft;
+        if block.state.merge(state) {
+            self.work.insert(offset);
+        }
+    }
+
+    /// What is known at the beginning of a block, if it was reached.
+    pub fn state_at(&self, offset: u32) -> Option<&State> {
+        let index = *self.blocks.get(offset as usize)?;
+        self.reached.get(index as usize).map(|block| &block.state)
+    }
+
+    /// Whether two blocks were reached in the same region.
+    pub fn is_same_region(&self, one: u32, other: u32) -> bool {
+        let region = |offset: u32| self.reached.get(self.blocks[offset as usize] as usize).map(|block| block.region);
+        region(one) == region(other)
+    }
+
+    /// How many regions were taken up from their rows.
+    pub fn assumptions(&self) -> u32 {
+        self.region
+    }
+
+    /// The blocks that were reached, ascending.
+    pub fn reached_leaders(&self) -> Vec<u32> {
+        self.code.leaders().filter(|offset| self.state_at(*offset).is_some()).collect()
+    }
+
+    /// The row of an address of the FDE.
+    pub fn row(&self, address: u64) -> Option<&Row<'m>> {
+        row_at(&self.rows, address).map(|index| &self.rows[index])
+    }
+
+    /// Compares a row with a state.
+    pub fn verdict(&self, row: &Row<'_>, state: &State, address: u64) -> Verdict {
+        let (machine, convention) = (self.module.machine, self.module.convention);
+        Judge { machine, convention, state, stores: &self.stores }.verdict(row, address)
+    }
+
+    /// What a row that is judged says wrongly of a state. Empty if the row isn't judged.
+    pub fn disagreement(&self, row: &Row<'_>, state: &State, address: u64) -> Verdict {
+        match unjudged(self.module.machine, row) {
+            Some(_) => Verdict::default(),
+            None => self.verdict(row, state, address),
+        }
+    }
+
+    /// The registers that a call of the code at an address may change.
+    pub fn changed_by(&mut self, address: u64) -> Registers {
+        match self.needs_callees {
+            true => self.callees.written(self.module, address),
+            false => self.module.machine.changeable,
+        }
+    }
+}

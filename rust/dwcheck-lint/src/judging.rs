@@ -1,0 +1,292 @@
+//! Judges each instruction and each edge, once the flow has been followed.
+
+use crate::coverage::{Coverage, Reason};
+use crate::crossing::Crossing;
+use crate::flow::{is_entry_row, Flow};
+use crate::instruction::Effect;
+use crate::judge::{unjudged, Facts, Unjudged, Verdict};
+use crate::register::{Register, Registers};
+use crate::rules::is_unreachable_end;
+use crate::state::State;
+use crate::table::{row_at, Cfa, Row, Rule};
+use crate::truth::Truth;
+use crate::value::Value;
+use crate::walk::{Edge, EdgeKind, Exit, Visitor};
+
+/// How many wrong rows of an FDE are kept at most.
+const MOST_MARKS: usize = 50_000;
+
+/// Where something was found to be wrong.
+#[derive(Clone, Copy, Debug, PartialEq, Eq)]
+pub enum Way {
+    /// Before an instruction, however it is reached.
+    Here,
+    /// Before an instruction, if it is reached from the one before by this edge. What other edges bring
+    /// differs.
+    Edge(EdgeKind),
+    /// At an address of another FDE, after a jump to it.
+    Leaving,
+}
+
+/// A row that is wrong at an address.
+#[derive(Clone, Debug)]
+pub struct Mark<'m> {
+    /// The address.
+    pub address: u64,
+    /// The address after the instruction there.
+    pub next: u64,
+    /// What the instruction there does. `Invalid` if it is of another FDE.
+    pub effect: Effect,
+    /// The instruction before it: its address, and what it does. `None` at the beginning of a block.
+    pub before: Option<(u64, Effect)>,
+    /// Whether it is wrong however it is reached.
+    pub way: Way,
+    /// What is wrong.
+    pub verdict: Verdict,
+    /// What the code says.
+    pub truth: Truth,
+    /// Whether the state was taken from a row.
+    pub is_assumed: bool,
+    /// The row.
+    pub row: Row<'m>,
+}
+
+/// The row of the instructions that are judged.
+#[derive(Default)]
+struct Current {
+    row: Option<usize>,
+    end: u64,
+    unjudged: Option<Unjudged>,
+    /// The registers on which the verdict depends. `None` if it depends on all.
+    watched: Option<Registers>,
+    verdict: Verdict,
+}
+
+/// Judges each instruction and each edge.
+pub struct Judging<'m, 'x> {
+    crossing: &'x mut Crossing,
+    /// What is wrong.
+    pub marks: Vec<Mark<'m>>,
+    /// What was judged.
+    pub coverage: Coverage,
+    /// The registers that hold something else at a return.
+    pub lost: Facts,
+    /// How many returns there are at which the stack pointer isn't at the return address.
+    pub odd_returns: u32,
+    current: Current,
+}
+
+impl<'m, 'x> Judging<'m, 'x> {
+    /// Nothing has been judged yet.
+    pub fn new(crossing: &'x mut Crossing) -> Self {
+        let (coverage, current) = (Coverage { fdes: 1, ..Coverage::default() }, Current::default());
+        Judging { crossing, marks: Vec::new(), coverage, lost: Facts::NONE, odd_returns: 0, current }
+    }
+
+    /// Judges all blocks that were reached.
+    pub fn run(&mut self, flow: &mut Flow<'m, '_>) {
+        for leader in flow.reached_leaders() {
+            flow.walk(leader, self);
+        }
+        let kept = flow.module.machine.kept.iter().enumerate();
+        let never_saved = kept.filter(|(_, register)| !flow.stores.saved.contains(**register));
+        never_saved.for_each(|(index, _)| self.lost.add(Facts::kept(index)));
+    }
+
+    /// Sets the row of the instruction at an address.
+    fn set_row(&mut self, flow: &Flow<'_, '_>, address: u64) {
+        self.current = Current { row: row_at(&flow.rows, address), ..Current::default() };
+        if let Some(row) = self.current.row.map(|index| &flow.rows[index]) {
+            self.current.end = row.end;
+            self.current.unjudged = unjudged(flow.module.machine, row);
+            self.current.watched = watched(flow, row);
+        }
+    }
+
+    /// Whether an instruction can change the verdict on the row.
+    fn matters(&self, effect: &Effect) -> bool {
+        match effect {
+            Effect::Write { stored: Some(_), .. } => true,
+            Effect::Write { .. }
+            | Effect::System { .. }
+            | Effect::Set { .. }
+            | Effect::Move { .. }
+            | Effect::MayMove { .. }
+            | Effect::Add { .. }
+            | Effect::Load { .. }
+            | Effect::LoadEntry { .. } => {
+                self.current.watched.map_or(true, |watched| !effect.written().both(watched).is_empty())
+            }
+            effect => !effect.changes_nothing(),
+        }
+    }
+
+    fn count(&mut self, row: &Row<'_>, stack_pointer: Register) {
+        let verdict = &self.current.verdict;
+        if !verdict.unknown.has(Facts::CFA) {
+            self.coverage.judged += 1;
+            self.coverage.partly += u32::from(!verdict.unknown.is_empty());
+            return;
+        }
+        self.coverage.skip(match row.cfa {
+            Cfa::Expression(_) => Reason::Expression,
+            Cfa::Offset(register, _) if register == stack_pointer => Reason::StackPointer,
+            Cfa::Offset(..) => Reason::Register,
+        });
+    }
+
+    /// A jump, or a call that throws, to an address that perhaps has an FDE.
+    fn leave(&mut self, flow: &mut Flow<'m, '_>, at: u32, target: u64, state: &State) {
+        let (fde, row) = match (flow.module.fde_at(target), flow.module.rows.row(target)) {
+            (Some(fde), Some(row)) => (&flow.module.fdes[fde], row),
+            _ => return self.lose_at_tail(flow, state),
+        };
+        let is_begin = fde.begin == target;
+        let is_entry = is_begin && is_entry_row(flow.module, &row);
+        let is_judged = unjudged(flow.module.machine, &row).is_none();
+        let mut verdict = flow.disagreement(&row, state, target);
+        if is_begin && !is_entry && is_judged && verdict.wrong.is_empty() {
+            self.crossing.fit(target);
+        }
+        if is_unreachable_end(flow, target, &row, verdict.wrong) {
+            return;
+        }
+        if !is_entry && !state.is_assumed {
+            self.crossing.bring(fde.begin, target, state);
+        }
+        if !is_judged {
+            return self.lose_at_tail(flow, state);
+        }
+        if is_entry {
+            self.lost.add(verdict.wrong.registers());
+            verdict.wrong = verdict.wrong.without(verdict.wrong.registers());
+        }
+        if !verdict.wrong.is_empty() {
+            let before = Some((flow.code.address(at), flow.code.effect(at)));
+            let (way, is_assumed) = (Way::Leaving, state.is_assumed);
+            let (address, next, effect) = (target, target, Effect::Invalid);
+            let truth = Truth::of(flow.module.machine, &row, state);
+            self.marks.push(Mark { address, next, effect, before, way, verdict, truth, is_assumed, row });
+        }
+    }
+
+    /// Notes the registers that hold something else where the function ends.
+    fn lose(&mut self, flow: &Flow<'_, '_>, state: &State) {
+        for (index, register) in flow.module.machine.kept.iter().enumerate() {
+            let value = state.get(*register);
+            if value != Value::Unknown && value != Value::Entry(*register) {
+                self.lost.add(Facts::kept(index));
+            }
+        }
+    }
+
+    /// The same for a jump, if the stack pointer is at the return address.
+    fn lose_at_tail(&mut self, flow: &Flow<'_, '_>, state: &State) {
+        if is_at_return_address(flow, state) {
+            self.lose(flow, state);
+        }
+    }
+
+    fn mark(&mut self, flow: &Flow<'m, '_>, at: u32, before: Option<u32>, way: Way, found: (Verdict, &State)) {
+        let address = flow.code.address(at);
+        let (verdict, is_assumed) = (found.0, found.1.is_assumed);
+        if self.marks.len() >= MOST_MARKS {
+            return;
+        }
+        if let Some(row) = flow.row(address).cloned() {
+            let before = before.map(|before| (flow.code.address(before), flow.code.effect(before)));
+            let (next, effect) = (flow.code.address(flow.code.next(at)), flow.code.effect(at));
+            let truth = Truth::of(flow.module.machine, &row, found.1);
+            self.marks.push(Mark { address, next, effect, before, way, verdict, truth, is_assumed, row });
+        }
+    }
+}
+
+impl<'m> Visitor<'m> for Judging<'m, '_> {
+    fn instruction(&mut self, flow: &mut Flow<'m, '_>, at: u32, before: Option<u32>, state: &State) {
+        let address = flow.code.address(at);
+        self.coverage.instructions += 1;
+        self.coverage.assumed += u32::from(state.is_assumed);
+        let is_other_row = before.is_none() || address >= self.current.end;
+        if is_other_row {
+            self.set_row(flow, address);
+        }
+        let row = match (self.current.row, self.current.unjudged) {
+            (Some(index), None) => &flow.rows[index],
+            (_, Some(unjudged)) => return self.coverage.skip(unjudged.into()),
+            (None, None) => return,
+        };
+        if is_other_row || before.map_or(true, |before| self.matters(&flow.code.effect(before))) {
+            self.current.verdict = flow.verdict(row, state, address);
+        }
+        self.count(row, flow.module.machine.stack_pointer);
+        if !self.current.verdict.wrong.is_empty() {
+            self.mark(flow, at, before, Way::Here, (self.current.verdict, state));
+        }
+    }
+
+    fn data(&mut self, _: &mut Flow<'m, '_>, _: u32) {
+        self.coverage.data += 1;
+    }
+
+    fn edge(&mut self, flow: &mut Flow<'m, '_>, edge: Edge, state: &State) {
+        if matches!(edge.kind, EdgeKind::AfterCall | EdgeKind::Padding) {
+            return;
+        }
+        let address = flow.code.address(edge.to);
+        let merged = match (flow.row(address), flow.state_at(edge.to)) {
+            (Some(_), Some(merged)) if flow.is_same_region(edge.block, edge.to) && merged == state => return,
+            (Some(_), merged) => merged,
+            (None, _) => return,
+        };
+        let row = flow.row(address).filter(|row| unjudged(flow.module.machine, row).is_none());
+        let mut verdict = row.map_or(Verdict::default(), |row| flow.verdict(row, state, address));
+        if verdict.wrong.is_empty() {
+            return;
+        }
+        let of_merged = merged.zip(row).map_or(Facts::NONE, |(merged, row)| flow.verdict(row, merged, address).wrong);
+        verdict.wrong = verdict.wrong.without(of_merged);
+        if !verdict.wrong.is_empty() && !of_merged.has(Facts::CFA) {
+            self.mark(flow, edge.to, Some(edge.from), Way::Edge(edge.kind), (verdict, state));
+        }
+    }
+
+    fn exit(&mut self, flow: &mut Flow<'m, '_>, at: u32, exit: Exit, state: &State) {
+        let is_judged = self.current.row.is_some() && self.current.unjudged.is_none();
+        match exit {
+            Exit::Return if is_at_return_address(flow, state) => self.lose(flow, state),
+            Exit::Return => {
+                let offset = state.get(flow.module.machine.stack_pointer).cfa_offset();
+                self.odd_returns += u32::from(offset.is_some());
+            }
+            Exit::To(target) if is_judged => self.leave(flow, at, target, state),
+            Exit::Unknown if is_at_return_address(flow, state) => self.lose(flow, state),
+            Exit::Unknown => self.coverage.unknown_jumps += u32::from(is_judged),
+            Exit::To(_) => {}
+        }
+    }
+}
+
+fn is_at_return_address(flow: &Flow<'_, '_>, state: &State) -> bool {
+    let machine = flow.module.machine;
+    state.get(machine.stack_pointer).cfa_offset() == Some(machine.return_slot)
+}
+
+/// The registers on which the verdict on a row depends. `None` if an expression may read any.
+fn watched(flow: &Flow<'_, '_>, row: &Row<'_>) -> Option<Registers> {
+    let machine = flow.module.machine;
+    let mut watched = Registers::of(&[machine.stack_pointer.0]);
+    machine.kept.iter().for_each(|register| watched.insert(*register));
+    match row.cfa {
+        Cfa::Offset(register, _) => watched.insert(register),
+        Cfa::Expression(_) => return None,
+    }
+    for (_, rule) in &row.rules {
+        match rule {
+            Rule::Register(register) => watched.insert(*register),
+            Rule::Expression(_) => return None,
+            _ => {}
+        }
+    }
+    Some(watched)
+}

@@ -1,0 +1,180 @@
+//! The kinds of defects, by their names.
+
+use crate::finding::Group;
+use crate::flow::is_entry_row;
+use crate::instruction::{Effect, Target};
+use crate::judge::{Facts, WrongCfa, WrongRule};
+use crate::judging::Way;
+use crate::module::Module;
+use crate::table::{Cfa, Row, Rule};
+use std::fmt;
+
+macro_rules! kinds {
+    ($($(#[$doc:meta])* $kind:ident = $name:literal,)*) => {
+        /// What is wrong, as far as it can be told.
+        #[derive(Clone, Copy, Debug, PartialEq, Eq, PartialOrd, Ord, Hash)]
+        pub enum Kind {
+            $($(#[$doc])* $kind,)*
+        }
+
+        /// All kinds, with their names.
+        pub const KINDS: &[(Kind, &str)] = &[$((Kind::$kind, $name),)*];
+    };
+}
+
+kinds! {
+    /// The stack pointer was raised, and the row follows later or not at all.
+    MovedEpilogue = "moved epilogue",
+    /// The stack pointer was lowered, and the row follows later.
+    MovedPrologue = "moved prologue",
+    /// The stack pointer was lowered, and no row follows.
+    SubtractionWithoutRow = "subtraction without row",
+    /// A push, and the row follows a few instructions later.
+    LatePush = "late push",
+    /// A push, and no row follows.
+    PushWithoutRow = "push without row",
+    /// A pop, and the row follows later or not at all.
+    PopWithoutRow = "pop without row",
+    /// A jump at the end of a block has the row of other code.
+    WrongRowAtJump = "wrong row at jmp",
+    /// After the frame pointer of a realigned stack is popped, rows still find registers by it.
+    DrapEpilogue = "DRAP epilogue",
+    /// The CFA is relative to a stack pointer that was moved by a number that isn't known.
+    MovedStackPointer = "moved stack pointer",
+    /// The register of the CFA holds something else.
+    CfaRegisterOverwritten = "CFA register overwritten",
+    /// The register of the CFA has the caller's value again.
+    CfaRegisterRestored = "CFA register restored",
+    /// The row doesn't fit what a jump brings.
+    WrongRowAtJoin = "wrong row at a join",
+    /// The row doesn't fit where the block begins.
+    WrongRowAtBlock = "wrong row at a block",
+    /// The row of another part of the function doesn't fit what a jump to it brings.
+    WrongRowInPart = "wrong row in another part",
+    /// The CFA is wrong in another way.
+    WrongCfa = "wrong CFA",
+    /// The return address isn't where the row says.
+    ReturnAddress = "return address",
+    /// The row says that a register has its value, and it was overwritten.
+    RegisterOverwritten = "register overwritten",
+    /// The register was never saved where the row says.
+    NeverSaved = "register never saved",
+    /// Something else is where the row says that the register was saved.
+    SlotOverwritten = "slot overwritten",
+    /// The function doesn't give the register back at all.
+    Private = "private",
+}
+
+impl Kind {
+    /// The kind of a group of wrong rows, where `lost` are the registers that the function never gives
+    /// back.
+    pub fn of(module: &Module<'_>, group: &Group<'_>, lost: Facts) -> Kind {
+        let wrong = group.mark.verdict.wrong;
+        if wrong.has(Facts::CFA) {
+            Kind::of_cfa(module, group)
+        } else if wrong.has(Facts::RETURN_ADDRESS) {
+            Kind::ReturnAddress
+        } else if wrong.without(lost).is_empty() {
+            Kind::Private
+        } else {
+            Kind::of_registers(module, group)
+        }
+    }
+
+    /// Whether it only says where the row is wrong, and not by which instruction.
+    pub fn is_general(self) -> bool {
+        use Kind::{WrongCfa, WrongRowAtBlock, WrongRowAtJoin, WrongRowInPart};
+        matches!(self, WrongCfa | WrongRowAtBlock | WrongRowAtJoin | WrongRowInPart)
+    }
+
+    fn of_cfa(module: &Module<'_>, group: &Group<'_>) -> Kind {
+        let mark = &group.mark;
+        let is_jump = |effect| matches!(effect, Effect::Jump { target: Target::Code(_) });
+        match (mark.way, mark.before) {
+            (Way::Here, _) if group.addresses == 1 && is_jump(mark.effect) => return Kind::WrongRowAtJump,
+            (Way::Leaving, _) => return Kind::WrongRowInPart,
+            (Way::Edge(_), _) => return Kind::WrongRowAtJoin,
+            _ => {}
+        }
+        match mark.verdict.cfa {
+            Some(WrongCfa::Clobbered) => Kind::CfaRegisterOverwritten,
+            Some(WrongCfa::Restored) => Kind::CfaRegisterRestored,
+            Some(WrongCfa::Dynamic) if is_by_stack_pointer(module, &mark.row) => Kind::MovedStackPointer,
+            Some(WrongCfa::Dynamic) => Kind::CfaRegisterOverwritten,
+            _ => Kind::of_instruction(module, group),
+        }
+    }
+
+    /// The kind by the instruction after which the CFA is wrong.
+    fn of_instruction(module: &Module<'_>, group: &Group<'_>) -> Kind {
+        let pointer = module.machine.stack_pointer;
+        match group.mark.before.map(|(_, effect)| effect) {
+            Some(Effect::Push { .. } | Effect::PushMemory { .. } | Effect::PushOther | Effect::PushFlags) => {
+                if is_late(module, group) {
+                    Kind::LatePush
+                } else {
+                    Kind::PushWithoutRow
+                }
+            }
+            Some(Effect::Pop { .. } | Effect::PopOther { .. } | Effect::PopFlags | Effect::Leave) => {
+                Kind::PopWithoutRow
+            }
+            Some(Effect::Add { to, number, .. }) if to == pointer => match (number > 0, is_late(module, group)) {
+                (true, _) => Kind::MovedEpilogue,
+                (false, true) => Kind::MovedPrologue,
+                (false, false) => Kind::SubtractionWithoutRow,
+            },
+            None if is_in_part(module, group.mark.address) => Kind::WrongRowInPart,
+            None => Kind::WrongRowAtBlock,
+            Some(_) => Kind::WrongCfa,
+        }
+    }
+
+    fn of_registers(module: &Module<'_>, group: &Group<'_>) -> Kind {
+        let (machine, mark) = (module.machine, &group.mark);
+        let usual = [machine.stack_pointer, machine.frame_pointer];
+        let is_realigned = matches!(mark.row.cfa, Cfa::Offset(register, _) if !usual.contains(&register));
+        let wrong = machine.kept.iter().enumerate().filter(|(index, _)| mark.verdict.wrong.has(Facts::kept(*index)));
+        let mut rules_of_wrong = wrong.map(|(_, register)| mark.row.rule(*register));
+        let is_by_frame = rules_of_wrong.all(|rule| matches!(rule, Some(Rule::Expression(_))));
+        let rules = mark.verdict.rules;
+        if is_realigned && is_by_frame {
+            Kind::DrapEpilogue
+        } else if rules.contains(&Some(WrongRule::Changed)) {
+            Kind::RegisterOverwritten
+        } else if rules.contains(&Some(WrongRule::NeverSaved)) {
+            Kind::NeverSaved
+        } else {
+            Kind::SlotOverwritten
+        }
+    }
+}
+
+/// Whether a row computes the CFA from the stack pointer.
+fn is_by_stack_pointer(module: &Module<'_>, row: &Row<'_>) -> bool {
+    matches!(row.cfa, Cfa::Offset(register, _) if register == module.machine.stack_pointer)
+}
+
+/// Whether the FDE of an address is a part that was split off a function: it doesn't begin as a function
+/// that is called.
+fn is_in_part(module: &Module<'_>, address: u64) -> bool {
+    let begin = module.fde_at(address).map(|fde| module.fdes[fde].begin);
+    begin.and_then(|begin| module.rows.row(begin)).map_or(false, |row| !is_entry_row(module, &row))
+}
+
+/// Whether the row after a group is the one that would have been right in it.
+fn is_late(module: &Module<'_>, group: &Group<'_>) -> bool {
+    match (group.mark.row.cfa, group.mark.verdict.cfa, module.rows.row(group.end).map(|row| row.cfa)) {
+        (Cfa::Offset(register, offset), Some(WrongCfa::OffBy(by)), Some(Cfa::Offset(after, then))) => {
+            register == after && offset.checked_sub(by) == Some(then)
+        }
+        _ => false,
+    }
+}
+
+impl fmt::Display for Kind {
+    fn fmt(&self, f: &mut fmt::Formatter<'_>) -> fmt::Result {
+        let named = KINDS.iter().find(|(kind, _)| kind == self);
+        f.pad(named.map_or("", |(_, name)| name))
+    }
+}

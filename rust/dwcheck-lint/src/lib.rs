@@ -1,0 +1,49 @@
+//! Compares the rows of unwind tables with the code that they describe.
+//!
+//! A [`Module`](module::Module) has the code, the FDEs and the rows of a program or a library;
+//! [`lint`](lint::lint) follows the flow of control through each FDE's code, computes what is known of
+//! the stack and the registers at each instruction, and compares it with the row there. What isn't
+//! known isn't judged. docs/LINT.md says how it decides.
+//!
+//! - [`x86_64`] is a decoder. It makes an [`Effect`](instruction::Effect) of each instruction; nothing
+//!   else knows any instruction by its bytes, so another processor is another such file.
+//! - [`value`], [`state`], [`stores`] and [`step`] are what is known, and how instructions change it.
+//! - [`code`], [`walk`], [`flow`], [`jumps`], [`callees`], [`assume`] and [`crossing`] follow the flow.
+//! - [`landings`] reads where calls go on that throw.
+//! - [`rules`] says which ways through the code aren't taken.
+//! - [`judge`], [`expression`], [`judging`] and [`truth`] compare rows with what is known.
+//! - [`kinds`], [`finding`], [`coverage`], [`report`] and [`explain`] say what was found.
+
+#![warn(missing_docs)]
+#![deny(unsafe_op_in_unsafe_fn)]
+
+pub mod assume;
+pub mod callees;
+pub mod code;
+pub mod coverage;
+pub mod crossing;
+pub mod explain;
+pub mod expression;
+pub mod finding;
+pub mod flow;
+pub mod instruction;
+pub mod judge;
+pub mod judging;
+pub mod jumps;
+pub mod kinds;
+pub mod landings;
+pub mod lint;
+pub mod machine;
+pub mod module;
+pub mod register;
+pub mod report;
+pub mod rules;
+pub mod state;
+pub mod step;
+pub mod stores;
+pub mod table;
+pub mod truth;
+pub mod value;
+pub mod walk;
+pub mod x86_64;
+mod zydis;

@@ -1,0 +1,77 @@
+//! A program or a library: its code, its FDEs, and what its pointers name.
+
+use crate::instruction::Instruction;
+use crate::machine::Machine;
+use crate::table::{Fde, Rows};
+use std::collections::HashMap;
+
+/// A part of the file that is loaded.
+#[derive(Clone, Copy, Debug)]
+pub struct Segment<'a> {
+    /// The address of the first byte.
+    pub address: u64,
+    /// The bytes that the file has.
+    pub bytes: &'a [u8],
+    /// Whether it may be executed.
+    pub is_executable: bool,
+}
+
+/// Whether the code follows the convention that a function gives registers back.
+#[derive(Clone, Copy, Debug, PartialEq, Eq)]
+pub enum Convention {
+    /// It does, as C does.
+    KeepsRegisters,
+    /// No function keeps a register, as in OCaml: only the CFA and the return address are judged.
+    KeepsNone,
+    /// No function keeps a register, and each FDE is entered with the CFA just above the return
+    /// address, as in Go.
+    Go,
+}
+
+/// A program or a library.
+pub struct Module<'a> {
+    /// Its machine.
+    pub machine: &'static Machine,
+    /// What is loaded, ascending by address.
+    pub segments: Vec<Segment<'a>>,
+    /// The FDEs, ascending by their first address, without two that share an address.
+    pub fdes: Vec<Fde>,
+    /// The names of functions of other modules, by the addresses of the pointers to them.
+    pub imports: HashMap<u64, &'a str>,
+    /// What its functions do with registers.
+    pub convention: Convention,
+    /// The rows of the FDEs.
+    pub rows: Box<dyn Rows + 'a>,
+}
+
+impl<'a> Module<'a> {
+    /// The bytes from an address to the end of what the file has there. Empty if it has none.
+    pub fn bytes_at(&self, address: u64) -> &'a [u8] {
+        let count = self.segments.partition_point(|segment| segment.address <= address);
+        let found = count.checked_sub(1).and_then(|last| self.segments.get(last));
+        let bytes = found.and_then(|segment| segment.bytes.get(usize::try_from(address - segment.address).ok()?..));
+        bytes.unwrap_or(&[])
+    }
+
+    /// The instruction at an address.
+    pub fn instruction_at(&self, address: u64) -> Instruction {
+        (self.machine.decode)(self.bytes_at(address), address)
+    }
+
+    /// The index of the FDE that contains an address.
+    pub fn fde_at(&self, address: u64) -> Option<usize> {
+        let index = self.fdes.partition_point(|fde| fde.begin <= address).checked_sub(1)?;
+        Some(index).filter(|index| self.fdes[*index].contains(address))
+    }
+
+    /// Whether an FDE begins at an address.
+    pub fn begins_fde(&self, address: u64) -> bool {
+        self.fdes.binary_search_by_key(&address, |fde| fde.begin).is_ok()
+    }
+
+    /// Whether an FDE ends at an address.
+    pub fn ends_fde(&self, address: u64) -> bool {
+        let index = self.fdes.partition_point(|fde| fde.begin < address).checked_sub(1);
+        index.map_or(false, |index| self.fdes[index].end == address)
+    }
+}

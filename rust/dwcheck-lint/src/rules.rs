@@ -1,0 +1,113 @@
+//! The rules that prevent false alarms, each by its name in docs/LINT.md.
+//!
+//! Each of them says of a way through the code that it isn't taken. Rules about calls are in
+//! `callees`, and about tables of jumps in `jumps`.
+
+use crate::code::Code;
+use crate::flow::{is_entry_row, Flow};
+use crate::instruction::Effect;
+use crate::judge::{unjudged, Facts};
+use crate::state::State;
+use crate::table::Row;
+use crate::value::Value;
+
+/// How many instructions the default of a switch is looked for in.
+const SWITCH: usize = 7;
+
+/// Rule "padding": where a run of padding ends that begins at an offset, if there is one. Nothing runs
+/// over padding that nothing jumps to; so the cold part of a function, which GCC may begin with a
+/// `nop`, isn't entered there.
+pub fn is_only_padding(code: &Code<'_>, offset: u32) -> Option<u32> {
+    let mut at = offset;
+    while code.effect(at) == Effect::Padding {
+        at = code.next(at);
+        if code.is_leader(at) {
+            break;
+        }
+    }
+    Some(at).filter(|at| *at != offset)
+}
+
+/// Rule "data in code": whether there is no code at an offset. Functions written by hand have data
+/// between their instructions.
+pub fn is_data(code: &Code<'_>, offset: u32, state: &State) -> bool {
+    code.effect(offset) == Effect::Invalid || state.is_assumed && code.has_zeros(offset)
+}
+
+/// Rule "padding": whether a block of only padding leads to a row that doesn't fit, so that the call
+/// before it doesn't return.
+pub fn runs_over_padding(flow: &Flow<'_, '_>, to: u32, state: &State) -> bool {
+    let address = flow.code.address(to);
+    flow.row(address).map_or(false, |row| !flow.disagreement(row, state, address).wrong.is_empty())
+}
+
+/// Rule "exits": whether a system call ends the program or the handler of a signal.
+pub fn is_exit(flow: &Flow<'_, '_>, state: &State) -> bool {
+    let (register, numbers) = flow.module.machine.exits;
+    matches!(state.get(register), Value::Number(number) if numbers.contains(&number))
+}
+
+/// Rule "row changes after the call": whether the row after a call says something else than the row
+/// of the call, and doesn't fit the state after the call. Then the call doesn't return, and other code
+/// follows it.
+pub fn row_changes_after_call(flow: &Flow<'_, '_>, call: u32, state: &State) -> bool {
+    let (before, after) = (flow.code.address(call), flow.code.address(flow.code.next(call)));
+    match (flow.row(before), flow.row(after)) {
+        (Some(row), Some(next)) if row.begin != next.begin && !row.says_the_same(next) => {
+            !flow.disagreement(next, state, after).wrong.is_empty()
+        }
+        _ => false,
+    }
+}
+
+/// Rule "calls that can't throw": whether a call in a range with a landing pad has arguments on the
+/// stack that the landing pad's row doesn't know of. Compilers merge ranges over calls that can't
+/// throw.
+pub fn never_lands(flow: &Flow<'_, '_>, call: u64, pad: u64, state: &State) -> bool {
+    let elsewhere = if flow.fde.contains(pad) { None } else { flow.module.rows.row(pad) };
+    let (row, landing) = match (flow.row(call), flow.row(pad).or(elsewhere.as_ref())) {
+        (Some(row), Some(landing)) => (row, landing),
+        _ => return false,
+    };
+    let is_wrong = |row, address| flow.disagreement(row, state, address).wrong.has(Facts::CFA);
+    flow.fde.arguments_at(call) == 0 && is_wrong(landing, pad) && !flow.verdict(row, state, call).wrong.has(Facts::CFA)
+}
+
+/// Rule "bounded tables": whether an entry of a table without a known bound is perhaps past its end:
+/// the row where it leads doesn't fit, while the row of the jump does.
+pub fn is_past_table(flow: &Flow<'_, '_>, jump: u32, to: u32, state: &State) -> bool {
+    let (from, address) = (flow.code.address(jump), flow.code.address(to));
+    let is_wrong = |row, address| !flow.verdict(row, state, address).wrong.is_empty();
+    let is_target_wrong =
+        flow.row(address).map_or(false, |row| unjudged(flow.module.machine, row).is_none() && is_wrong(row, address));
+    is_target_wrong && !flow.row(from).map_or(false, |row| is_wrong(row, from))
+}
+
+/// Rule "default of a switch": whether a conditional jump out of the function is the default of a
+/// switch, which compilers let lead anywhere if it can't happen.
+pub fn is_default_of_switch(code: &Code<'_>, after: u32) -> bool {
+    let mut at = after;
+    for _ in 0..SWITCH {
+        match code.effect(at) {
+            Effect::Jump { target: crate::instruction::Target::Code(_) } => return false,
+            Effect::Jump { .. } => return true,
+            Effect::JumpIf { .. } | Effect::Return | Effect::Stop | Effect::Invalid => return false,
+            _ => at = code.next(at),
+        }
+    }
+    false
+}
+
+/// Rule "unreachable end": whether a jump to the first address of an FDE leaves the function only
+/// because the function's end can't be reached: the FDE begins just where one ends, and its row, which
+/// says these things wrongly of the state, doesn't fit.
+pub fn is_unreachable_end(flow: &Flow<'_, '_>, target: u64, row: &Row<'_>, wrong: Facts) -> bool {
+    if !flow.module.ends_fde(target) || !flow.module.begins_fde(target) {
+        return false;
+    }
+    // A function that is called is entered with any registers, so only its CFA counts.
+    match is_entry_row(flow.module, row) {
+        true => wrong.has(Facts::CFA),
+        false => !wrong.is_empty(),
+    }
+}

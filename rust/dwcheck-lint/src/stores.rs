@@ -1,0 +1,136 @@
+//! What a function stores, anywhere in it.
+//!
+//! "This slot never held the value" needs to know every slot to which the function ever stores an
+//! entry value. While the flow is followed, not all of them are known yet, so an answer may have been
+//! wrong: then [`Stores::is_outdated`] says that the flow has to be followed again.
+
+use crate::instruction::Place;
+use crate::machine::Machine;
+use crate::register::{Register, Registers};
+use crate::state::State;
+use crate::value::{Base, Value};
+use std::collections::HashSet;
+
+/// Addresses this far from the CFA are kept in slots, because rows may use them.
+const NEAR_CFA: std::ops::RangeInclusive<i64> = -160..=64;
+
+/// What a function stores.
+#[derive(Debug, Default)]
+pub struct Stores {
+    slots: HashSet<(Base, i64)>,
+    /// The slots that were read as never stored to.
+    denied: HashSet<(Base, i64)>,
+    /// Whether an entry value was stored at an address that isn't known.
+    has_escaped: bool,
+    /// Whether memory at an unknown address was read as if no entry value had been stored there.
+    denied_escape: bool,
+    /// The registers whose entry values are copied anywhere.
+    pub saved: Registers,
+    /// Whether the return address is stored at an address that isn't known: code that moves its
+    /// frame, such as libffi's, does so.
+    pub moves_return_address: bool,
+    is_outdated: bool,
+}
+
+impl Stores {
+    /// Nothing is stored but the return address.
+    pub fn new(machine: &Machine) -> Stores {
+        Stores { slots: HashSet::from([(Base::CFA, machine.return_slot)]), ..Stores::default() }
+    }
+
+    /// Whether an answer that was given before turned out to be wrong.
+    pub fn is_outdated(&self) -> bool {
+        self.is_outdated
+    }
+
+    /// Begins to follow the flow again, with all stores that are known by now.
+    pub fn restart(&mut self) {
+        self.denied.clear();
+        self.denied_escape = false;
+        self.is_outdated = false;
+    }
+
+    /// Whether an entry value is ever stored in a slot, as far as is known by now.
+    pub fn has(&self, base: Base, offset: i64) -> bool {
+        self.slots.contains(&(base, offset))
+    }
+
+    fn add(&mut self, base: Base, offset: i64) {
+        if self.slots.insert((base, offset)) {
+            self.is_outdated |= self.denied.contains(&(base, offset));
+        }
+    }
+
+    /// Notes that a register's entry value is copied.
+    pub fn note_copy(&mut self, value: Value) {
+        if let Value::Entry(register) = value {
+            self.saved.insert(register);
+        }
+    }
+
+    /// What a word of memory holds.
+    pub fn load(&mut self, state: &State, place: Place) -> Value {
+        match state.get(place.base).plus_of_place(place) {
+            Value::Address { base, offset } => match state.slot(base, offset) {
+                Some(value) => value,
+                None if state.is_partial() || self.has(base, offset) => Value::Unknown,
+                None => {
+                    self.denied.insert((base, offset));
+                    Value::Clobbered
+                }
+            },
+            _ => self.load_elsewhere(state, state.get(place.base)),
+        }
+    }
+
+    /// What a word of memory holds at an address of which only this is known.
+    pub fn load_elsewhere(&mut self, state: &State, address: Value) -> Value {
+        if address == Value::Unknown || state.is_assumed || self.has_escaped {
+            return Value::Unknown;
+        }
+        self.denied_escape = true;
+        Value::Clobbered
+    }
+
+    /// Stores a word.
+    pub fn store(&mut self, state: &mut State, machine: &Machine, place: Option<Place>, value: Value) {
+        self.note_copy(value);
+        let address = place.map_or(Value::Clobbered, |place| state.get(place.base).plus_of_place(place));
+        match address {
+            Value::Address { base, offset } if is_kept(value) => {
+                state.put(base, offset, value);
+                self.add(base, offset);
+            }
+            Value::Address { base, offset } => state.overwrite(base, offset, 8),
+            _ => self.escape(machine.return_address, value),
+        }
+    }
+
+    /// Notes that a value is stored at an address that isn't known.
+    fn escape(&mut self, return_address: Register, value: Value) {
+        match value {
+            Value::Entry(register) if register == return_address => self.moves_return_address = true,
+            Value::Entry(_) if !self.has_escaped => {
+                self.has_escaped = true;
+                self.is_outdated |= self.denied_escape;
+            }
+            _ => {}
+        }
+    }
+}
+
+/// Whether a value is worth a slot.
+fn is_kept(value: Value) -> bool {
+    matches!(value, Value::Entry(_)) || value.cfa_offset().map_or(false, |offset| NEAR_CFA.contains(&offset))
+}
+
+impl Value {
+    /// The address of a place whose base register holds this value. Anything but an address stays
+    /// as it is.
+    fn plus_of_place(self, place: Place) -> Value {
+        match self {
+            Value::Address { .. } => self.plus(place.offset),
+            other => other,
+        }
+    }
+}

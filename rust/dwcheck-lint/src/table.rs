@@ -1,0 +1,115 @@
+//! Unwind tables, as the lint takes them.
+
+use crate::register::Register;
+
+/// A frame description entry: a range of code that has rows.
+#[derive(Clone, Debug, Default, PartialEq, Eq)]
+pub struct Fde {
+    /// Its first address.
+    pub begin: u64,
+    /// The address after its last one.
+    pub end: u64,
+    /// Whether its frame is one that a signal interrupted.
+    pub is_signal: bool,
+    /// Where calls that throw go on, ascending.
+    pub landings: Vec<Landing>,
+    /// From which address on how many bytes of arguments are on the stack
+    /// (`DW_CFA_GNU_args_size`), ascending.
+    pub argument_bytes: Vec<(u64, u64)>,
+}
+
+/// A range of code whose calls go on at a landing pad if they throw.
+#[derive(Clone, Copy, Debug, PartialEq, Eq)]
+pub struct Landing {
+    /// The first address.
+    pub begin: u64,
+    /// The address after the last one.
+    pub end: u64,
+    /// The address of the landing pad.
+    pub pad: u64,
+}
+
+/// A row: the rules for a range of addresses.
+#[derive(Clone, Debug, PartialEq, Eq)]
+pub struct Row<'a> {
+    /// The first address.
+    pub begin: u64,
+    /// The address after the last one.
+    pub end: u64,
+    /// How the CFA is computed.
+    pub cfa: Cfa<'a>,
+    /// The rules of registers that have one, ascending.
+    pub rules: Vec<(Register, Rule<'a>)>,
+}
+
+/// How the CFA is computed.
+#[derive(Clone, Copy, Debug, PartialEq, Eq)]
+pub enum Cfa<'a> {
+    /// A register plus an offset.
+    Offset(Register, i64),
+    /// The value of an expression.
+    Expression(&'a [u8]),
+}
+
+/// Where the caller's value of a register is.
+#[derive(Clone, Copy, Debug, PartialEq, Eq)]
+pub enum Rule<'a> {
+    /// Nowhere.
+    Undefined,
+    /// In the register itself.
+    Same,
+    /// In memory, at the CFA plus an offset.
+    Offset(i64),
+    /// In another register.
+    Register(Register),
+    /// In memory, at the address that an expression gives.
+    Expression(&'a [u8]),
+    /// A value that is computed.
+    Value,
+}
+
+/// Gives the rows of a module.
+pub trait Rows {
+    /// The rows of an FDE, ascending, without gaps. The reason if they can't be read.
+    fn rows(&self, fde: &Fde) -> Result<Vec<Row<'_>>, String>;
+
+    /// The row of an address.
+    fn row(&self, address: u64) -> Option<Row<'_>>;
+}
+
+impl<'a> Row<'a> {
+    /// The rule of a register. `None` if it has none, so that it keeps its value.
+    pub fn rule(&self, register: Register) -> Option<Rule<'a>> {
+        self.rules.iter().find(|(other, _)| *other == register).map(|(_, rule)| *rule)
+    }
+
+    /// Whether two rows say the same.
+    pub fn says_the_same(&self, other: &Row<'_>) -> bool {
+        self.cfa == other.cfa && self.rules == other.rules
+    }
+}
+
+impl Fde {
+    /// Whether an address is in the FDE.
+    pub fn contains(&self, address: u64) -> bool {
+        (self.begin..self.end).contains(&address)
+    }
+
+    /// The landing pad of a call at an address.
+    pub fn landing(&self, address: u64) -> Option<u64> {
+        let last = self.landings.partition_point(|landing| landing.begin <= address).checked_sub(1)?;
+        self.landings.get(last).filter(|landing| address < landing.end).map(|landing| landing.pad)
+    }
+
+    /// How many bytes of arguments are on the stack at an address, as the FDE says.
+    pub fn arguments_at(&self, address: u64) -> u64 {
+        let count = self.argument_bytes.partition_point(|(from, _)| *from <= address);
+        count.checked_sub(1).map_or(0, |last| self.argument_bytes[last].1)
+    }
+}
+
+/// Finds the row of an address in the rows of an FDE.
+pub fn row_at(rows: &[Row<'_>], address: u64) -> Option<usize> {
+    let index = rows.partition_point(|row| row.begin <= address).checked_sub(1)?;
+    Some(index).filter(|index| address < rows[*index].end)
+}

@@ -1,0 +1,46 @@
+//! What the code says where a row is wrong.
+
+use crate::machine::{Machine, MOST_KEPT};
+use crate::register::Register;
+use crate::state::State;
+use crate::table::{Cfa, Row};
+use crate::value::{Base, Value};
+
+/// Where a register's entry value is.
+#[derive(Clone, Copy, Debug, PartialEq, Eq)]
+pub enum Location {
+    /// In a register.
+    Register(Register),
+    /// In memory, at the CFA plus an offset.
+    Slot(i64),
+}
+
+/// What the code says at an address.
+#[derive(Clone, Copy, Debug, Default, PartialEq, Eq)]
+pub struct Truth {
+    /// The CFA, as a register plus an offset, if a register has a known distance from it.
+    pub cfa: Option<(Register, i64)>,
+    /// Where the entry value of each register is that a function has to give back, as far as is known.
+    pub kept: [Option<Location>; MOST_KEPT],
+}
+
+impl Truth {
+    /// What a state says. If the row's register gives the CFA, the CFA is shown by it.
+    pub fn of(machine: &Machine, row: &Row<'_>, state: &State) -> Truth {
+        let of_row = match row.cfa {
+            Cfa::Offset(register, _) => Some(register),
+            Cfa::Expression(_) => None,
+        };
+        let registers = || (0..).map(Register).take_while(|register| machine.is_followed(*register));
+        let preferred = of_row.into_iter().chain([machine.stack_pointer, machine.frame_pointer]).chain(registers());
+        let distance = |register| Some((register, state.get(register).cfa_offset()?.checked_neg()?));
+        let mut kept = [None; MOST_KEPT];
+        for (place, register) in kept.iter_mut().zip(machine.kept) {
+            let holds = |other: &Register| state.get(*other) == Value::Entry(*register);
+            let in_register = Some(*register).filter(holds).or_else(|| registers().find(holds));
+            let in_slot = || state.place_of(Base::CFA, Value::Entry(*register));
+            *place = in_register.map(Location::Register).or_else(|| in_slot().map(Location::Slot));
+        }
+        Truth { cfa: preferred.filter_map(distance).next(), kept }
+    }
+}

@@ -1,0 +1,134 @@
+//! What is known of a value: the lattice of the data flow.
+
+use crate::instruction::EntrySize;
+use crate::register::Register;
+
+/// What an address is relative to.
+///
+/// The CFA is one base. Each place in the code that computes an address in a way that isn't followed,
+/// such as by rounding the stack pointer down, makes another: two addresses with the same base differ
+/// by the difference of their offsets, and nothing is known of addresses with different bases.
+#[derive(Clone, Copy, Debug, PartialEq, Eq, PartialOrd, Ord, Hash)]
+pub struct Base(u32);
+
+/// What is known of a value.
+#[derive(Clone, Copy, Debug, PartialEq, Eq)]
+#[allow(missing_docs)] // The fields' names say what they are.
+pub enum Value {
+    /// Nothing.
+    Unknown,
+    /// It isn't a register's value at the function's entry, and it isn't the address of a slot that
+    /// is followed. Telling this from an unknown value is what keeps findings on registers quiet.
+    Clobbered,
+    /// The value that a register had when the function was entered.
+    Entry(Register),
+    /// An address: a base plus an offset.
+    Address { base: Base, offset: i64 },
+    /// A number, or an address in the program.
+    Number(i64),
+    /// An entry of a table of jumps.
+    TableEntry { table: i64, size: EntrySize },
+    /// The address that an entry of a table of jumps stands for.
+    TableTarget { table: i64, size: EntrySize },
+}
+
+impl Base {
+    /// The CFA.
+    pub const CFA: Base = Base(0);
+    const ASSUMED: u32 = 1 << 31;
+
+    /// The base that the code at an offset in its function makes.
+    pub fn made_at(offset: u32) -> Base {
+        Base((offset & !Base::ASSUMED) + 1)
+    }
+
+    /// The base of a register's value where a row was taken as an assumption.
+    pub fn assumed(offset: u32, register: Register) -> Base {
+        Base(Base::ASSUMED | (offset ^ u32::from(register.0) << 25) & !Base::ASSUMED)
+    }
+
+    /// Whether the base comes of a row that was taken as an assumption.
+    pub fn is_assumed(self) -> bool {
+        self.0 & Base::ASSUMED != 0
+    }
+}
+
+impl Value {
+    /// An address relative to the CFA.
+    pub fn from_cfa(offset: i64) -> Value {
+        Value::Address { base: Base::CFA, offset }
+    }
+
+    /// The offset of an address from the CFA.
+    pub fn cfa_offset(self) -> Option<i64> {
+        match self {
+            Value::Address { base: Base::CFA, offset } => Some(offset),
+            _ => None,
+        }
+    }
+
+    /// The value plus a number.
+    #[must_use]
+    pub fn plus(self, number: i64) -> Value {
+        match self {
+            Value::Address { base, offset } => Value::Address { base, offset: offset.wrapping_add(number) },
+            Value::Number(value) => Value::Number(value.wrapping_add(number)),
+            Value::Unknown => Value::Unknown,
+            other if number == 0 => other,
+            _ => Value::Clobbered,
+        }
+    }
+
+    /// What is known of a value that is one of two.
+    #[must_use]
+    pub fn merged(self, other: Value) -> Value {
+        let can_be_entry = |value| matches!(value, Value::Unknown | Value::Entry(_) | Value::Address { .. });
+        match (self, other) {
+            (one, other) if one == other => one,
+            (one, other) if can_be_entry(one) || can_be_entry(other) => Value::Unknown,
+            _ => Value::Clobbered,
+        }
+    }
+
+    /// What is known of a value that was made of this one in a way that isn't followed.
+    #[must_use]
+    pub fn derived(self) -> Value {
+        match self {
+            Value::Unknown => Value::Unknown,
+            _ => Value::Clobbered,
+        }
+    }
+
+    /// Whether two values contradict each other as addresses: both are addresses, and differ.
+    pub fn contradicts(self, other: Value) -> bool {
+        let is_address = |value| matches!(value, Value::Address { .. });
+        is_address(self) && is_address(other) && self != other
+    }
+}
+
+#[cfg(test)]
+mod tests {
+    use super::*;
+
+    #[test]
+    fn merging_keeps_what_both_say() {
+        let entry = Value::Entry(Register(3));
+        assert_eq!(entry.merged(entry), entry);
+        assert_eq!(entry.merged(Value::Clobbered), Value::Unknown);
+        assert_eq!(Value::Number(1).merged(Value::Clobbered), Value::Clobbered);
+        assert_eq!(Value::from_cfa(-8).merged(Value::from_cfa(-16)), Value::Unknown);
+    }
+
+    #[test]
+    fn sums_of_entry_values_are_clobbered() {
+        assert_eq!(Value::Entry(Register(6)).plus(8), Value::Clobbered);
+        assert_eq!(Value::Entry(Register(6)).plus(0), Value::Entry(Register(6)));
+        assert_eq!(Value::from_cfa(-8).plus(8), Value::from_cfa(0));
+    }
+
+    #[test]
+    fn bases_of_code_and_of_rows_differ() {
+        assert!(!Base::made_at(0).is_assumed() && Base::made_at(0) != Base::CFA);
+        assert!(Base::assumed(0, Register(0)).is_assumed());
+    }
+}

@@ -1,0 +1,250 @@
+//! x86-64: its calling convention, and its decoder over Zydis.
+
+use crate::instruction::{Condition, Effect, EntrySize, Instruction, Place, Target};
+use crate::machine::Machine;
+use crate::register::{Register, Registers};
+use crate::zydis::{decoded, text, Decoded, Mnemonic, Operand, OperandKind, NO_REGISTER, RIP};
+
+const NAMES: [&str; 17] = [
+    "rax", "rdx", "rcx", "rbx", "rsi", "rdi", "rbp", "rsp", "r8", "r9", "r10", "r11", "r12", "r13", "r14", "r15", "ra",
+];
+
+/// The DWARF numbers of the registers, by the numbers that instructions have for them.
+const DWARF: [Register; 16] = {
+    const fn r(number: u8) -> Register {
+        Register(number)
+    }
+    [r(0), r(2), r(1), r(3), r(7), r(6), r(4), r(5), r(8), r(9), r(10), r(11), r(12), r(13), r(14), r(15)]
+};
+
+const RBP: Register = Register(6);
+const RSP: Register = Register(7);
+
+/// x86-64 with the calling convention of System V.
+pub static X86_64: Machine = Machine {
+    number: 62,
+    names: &NAMES,
+    stack_pointer: RSP,
+    frame_pointer: RBP,
+    return_address: Register(16),
+    kept: &[Register(3), RBP, Register(12), Register(13), Register(14), Register(15)],
+    changeable: Registers::of(&[0, 1, 2, 4, 5, 8, 9, 10, 11]),
+    entry_offset: 8,
+    return_slot: -8,
+    exception_data: Registers::of(&[0, 1]),
+    // exit, exit_group and rt_sigreturn.
+    exits: (Register(0), &[60, 231, 15]),
+    decode,
+    text: |bytes, address| text(bytes, address).unwrap_or_else(|| "(not an instruction)".to_string()),
+};
+
+/// What a system call overwrites: rax, rcx, r11.
+const SYSTEM: Registers = Registers::of(&[0, 2, 11]);
+
+fn decode(bytes: &[u8], address: u64) -> Instruction {
+    match decoded(bytes, address) {
+        Some(found) => Instruction { length: found.length, effect: effect(&found).unwrap_or_else(|| write(&found)) },
+        None => Instruction { length: 1, effect: Effect::Invalid },
+    }
+}
+
+/// The register with this number in instructions.
+fn register(number: u8) -> Option<Register> {
+    DWARF.get(usize::from(number)).copied()
+}
+
+impl Operand {
+    fn whole_register(&self) -> Option<Register> {
+        register(self.register).filter(|_| self.is_whole())
+    }
+
+    fn immediate(&self) -> Option<i64> {
+        Some(self.value).filter(|_| self.kind() == OperandKind::Immediate)
+    }
+
+    fn is_memory(&self) -> bool {
+        self.kind() == OperandKind::Memory
+    }
+
+    /// Memory at a register plus an offset.
+    fn place(&self) -> Option<Place> {
+        let is_simple = self.is_memory() && self.index == NO_REGISTER && !self.is_thread_local();
+        let base = register(self.base).filter(|_| is_simple)?;
+        Some(Place { base, offset: self.value })
+    }
+
+    /// An address that is known: relative to RIP, or without registers.
+    fn known_address(&self) -> Option<i64> {
+        let is_known = self.index == NO_REGISTER && matches!(self.base, RIP | NO_REGISTER);
+        Some(self.value).filter(|_| self.is_memory() && is_known)
+    }
+
+    /// The base and the offset of an entry of a table, whose index is multiplied by `scale`.
+    fn entry(&self, scale: u8) -> Option<(Option<Register>, i64)> {
+        let has_index = self.is_memory() && self.index < RIP && self.scale == scale;
+        let base = register(self.base);
+        Some((base, self.value)).filter(|_| has_index && (base.is_some() || self.base == NO_REGISTER))
+    }
+
+    fn target(&self) -> Target {
+        match self.kind() {
+            OperandKind::Target => Target::Code(self.value as u64),
+            OperandKind::Register => register(self.register).map_or(Target::Elsewhere, Target::Register),
+            OperandKind::Memory if self.base == RIP => Target::Pointer(self.value as u64),
+            OperandKind::Memory => {
+                self.entry(8).map_or(Target::Elsewhere, |(base, offset)| Target::Table { base, offset })
+            }
+            _ => Target::Elsewhere,
+        }
+    }
+}
+
+/// What an instruction writes, for one that isn't followed.
+fn write(found: &Decoded) -> Effect {
+    let mut registers = Registers::NONE;
+    let written = (0..16).filter(|number| found.written >> number & 1 != 0);
+    written.filter_map(register).for_each(|register| registers.insert(register));
+    let base = register(found.stored_base).filter(|_| found.stored_bytes > 0);
+    let stored = base.map(|base| (Place { base, offset: found.stored_offset }, found.stored_bytes));
+    if registers.is_empty() && stored.is_none() {
+        return Effect::Nothing;
+    }
+    Effect::Write { registers, stored }
+}
+
+/// What an instruction does that is followed. `None` for any other.
+fn effect(found: &Decoded) -> Option<Effect> {
+    let [first, second] = &found.operands;
+    match found.mnemonic() {
+        Mnemonic::Lea => lea(first, second),
+        Mnemonic::Mov => mov(first, second),
+        Mnemonic::Movsxd => {
+            let (base, offset) = second.entry(4).filter(|(base, _)| base.is_some())?;
+            Some(Effect::LoadEntry { to: first.whole_register()?, base, offset, size: EntrySize::Four })
+        }
+        Mnemonic::Add => add(first, second),
+        Mnemonic::Subtract => subtract(first, second),
+        Mnemonic::Increment => add_number(first, 1),
+        Mnemonic::Decrement => add_number(first, -1),
+        Mnemonic::And => {
+            let register = first.whole_register()?;
+            Some(Effect::Align { register }).filter(|_| second.immediate().is_some() || register == RSP)
+        }
+        Mnemonic::Xor => zero(first, second),
+        Mnemonic::Exchange => Some(Effect::Exchange { one: first.whole_register()?, other: second.whole_register()? }),
+        Mnemonic::MoveIf => Some(Effect::MayMove { to: first.whole_register()?, from: second.whole_register()? }),
+        Mnemonic::Compare => compare(first, second),
+        _ => stack_or_jump(found),
+    }
+}
+
+/// The instructions that push, pop, call, jump or stop. `None` for any other.
+fn stack_or_jump(found: &Decoded) -> Option<Effect> {
+    let operand = &found.operands[0];
+    match found.mnemonic() {
+        Mnemonic::Push | Mnemonic::Pop if found.width == 16 => None,
+        Mnemonic::Push => Some(push(operand)),
+        Mnemonic::Pop => {
+            let to_memory = Effect::PopOther { to: operand.place() };
+            Some(operand.whole_register().map_or(to_memory, |to| Effect::Pop { to }))
+        }
+        Mnemonic::PushFlags => Some(Effect::PushFlags),
+        Mnemonic::PopFlags => Some(Effect::PopFlags),
+        Mnemonic::Leave => Some(Effect::Leave),
+        Mnemonic::Return => Some(Effect::Return),
+        Mnemonic::Padding => Some(Effect::Padding),
+        Mnemonic::Stop => Some(Effect::Stop),
+        Mnemonic::System => Some(Effect::System { registers: SYSTEM }),
+        Mnemonic::Call => Some(Effect::Call { target: operand.target() }),
+        Mnemonic::Jump => Some(Effect::Jump { target: operand.target() }),
+        Mnemonic::JumpIfZero => jump_if(operand, Condition::Equal),
+        Mnemonic::JumpIfNotZero => jump_if(operand, Condition::NotEqual),
+        Mnemonic::JumpIf => jump_if(operand, Condition::Other),
+        _ => None,
+    }
+}
+
+/// `xor` of a register with itself.
+fn zero(first: &Operand, second: &Operand) -> Option<Effect> {
+    let is_zeroed = second.kind() == OperandKind::Register && first.register == second.register;
+    let is_wide = first.bits >= 32 && second.bits == first.bits;
+    Some(Effect::Set { to: register(first.register)?, number: 0 }).filter(|_| is_zeroed && is_wide)
+}
+
+fn push(operand: &Operand) -> Effect {
+    match (operand.whole_register(), operand.place()) {
+        (Some(from), _) => Effect::Push { from },
+        (_, Some(from)) => Effect::PushMemory { from },
+        _ => Effect::PushOther,
+    }
+}
+
+fn jump_if(operand: &Operand, condition: Condition) -> Option<Effect> {
+    match operand.target() {
+        Target::Code(target) => Some(Effect::JumpIf { target, condition }),
+        _ => None,
+    }
+}
+
+fn lea(first: &Operand, second: &Operand) -> Option<Effect> {
+    let to = first.whole_register()?;
+    if let Some(number) = second.known_address() {
+        return Some(Effect::Set { to, number });
+    }
+    if let Some(Place { base: from, offset: number }) = second.place() {
+        return Some(Effect::Add { to, from, number });
+    }
+    Some(Effect::Derive { to, from: register(second.base)? })
+}
+
+fn mov(first: &Operand, second: &Operand) -> Option<Effect> {
+    if first.kind() == OperandKind::Register && first.bits >= 32 {
+        if let (Some(to), Some(number)) = (register(first.register), second.immediate()) {
+            // 32 bits are extended with zeros.
+            let number = if first.bits == 32 { number & 0xffff_ffff } else { number };
+            return Some(Effect::Set { to, number });
+        }
+    }
+    match (first.whole_register(), second.whole_register()) {
+        (Some(to), Some(from)) => Some(Effect::Move { to, from }),
+        (Some(to), None) => load(to, second),
+        (None, Some(from)) if first.is_memory() => Some(Effect::Store { from, to: first.place() }),
+        _ => None,
+    }
+}
+
+fn load(to: Register, operand: &Operand) -> Option<Effect> {
+    if let Some(from) = operand.place() {
+        return Some(Effect::Load { to, from });
+    }
+    let (base, offset) = operand.entry(8)?;
+    Some(Effect::LoadEntry { to, base, offset, size: EntrySize::Eight })
+}
+
+fn add_number(operand: &Operand, number: i64) -> Option<Effect> {
+    let register = operand.whole_register()?;
+    Some(Effect::Add { to: register, from: register, number })
+}
+
+fn add(first: &Operand, second: &Operand) -> Option<Effect> {
+    match second.immediate() {
+        Some(number) => add_number(first, number),
+        None => Some(Effect::AddRegister { to: first.whole_register()?, by: second.whole_register()? }),
+    }
+}
+
+fn subtract(first: &Operand, second: &Operand) -> Option<Effect> {
+    if let Some(number) = second.immediate() {
+        return add_number(first, number.wrapping_neg());
+    }
+    let (to, by) = (first.whole_register()?, second.whole_register());
+    Some(Effect::SubtractRegister { to, by }).filter(|_| by.is_some() || to == RSP)
+}
+
+fn compare(first: &Operand, second: &Operand) -> Option<Effect> {
+    match (first.whole_register(), second.whole_register(), second.immediate()) {
+        (Some(one), Some(other), _) => Some(Effect::Compare { one, other }),
+        (_, _, Some(number)) if first.kind() == OperandKind::Register => Some(Effect::CompareNumber { number }),
+        _ => None,
+    }
+}

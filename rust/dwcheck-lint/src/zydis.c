@@ -1,0 +1,222 @@
+/* Decodes instructions of x86-64 with Zydis, and gives only what the lint asks for, in structures
+   that don't change with the version of Zydis. src/zydis.rs declares the same structures. */
+
+#include <Zydis/Zydis.h>
+#include <stdint.h>
+#include <string.h>
+
+/* Instructions that are told apart. All others are OTHER. */
+enum mnemonic {
+    OTHER, PUSH, POP, PUSHF, POPF, LEAVE, RET, PADDING, STOP, CALL, JMP, JZ, JNZ, JCC, LEA, MOV, MOVSXD,
+    ADD, SUB, INC, DEC, AND, XOR, XCHG, SYSCALL, CMP, CMOV
+};
+
+enum operand_kind { NONE, REGISTER, MEMORY, IMMEDIATE, TARGET };
+
+/* Registers have the numbers that instructions have for them. */
+enum { RIP = 16, OTHER_REGISTER = 254, NO_REGISTER = 255 };
+
+struct operand {
+    uint8_t kind;
+    uint8_t bits;    /* the size; 255 if it is larger */
+    uint8_t reg;     /* the general register that it is, or is a part of */
+    uint8_t is_whole; /* whether it is all 64 bits of that register */
+    uint8_t base;    /* of memory, as are the next three */
+    uint8_t index;
+    uint8_t scale;
+    uint8_t is_thread_local; /* whether the address is relative to fs or gs */
+    int64_t value;   /* the immediate, the displacement, or the address that is jumped to */
+};
+
+struct instruction {
+    uint8_t length;
+    uint8_t mnemonic;
+    uint8_t operand_count;
+    uint8_t width;        /* the width of its operands in bits */
+    uint16_t written;     /* a bit for each general register that it writes */
+    uint8_t stored_bytes; /* how many bytes it writes to memory at a base register plus an offset */
+    uint8_t stored_base;
+    int64_t stored_offset;
+    struct operand operands[2];
+};
+
+static ZydisDecoder decoder;
+static ZydisFormatter formatter;
+
+/* To be called once, before any other function here. */
+int dwcheck_lint_zydis_start(void)
+{
+    if (!ZYAN_SUCCESS(ZydisDecoderInit(&decoder, ZYDIS_MACHINE_MODE_LONG_64, ZYDIS_STACK_WIDTH_64)) ||
+        !ZYAN_SUCCESS(ZydisFormatterInit(&formatter, ZYDIS_FORMATTER_STYLE_ATT)))
+        return 0;
+    /* Numbers as objdump writes them: 0x8, not 0x08, and 0x4c724, not 0x000000000004C724. */
+    const ZydisFormatterProperty plain[] = {
+        ZYDIS_FORMATTER_PROP_ADDR_PADDING_ABSOLUTE, ZYDIS_FORMATTER_PROP_ADDR_PADDING_RELATIVE,
+        ZYDIS_FORMATTER_PROP_DISP_PADDING, ZYDIS_FORMATTER_PROP_IMM_PADDING
+    };
+    for (size_t i = 0; i < sizeof plain / sizeof *plain; i++)
+        ZydisFormatterSetProperty(&formatter, plain[i], ZYDIS_PADDING_DISABLED);
+    return ZYAN_SUCCESS(ZydisFormatterSetProperty(&formatter, ZYDIS_FORMATTER_PROP_HEX_UPPERCASE, ZYAN_FALSE));
+}
+
+static int is_whole(ZydisRegister named)
+{
+    return named >= ZYDIS_REGISTER_RAX && named <= ZYDIS_REGISTER_R15;
+}
+
+/* The general register that a register is, or is a part of. */
+static uint8_t register_of(ZydisRegister named)
+{
+    ZydisRegister whole = ZydisRegisterGetLargestEnclosing(ZYDIS_MACHINE_MODE_LONG_64, named);
+    return is_whole(whole) ? (uint8_t)(whole - ZYDIS_REGISTER_RAX) : NO_REGISTER;
+}
+
+/* A register of an address. It may be half of a register, or a vector. */
+static uint8_t address_register(ZydisRegister named)
+{
+    if (named == ZYDIS_REGISTER_NONE)
+        return NO_REGISTER;
+    if (named == ZYDIS_REGISTER_RIP)
+        return RIP;
+    return is_whole(named) ? register_of(named) : OTHER_REGISTER;
+}
+
+static int is_thread_local(const ZydisDecodedOperand *in)
+{
+    return in->mem.segment == ZYDIS_REGISTER_FS || in->mem.segment == ZYDIS_REGISTER_GS;
+}
+
+static uint8_t mnemonic_of(const ZydisDecodedInstruction *in)
+{
+    switch (in->mnemonic) {
+    case ZYDIS_MNEMONIC_PUSH: return PUSH;
+    case ZYDIS_MNEMONIC_POP: return POP;
+    case ZYDIS_MNEMONIC_PUSHFQ: return PUSHF;
+    case ZYDIS_MNEMONIC_POPFQ: return POPF;
+    case ZYDIS_MNEMONIC_LEAVE: return LEAVE;
+    case ZYDIS_MNEMONIC_RET: case ZYDIS_MNEMONIC_IRETQ: return RET;
+    case ZYDIS_MNEMONIC_NOP: case ZYDIS_MNEMONIC_INT3: return PADDING;
+    case ZYDIS_MNEMONIC_HLT: case ZYDIS_MNEMONIC_UD0: case ZYDIS_MNEMONIC_UD1: case ZYDIS_MNEMONIC_UD2: return STOP;
+    case ZYDIS_MNEMONIC_CALL: return CALL;
+    case ZYDIS_MNEMONIC_JMP: return JMP;
+    case ZYDIS_MNEMONIC_JZ: return JZ;
+    case ZYDIS_MNEMONIC_JNZ: return JNZ;
+    case ZYDIS_MNEMONIC_LEA: return LEA;
+    case ZYDIS_MNEMONIC_MOV: return MOV;
+    case ZYDIS_MNEMONIC_MOVSXD: return MOVSXD;
+    case ZYDIS_MNEMONIC_ADD: return ADD;
+    case ZYDIS_MNEMONIC_SUB: return SUB;
+    case ZYDIS_MNEMONIC_INC: return INC;
+    case ZYDIS_MNEMONIC_DEC: return DEC;
+    case ZYDIS_MNEMONIC_AND: return AND;
+    case ZYDIS_MNEMONIC_XOR: return XOR;
+    case ZYDIS_MNEMONIC_XCHG: return XCHG;
+    case ZYDIS_MNEMONIC_SYSCALL: return SYSCALL;
+    case ZYDIS_MNEMONIC_CMP: return CMP;
+    /* The target of XBEGIN is where a transaction that fails goes on. */
+    case ZYDIS_MNEMONIC_XBEGIN: return JCC;
+    default: break;
+    }
+    switch (in->meta.category) {
+    case ZYDIS_CATEGORY_COND_BR: return JCC;
+    case ZYDIS_CATEGORY_CMOV: return CMOV;
+    default: return OTHER;
+    }
+}
+
+static void set_operand(struct operand *out, const ZydisDecodedOperand *in, uint64_t next)
+{
+    out->bits = in->size > 255 ? 255 : (uint8_t)in->size;
+    switch (in->type) {
+    case ZYDIS_OPERAND_TYPE_REGISTER:
+        out->kind = REGISTER;
+        out->reg = register_of(in->reg.value);
+        out->is_whole = (uint8_t)is_whole(in->reg.value);
+        break;
+    case ZYDIS_OPERAND_TYPE_MEMORY:
+        out->kind = MEMORY;
+        out->base = address_register(in->mem.base);
+        out->index = address_register(in->mem.index);
+        out->scale = in->mem.scale;
+        out->is_thread_local = (uint8_t)is_thread_local(in);
+        out->value = in->mem.disp.has_displacement ? in->mem.disp.value : 0;
+        if (out->base == RIP)
+            out->value += (int64_t)next;
+        break;
+    case ZYDIS_OPERAND_TYPE_IMMEDIATE:
+        out->kind = in->imm.is_relative ? TARGET : IMMEDIATE;
+        out->value = in->imm.value.s + (in->imm.is_relative ? (int64_t)next : 0);
+        break;
+    default:
+        break;
+    }
+}
+
+/* Notes what an operand says is written: a general register, or memory at a base and an offset. */
+static void add_write(struct instruction *out, const ZydisDecodedOperand *in)
+{
+    if (!(in->actions & ZYDIS_OPERAND_ACTION_MASK_WRITE))
+        return;
+    if (in->type == ZYDIS_OPERAND_TYPE_REGISTER) {
+        uint8_t reg = register_of(in->reg.value);
+        if (reg != NO_REGISTER)
+            out->written |= (uint16_t)(1u << reg);
+    } else if (in->type == ZYDIS_OPERAND_TYPE_MEMORY) {
+        uint8_t base = address_register(in->mem.base);
+        if (base >= RIP || in->mem.index != ZYDIS_REGISTER_NONE || is_thread_local(in))
+            return;
+        out->stored_base = base;
+        out->stored_offset = in->mem.disp.has_displacement ? in->mem.disp.value : 0;
+        out->stored_bytes = in->size / 8 > 255 ? 255 : (uint8_t)(in->size / 8);
+    }
+}
+
+/* Whether no operand of an instruction matters, so that they needn't be decoded. */
+static int is_without_operands(const ZydisDecodedInstruction *in, uint8_t mnemonic)
+{
+    switch (mnemonic) {
+    case PUSHF: case POPF: case LEAVE: case RET: case PADDING: case STOP: case SYSCALL:
+        return 1;
+    default:
+        return in->mnemonic == ZYDIS_MNEMONIC_TEST || in->mnemonic == ZYDIS_MNEMONIC_ENDBR64;
+    }
+}
+
+/* Decodes the instruction at the first of `length` bytes, whose address is `address`. Returns 0 if
+   there is none. */
+int dwcheck_lint_zydis_decode(const uint8_t *bytes, size_t length, uint64_t address, struct instruction *out)
+{
+    ZydisDecoderContext context;
+    ZydisDecodedInstruction in;
+    ZydisDecodedOperand operands[ZYDIS_MAX_OPERAND_COUNT];
+    memset(out, 0, sizeof *out);
+    if (!ZYAN_SUCCESS(ZydisDecoderDecodeInstruction(&decoder, &context, bytes, length, &in)))
+        return 0;
+    out->length = in.length;
+    out->mnemonic = mnemonic_of(&in);
+    out->width = in.operand_width;
+    out->operands[0].base = out->operands[0].index = out->operands[0].reg = NO_REGISTER;
+    out->operands[1] = out->operands[0];
+    if (is_without_operands(&in, out->mnemonic))
+        return 1;
+    if (!ZYAN_SUCCESS(ZydisDecoderDecodeOperands(&decoder, &context, &in, operands, in.operand_count)))
+        return 0;
+    out->operand_count = in.operand_count_visible;
+    for (int i = 0; i < in.operand_count_visible && i < 2; i++)
+        set_operand(&out->operands[i], &operands[i], address + in.length);
+    for (int i = 0; i < in.operand_count; i++)
+        add_write(out, &operands[i]);
+    return 1;
+}
+
+/* Writes the text of the instruction at the first of `length` bytes into `text`, with a 0 at its
+   end. Returns 0 if there is none. */
+int dwcheck_lint_zydis_text(const uint8_t *bytes, size_t length, uint64_t address, char *text, size_t size)
+{
+    ZydisDecodedInstruction in;
+    ZydisDecodedOperand operands[ZYDIS_MAX_OPERAND_COUNT];
+    if (!ZYAN_SUCCESS(ZydisDecoderDecodeFull(&decoder, bytes, length, &in, operands)))
+        return 0;
+    return ZYAN_SUCCESS(ZydisFormatterFormatInstruction(
+        &formatter, &in, operands, in.operand_count_visible, text, size, address, ZYAN_NULL));
+}

@@ -1,0 +1,207 @@
+//! What the tests share: programs that are assembled or compiled, and rows that gimli reads.
+#![allow(dead_code)]
+
+use dwcheck_lint::finding::Finding;
+use dwcheck_lint::landings::landings;
+use dwcheck_lint::lint::{lint, Report};
+use dwcheck_lint::machine::Machine;
+use dwcheck_lint::module::{Convention, Module, Segment};
+use dwcheck_lint::register::Register;
+use dwcheck_lint::table::{Cfa, Fde, Row, Rows, Rule};
+use gimli::{
+    BaseAddresses, CallFrameInstruction, CfaRule, CieOrFde, EhFrame, EndianSlice, LittleEndian, Pointer, RegisterRule,
+    UnwindContext, UnwindSection,
+};
+use object::read::{Object, ObjectSection, ObjectSegment, ObjectSymbol, ObjectSymbolTable, RelocationTarget};
+use std::cell::RefCell;
+use std::collections::HashMap;
+use std::path::PathBuf;
+use std::process::Command;
+
+type Bytes<'a> = EndianSlice<'a, LittleEndian>;
+type Header<'a> = gimli::FrameDescriptionEntry<Bytes<'a>>;
+
+/// A temporary folder for one test, which is removed when the test ends.
+pub struct Folder(PathBuf);
+
+impl Folder {
+    pub fn new(name: &str) -> Self {
+        let folder = std::env::temp_dir().join(format!("dwcheck-lint-{}-{}", name, std::process::id()));
+        std::fs::create_dir_all(&folder).unwrap();
+        Folder(folder)
+    }
+
+    pub fn write(&self, name: &str, text: &str) {
+        std::fs::write(self.0.join(name), text).unwrap();
+    }
+
+    /// Runs a command line in the folder. It has to succeed.
+    pub fn run(&self, line: &str) {
+        let output = Command::new("bash").args(["-c", line]).current_dir(&self.0).output().unwrap();
+        assert!(output.status.success(), "{}\n{}", line, String::from_utf8_lossy(&output.stderr));
+    }
+
+    pub fn bytes(&self, name: &str) -> Vec<u8> {
+        std::fs::read(self.0.join(name)).unwrap()
+    }
+}
+
+impl Drop for Folder {
+    fn drop(&mut self) {
+        let _ = std::fs::remove_dir_all(&self.0);
+    }
+}
+
+/// The rows of `.eh_frame`, as gimli reads them.
+struct GimliRows<'a> {
+    section: EhFrame<Bytes<'a>>,
+    bases: BaseAddresses,
+    headers: Vec<Header<'a>>,
+    context: RefCell<UnwindContext<Bytes<'a>>>,
+}
+
+impl<'a> GimliRows<'a> {
+    fn header(&self, address: u64) -> Option<&Header<'a>> {
+        let index = self.headers.partition_point(|header| header.initial_address() <= address).checked_sub(1)?;
+        self.headers.get(index).filter(|header| header.contains(address))
+    }
+
+    fn all(&self, header: &Header<'a>) -> Result<Vec<Row<'a>>, String> {
+        let mut context = self.context.borrow_mut();
+        let failed = |error: gimli::Error| error.to_string();
+        let mut table = header.rows(&self.section, &self.bases, &mut context).map_err(failed)?;
+        let mut rows = Vec::new();
+        while let Some(row) = table.next_row().map_err(failed)? {
+            let mut rules: Vec<_> =
+                row.registers().map(|(register, rule)| (Register(register.0 as u8), rule_of(rule))).collect();
+            // gimli leaves out rules that say that a register is undefined, such as the return address of
+            // the outermost frame.
+            if rules.iter().all(|(register, _)| *register != Register(16)) {
+                rules.push((Register(16), Rule::Undefined));
+            }
+            rules.sort_by_key(|(register, _)| *register);
+            let cfa = match row.cfa() {
+                CfaRule::RegisterAndOffset { register, offset } => Cfa::Offset(Register(register.0 as u8), *offset),
+                CfaRule::Expression(expression) => Cfa::Expression(expression.0.slice()),
+            };
+            rows.push(Row { begin: row.start_address(), end: row.end_address(), cfa, rules });
+        }
+        rows.retain(|row| row.begin < row.end);
+        Ok(rows)
+    }
+}
+
+fn rule_of<'a>(rule: &RegisterRule<Bytes<'a>>) -> Rule<'a> {
+    match rule {
+        RegisterRule::Undefined => Rule::Undefined,
+        RegisterRule::SameValue => Rule::Same,
+        RegisterRule::Offset(offset) => Rule::Offset(*offset),
+        RegisterRule::Register(register) => Rule::Register(Register(register.0 as u8)),
+        RegisterRule::Expression(expression) => Rule::Expression(expression.0.slice()),
+        _ => Rule::Value,
+    }
+}
+
+impl<'a> Rows for GimliRows<'a> {
+    fn rows(&self, fde: &Fde) -> Result<Vec<Row<'_>>, String> {
+        self.all(self.header(fde.begin).ok_or("no such FDE")?)
+    }
+
+    fn row(&self, address: u64) -> Option<Row<'_>> {
+        let rows = self.all(self.header(address)?).ok()?;
+        rows.into_iter().find(|row| (row.begin..row.end).contains(&address))
+    }
+}
+
+/// From which address on how many bytes of arguments are on the stack.
+fn argument_bytes<'a>(header: &Header<'a>, section: &EhFrame<Bytes<'a>>, bases: &BaseAddresses) -> Vec<(u64, u64)> {
+    let mut found = Vec::new();
+    let (mut instructions, mut address) = (header.instructions(section, bases), header.initial_address());
+    while let Ok(Some(instruction)) = instructions.next() {
+        match instruction {
+            CallFrameInstruction::AdvanceLoc { delta } => address += u64::from(delta),
+            CallFrameInstruction::ArgsSize { size } => found.push((address, size)),
+            _ => {}
+        }
+    }
+    found
+}
+
+/// The FDEs of `.eh_frame`, ascending, each address once.
+fn headers<'a>(section: &EhFrame<Bytes<'a>>, bases: &BaseAddresses) -> Vec<Header<'a>> {
+    let mut entries = section.entries(bases);
+    let mut headers = Vec::new();
+    while let Ok(Some(entry)) = entries.next() {
+        if let CieOrFde::Fde(partial) = entry {
+            headers.extend(partial.parse(EhFrame::cie_from_offset));
+        }
+    }
+    headers.retain(|header| header.initial_address() != 0 && header.len() != 0);
+    headers.sort_by_key(|header| header.initial_address());
+    headers.dedup_by_key(|header| header.initial_address());
+    headers
+}
+
+/// The names of functions of other modules, by the addresses of the pointers to them.
+fn imports<'a>(file: &object::File<'a>) -> HashMap<u64, &'a str> {
+    let symbols = file.dynamic_symbol_table();
+    let relocations = file.dynamic_relocations().into_iter().flatten();
+    let named = relocations.filter_map(|(address, relocation)| match relocation.target() {
+        RelocationTarget::Symbol(index) => Some((address, symbols.as_ref()?.symbol_by_index(index).ok()?.name().ok()?)),
+        _ => None,
+    });
+    named.collect()
+}
+
+/// The module in an ELF file. Only `.eh_frame` is read.
+pub fn module(data: &[u8]) -> Module<'_> {
+    let file = object::File::parse(data).unwrap();
+    let mut segments: Vec<_> = file
+        .segments()
+        .map(|segment| Segment { address: segment.address(), bytes: segment.data().unwrap(), is_executable: true })
+        .collect();
+    segments.sort_by_key(|segment| segment.address);
+    let section = file.section_by_name(".eh_frame").unwrap();
+    let bases = BaseAddresses::default().set_eh_frame(section.address());
+    let mut frames = EhFrame::new(section.data().unwrap(), LittleEndian);
+    frames.set_address_size(8);
+    let headers = headers(&frames, &bases);
+    let area = |address: u64| {
+        let segment = segments.iter().rev().find(|segment| segment.address <= address).unwrap();
+        segment.bytes.get((address - segment.address) as usize..).unwrap_or(&[])
+    };
+    let fde = |header: &Header<'_>| {
+        let begin = header.initial_address();
+        let landings = match header.lsda() {
+            Some(Pointer::Direct(address)) => landings(area(address), begin),
+            _ => Vec::new(),
+        };
+        let argument_bytes = argument_bytes(header, &frames, &bases);
+        Fde { begin, end: begin + header.len(), is_signal: header.is_signal_trampoline(), landings, argument_bytes }
+    };
+    let fdes = headers.iter().map(fde).collect();
+    let rows = GimliRows { section: frames, bases, headers, context: RefCell::default() };
+    Module {
+        machine: Machine::numbered(62).unwrap(),
+        segments,
+        fdes,
+        imports: imports(&file),
+        convention: Convention::KeepsRegisters,
+        rows: Box::new(rows),
+    }
+}
+
+/// The kinds of the findings, except private ones.
+pub fn kinds(report: &Report<'_>) -> Vec<String> {
+    let kinds = report.findings.iter().map(|finding: &Finding<'_>| finding.kind.to_string());
+    kinds.filter(|kind| kind != "private").collect()
+}
+
+/// Assembles a program, and lints it.
+pub fn kinds_of_assembly(folder: &Folder, text: &str) -> Vec<String> {
+    folder.write("text.s", text);
+    folder.run("gcc -nostdlib -shared -o text.so text.s");
+    let data = folder.bytes("text.so");
+    let module = module(&data);
+    kinds(&lint(&module))
+}

@@ -1,0 +1,336 @@
+//! Programs in assembly with one planted defect of each kind, and the same programs with right rows.
+//!
+//! In a program, `WRONG text` is there only in the program with the defect, and `RIGHT text` only in the
+//! other one.
+
+mod common;
+
+use common::{kinds_of_assembly, Folder};
+
+/// The program with or without its defect.
+fn variant(text: &str, is_wrong: bool) -> String {
+    let (kept, dropped) = if is_wrong { ("WRONG", "RIGHT") } else { ("RIGHT", "WRONG") };
+    let lines = text.lines().filter(|line| !line.trim_start().starts_with(dropped));
+    let body: Vec<_> = lines.map(|line| line.replacen(kept, "", 1)).collect();
+    format!(
+        ".text\n.globl f\n.type f, @function\nf:\n.cfi_startproc\n{}\n.cfi_endproc\n\
+         .section .note.GNU-stack,\"\",@progbits\n",
+        body.join("\n")
+    )
+}
+
+/// The defect is found, by its kind and nothing else, and nothing is found without it.
+fn planted(name: &str, kind: &str, text: &str) {
+    let folder = Folder::new(name);
+    assert_eq!(kinds_of_assembly(&folder, &variant(text, true)), [kind], "{}", text);
+    assert_eq!(kinds_of_assembly(&folder, &variant(text, false)), [""; 0], "{}", text);
+}
+
+#[test]
+fn push_without_row() {
+    let text = "push %rbx
+        RIGHT .cfi_adjust_cfa_offset 8
+        RIGHT .cfi_offset rbx, -16
+        mov %rdi, %rbx
+        add %rbx, %rbx
+        mov %rbx, %rax
+        pop %rbx
+        RIGHT .cfi_adjust_cfa_offset -8
+        RIGHT .cfi_restore rbx
+        ret";
+    planted("push", "push without row", text);
+}
+
+#[test]
+fn late_push() {
+    let text = "push %rax
+        RIGHT .cfi_adjust_cfa_offset 8
+        mov %rdi, %rcx
+        WRONG .cfi_adjust_cfa_offset 8
+        mov %rcx, %rax
+        pop %rcx
+        .cfi_adjust_cfa_offset -8
+        ret";
+    planted("late", "late push", text);
+}
+
+#[test]
+fn pop_without_row() {
+    let text = "push %rax
+        .cfi_adjust_cfa_offset 8
+        mov %rdi, %rax
+        pop %rcx
+        RIGHT .cfi_adjust_cfa_offset -8
+        add %rcx, %rax
+        ret";
+    planted("pop", "pop without row", text);
+}
+
+/// An addition was moved up over a conditional jump, and its row stayed on both ways.
+#[test]
+fn moved_epilogue() {
+    let text = "sub $8, %rsp
+        .cfi_adjust_cfa_offset 8
+        call *%rdi
+        add $8, %rsp
+        RIGHT .cfi_adjust_cfa_offset -8
+        test %eax, %eax
+        je 1f
+        WRONG .cfi_adjust_cfa_offset -8
+        inc %eax
+        ret
+        1:
+        WRONG .cfi_adjust_cfa_offset 8
+        WRONG .cfi_adjust_cfa_offset -8
+        dec %eax
+        ret";
+    planted("moved", "moved epilogue", text);
+}
+
+/// The sign of a number is wrong, as in OpenSSL's x25519.
+#[test]
+fn adjustment_with_the_wrong_sign() {
+    let text = "sub $88, %rsp
+        .cfi_adjust_cfa_offset 88
+        mov %rdi, (%rsp)
+        lea 88(%rsp), %rsp
+        WRONG .cfi_adjust_cfa_offset 88
+        RIGHT .cfi_adjust_cfa_offset -88
+        ret";
+    planted("sign", "moved epilogue", text);
+}
+
+#[test]
+fn moved_prologue() {
+    let text = "sub $24, %rsp
+        RIGHT .cfi_adjust_cfa_offset 24
+        xor %eax, %eax
+        WRONG .cfi_adjust_cfa_offset 24
+        mov %rax, (%rsp)
+        add $24, %rsp
+        .cfi_adjust_cfa_offset -24
+        ret";
+    planted("prologue", "moved prologue", text);
+}
+
+#[test]
+fn subtraction_without_row() {
+    let text = "sub $264, %rsp
+        RIGHT .cfi_adjust_cfa_offset 264
+        mov %rax, (%rsp)
+        add $264, %rsp
+        RIGHT .cfi_adjust_cfa_offset -264
+        ret";
+    planted("subtraction", "subtraction without row", text);
+}
+
+#[test]
+fn wrong_row_at_jmp() {
+    let text = "sub $8, %rsp
+        .cfi_adjust_cfa_offset 8
+        test %edi, %edi
+        je 1f
+        add $8, %rsp
+        RIGHT .cfi_adjust_cfa_offset -8
+        jmp f
+        1:
+        RIGHT .cfi_adjust_cfa_offset 8
+        add $8, %rsp
+        .cfi_adjust_cfa_offset -8
+        ret";
+    planted("jmp", "wrong row at jmp", text);
+}
+
+/// What GCC 12 writes for a realigned stack: after the frame pointer is popped, the rows still find
+/// rbx by it.
+#[test]
+fn drap_epilogue() {
+    let text = "lea 8(%rsp), %r10
+        .cfi_def_cfa r10, 0
+        and $-32, %rsp
+        push -8(%r10)
+        push %rbp
+        mov %rsp, %rbp
+        .cfi_escape 0x10, 6, 2, 0x76, 0
+        push %r10
+        .cfi_escape 0x0f, 3, 0x76, 0x78, 6
+        push %rbx
+        .cfi_escape 0x10, 3, 2, 0x76, 0x70
+        mov %rdi, %rbx
+        call *%rdi
+        pop %rbx
+        RIGHT .cfi_restore rbx
+        pop %r10
+        .cfi_def_cfa r10, 0
+        pop %rbp
+        RIGHT .cfi_restore rbp
+        lea -8(%r10), %rsp
+        .cfi_restore rbx
+        .cfi_restore rbp
+        .cfi_def_cfa rsp, 8
+        ret";
+    planted("drap", "DRAP epilogue", text);
+}
+
+#[test]
+fn moved_stack_pointer() {
+    let text = "push %rbp
+        .cfi_adjust_cfa_offset 8
+        .cfi_offset rbp, -16
+        mov %rsp, %rbp
+        RIGHT .cfi_def_cfa_register rbp
+        sub %rdi, %rsp
+        mov %rax, (%rsp)
+        mov %rbp, %rsp
+        pop %rbp
+        .cfi_restore rbp
+        .cfi_def_cfa rsp, 8
+        ret";
+    planted("dynamic", "moved stack pointer", text);
+}
+
+#[test]
+fn cfa_register_overwritten() {
+    let text = "lea 8(%rsp), %r11
+        .cfi_def_cfa r11, 0
+        RIGHT .cfi_def_cfa rsp, 8
+        imul %rdi, %r11
+        mov %r11, %rax
+        .cfi_def_cfa rsp, 8
+        ret";
+    planted("overwritten", "CFA register overwritten", text);
+}
+
+#[test]
+fn cfa_register_restored() {
+    let text = "push %rbp
+        .cfi_adjust_cfa_offset 8
+        .cfi_offset rbp, -16
+        mov %rsp, %rbp
+        .cfi_def_cfa_register rbp
+        mov %rdi, %rax
+        pop %rbp
+        .cfi_restore rbp
+        RIGHT .cfi_def_cfa rsp, 8
+        ret";
+    planted("restored", "CFA register restored", text);
+}
+
+#[test]
+fn wrong_row_at_a_join() {
+    let text = "test %edi, %edi
+        je 1f
+        push %rax
+        .cfi_adjust_cfa_offset 8
+        call *%rsi
+        RIGHT add $8, %rsp
+        RIGHT .cfi_adjust_cfa_offset -8
+        inc %eax
+        WRONG .cfi_adjust_cfa_offset -8
+        1: inc %ecx
+        ret";
+    planted("join", "wrong row at a join", text);
+}
+
+#[test]
+fn wrong_row_in_another_part() {
+    let text = "sub $8, %rsp
+        .cfi_adjust_cfa_offset 8
+        test %edi, %edi
+        je f.cold
+        add $8, %rsp
+        .cfi_adjust_cfa_offset -8
+        ret
+        .cfi_endproc
+        .section .text.unlikely, \"ax\"
+        .cfi_startproc
+        WRONG .cfi_def_cfa_offset 24
+        RIGHT .cfi_def_cfa_offset 16
+        nop
+        f.cold:
+        call *%rsi
+        ud2";
+    planted("part", "wrong row in another part", text);
+}
+
+#[test]
+fn return_address() {
+    let text = "push %rax
+        .cfi_adjust_cfa_offset 8
+        WRONG .cfi_offset rip, -16
+        mov %rdi, %rax
+        pop %rcx
+        .cfi_adjust_cfa_offset -8
+        .cfi_offset rip, -8
+        ret";
+    planted("return", "return address", text);
+}
+
+#[test]
+fn register_overwritten() {
+    let text = "mov %rbx, %r8
+        RIGHT .cfi_register rbx, r8
+        xor %ebx, %ebx
+        add %rdi, %rbx
+        mov %rbx, %rax
+        mov %r8, %rbx
+        RIGHT .cfi_same_value rbx
+        ret";
+    planted("changed", "register overwritten", text);
+}
+
+#[test]
+fn register_never_saved() {
+    let text = "push %rbx
+        .cfi_adjust_cfa_offset 8
+        WRONG .cfi_offset rbx, -24
+        RIGHT .cfi_offset rbx, -16
+        mov %rdi, %rbx
+        mov %rbx, %rax
+        pop %rbx
+        .cfi_adjust_cfa_offset -8
+        .cfi_restore rbx
+        ret";
+    planted("never", "register never saved", text);
+}
+
+#[test]
+fn slot_overwritten() {
+    let text = "push %rbx
+        .cfi_adjust_cfa_offset 8
+        push %rbp
+        .cfi_adjust_cfa_offset 8
+        WRONG .cfi_offset rbx, -24
+        WRONG .cfi_offset rbp, -16
+        RIGHT .cfi_offset rbx, -16
+        RIGHT .cfi_offset rbp, -24
+        mov %rdi, %rbx
+        mov %rdi, %rbp
+        pop %rbp
+        .cfi_adjust_cfa_offset -8
+        .cfi_restore rbp
+        pop %rbx
+        .cfi_adjust_cfa_offset -8
+        .cfi_restore rbx
+        ret";
+    planted("slot", "slot overwritten", text);
+}
+
+/// A flag push in a frame whose CFA is in memory at the stack pointer, as in OpenSSL's Camellia.
+#[test]
+fn push_under_an_expression_over_the_stack_pointer() {
+    let text = "mov %rsp, %rax
+        .cfi_def_cfa_register rax
+        sub $40, %rsp
+        mov %rax, 8(%rsp)
+        .cfi_escape 0x0f, 5, 0x77, 8, 6, 0x23, 8
+        WRONG pushf
+        WRONG cld
+        WRONG popf
+        mov 8(%rsp), %rax
+        .cfi_def_cfa rax, 8
+        mov %rax, %rsp
+        .cfi_def_cfa rsp, 8
+        ret";
+    planted("flags", "CFA register overwritten", text);
+}
