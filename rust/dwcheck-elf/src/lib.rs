@@ -6,6 +6,7 @@
 //! - [`bridge`] rewrites an `.eh_frame` section as a `.debug_frame` section.
 //! - [`validate`] compares the unwind rows of an `.eh_frame` section with those of the rewritten
 //!   section.
+//! - [`lint`] gives the crate `dwcheck-lint` a program's code and rows.
 //! - [`core_file`] opens a core file and gives its threads, memory and modules.
 //!
 //! No function here trusts its input: a malformed file gives an error.
@@ -26,6 +27,7 @@ pub mod frames;
 pub mod functions;
 pub mod inspect;
 mod layout;
+pub mod lint;
 pub mod loclists;
 pub mod modules;
 pub mod names;

@@ -6,7 +6,9 @@ use crate::layout::{is_loaded, Layout};
 use crate::relocate::{self, RelocationError};
 use crate::target::{AddressSize, Order, Target};
 use object::elf;
-use object::read::{CompressionFormat, Object, ObjectSection, ObjectSegment};
+use object::read::{
+    CompressionFormat, Object, ObjectSection, ObjectSegment, ObjectSymbol, ObjectSymbolTable, RelocationTarget,
+};
 use object::SegmentFlags;
 use std::borrow::Cow;
 use std::fmt;
@@ -162,6 +164,26 @@ impl<'data> Program<'data> {
     /// The functions of both symbol tables. This takes time, so keep the result.
     pub fn functions(&self) -> Functions<'data> {
         Functions::read(&self.file, &self.layout, self.machine, self.target)
+    }
+
+    /// Whether the file has a section with this name.
+    pub fn has_section(&self, name: &str) -> bool {
+        self.file.section_by_name(name).is_some()
+    }
+
+    /// The names of functions and data of other modules, with the addresses of the pointers to them
+    /// that the dynamic linker sets.
+    pub fn imports(&self) -> Vec<(u64, &'data str)> {
+        let symbols = self.file.dynamic_symbol_table();
+        let relocations = self.file.dynamic_relocations().into_iter().flatten();
+        let named = relocations.filter_map(|(address, relocation)| match relocation.target() {
+            RelocationTarget::Symbol(index) => {
+                let symbol = symbols.as_ref()?.symbol_by_index(index).ok()?;
+                Some((address, symbol.name().ok()?))
+            }
+            _ => None,
+        });
+        named.collect()
     }
 
     /// The parts of the file that are loaded into memory.

@@ -220,7 +220,7 @@ fn readable<'data>(program: &Program<'data>) -> (Vec<Frames<'data>>, Vec<String>
 
 /// The bytes of a section for `dwcheck`, without the CIEs and FDEs that it refuses. If there are such,
 /// the second part of the result says how many.
-fn accepted<'f>(frames: &'f Frames<'_>) -> Result<(Cow<'f, [u8]>, Option<String>), String> {
+pub(crate) fn accepted<'f>(frames: &'f Frames<'_>) -> Result<(Cow<'f, [u8]>, Option<String>), String> {
     let check = |bytes: &[u8]| dwcheck::check(bytes, &[], frames.target().into());
     let fault = match check(frames.bytes()) {
         Ok(()) => return Ok((frames.bytes().into(), None)),

@@ -54,7 +54,7 @@ pub(super) struct BridgedSection<'a> {
 
 impl EhFrame<'_> {
     /// The addresses that the section's pointers are relative to, as gimli takes them.
-    pub(super) fn bases(&self) -> BaseAddresses {
+    pub(crate) fn bases(&self) -> BaseAddresses {
         let mut bases = BaseAddresses::default().set_eh_frame(self.address);
         if let Some(address) = self.text {
             bases = bases.set_text(address);

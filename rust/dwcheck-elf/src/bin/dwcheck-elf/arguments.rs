@@ -45,7 +45,13 @@ pub enum Command {
     /// Check all ELF files in folders
     #[command(after_help = "Example: dwcheck-elf survey /usr/bin /usr/lib")]
     Survey(SurveyWords),
+    /// Compare the rows of unwind tables with the code that they describe (x86-64)
+    #[command(after_help = LINT_STATUS)]
+    Lint(LintWords),
 }
+
+const LINT_STATUS: &str = "Example: dwcheck-elf lint --explain /usr/bin/openssl
+Exit status: 0 nothing found; 1 findings; 2 a bad argument; 3 a file that can't be read";
 
 /// How `.eh_frame` is read.
 #[derive(Args, Clone, Copy, Debug)]
@@ -198,4 +204,29 @@ pub struct SurveyWords {
     pub reading: Reading,
     #[command(flatten)]
     pub notes: Notes,
+}
+
+#[derive(Args, Debug)]
+pub struct LintWords {
+    /// Programs, libraries, and folders of them
+    #[arg(required = true)]
+    pub paths: Vec<PathBuf>,
+    /// Show functions, too, that never give a callee-saved register back
+    #[arg(long)]
+    pub private: bool,
+    /// Show the instructions around each finding, with their rows and what the code says
+    #[arg(long)]
+    pub explain: bool,
+    /// Write a line of JSON for each finding, for each file and for the totals
+    #[arg(long)]
+    pub json: bool,
+    /// Leave out the findings in FILE, the output of an earlier run without --json
+    #[arg(long, value_name = "FILE")]
+    pub known: Option<PathBuf>,
+    /// Show findings of this kind only, such as 'late push'. Can be given several times
+    #[arg(long, value_name = "KIND")]
+    pub kind: Vec<String>,
+    /// Read this many files at once, instead of one for each processor
+    #[arg(long, value_name = "N")]
+    pub jobs: Option<usize>,
 }

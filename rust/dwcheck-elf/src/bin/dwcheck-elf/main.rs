@@ -1,9 +1,10 @@
-//! Checks the unwind tables of ELF programs, shows their rows, unwinds by them, and prints the
-//! stacks of core files.
+//! Checks the unwind tables of ELF programs, shows their rows, unwinds by them, compares them with
+//! the code, and prints the stacks of core files.
 
 mod arguments;
 mod check;
 mod end;
+mod lint;
 mod lists;
 mod opened;
 mod rows;
@@ -51,5 +52,6 @@ fn run(command: Command, out: &mut impl Write) -> Result<Done, Failure> {
         Command::Locs(words) => lists::locs(&words, out),
         Command::Stack(words) => stack::stack(&words, out),
         Command::Survey(words) => survey::survey(&words, out),
+        Command::Lint(words) => lint::lint(&words, out),
     }
 }

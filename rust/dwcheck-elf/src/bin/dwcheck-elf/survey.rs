@@ -1,6 +1,6 @@
 //! The command `survey`: checks all ELF files in folders.
 
-mod files;
+pub mod files;
 mod json;
 mod sparse;
 mod totals;
@@ -22,7 +22,7 @@ use std::path::PathBuf;
 use totals::Totals;
 
 /// The number of bytes of each thread's stack: more than gimli and `dwcheck` need.
-const STACK: usize = 8 << 20;
+pub const STACK: usize = 8 << 20;
 
 /// The result of checking a file.
 pub struct Surveyed {
@@ -87,7 +87,7 @@ pub fn survey(words: &SurveyWords, out: &mut impl Write) -> Result<Done, Failure
 }
 
 /// A progress bar on standard error. It is shown only if standard error is a terminal.
-fn progress(count: u64) -> ProgressBar {
+pub fn progress(count: u64) -> ProgressBar {
     let bar = ProgressBar::new(count);
     let style = ProgressStyle::with_template("{wide_bar} {pos}/{len} {eta}");
     style.map_or(bar.clone(), |style| bar.with_style(style))

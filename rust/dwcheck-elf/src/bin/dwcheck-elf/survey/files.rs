@@ -109,7 +109,7 @@ impl Walk {
     }
 }
 
-fn is_elf(path: &Path) -> io::Result<bool> {
+pub fn is_elf(path: &Path) -> io::Result<bool> {
     let mut start = Vec::with_capacity(MAGIC.len());
     File::open(path)?.take(MAGIC.len() as u64).read_to_end(&mut start)?;
     Ok(start == MAGIC)

@@ -1,0 +1,163 @@
+//! The command `lint`: compares the rows of programs with their code.
+
+mod known;
+mod linted;
+
+use crate::arguments::LintWords;
+use crate::end::{Done, Failure};
+use crate::survey::files::{is_elf, Files};
+use crate::survey::{progress, STACK};
+use dwcheck_lint::coverage::Coverage;
+use dwcheck_lint::finding::Severity;
+use dwcheck_lint::kinds::{Kind, KINDS};
+use known::Known;
+use linted::{linted, Linted, Outcome, Shown};
+use rayon::prelude::*;
+use std::io::{self, Write};
+
+/// What is counted over all files.
+#[derive(Default)]
+struct Totals {
+    files: usize,
+    others: usize,
+    unread: usize,
+    known: usize,
+    broken: usize,
+    lost: usize,
+    private: usize,
+    coverage: Coverage,
+}
+
+/// Lints all files, and writes what is found, as text or as JSON.
+pub fn lint(words: &LintWords, out: &mut impl Write) -> Result<Done, Failure> {
+    let kinds = words.kind.iter().map(|name| kind(name)).collect::<Result<Vec<_>, _>>()?;
+    let known = words.known.as_deref().map_or(Ok(Known::default()), Known::read)?;
+    let pool = rayon::ThreadPoolBuilder::new().num_threads(words.jobs.unwrap_or(0)).stack_size(STACK);
+    let pool = pool.build().map_err(|error| Failure::File(format!("no threads: {}", error)))?;
+    let files = pool.install(|| Files::once_each(&words.paths));
+    let bar = progress(files.paths.len() as u64);
+    let shown = Shown { private: words.private, explain: words.explain, json: words.json, kinds };
+    let all: Vec<_> = pool.install(|| {
+        let each = files.paths.par_iter().with_max_len(1).map(|path| {
+            let linted = linted(path, &shown);
+            bar.inc(1);
+            linted
+        });
+        each.collect()
+    });
+    bar.finish_and_clear();
+    let mut totals = Totals { unread: unread(words, &files), ..Totals::default() };
+    for one in all {
+        totals.write(out, one, words, &known)?;
+    }
+    totals.write_last(out, words)?;
+    Ok(totals.done())
+}
+
+/// The kind with a name.
+fn kind(name: &str) -> Result<Kind, Failure> {
+    let found = KINDS.iter().find(|(_, known)| *known == name).map(|(kind, _)| *kind);
+    let names = || KINDS.iter().map(|(_, name)| *name).collect::<Vec<_>>().join(", ");
+    found.ok_or_else(|| {
+        Failure::Argument(format!("bad argument: no kind is named {}; the kinds are: {}", name, names()))
+    })
+}
+
+/// Says on standard error which files can't be read, and which of those that were named aren't ELF
+/// files. Returns how many these are.
+fn unread(words: &LintWords, files: &Files) -> usize {
+    let unread = files.unread.iter().map(|(path, error)| (path, error.clone()));
+    let named = words.paths.iter().filter(|path| path.is_file() && matches!(is_elf(path), Ok(false)));
+    let all: Vec<_> = unread.chain(named.map(|path| (path, "not an ELF file".to_string()))).collect();
+    for (path, error) in &all {
+        // If standard error is closed, nobody can read this, so it doesn't matter that it fails.
+        let _ = writeln!(io::stderr(), "dwcheck-elf: cannot read {}: {}", path.display(), error);
+    }
+    all.len()
+}
+
+impl Totals {
+    /// Writes what was found in a file, and counts it.
+    fn write(&mut self, out: &mut impl Write, one: Linted, words: &LintWords, known: &Known) -> io::Result<()> {
+        let Linted { path, outcome } = one;
+        match outcome {
+            Outcome::Judged { findings, coverage, unused, text } => {
+                self.files += 1;
+                self.coverage.add(&coverage);
+                for reason in unused {
+                    let _ = writeln!(io::stderr(), "dwcheck-elf: {}: {}", path.display(), reason);
+                }
+                let mut known = known.of(&path);
+                for finding in findings {
+                    if known.take(&finding.key) {
+                        self.known += 1;
+                        continue;
+                    }
+                    self.count(finding.severity);
+                    writeln!(out, "{}", finding.text)?;
+                }
+                writeln!(out, "{}", text)
+            }
+            Outcome::Other(error) if words.paths.contains(&path) => {
+                self.unread += 1;
+                let _ = writeln!(io::stderr(), "dwcheck-elf: {}: {}", path.display(), error);
+                Ok(())
+            }
+            Outcome::Other(_) => {
+                self.others += 1;
+                Ok(())
+            }
+            Outcome::Unread(error) => {
+                self.unread += 1;
+                let _ = writeln!(io::stderr(), "dwcheck-elf: {}: {}", path.display(), error);
+                Ok(())
+            }
+        }
+    }
+
+    fn count(&mut self, severity: Severity) {
+        match severity {
+            Severity::BacktraceBroken => self.broken += 1,
+            Severity::RegisterLost => self.lost += 1,
+            Severity::Private => self.private += 1,
+        }
+    }
+
+    fn findings(&self) -> usize {
+        self.broken + self.lost + self.private
+    }
+
+    /// Writes the totals, unless there is only one file.
+    fn write_last(&self, out: &mut impl Write, words: &LintWords) -> io::Result<()> {
+        let counts = [
+            ("files", self.files),
+            ("others", self.others),
+            ("unread", self.unread),
+            ("findings", self.findings()),
+            ("backtrace-broken", self.broken),
+            ("register-lost", self.lost),
+            ("private", self.private),
+            ("known", self.known),
+        ];
+        if words.json {
+            let counts = counts.iter().map(|(name, count)| format!("\"{}\":{}", name, count));
+            let judged = self.coverage.named();
+            let judged = judged.iter().map(|(name, count)| format!("\"{}\":{}", name, count));
+            return writeln!(out, "{{\"totals\":{{{}}}}}", counts.chain(judged).collect::<Vec<_>>().join(","));
+        }
+        if self.files + self.others + self.unread > 1 || self.known > 0 {
+            let counts: Vec<_> = counts.iter().map(|(name, count)| format!("{} {}", name, count)).collect();
+            writeln!(out, "{}", counts.join(" "))?;
+            writeln!(out, "{}", self.coverage)?;
+        }
+        Ok(())
+    }
+
+    fn done(&self) -> Done {
+        match (self.unread, self.findings()) {
+            (0, 0) => Done::Accepted,
+            (0, _) => Done::Refused,
+            _ => Done::Unread,
+        }
+    }
+}

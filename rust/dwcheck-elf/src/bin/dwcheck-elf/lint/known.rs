@@ -1,0 +1,77 @@
+//! Findings that are known: a baseline, so that a run shows only what is new.
+
+use crate::end::Failure;
+use crate::opened::read;
+use dwcheck_lint::kinds::KINDS;
+use std::collections::HashMap;
+use std::path::Path;
+
+/// What a finding is known by: its kind, and its function or its address.
+#[derive(Clone, Debug, PartialEq, Eq, Hash)]
+pub struct Key {
+    /// The kind's name.
+    pub kind: String,
+    /// The function's name, or the address if it has none.
+    pub function: String,
+}
+
+/// Findings of an earlier run, by the name of their file without its folders.
+#[derive(Debug, Default)]
+pub struct Known(HashMap<String, Vec<Key>>);
+
+/// Those of one file that haven't been found again yet.
+pub struct Remaining(Vec<Key>);
+
+impl Known {
+    /// Reads the findings in the output of an earlier run. Other lines are passed over.
+    pub fn read(path: &Path) -> Result<Known, Failure> {
+        let bytes = read(path)?;
+        let mut known = Known::default();
+        for line in String::from_utf8_lossy(&bytes).lines() {
+            if let Some((file, key)) = parsed(line) {
+                known.0.entry(file).or_default().push(key);
+            }
+        }
+        Ok(known)
+    }
+
+    /// Those of a file.
+    pub fn of(&self, path: &Path) -> Remaining {
+        let name = path.file_name().map(|name| name.to_string_lossy().into_owned());
+        Remaining(name.and_then(|name| self.0.get(&name)).cloned().unwrap_or_default())
+    }
+}
+
+impl Remaining {
+    /// Takes a finding out, if it is there.
+    pub fn take(&mut self, key: &Key) -> bool {
+        let place = self.0.iter().position(|known| known == key);
+        place.map(|place| self.0.swap_remove(place)).is_some()
+    }
+}
+
+/// The file's name and the key in the first line of a finding: `FILE: KIND at FUNCTION+0x4 (0x1234): ..`.
+fn parsed(line: &str) -> Option<(String, Key)> {
+    let found = KINDS.iter().find_map(|(_, kind)| Some((*kind, line.split_once(&format!(": {} at ", kind))?)));
+    let (kind, (path, rest)) = found?;
+    let (name, rest) = rest.split_once(" (0x")?;
+    let address = rest.split_once(')')?.0;
+    let file = Path::new(path).file_name()?.to_string_lossy().into_owned();
+    Some((file, Key { kind: kind.to_string(), function: function(name, address) }))
+}
+
+/// The name without its offset, or the address if there is no name.
+fn function(name: &str, address: &str) -> String {
+    match name {
+        super::linted::NAMELESS => format!("0x{}", address),
+        name => name.rsplit_once("+0x").map_or(name, |(name, _)| name).to_string(),
+    }
+}
+
+impl Key {
+    /// The key of the finding whose first line this is.
+    pub fn of(line: &str) -> Key {
+        let nothing = || Key { kind: String::new(), function: String::new() };
+        parsed(line).map_or_else(nothing, |(_, key)| key)
+    }
+}

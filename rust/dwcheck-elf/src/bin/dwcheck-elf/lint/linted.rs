@@ -1,0 +1,162 @@
+//! Lints one file.
+
+use super::known::Key;
+use crate::survey::files::content;
+use dwcheck_elf::functions::Functions;
+use dwcheck_elf::lint::{LintError, Sections};
+use dwcheck_elf::names::Spot;
+use dwcheck_elf::program::Program;
+use dwcheck_lint::coverage::Coverage;
+use dwcheck_lint::explain::{explain, Line};
+use dwcheck_lint::finding::{Finding, Severity};
+use dwcheck_lint::kinds::Kind;
+use dwcheck_lint::lint::Lint;
+use dwcheck_lint::module::Module;
+use dwcheck_lint::report::{Json, Quoted, Text};
+use std::path::{Path, PathBuf};
+
+/// How a function without a name is shown.
+pub const NAMELESS: &str = "a function without a name";
+
+/// How many lines of an explanation are shown before a change of what is wrong, and after it.
+const AROUND: (usize, usize) = (4, 2);
+
+/// What is shown.
+pub struct Shown {
+    /// Whether registers are shown that functions never give back.
+    pub private: bool,
+    /// Whether the instructions around a finding are shown.
+    pub explain: bool,
+    /// Whether findings are written as JSON.
+    pub json: bool,
+    /// The kinds that are shown. Empty if all are.
+    pub kinds: Vec<Kind>,
+}
+
+/// The result for a file.
+pub struct Linted {
+    pub path: PathBuf,
+    pub outcome: Outcome,
+}
+
+/// A finding, as it is written.
+pub struct Written {
+    pub key: Key,
+    pub severity: Severity,
+    pub text: String,
+}
+
+/// The result for a file.
+pub enum Outcome {
+    /// The file was judged. `text` says how much of it.
+    Judged { findings: Vec<Written>, coverage: Box<Coverage>, unused: Vec<String>, text: String },
+    /// The file's code isn't read.
+    Other(LintError),
+    /// The file can't be read.
+    Unread(String),
+}
+
+/// Lints a file.
+pub fn linted(path: &Path, shown: &Shown) -> Linted {
+    let outcome = match content(path) {
+        Ok(data) => judged(path, &data, shown),
+        Err(error) => Outcome::Unread(format!("cannot read: {}", error)),
+    };
+    Linted { path: path.to_path_buf(), outcome }
+}
+
+fn judged(path: &Path, data: &[u8], shown: &Shown) -> Outcome {
+    let program = match Program::read(data) {
+        Ok(program) => program,
+        Err(error) => return Outcome::Unread(error.to_string()),
+    };
+    if let Err(error) = LintError::of(&program) {
+        return Outcome::Other(error);
+    }
+    let sections = Sections::read(&program);
+    let functions = program.functions();
+    let module = match sections.module(&program, data, &functions) {
+        Ok(module) => module,
+        Err(error) => return Outcome::Other(error),
+    };
+    let mut lint = Lint::run(&module);
+    let report = lint.report();
+    let is_shown = |finding: &&Finding<'_>| {
+        let is_kind = shown.kinds.is_empty() || shown.kinds.contains(&finding.kind);
+        is_kind && (shown.private || finding.severity != Severity::Private)
+    };
+    let file = File { path, module: &module, functions: &functions };
+    let findings = report.findings.iter().filter(is_shown).map(|finding| file.written(finding, &mut lint, shown));
+    let findings = findings.collect();
+    let text = file.coverage(&report.coverage, shown);
+    Outcome::Judged { findings, coverage: Box::new(report.coverage), unused: sections.unused.clone(), text }
+}
+
+/// A file whose findings are written.
+struct File<'a, 'm> {
+    path: &'a Path,
+    module: &'a Module<'m>,
+    functions: &'a Functions<'a>,
+}
+
+impl<'m> File<'_, 'm> {
+    fn name(&self, address: u64) -> Option<String> {
+        Spot::at(self.functions, address).map(|spot| spot.to_string())
+    }
+
+    fn written(&self, finding: &Finding<'m>, lint: &mut Lint<'m>, shown: &Shown) -> Written {
+        let names = |address| self.name(address);
+        let mut text = format!("{}: {}", self.path.display(), Text(self.module, finding, &names));
+        let key = Key::of(text.lines().next().unwrap_or(""));
+        if shown.json {
+            let object = Json(self.module, finding, &names).to_string();
+            text = format!("{{\"file\":{},{}", Quoted(&self.path.to_string_lossy()), &object[1..]);
+        } else if shown.explain {
+            text.push_str(&explained(&explain(lint, finding.fde).unwrap_or_default()));
+        }
+        Written { key, severity: finding.severity, text }
+    }
+
+    /// How much of the file was judged.
+    fn coverage(&self, coverage: &Coverage, shown: &Shown) -> String {
+        if shown.json {
+            let named = coverage.named();
+            let counts: Vec<_> = named.iter().map(|(name, count)| format!("\"{}\":{}", name, count)).collect();
+            let file = Quoted(&self.path.to_string_lossy()).to_string();
+            return format!("{{\"file\":{},\"coverage\":{{{}}}}}", file, counts.join(","));
+        }
+        format!("{}: {}", self.path.display(), coverage)
+    }
+}
+
+/// The lines around each change of what is wrong. An exclamation mark is before each wrong row.
+fn explained(lines: &[Line]) -> String {
+    let is_change = |at: usize| {
+        let line = &lines[at];
+        let before = at.checked_sub(1).map(|before| &lines[before]);
+        let is_same = |before: &Line| {
+            before.is_wrong == line.is_wrong
+                && (!line.is_wrong || (&before.row, &before.code) == (&line.row, &line.code))
+        };
+        !before.map_or(!line.is_wrong, is_same)
+    };
+    let is_near = |at: usize| {
+        let (before, after) = AROUND;
+        (at.saturating_sub(after)..(at + before + 1).min(lines.len())).any(is_change)
+    };
+    let mut text = String::new();
+    let mut has_gap = false;
+    for (at, line) in lines.iter().enumerate() {
+        if !is_near(at) {
+            has_gap = true;
+            continue;
+        }
+        if std::mem::take(&mut has_gap) {
+            text.push_str("\n    ..");
+        }
+        let Line { address, instruction, row, code, is_wrong } = line;
+        let mark = if *is_wrong { '!' } else { ' ' };
+        text.push_str(&format!("\n  {} {:#x}: {:<36}  row: {}  code: {}", mark, address, instruction, row, code));
+    }
+    text
+}

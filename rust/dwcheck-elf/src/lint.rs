@@ -1,0 +1,274 @@
+//! Gives the lint what it takes: the code of a program, its FDEs, and `dwcheck`'s rows.
+//!
+//! [`Sections`] reads and checks the frame sections, and [`Sections::module`] makes a
+//! [`Module`](dwcheck_lint::module::Module), which [`dwcheck_lint::lint`] judges.
+
+use crate::bridge::{EhFrame, Options};
+use crate::frames::{room, Frames, Name};
+use crate::functions::Functions;
+use crate::program::{Kind, Program};
+use crate::stack::accepted;
+use crate::target::AddressSize;
+use dwcheck::{CfaRule, Process, Span};
+use dwcheck_lint::landings::landings;
+use dwcheck_lint::machine::Machine;
+use dwcheck_lint::module::{Convention, Module, Segment};
+use dwcheck_lint::register::Register;
+use dwcheck_lint::table::{Cfa, Fde, Row, Rows, Rule};
+use gimli::{CallFrameInstruction, CieOrFde, EndianSlice, Pointer, RunTimeEndian, UnwindSection};
+use std::cell::RefCell;
+use std::fmt;
+
+type Bytes<'a> = EndianSlice<'a, RunTimeEndian>;
+type Header<'a> = gimli::FrameDescriptionEntry<Bytes<'a>>;
+
+/// The frame sections of a program, checked, with all their rows.
+pub struct Sections<'data> {
+    all: Vec<(Frames<'data>, Process)>,
+    /// What of them isn't used, and why.
+    pub unused: Vec<String>,
+}
+
+/// Why a program can't be linted.
+#[derive(Clone, Copy, Debug, PartialEq, Eq)]
+pub enum LintError {
+    /// The code of the machine with this number (`e_machine`) isn't read.
+    Machine(u16),
+    /// It isn't linked, so its code has no addresses.
+    Unlinked,
+}
+
+impl<'data> Sections<'data> {
+    /// Reads the frame sections of a program, `.eh_frame` first. CIEs and FDEs that `dwcheck` refuses
+    /// are left out.
+    pub fn read(program: &Program<'data>) -> Self {
+        let mut sections = Sections { all: Vec::new(), unused: Vec::new() };
+        for frames in Frames::all(program, Options::default()) {
+            match frames {
+                Ok(frames) => {
+                    let mut process = Process::new(frames.target().into());
+                    sections.unused.extend(add_accepted(&mut process, &frames).err());
+                    sections.all.push((frames, process));
+                }
+                Err(error) => sections.unused.push(error.to_string()),
+            }
+        }
+        sections.all.sort_by_key(|(frames, _)| frames.name() != Name::EhFrame);
+        sections
+    }
+
+    /// The module that is linted. `data` are the bytes of the program's file.
+    pub fn module<'a>(
+        &'a self,
+        program: &Program<'a>,
+        data: &'a [u8],
+        functions: &Functions<'_>,
+    ) -> Result<Module<'a>, LintError> {
+        let machine = LintError::of(program)?;
+        let segments = segments(program, data);
+        let mut module = Module {
+            machine,
+            segments,
+            fdes: Vec::new(),
+            imports: program.imports().into_iter().collect(),
+            convention: convention(program, functions),
+            rows: Box::new(SectionRows::of(self)),
+        };
+        module.fdes = self.fdes(&module);
+        Ok(module)
+    }
+
+    /// The FDEs of all sections, ascending. If two share an address, the one that begins first is
+    /// taken, or the one of `.eh_frame`.
+    fn fdes(&self, module: &Module<'_>) -> Vec<Fde> {
+        let mut fdes: Vec<Fde> = self.all.iter().flat_map(|(frames, _)| fdes(frames, module)).collect();
+        // Linkers leave FDEs of functions that they drop at address 0.
+        fdes.retain(|fde| fde.begin != 0 && fde.begin < fde.end);
+        fdes.sort_by_key(|fde| fde.begin);
+        let mut end = 0;
+        fdes.retain(|fde| {
+            let is_free = fde.begin >= end;
+            end = end.max(fde.end);
+            is_free
+        });
+        fdes
+    }
+}
+
+/// Adds a section to a process, at the addresses that it is linked for. A refused section is added
+/// without its refused CIEs and FDEs. The error says what isn't used.
+fn add_accepted(process: &mut Process, frames: &Frames<'_>) -> Result<(), String> {
+    let (bytes, left_out) = accepted(frames)?;
+    let whole = dwcheck::Module::at(0).range(0..=frames.target().address_size.highest());
+    let added = process.add(&bytes, whole.room(room(&bytes)));
+    added.map_err(|error| format!("{}: {}", frames.name(), error))?;
+    left_out.map_or(Ok(()), Err)
+}
+
+/// The parts of the file that are loaded, ascending.
+fn segments<'a>(program: &Program<'_>, data: &'a [u8]) -> Vec<Segment<'a>> {
+    let loaded = program.segments().into_iter().filter_map(|segment| {
+        let begin = usize::try_from(segment.offset).ok()?;
+        let end = begin.checked_add(usize::try_from(segment.file_size).ok()?)?;
+        let (address, is_executable) = (segment.address, segment.is_executable);
+        Some(Segment { address, bytes: data.get(begin..end)?, is_executable })
+    });
+    let mut loaded: Vec<_> = loaded.collect();
+    loaded.sort_by_key(|segment| segment.address);
+    loaded
+}
+
+/// What the functions of a program do with registers: those of Go and OCaml keep none.
+fn convention(program: &Program<'_>, functions: &Functions<'_>) -> Convention {
+    let is_caml = |name: &str| matches!(name, "caml_call_gc" | "caml_start_program");
+    if program.has_section(".gopclntab") || program.has_section(".go.buildinfo") {
+        Convention::Go
+    } else if functions.all().iter().any(|function| is_caml(function.name)) {
+        Convention::KeepsNone
+    } else {
+        Convention::KeepsRegisters
+    }
+}
+
+/// The FDEs of a section.
+fn fdes(frames: &Frames<'_>, module: &Module<'_>) -> Vec<Fde> {
+    if frames.name() == Name::EhFrame {
+        return eh_frame_fdes(&frames.eh_frame(), module);
+    }
+    let ranges = frames.bridged().records().iter().filter_map(|record| record.kind.range());
+    ranges.map(|range| Fde { begin: range.start, end: range.end, ..Fde::default() }).collect()
+}
+
+/// The FDEs of `.eh_frame`, with what only their headers have.
+fn eh_frame_fdes(section: &EhFrame<'_>, module: &Module<'_>) -> Vec<Fde> {
+    let bases = section.bases();
+    let mut read = gimli::EhFrame::new(section.bytes, section.target.gimli_order());
+    read.set_address_size(section.target.address_size.bytes());
+    let mut entries = read.entries(&bases);
+    let mut fdes = Vec::new();
+    // What gimli can't read, the bridge refuses.
+    while let Ok(Some(entry)) = entries.next() {
+        let header = match entry {
+            CieOrFde::Fde(partial) => partial.parse(gimli::EhFrame::cie_from_offset),
+            CieOrFde::Cie(_) => continue,
+        };
+        if let Ok(header) = header {
+            let begin = header.initial_address();
+            let landings = match header.lsda() {
+                Some(Pointer::Direct(address)) => landings(module.bytes_at(address), begin),
+                _ => Vec::new(),
+            };
+            let argument_bytes = argument_bytes(&header, header.instructions(&read, &bases));
+            let end = begin.saturating_add(header.len());
+            fdes.push(Fde { begin, end, is_signal: header.is_signal_trampoline(), landings, argument_bytes });
+        }
+    }
+    fdes
+}
+
+/// From which address on how many bytes of arguments are on the stack.
+fn argument_bytes<'a>(
+    header: &Header<'a>,
+    mut instructions: gimli::CallFrameInstructionIter<'_, Bytes<'a>>,
+) -> Vec<(u64, u64)> {
+    let mut found = Vec::new();
+    let mut address = header.initial_address();
+    while let Ok(Some(instruction)) = instructions.next() {
+        match instruction {
+            CallFrameInstruction::AdvanceLoc { delta } => {
+                let distance = u64::from(delta).wrapping_mul(header.cie().code_alignment_factor());
+                address = address.wrapping_add(distance);
+            }
+            CallFrameInstruction::SetLoc { address: next } => address = next,
+            CallFrameInstruction::ArgsSize { size } => found.push((address, size)),
+            _ => {}
+        }
+    }
+    found
+}
+
+/// `dwcheck`'s rows of all sections, of which those of `.eh_frame` are taken first.
+struct SectionRows<'a>(Vec<(&'a Frames<'a>, RefCell<dwcheck::Rows<'a>>)>);
+
+impl<'a> SectionRows<'a> {
+    fn of(sections: &'a Sections<'a>) -> Self {
+        SectionRows(sections.all.iter().map(|(frames, process)| (frames, RefCell::new(process.rows()))).collect())
+    }
+
+    fn row(&self, address: u64) -> Option<Row<'a>> {
+        let found = self.0.iter().find_map(|(frames, rows)| {
+            let mut rows = rows.borrow_mut();
+            rows.row(address).map(|row| row_of(row, frames.bytes()))
+        });
+        found.flatten()
+    }
+}
+
+impl Rows for SectionRows<'_> {
+    fn rows(&self, fde: &Fde) -> Result<Vec<Row<'_>>, String> {
+        let (mut rows, mut next) = (Vec::new(), fde.begin);
+        while next < fde.end {
+            let row = self.row(next).filter(|row| row.end > next);
+            let row = row.ok_or_else(|| format!("no row for {:#x}", next))?;
+            next = row.end;
+            rows.push(row);
+        }
+        Ok(rows)
+    }
+
+    fn row(&self, address: u64) -> Option<Row<'_>> {
+        SectionRows::row(self, address)
+    }
+}
+
+/// A register. Those that the lint doesn't follow may all have the same number.
+fn register(number: u16) -> Register {
+    Register(u8::try_from(number).unwrap_or(u8::MAX))
+}
+
+/// A row of `dwcheck`'s. `None` if its rules aren't known.
+fn row_of<'a>(row: &dwcheck::Row, bytes: &'a [u8]) -> Option<Row<'a>> {
+    let expression = |span: Span| span.of(bytes);
+    let cfa = match row.cfa {
+        CfaRule::RegisterAndOffset { register: number, offset } => Cfa::Offset(register(number), offset),
+        CfaRule::Expression(span) => Cfa::Expression(expression(span)?),
+        _ => return None,
+    };
+    let rule = |rule| {
+        Some(match rule {
+            dwcheck::Rule::Undefined => Rule::Undefined,
+            dwcheck::Rule::SameValue => Rule::Same,
+            dwcheck::Rule::Offset(offset) => Rule::Offset(offset),
+            dwcheck::Rule::Register(number) => Rule::Register(register(number)),
+            dwcheck::Rule::Expression(span) => Rule::Expression(expression(span)?),
+            _ => Rule::Value,
+        })
+    };
+    let rules = row.rules.iter().map(|(number, found)| Some((register(*number), rule(*found)?)));
+    let rules = rules.collect::<Option<_>>()?;
+    Some(Row { begin: row.addresses.start, end: row.addresses.end, cfa, rules })
+}
+
+impl LintError {
+    /// The machine of a program whose code can be read, or why it can't.
+    pub fn of(program: &Program<'_>) -> Result<&'static Machine, LintError> {
+        let is_wide = program.target().address_size == AddressSize::Eight;
+        let machine = Machine::numbered(program.machine()).filter(|_| is_wide);
+        match (machine, program.kind()) {
+            (None, _) => Err(LintError::Machine(program.machine())),
+            (_, Kind::Relocatable) => Err(LintError::Unlinked),
+            (Some(machine), _) => Ok(machine),
+        }
+    }
+}
+
+impl fmt::Display for LintError {
+    fn fmt(&self, f: &mut fmt::Formatter<'_>) -> fmt::Result {
+        match self {
+            LintError::Machine(number) => write!(f, "the code of machine {} isn't read, only that of x86-64", number),
+            LintError::Unlinked => f.write_str("the code of unlinked objects isn't read"),
+        }
+    }
+}
+
+impl std::error::Error for LintError {}

@@ -1,0 +1,166 @@
+//! Runs `dwcheck-elf lint`.
+
+mod common;
+
+use common::run::{dwcheck_elf, dwcheck_elf_words};
+use common::{has, Folder, C, CXX};
+use dwcheck_elf::lint::Sections;
+use dwcheck_elf::program::Program;
+use dwcheck_lint::lint::lint;
+
+/// A function whose push has no row, one that gives rbx to nobody, and one that is right.
+const TEXT: &str = ".text
+.globl wrong
+.type wrong, @function
+wrong: .cfi_startproc
+ push %rax
+ mov %rdi, %rax
+ pop %rcx
+ ret
+ .cfi_endproc
+.size wrong, .-wrong
+.globl keeper
+.type keeper, @function
+keeper: .cfi_startproc
+ xor %ebx, %ebx
+ add %rdi, %rbx
+ ret
+ .cfi_endproc
+.size keeper, .-keeper
+.globl right
+.type right, @function
+right: .cfi_startproc
+ mov %rdi, %rax
+ ret
+ .cfi_endproc
+.size right, .-right
+.section .note.GNU-stack,\"\",@progbits
+";
+
+fn folder(name: &str) -> Folder {
+    let folder = Folder::new(name);
+    folder.write("a.s", TEXT);
+    folder.run("mkdir all && gcc -nostdlib -shared a.s -o all/wrong.so && gcc -c a.s -o all/a.o");
+    folder.write("a.c", C);
+    folder.run("gcc -O2 a.c -o all/good && printf 'no ELF file' > all/text");
+    folder
+}
+
+#[test]
+fn a_finding_is_shown_with_its_row_and_the_truth() {
+    let folder = folder("lint");
+    let ran = dwcheck_elf(&folder, "lint all/wrong.so");
+    assert_eq!((ran.status, ran.error.as_str()), (1, ""), "{}", ran.out);
+    let lines = ran.lines();
+    assert!(lines[0].starts_with("all/wrong.so: push without row at wrong+0x1 (0x"), "{}", ran.out);
+    assert!(lines[0].ends_with(": backtrace broken: the row's CFA is off by -8, 2 addresses"), "{}", ran.out);
+    assert!(lines[1].trim().starts_with("after 0x") && lines[1].ends_with(": push %rax"), "{}", ran.out);
+    assert_eq!(lines[3].trim(), "row: cfa=rsp+8 ra=[c-8]");
+    assert_eq!(lines[4].trim(), "code: cfa=rsp+16; right would be: .cfi_def_cfa_offset 16");
+    assert_eq!(lines[5..], ["all/wrong.so: fdes 3 instructions 9 judged 9"]);
+}
+
+#[test]
+fn nothing_is_found_in_a_right_program() {
+    let folder = folder("lint-good");
+    let ran = dwcheck_elf(&folder, "lint all/good");
+    assert_eq!((ran.status, ran.error.as_str(), ran.lines().len()), (0, "", 1), "{}", ran.out);
+    assert!(ran.out.starts_with("all/good: fdes "), "{}", ran.out);
+}
+
+#[test]
+fn options_choose_what_is_shown() {
+    let folder = folder("lint-options");
+    let private = dwcheck_elf(&folder, "lint --private all/wrong.so");
+    assert!(private.out.contains(": private at keeper+0x2 (0x"), "{}", private.out);
+    let kind = dwcheck_elf_words(&folder, &["lint", "--kind", "late push", "all/wrong.so"]);
+    assert_eq!((kind.status, kind.lines().len()), (0, 1), "{}", kind.out);
+    let bad = dwcheck_elf_words(&folder, &["lint", "--kind", "early push", "all/wrong.so"]);
+    assert!(bad.status == 2 && bad.error.contains("no kind is named early push; the kinds are: moved epilogue, "));
+    let explained = dwcheck_elf(&folder, "lint --explain all/wrong.so");
+    let wrong = explained.out.lines().filter(|line| line.starts_with("  ! 0x"));
+    assert_eq!(wrong.count(), 2, "{}", explained.out);
+}
+
+#[test]
+fn known_findings_are_left_out() {
+    let folder = folder("lint-known");
+    folder.write("known", dwcheck_elf(&folder, "lint all/wrong.so").out);
+    let ran = dwcheck_elf(&folder, "lint --known known all/wrong.so");
+    assert_eq!(ran.status, 0, "{}", ran.out);
+    assert!(
+        ran.lines()[1].ends_with(" findings 0 backtrace-broken 0 register-lost 0 private 0 known 1"),
+        "{}",
+        ran.out
+    );
+    assert_eq!(dwcheck_elf(&folder, "lint --known nowhere all/wrong.so").status, 3);
+}
+
+#[test]
+fn folders_and_files_of_other_kinds() {
+    let folder = folder("lint-folder");
+    let ran = dwcheck_elf(&folder, "lint --jobs 1 all");
+    assert_eq!((ran.status, ran.error.as_str()), (1, ""), "{}", ran.out);
+    assert!(ran.out.contains("\nfiles 2 others 1 unread 0 findings 1 backtrace-broken 1 "), "{}", ran.out);
+    let named = dwcheck_elf(&folder, "lint all/a.o all/text nowhere");
+    assert_eq!(named.status, 3);
+    assert!(named.error.contains("all/a.o: the code of unlinked objects isn't read\n"), "{}", named.error);
+    assert!(named.error.contains("cannot read all/text: not an ELF file\n"), "{}", named.error);
+    assert!(named.error.contains("cannot read nowhere: "), "{}", named.error);
+}
+
+#[test]
+fn code_of_other_machines_is_not_read() {
+    if !has("aarch64-linux-gnu-gcc") {
+        return;
+    }
+    let folder = Folder::new("lint-machine");
+    folder.write("a.c", "int twice(int x) { return x + x; }");
+    folder.run("aarch64-linux-gnu-gcc -shared -nostdlib a.c -o a.so");
+    let ran = dwcheck_elf(&folder, "lint a.so");
+    let expected = "dwcheck-elf: a.so: the code of machine 183 isn't read, only that of x86-64\n";
+    assert_eq!((ran.status, ran.error.as_str()), (3, expected));
+}
+
+#[test]
+fn findings_as_json() {
+    let folder = folder("lint-json");
+    folder.write("lines", dwcheck_elf(&folder, "lint --json --private all").out);
+    folder.write(
+        "show.py",
+        "import json, sys\nfor line in sys.stdin:\n one = json.loads(line)\n print(one.get('kind'), one.get('function'), \
+         one.get('directive'), one.get('registers'), one.get('totals', {}).get('findings'))\n",
+    );
+    let shown = folder.run("python3 show.py < lines | sort | uniq");
+    let expected = "None None None None 2\nNone None None None None\nprivate keeper+0x2 None ['rbx'] None\n\
+                    push without row wrong+0x1 .cfi_def_cfa_offset 16 [] None\n";
+    assert_eq!(shown, expected);
+}
+
+/// Programs of which bytes were changed: each is read to its end, or refused.
+#[test]
+fn changed_programs() {
+    let folder = Folder::new("lint-damage");
+    folder.write("a.cc", CXX);
+    folder.run("g++ -O2 a.cc -o a");
+    let bytes = folder.bytes("a");
+    let mut random = 0x2545_f491_4f6c_dd1d_u64;
+    let mut next = move || {
+        random ^= random << 13;
+        random ^= random >> 7;
+        random ^= random << 17;
+        random as usize
+    };
+    for _ in 0..300 {
+        let mut changed = bytes.clone();
+        for _ in 0..1 + next() % 40 {
+            let place = next() % changed.len();
+            changed[place] = next() as u8;
+        }
+        if let Ok(program) = Program::read(&changed) {
+            let (sections, functions) = (Sections::read(&program), program.functions());
+            let module = sections.module(&program, &changed, &functions);
+            module.iter().for_each(|module| drop(lint(module)));
+        }
+    }
+}
