@@ -1,0 +1,127 @@
+/* Times the look-ups of a process that has many modules: the module of an address, the row of an
+   address, and a frame of a walk. Each module has the same section of 64 functions with three rows
+   each. Addresses are in the last module alone, so that its table is in the processor's caches, or in
+   all modules in random order. Prints nanoseconds, the least of five passes.
+
+     gcc -std=gnu11 -O2 -Wall -Wextra bench/times/modules.c $(pkg-config --cflags --libs dwcheck) -o modules && ./modules */
+#include <dwcheck.h>
+#include <stdint.h>
+#include <stdio.h>
+#include <stdlib.h>
+#include <string.h>
+#include <time.h>
+
+enum { FUNCTIONS = 64, SIZE = 64, ADDRESSES = 4096, FRAMES = 500, PASSES = 5, TIMES = 200 };
+static const uint64_t STEP = 0x100000, START = 0x1000, STACK = 0x7ffc0000;
+
+static uint8_t section[32 + 48 * FUNCTIONS];
+static size_t length;
+
+static void put(const void *bytes, size_t count) {
+    memcpy(section + length, bytes, count);
+    length += count;
+}
+
+/* A CIE, and an FDE for each function: its frame is 16 bytes from its second byte on, found by the
+   stack pointer, and then by register 6. */
+static void make_section(void) {
+    static const uint8_t cie[] = {0x14, 0, 0, 0, 0xff, 0xff, 0xff, 0xff, 4, 0, 8, 0, 1, 0x78, 16, 0x0c, 7, 8, 0x90, 1, 0, 0, 0, 0};
+    static const uint8_t program[] = {0x41, 0x0e, 16, 0x86, 2, 0x43, 0x0d, 6};
+    put(cie, sizeof cie);
+    for (uint64_t i = 0; i < FUNCTIONS; i++) {
+        uint64_t begin = START + i * SIZE, size = SIZE;
+        uint32_t head[2] = {4 + 8 + 8 + sizeof program, 0};
+        put(head, sizeof head), put(&begin, 8), put(&size, 8), put(program, sizeof program);
+    }
+}
+
+static uint64_t random_number(void) {
+    static uint64_t x = 88172645463325252u;
+    x ^= x << 13, x ^= x >> 7, x ^= x << 17;
+    return x;
+}
+
+static double now(void) {
+    struct timespec time;
+    clock_gettime(CLOCK_MONOTONIC, &time);
+    return (double)time.tv_sec * 1e9 + (double)time.tv_nsec;
+}
+
+static dwcheck_process process;
+static uint64_t addresses[ADDRESSES];
+static volatile uint64_t sink;
+
+static void find_modules(void) {
+    dwcheck_loaded module;
+    for (int i = 0; i < ADDRESSES; i++)
+        if (dwcheck_module_at(&process, addresses[i], &module) == DWCHECK_DONE) sink += module.id;
+}
+
+static void find_rows(void) {
+    dwcheck_row row;
+    dwcheck_rule rules[4];
+    for (int i = 0; i < ADDRESSES; i++)
+        if (dwcheck_row_at(&process, addresses[i], &row, rules, 4) == DWCHECK_DONE) sink += row.end;
+}
+
+/* A stack of frames of two words: the frame pointer before, and a return address. */
+static uint64_t words[2 * FRAMES];
+
+static void walk(void) {
+    static const uint8_t known[] = {0xff, 0xff, 1};
+    static const uint16_t kept[] = {3, 6, 12, 13, 14, 15};
+    uint64_t registers[17] = {[6] = STACK, [7] = STACK};
+    dwcheck_block block = {STACK, (const uint8_t *)words, sizeof words};
+    dwcheck_state state = {registers, 17, known, sizeof known, &block, 1, kept, 6, 7, 1, 0};
+    static dwcheck_frame frames[FRAMES];
+    size_t count;
+    uint32_t stop;
+    dwcheck_fault fault;
+    if (dwcheck_backtrace(&process, addresses[0], &state, frames, FRAMES, &count, &stop, &fault) != DWCHECK_DONE || count != FRAMES)
+        exit(1);
+}
+
+static double least(void (*what)(void), int times, double each) {
+    double best = 1e18;
+    for (int pass = 0; pass < PASSES; pass++) {
+        double begun = now();
+        for (int i = 0; i < times; i++) what();
+        double took = (now() - begun) / times / each;
+        if (took < best) best = took;
+    }
+    return best;
+}
+
+/* Fills in addresses in `count` modules from `first` on. */
+static void choose(uint64_t first, uint64_t count) {
+    for (int i = 0; i < ADDRESSES; i++)
+        addresses[i] = (first + random_number() % count) * STEP + START + random_number() % (FUNCTIONS * SIZE);
+    for (int i = 0; i < FRAMES; i++) {
+        words[2 * i] = STACK + 16 * (uint64_t)(i + 1);
+        words[2 * i + 1] = (first + random_number() % count) * STEP + START + random_number() % FUNCTIONS * SIZE + 40;
+    }
+    addresses[0] = words[1];
+}
+
+int main(void) {
+    static const uint64_t counts[] = {1, 30, 300, 1000};
+    make_section();
+    for (int i = 0; i < 4; i++) {
+        uint64_t count = counts[i], id;
+        dwcheck_fault fault;
+        for (uint64_t n = 0; n < count; n++) {
+            dwcheck_module module = {.frame = section, .frame_length = length, .load_address = n * STEP, .room = SIZE_MAX, .address_size = 8};
+            if (dwcheck_process_add(&process, &module, &id, &fault) != DWCHECK_DONE) return 1;
+        }
+        printf("%4d modules:", (int)count);
+        for (int in_all = 0; in_all < 2; in_all++) {
+            choose(in_all ? 0 : count - 1, in_all ? count : 1);
+            double module = least(find_modules, TIMES, ADDRESSES), row = least(find_rows, TIMES, ADDRESSES);
+            double frame = least(walk, TIMES * 4, FRAMES);
+            printf("%s module_at %.1f, row_at %.1f, a frame %.1f", in_all ? "; in all" : " in the last", module, row, frame);
+        }
+        printf("\n");
+        dwcheck_process_close(&process);
+    }
+    return 0;
+}
