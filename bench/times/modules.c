@@ -1,7 +1,8 @@
 /* Times the look-ups of a process that has many modules: the module of an address, the row of an
    address, and a frame of a walk. Each module has the same section of 64 functions with three rows
    each. Addresses are in the last module alone, so that its table is in the processor's caches, or in
-   all modules in random order. Prints nanoseconds, the least of five passes.
+   all modules in random order. Then it times walks of a few frames, their start included. Prints
+   nanoseconds, the least of five passes.
 
      gcc -std=gnu11 -O2 -Wall -Wextra bench/times/modules.c $(pkg-config --cflags --libs dwcheck) -o modules && ./modules */
 #include <dwcheck.h>
@@ -66,6 +67,7 @@ static void find_rows(void) {
 
 /* A stack of frames of two words: the frame pointer before, and a return address. */
 static uint64_t words[2 * FRAMES];
+static size_t limit = FRAMES;
 
 static void walk(void) {
     static const uint8_t known[] = {0xff, 0xff, 1};
@@ -77,8 +79,8 @@ static void walk(void) {
     size_t count;
     uint32_t stop;
     dwcheck_fault fault;
-    if (dwcheck_backtrace(&process, addresses[0], &state, frames, FRAMES, &count, &stop, &fault) != DWCHECK_DONE || count != FRAMES)
-        exit(1);
+    uint32_t status = dwcheck_backtrace(&process, addresses[0], &state, frames, limit, &count, &stop, &fault);
+    if (status != DWCHECK_DONE || count != limit) exit(1);
 }
 
 static double least(void (*what)(void), int times, double each) {
@@ -103,16 +105,23 @@ static void choose(uint64_t first, uint64_t count) {
     addresses[0] = words[1];
 }
 
+/* Adds modules to the process, which is closed. Returns whether all were added. */
+static int add_modules(uint64_t count) {
+    for (uint64_t n = 0; n < count; n++) {
+        dwcheck_module module = {.frame = section, .frame_length = length, .load_address = n * STEP, .room = SIZE_MAX, .address_size = 8};
+        dwcheck_fault fault;
+        uint64_t id;
+        if (dwcheck_process_add(&process, &module, &id, &fault) != DWCHECK_DONE) return 0;
+    }
+    return 1;
+}
+
 int main(void) {
     static const uint64_t counts[] = {1, 30, 300, 1000};
     make_section();
     for (int i = 0; i < 4; i++) {
-        uint64_t count = counts[i], id;
-        dwcheck_fault fault;
-        for (uint64_t n = 0; n < count; n++) {
-            dwcheck_module module = {.frame = section, .frame_length = length, .load_address = n * STEP, .room = SIZE_MAX, .address_size = 8};
-            if (dwcheck_process_add(&process, &module, &id, &fault) != DWCHECK_DONE) return 1;
-        }
+        uint64_t count = counts[i];
+        if (!add_modules(count)) return 1;
         printf("%4d modules:", (int)count);
         for (int in_all = 0; in_all < 2; in_all++) {
             choose(in_all ? 0 : count - 1, in_all ? count : 1);
@@ -123,5 +132,9 @@ int main(void) {
         printf("\n");
         dwcheck_process_close(&process);
     }
+    if (!add_modules(1)) return 1;
+    choose(0, 1);
+    for (limit = 4; limit <= 25; limit += 21) printf("walks of %zu frames: %.1f a frame\n", limit, least(walk, TIMES * 100, (double)limit));
+    dwcheck_process_close(&process);
     return 0;
 }
