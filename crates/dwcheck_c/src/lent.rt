@@ -3,6 +3,7 @@
 ghost use Rattle.std.specs.Prelude.{◌≡◌, None, Some, MatchOption};
 ghost use Rattle.dwcheck_c.specs.Lent.{Reads, loan_of, loan_by};
 
+use crate::handle::CProcess;
 use crate::part::Part;
 use crate::right::Right;
 use dw_process::Process;
@@ -16,6 +17,8 @@ pub struct LentProcess {
     pub(crate) at: *const u8,
     pub(crate) is_open: bool,
 }
+
+const _: () = prove!(size_of::<LentProcess>() == size_of::<CProcess>());
 
 impl LentProcess {
     /// Takes the right to read this process out of `right`. `None`, and nothing is taken, if the

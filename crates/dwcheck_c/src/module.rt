@@ -88,6 +88,8 @@ pub struct ModulePlace {
     right: Right,
 }
 
+const _: () = prove!(size_of::<ModulePlace>() == size_of::<CLoaded>());
+
 /// Writes the module whose range contains `address`, an address as loaded. Returns `NONE` if there
 /// is no such module.
 #[unsafe(no_mangle)]

@@ -190,6 +190,8 @@ pub struct SharePlace {
     right: Right,
 }
 
+const _: () = prove!(size_of::<SharePlace>() == size_of::<CProcess>());
+
 /// Replaces `other` with a process that has the modules of `process`. The two processes share the
 /// compiled tables.
 #[unsafe(no_mangle)]

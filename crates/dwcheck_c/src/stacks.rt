@@ -32,6 +32,8 @@ pub struct RowPlace {
     right: Right,
 }
 
+const _: () = prove!(size_of::<RowPlace>() == size_of::<CRow>());
+
 /// Where a caller is written, with a part of the right to read the process.
 #[repr(C)]
 pub struct CallerPlace {
@@ -39,12 +41,16 @@ pub struct CallerPlace {
     right: Right,
 }
 
+const _: () = prove!(size_of::<CallerPlace>() == size_of::<CCaller>());
+
 /// Where a number of frames is written, with a part of the right to read the process.
 #[repr(C)]
 pub struct CountPlace {
     count: usize,
     right: Right,
 }
+
+const _: () = prove!(size_of::<CountPlace>() == size_of::<usize>());
 
 /// Finds the row of `address`, an address as loaded. Writes the row to `row`, and the rules of its
 /// registers to `rules`, as many as fit.
