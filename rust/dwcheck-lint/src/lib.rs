@@ -18,6 +18,7 @@
 #![deny(unsafe_op_in_unsafe_fn)]
 
 pub mod assume;
+mod bytes;
 pub mod callees;
 pub mod code;
 pub mod coverage;
