@@ -19,7 +19,8 @@ mod stack;
 mod width;
 
 pub use context::{Context, Memory, Registers};
-pub use evaluation::evaluate;
+pub use evaluation::{evaluate, evaluate_rule};
+pub use frame::{RuleEvaluation, RuleOutcome};
 pub use location::{Evaluation, Location, Outcome, Piece, PieceSize};
 pub use memory_block::MemoryBlock;
 pub use width::Width;
