@@ -27,20 +27,20 @@ use Rattle.dw_unwind.specs.declared.modules.Module.{Module}
 
 -- ---- a register file
 
--- if a list of flags is false at r, register r has no content
-off : (contents : List ℕ) (known : List Bool) (r : ℕ) → get_or known r false ≡ false → content_in contents known r ≡ None
+-- if a list of flags is 0 at r, register r has no content
+off : (contents known : List ℕ) (r : ℕ) → get_or known r 0 ≡ 0 → content_in contents known r ≡ None
 off contents known r is = rw is refl
 
-all-false : (n r : ℕ) → get_or (replicate n false) r false ≡ false
-all-false zero r = refl
-all-false (suc n) zero = refl
-all-false (suc n) (suc r) = all-false n r
+all-zero : (n r : ℕ) → ◌≡◌ {A = ℕ} (get_or (replicate n 0) r 0) 0
+all-zero zero r = refl
+all-zero (suc n) zero = refl
+all-zero (suc n) (suc r) = all-zero n r
 
-pub nothing-known : (contents : List ℕ) (n r : ℕ) → content_in contents (replicate n false) r ≡ None
-nothing-known contents n r = off contents (replicate n false) r (all-false n r)
+pub nothing-known : (contents : List ℕ) (n r : ℕ) → content_in contents (replicate n 0) r ≡ None
+nothing-known contents n r = off contents (replicate n 0) r (all-zero n r)
 
-pub nothing-past : (contents : List ℕ) (known : List Bool) (r : ℕ) → length known ≤ r → content_in contents known r ≡ None
-nothing-past contents known r le = off contents known r (get_or_past known r false le)
+pub nothing-past : (contents known : List ℕ) (r : ℕ) → length known ≤ r → content_in contents known r ≡ None
+nothing-past contents known r le = off contents known r (get_or_past known r 0 le)
 
 -- ---- contents that are written one after the other
 
@@ -97,13 +97,13 @@ role_answer e cfa unnamed r = undefined
 role_answer e cfa kept r = content e r
 role_answer e cfa stack_pointer r = if_value cfa (λ c. value (number_plus e (pos 0) c))
 
-role-is : (e : World) (cfa : Answer) (role : Role) (r : ℕ) → IsRegister e cfa r (rule_of_role role) (role_answer e cfa role r)
+pub role-is : (e : World) (cfa : Answer) (role : Role) (r : ℕ) → IsRegister e cfa r (rule_of_role role) (role_answer e cfa role r)
 role-is e cfa unnamed r = refl
 role-is e cfa kept r = refl
 role-is e cfa stack_pointer r = refl
 
 -- the contents that the rules of an ABI give: first the kept registers, and then the stack pointer
-role-content : (e : World) (cfa : Answer) (registers : List ℕ) (final : ℕ → Option ℕ) (r : ℕ)
+pub role-content : (e : World) (cfa : Answer) (registers : List ℕ) (final : ℕ → Option ℕ) (r : ℕ)
     → final r ≡ (if is_among r registers then content_of (content e r) else None)
     → final r ≡ content_of (role_answer e cfa (abi_of registers None r) r)
 role-content e cfa registers final r is = is ∙ go (is_among r registers)

@@ -4,6 +4,7 @@ pub mod CallersFit
 pub mod Contents
 pub mod EachCaller
 pub mod GivenFrames
+pub mod InPlace
 pub mod ModuleWalks
 pub mod OneCaller
 pub mod OneWalk

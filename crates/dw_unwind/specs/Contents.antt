@@ -1,6 +1,6 @@
 -- The contents of a caller's registers, found register by register, where a list of all answers
 -- isn't needed. A walk that gives only addresses and CFAs keeps contents alone.
-use Rattle.std.specs.Prelude.{◌≡◌, ℕ, ◌==◌, Bool, false, if◌then◌else◌, List, [], ◌∷◌, Option, Some, None, IfSome, option_map}
+use Rattle.std.specs.Prelude.{◌≡◌, ℕ, ◌==◌, if◌then◌else◌, List, [], ◌∷◌, Option, Some, None, IfSome, option_map}
 use Rattle.std.proofs.Math.ListN.{get_or}
 use Rattle.dw_eval.specs.World.{World}
 use Rattle.dw_rows.specs.Abi.{Abi, rule_of_role}
@@ -10,14 +10,14 @@ use Rattle.dw_unwind.specs.Caller.{Answer, content, IsRegister}
 use Rattle.dw_unwind.specs.UnwoundViews.{caller_with}
 use Rattle.dw_unwind.specs.Walks.{CallerRelation, Place, UnwindsAt, address_before, content_of, contents_of}
 
--- the content of register `r`, where `contents[r]` counts if `is_known[r]` is true
-abbrev pub content_in : List ℕ → List Bool → ℕ → Option ℕ
-content_in contents known r = if get_or known r false then Some (get_or contents r 0) else None
+-- the content of register `r`, where `contents[r]` counts if `known[r]` isn't 0
+abbrev pub content_in : List ℕ → List ℕ → ℕ → Option ℕ
+content_in contents known r = if get_or known r 0 == 0 then None else Some (get_or contents r 0)
 
 -- registers by number: their contents, and which of these count
 pub record File : Type 0 where
   pub contents : List ℕ
-  pub known : List Bool
+  pub known : List ℕ
 
 abbrev pub contents_in : File → ℕ → Option ℕ
 contents_in f = content_in f.contents f.known

@@ -25,5 +25,9 @@ pub mod PackedRegisters
 pub mod Contents
 -- which registers have no place among those contents
 pub mod Places
+-- callee-saved registers that are marked by number
+pub mod KeptRegisters
+-- rows whose rules all say that a register is saved in memory
+pub mod InPlace
 -- translates the code's frames and walks
 pub mod WalkViews

@@ -23,7 +23,7 @@ pub struct NoPlace;
 
 /// The content of a register with this answer; none if the answer isn't a value.
 #[inline(always)]
-fn content_of(answer: Answer) -> Option<u64>
+pub(crate) fn content_of(answer: Answer) -> Option<u64>
     ensures { result ≡ content_of (answer_in answer) }
 {
     match answer {
@@ -91,7 +91,11 @@ fn keep_into<R: Registers, M: Memory>(
 
 /// The answer of the rule that a register is saved at the CFA plus `offset`.
 #[inline(always)]
-fn saved<R: Registers, M: Memory>(present: &Present<'_, R, M>, cfa: Answer, offset: i64) -> Answer
+pub(crate) fn saved<R: Registers, M: Memory>(
+    present: &Present<'_, R, M>,
+    cfa: Answer,
+    offset: i64,
+) -> Answer
     ensures { answer_in result ≡ if_value (answer_in cfa)
         (λ c. word (machine_in R.contents M.bytes present.now)
         (number_plus (machine_in R.contents M.bytes present.now) offset c)) }
@@ -161,7 +165,7 @@ fn overlay_into<R: Registers, M: Memory>(
 
 /// The content of the stack pointer in the caller, where the row gives it no rule.
 #[inline(always)]
-fn pointed<R: Registers, M: Memory>(present: &Present<'_, R, M>, cfa: Answer) -> Answer
+pub(crate) fn pointed<R: Registers, M: Memory>(present: &Present<'_, R, M>, cfa: Answer) -> Answer
     ensures { (r : ℕ) → IsRegister (machine_in R.contents M.bytes present.now) (answer_in cfa) r
         (rule_of_role Role.stack_pointer) (answer_in result) }
 {

@@ -8,6 +8,7 @@ ghost use Rattle.dw_unwind.specs.CallerViews.{caller_in};
 ghost use Rattle.dw_unwind.specs.Modules.{AreBelow, as_linked, over_modules_of_rows};
 
 use crate::caller_contents::{NoPlace, contents_by};
+use crate::kept_registers::KeptRegisters;
 use crate::register_file::RegisterFile;
 use crate::register_list::RegisterList;
 use crate::unwinder::Unwinder;
@@ -110,6 +111,19 @@ impl<'m, T: UnwindRows> Unwinder for &'m [Module<T>] {
             }
         }
         Ok(None)
+    }
+
+    /// Always none: which module has the row is found by asking each of them.
+    #[inline(always)]
+    fn contents_in_place<M: Memory>(
+        &self,
+        _kept: &KeptRegisters<'_>,
+        _stack_pointer: Option<u16>,
+        _address: u64,
+        _memory: &M,
+        _file: &mut RegisterFile,
+    ) -> Option<Unwound> {
+        None
     }
 }
 

@@ -1,17 +1,18 @@
 //! The answers that CFA rules and register rules give for a frame's registers and memory.
 
-ghost use Rattle.std.specs.Prelude.{◌≡◌, ◌≤◌, ℕ, All, Some, length};
+ghost use Rattle.std.specs.Prelude.{◌≡◌, ◌≢◌, ◌≤◌, ℕ, All, Some, length};
 ghost use Rattle.dw_rows.specs.Views.{cfa_rule_of, rule_of};
 ghost use Rattle.dw_rows.specs.GivenRows.{IsCfaOfKind, IsEntryOfKind, IsRuleOfKind};
 ghost use Rattle.dw_stack.specs.Certificates.{checked_of};
 ghost use Rattle.dw_stack.specs.Located.{located_of};
+ghost use Rattle.dw_stack.specs.declared.state.Kind.TheVariants.{Location};
 ghost use Rattle.dw_unwind.specs.Caller.{Gives, IsCfa, IsRegister, AreRegisters, number_plus, content_plus, content, word};
 ghost use Rattle.dw_unwind.specs.CallerViews.{answer_in, machine_in, with_optional_cfa};
 
 use crate::register_list::RegisterList;
 use crate::unwinding::{Answer, MAX_FOUND};
 use dw_bytes::Target;
-use dw_eval::{Context, Memory, Outcome, Registers, Width, evaluate};
+use dw_eval::{Context, Memory, Registers, RuleOutcome, Width, evaluate_rule};
 use dw_rows::{CfaRule, RegisterRule, RegisterRules};
 use dw_stack::CheckedExpression;
 
@@ -76,6 +77,7 @@ impl<'m, R: Registers, M: Memory> Present<'m, R, M> {
     /// rules.
     #[inline(never)]
     fn outcome(&self, expression: &CheckedExpression<'_>, cfa: Option<u64>) -> Answer
+        requires { (checked_of expression.now).kind ≢ Location }
         ensures { (at : ℕ) → Gives (with_optional_cfa (machine_in R.contents M.bytes self.now) cfa)
             (checked_of expression.now).kind (located_of (at, expression.now))
             (answer_in result) }
@@ -85,10 +87,10 @@ impl<'m, R: Registers, M: Memory> Present<'m, R, M> {
             frame_base: None,
             object: None,
         };
-        match evaluate(expression, &context, self.registers, self.memory).outcome {
-            Outcome::Value(value) => Answer::Value(value),
-            Outcome::DivisionByZero { .. } => Answer::DivisionByZero,
-            _ => Answer::Unreadable,
+        match evaluate_rule(expression, &context, self.registers, self.memory).outcome {
+            RuleOutcome::Value(value) => Answer::Value(value),
+            RuleOutcome::Unreadable { .. } => Answer::Unreadable,
+            RuleOutcome::DivisionByZero { .. } => Answer::DivisionByZero,
         }
     }
 

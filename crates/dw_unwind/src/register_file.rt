@@ -1,9 +1,12 @@
 //! The registers of a frame by number, for walks that give no registers.
 
-ghost use Rattle.std.specs.Prelude.{◌≡◌, ◌≤◌, ℕ, IsSome, None};
+ghost use Rattle.std.specs.Prelude.{◌≡◌, ◌<◌, ◌≤◌, ◌^◌, ℕ, All, IfSome, IsSome, None, if◌then◌else◌};
 ghost use Rattle.std.specs.Bool.{OnFalse, OnTrue};
+ghost use Rattle.dw_rows.specs.Abi.{is_among};
 ghost use Rattle.dw_unwind.specs.Contents.{content_changed, contents_in};
+ghost use Rattle.dw_unwind.specs.KeptRegisters.{ArePicked};
 
+use crate::kept_registers::KeptRegisters;
 use dw_eval::Registers;
 use std::marker::Model;
 
@@ -15,7 +18,8 @@ pub const PLACES: usize = 96;
 #[derive(Drop)]
 pub struct RegisterFile {
     contents: [u64; PLACES],
-    is_known: [bool; PLACES],
+    /// The content of a register counts if this isn't 0.
+    known: [u8; PLACES],
 }
 
 impl Model for RegisterFile {
@@ -24,11 +28,29 @@ impl Model for RegisterFile {
 
     ghost Value = { File };
 
-    ghost view = { λ f. record { contents = f.contents; known = f.is_known } };
+    ghost view = { λ f. record { contents = f.contents; known = f.known } };
 
     ghost use Rattle.dw_unwind.specs.declared.register_file.TheConstants.{PLACES};
 
-    ghost invariant = { λ f. (length f.contents ≡ PLACES) × (length f.is_known ≡ PLACES) };
+    ghost invariant = { λ f. (length f.contents ≡ PLACES) × (length f.known ≡ PLACES) };
+}
+
+/// Clears the flags that aren't marked. There is no branch, so that this is done for many flags at
+/// once.
+#[inline(always)]
+fn keep_marked(flags: &mut [u8; PLACES], marks: &[bool; PLACES])
+    ensures { ArePicked marks.now flags.old flags.new }
+{
+    for place in 0..PLACES {
+        flags[place] = if marks[place] { flags[place] } else { 0 };
+    }
+}
+
+/// Numbers of 64 bits are below 2^64. This does nothing: only its contract is used.
+fn are_numbers(contents: &[u64])
+    ensures { All (λ content. content < 2 ^ 64) contents.now }
+{
+    let _ = contents;
 }
 
 impl RegisterFile {
@@ -38,7 +60,7 @@ impl RegisterFile {
     {
         RegisterFile {
             contents: [0; PLACES],
-            is_known: [false; PLACES],
+            known: [0; PLACES],
         }
     }
 
@@ -47,7 +69,7 @@ impl RegisterFile {
     pub(crate) fn clear(&mut self)
         ensures { (r : ℕ) → contents_in self.new r ≡ None }
     {
-        self.is_known = [false; PLACES];
+        self.known = [0; PLACES];
     }
 
     /// Gives the register `number` a content, or takes its content away. Returns false if there is
@@ -65,16 +87,49 @@ impl RegisterFile {
                     return false;
                 }
                 self.contents[place] = content;
-                self.is_known[place] = true;
+                self.known[place] = 1;
                 true
             }
             None => {
                 if place < PLACES {
-                    self.is_known[place] = false;
+                    self.known[place] = 0;
                 }
                 true
             }
         }
+    }
+
+    /// Gives the register `number`, which has a place, a content, or takes its content away.
+    #[inline(always)]
+    pub(crate) fn set(&mut self, number: u16, content: Option<u64>)
+        requires { number < PLACES }
+        ensures { (r : ℕ) → contents_in self.new r
+            ≡ content_changed (contents_in self.old) number content r }
+    {
+        let place = usize::from(number);
+        match content {
+            Some(content) => {
+                self.contents[place] = content;
+                self.known[place] = 1;
+            }
+            None => self.known[place] = 0,
+        }
+    }
+
+    /// Takes the contents of all registers away that aren't callee-saved.
+    #[inline(always)]
+    pub(crate) fn keep(&mut self, kept: &KeptRegisters<'_>)
+        ensures { (r : ℕ) → contents_in self.new r
+            ≡ (if is_among r kept.now then contents_in self.old r else None) }
+    {
+        keep_marked(&mut self.known, kept.marks());
+    }
+
+    /// Each content is below 2^64. This does nothing: only its contract is used.
+    pub(crate) fn fits(&self)
+        ensures { (r : ℕ) → IfSome (contents_in self.now r) (λ content. content < 2 ^ 64) }
+    {
+        are_numbers(&self.contents);
     }
 
     /// Registers without a place have no content. This does nothing: only its contract is used.
@@ -93,7 +148,7 @@ impl Registers for RegisterFile {
     #[inline(always)]
     fn register(&self, number: u16) -> Option<u64> {
         let place = usize::from(number);
-        if place < PLACES && self.is_known[place] {
+        if place < PLACES && self.known[place] != 0 {
             Some(self.contents[place])
         } else {
             None

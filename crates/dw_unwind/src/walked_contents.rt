@@ -1,12 +1,13 @@
 //! The contents of a frame's registers, for walks that give no registers.
 
-ghost use Rattle.std.specs.Prelude.{◌≡◌, ℕ, IfErr, IfOk, OnErr, None, Some};
+ghost use Rattle.std.specs.Prelude.{◌≡◌, ℕ, IfErr, IfOk, MatchOption, OnErr, None, Some};
 ghost use Rattle.dw_rows.specs.Abi.{abi_of};
 ghost use Rattle.dw_unwind.specs.Contents.{UnwindsTo, contents_in};
 ghost use Rattle.dw_unwind.specs.Places.{LacksPlace};
 ghost use Rattle.dw_unwind.specs.Walks.{address_before};
 
 use crate::caller_contents::NoPlace;
+use crate::kept_registers::KeptRegisters;
 use crate::register_file::RegisterFile;
 use crate::unwinder::Unwinder;
 use crate::unwinding::Unwound;
@@ -14,7 +15,8 @@ use dw_eval::{Memory, Registers};
 use std::marker::Model;
 
 /// The contents of a frame's registers, and a second file that the contents of its caller's
-/// registers are written to. It takes 2 KB, and a step copies nothing.
+/// registers are written to if a step can't be done in place. It takes 2 KB, and a step copies
+/// nothing.
 #[derive(Drop)]
 pub struct WalkedContents {
     one: RegisterFile,
@@ -94,7 +96,7 @@ impl WalkedContents {
     pub fn advance<U: Unwinder, M: Memory>(
         &mut self,
         unwinder: &U,
-        kept: &[u16],
+        kept: &KeptRegisters<'_>,
         stack_pointer: Option<u16>,
         address: u64,
         memory: &M,
@@ -110,11 +112,64 @@ impl WalkedContents {
         let Some(before) = address.checked_sub(1) else {
             return Ok(None);
         };
+        if let Some(unwound) = self.advance_in_place(
+            unwinder,
+            kept,
+            stack_pointer,
+            before,
+            memory,
+        ) {
+            return Ok(Some(unwound));
+        }
+        self.advance_by_copy(unwinder, kept.numbers(), stack_pointer, before, memory)
+    }
+
+    /// Makes the contents those of the caller's registers, if that can be done in place. The frame
+    /// is looked up at `address`. If the result is none, nothing has changed.
+    #[inline(always)]
+    fn advance_in_place<U: Unwinder, M: Memory>(
+        &mut self,
+        unwinder: &U,
+        kept: &KeptRegisters<'_>,
+        stack_pointer: Option<u16>,
+        address: u64,
+        memory: &M,
+    ) -> Option<Unwound>
+        ensures { MatchOption result (self.new ≡ self.old) (λ unwound. UnwindsTo
+            (U.unwinds unwinder.now (abi_of kept.now stack_pointer) (M.bytes memory.now))
+            (contents_in self.old) (Some address) (Some unwound) (contents_in self.new)) }
+    {
+        if self.is_other {
+            let file = &mut self.other;
+            return unwinder.contents_in_place(kept, stack_pointer, address, memory, file);
+        }
+        unwinder.contents_in_place(kept, stack_pointer, address, memory, &mut self.one)
+    }
+
+    /// Makes the contents those of the caller's registers, which are written to the other file. The
+    /// frame is looked up at `address`.
+    #[inline(never)]
+    fn advance_by_copy<U: Unwinder, M: Memory>(
+        &mut self,
+        unwinder: &U,
+        kept: &[u16],
+        stack_pointer: Option<u16>,
+        address: u64,
+        memory: &M,
+    ) -> Result<Option<Unwound>, NoPlace>
+        ensures next { IfOk result (λ unwound. UnwindsTo
+            (U.unwinds unwinder.now (abi_of kept.now stack_pointer) (M.bytes memory.now))
+            (contents_in self.old) (Some address) unwound (contents_in self.new)) }
+        ensures same { IfErr result (λ _. self.new ≡ self.old) }
+        ensures no_place { OnErr result (LacksPlace
+            (U.unwinds unwinder.now (abi_of kept.now stack_pointer) (M.bytes memory.now))
+            (contents_in self.old) (Some address)) }
+    {
         if self.is_other {
             let unwound = unwinder.contents_into(
                 kept,
                 stack_pointer,
-                before,
+                address,
                 &self.other,
                 memory,
                 &mut self.one,
@@ -125,7 +180,7 @@ impl WalkedContents {
             let unwound = unwinder.contents_into(
                 kept,
                 stack_pointer,
-                before,
+                address,
                 &self.one,
                 memory,
                 &mut self.other,

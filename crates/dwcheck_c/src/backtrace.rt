@@ -15,7 +15,7 @@ use dw_eval::{Memory, Registers};
 use dw_process::Process;
 use dw_rows::Abi;
 use dw_unwind::laws::frames_that_are_given_are_a_walk;
-use dw_unwind::{BriefFrame, Stop, Unwinder, Unwound, Walk, WalkedContents, return_address};
+use dw_unwind::{BriefFrame, KeptRegisters, Stop, Unwinder, Unwound, Walk, WalkedContents, return_address};
 
 /// Walks up a stack from the frame at `address`, and writes its frames to `slots`, as many as fit.
 /// Returns the number of frames written, and why there are no more.
@@ -173,6 +173,7 @@ fn write_brief<R: Registers, M: Memory>(
     let Ok(first) = contents.begin(&process, kept, pointer, address, registers, memory) else {
         return write_all(process, kept, pointer, address, registers, memory, slots);
     };
+    let marked = KeptRegisters::new(kept);
     let mut unwound = first;
     let mut at = address;
     let mut count = 0;
@@ -186,7 +187,7 @@ fn write_brief<R: Registers, M: Memory>(
             Ok(next) => next,
             Err(stop) => return (count, stop),
         };
-        match contents.advance(&process, kept, pointer, next, memory) {
+        match contents.advance(&process, &marked, pointer, next, memory) {
             Ok(caller) => {
                 unwound = caller;
                 at = next;

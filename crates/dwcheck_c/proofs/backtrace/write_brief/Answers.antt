@@ -43,7 +43,7 @@ loop-count-preserved g c =
       comes = comes-next u keeps.begin f next (contents_in c.loop-count.contents) (contents_in c.advance.new.self) c.in-Ok-advance.caller
           c.args.slots.now (slice_set slots count c.shown_frame.result) (count + 1) here
           (next-is c.loop-count.unwound h.found (contents_in c.loop-count.contents) next c.in-Ok-return_address.ensures h.contents_are)
-          (c.in-Ok-advance.ensures).next;
+          (rw c.new-marked.ensures at ((c.in-Ok-advance.ensures).next));
       long = length-set slots count c.shown_frame.result ∙ keeps.long;
       few = omega (arith, length-set slots count c.shown_frame.result, c.loop-count-test.true);
     }

@@ -1,0 +1,157 @@
+-- Steps in place: contents that stay where they are, and rules that only read memory.
+use Rattle.std.proofs.Common.{◌≡◌, ◌≢◌, ℕ, ◌+◌, ◌<◌, ◌≤◌, ◌%◌, ◌^◌, ◌==◌, Bool, true, false, if◌then◌else◌, List, [], ◌∷◌, ◌++◌}
+use Rattle.std.proofs.Common.{refl, sym, ap, subst, ◌∙◌, add-one, arith, drop, drop-cons}
+use Rattle.std.proofs.Common.{◌||◌, length, get_or, replicate, set, suc, zero}
+use Rattle.std.specs.Prelude.{IfSome, Option, Some, None, pos}
+use Rattle.std.specs.List.{AllByRecursion}
+use Rattle.std.proofs.lemmas.Bool.Decides.{nat_tests}
+use Rattle.std.proofs.lemmas.List.{get_or-set_other, get_or-set_same, drop_all}
+use Rattle.dw_bytes.specs.declared.target.Target.{Target}
+use Rattle.dw_rows.specs.Abi.{Abi, abi_of, is_among, rule_under}
+use Rattle.dw_rows.specs.Rules.{Rule, IsTable, rule_in}
+use Rattle.dw_unwind.specs.Caller.{Answer, IsRegister, content_plus, machine}
+use Rattle.dw_unwind.specs.Contents.{HasContents, Overlays, abi_rules, content_changed}
+use Rattle.dw_unwind.specs.InPlace.{IsSavedAt, IsSavedEntry}
+use Rattle.dw_unwind.specs.Walks.{content_of}
+use Rattle.dw_unwind.specs.declared.in_place.TheConstants.{LITTLE_64}
+use Rattle.dw_unwind.proofs.Contents.{role-content, role-is, role_answer}
+use Rattle.dw_unwind.proofs.Places.{same-itself}
+
+-- ---- contents that stay where they are
+
+mod-small : (n : ℕ) → n < 2 ^ 64 → (n + 0) % 2 ^ 64 ≡ n
+mod-small n lt = omega (arith, lt)
+
+-- a content of a register in a machine of 64 bits is its content modulo 2^64
+same-content : (registers memory : ℕ → Option ℕ) (x : Option ℕ) → IfSome x (λ n. n < 2 ^ 64)
+    → content_of (content_plus (machine LITTLE_64 registers memory) (pos 0) x) ≡ x
+same-content registers memory (Some n) lt = ap Some (mod-small n lt)
+same-content registers memory None lt = refl
+
+pub kept-in-place : (memory old final : ℕ → Option ℕ) (cfa : Answer) (registers : List ℕ)
+    → ((r : ℕ) → IfSome (old r) (λ n. n < 2 ^ 64)) → ((r : ℕ) → final r ≡ (if is_among r registers then old r else None))
+    → HasContents (machine LITTLE_64 old memory) cfa (abi_rules (abi_of registers None)) final
+kept-in-place memory old final cfa registers fits is r =
+    let e = machine LITTLE_64 old memory in (
+      role_answer e cfa (abi_of registers None r) r,
+      role-is e cfa (abi_of registers None r) r,
+      role-content e cfa registers final r
+          (is r ∙ ap (λ (x : Option ℕ). if is_among r registers then x else None) (sym (same-content old memory (old r) (fits r)))),
+    )
+
+-- ---- rules that only read memory
+
+-- what such a rule gives doesn't depend on registers
+saved-by : (t : Target) (registers others memory : ℕ → Option ℕ) (cfa : Answer) (r : ℕ) (rule : Rule) (a : Answer) → IsSavedAt rule
+    → IsRegister (machine t registers memory) cfa r rule a → IsRegister (machine t others memory) cfa r rule a
+saved-by t registers others memory cfa r rule a saved is =
+    subst (λ (x : Rule). IsRegister (machine t others memory) cfa r x a) (sym saved.1)
+    (subst (λ (x : Rule). IsRegister (machine t registers memory) cfa r x a) saved.1 is)
+
+pub overlays-by : (t : Target) (registers others memory : ℕ → Option ℕ) (cfa : Answer) (rules : List (ℕ × Rule)) (base final : ℕ → Option ℕ)
+    → AllByRecursion IsSavedEntry rules → Overlays (machine t registers memory) cfa rules base final
+    → Overlays (machine t others memory) cfa rules base final
+overlays-by t registers others memory cfa [] base final saved over = over
+overlays-by t registers others memory cfa (entry ∷ rules) base final saved over = (
+  over.0,
+  saved-by t registers others memory cfa entry.0 entry.1 over.0 saved.0.1 over.1,
+  overlays-by t registers others memory cfa rules (content_changed base entry.0 (content_of over.0)) final saved.1 over.2,
+)
+
+-- under any ABI, a register that the row saves in memory has the row's rule
+pub saved-under : (abi : Abi) (rules : List (ℕ × Rule)) (number : ℕ) → IsSavedAt (rule_in rules number)
+    → rule_under abi rules number ≡ rule_in rules number
+saved-under abi rules number saved = rw saved.1 refl
+
+-- ---- the rule of an entry
+
+above : (low : ℕ) (came : List (ℕ × Rule)) (n : ℕ) (rule : Rule) (rest : List (ℕ × Rule)) → IsTable low (came ++ (n, rule) ∷ rest) → low ≤ n
+above low [] n rule rest table = table.0
+above low (entry ∷ came) n rule rest table =
+    let later = above (entry.0 + 1) came n rule rest table.3 in omega (arith, table.0, later)
+
+entry-is : (low : ℕ) (came : List (ℕ × Rule)) (n : ℕ) (rule : Rule) (rest : List (ℕ × Rule)) → IsTable low (came ++ (n, rule) ∷ rest)
+    → rule_in (came ++ (n, rule) ∷ rest) n ≡ rule
+entry-is low [] n rule rest table = go (n == n) (same-itself n)
+  where
+    go : (here : Bool) → here ≡ true → (if here then rule else rule_in rest n) ≡ rule
+    go true is = refl
+    go false is = absurd (cc)
+entry-is low (entry ∷ came) n rule rest table = go (entry.0 == n) refl (entry-is (entry.0 + 1) came n rule rest table.3)
+  where
+    go : (here : Bool) → (entry.0 == n) ≡ here → rule_in (came ++ (n, rule) ∷ rest) n ≡ rule
+        → (if here then entry.1 else rule_in (came ++ (n, rule) ∷ rest) n) ≡ rule
+    go true is later =
+        let same : entry.0 ≡ n = grind (arith, nat_tests) in
+        absurd (omega (arith, same, above (entry.0 + 1) came n rule rest table.3))
+    go false is later = later
+
+pub rule-of-entry : (came : List (ℕ × Rule)) (n : ℕ) (rule : Rule) (left rest rules : List (ℕ × Rule)) → IsTable 0 rules → came ++ left ≡ rules
+    → left ≡ (n, rule) ∷ rest → rule_in rules n ≡ rule
+rule-of-entry came n rule left rest rules table whole next =
+    let is : came ++ (n, rule) ∷ rest ≡ rules = ap (λ (l : List (ℕ × Rule)). came ++ l) (sym next) ∙ whole in
+    subst (λ (l : List (ℕ × Rule)). rule_in l n ≡ rule) is
+    (entry-is 0 came n rule rest (subst (λ (l : List (ℕ × Rule)). IsTable 0 l) (sym is) table))
+
+pub if-some-and : {X : Type 0} (o : Option X) (P : Type 0) (Q : X → Type 0) → P → IfSome o Q → IfSome o (λ x. P × Q x)
+if-some-and None P Q p q = tt
+if-some-and (Some x) P Q p q = (p, q)
+
+-- ---- flags that are kept where there is a mark
+
+-- the flags before index `i` are done, and the others are those of `old`
+pub record ArePickedTo (marks : List Bool) (old flags : List ℕ) (i : ℕ) : Type 0 where
+  pub length_is : length flags ≡ length old
+  pub done : (r : ℕ) → r < i → get_or flags r 0 ≡ (if get_or marks r false then get_or old r 0 else 0)
+  pub others : (r : ℕ) → i ≤ r → get_or flags r 0 ≡ get_or old r 0
+
+-- ---- marks
+
+pub all-false : (n r : ℕ) → get_or (replicate n false) r false ≡ false
+all-false zero r = refl
+all-false (suc n) zero = refl
+all-false (suc n) (suc r) = all-false n r
+
+unequal : (n r : ℕ) → (n == r) ≡ false → r ≢ n
+unequal n r is = grind (arith, nat_tests)
+
+pub set-marks : (marks : List Bool) (n r : ℕ) → n < length marks → get_or (set marks n true) r false ≡ ((n == r) || get_or marks r false)
+set-marks marks n r lt = go (n == r) refl
+  where
+    go : (here : Bool) → (n == r) ≡ here → get_or (set marks n true) r false ≡ (here || get_or marks r false)
+    go true is =
+        let same : n ≡ r = grind (arith, nat_tests) in
+        subst (λ (k : ℕ). get_or (set marks n true) k false ≡ true) same (get_or-set_same marks n true false lt)
+    go false is = get_or-set_other marks n r true false (unequal n r is)
+
+-- a register without a place is no register that has one
+pub far-unmarked : (marks : List Bool) (n r : ℕ) → r < n → get_or marks r false ≡ ((n == r) || get_or marks r false)
+far-unmarked marks n r lt =
+    let none : (n == r) ≡ false = grind (arith, nat_tests) in
+    ap (λ (b : Bool). b || get_or marks r false) (sym none)
+
+pub marks-next : (marks next : List Bool) (numbers : List ℕ) (i r : ℕ) → i < length numbers
+    → get_or next r false ≡ ((get_or numbers i 0 == r) || get_or marks r false)
+    → (get_or next r false || is_among r (drop (i + 1) numbers)) ≡ (get_or marks r false || is_among r (drop i numbers))
+marks-next marks next numbers i r lt is =
+    let n = get_or numbers i 0 in
+    let cut : drop i numbers ≡ n ∷ drop (i + 1) numbers = rw (add-one) (drop-cons numbers i 0 lt) in
+    ap (λ (b : Bool). b || is_among r (drop (i + 1) numbers)) is
+    ∙ go (n == r) (get_or marks r false) (is_among r (drop (i + 1) numbers))
+    ∙ ap (λ (l : List ℕ). get_or marks r false || is_among r l) (sym cut)
+  where
+    go : (here marked later : Bool) → ((here || marked) || later) ≡ (marked || (here || later))
+    go true true later = refl
+    go true false later = refl
+    go false true later = refl
+    go false false later = refl
+
+pub marks-all : (marks : List Bool) (numbers : List ℕ) (i r : ℕ) → length numbers ≤ i
+    → (get_or marks r false || is_among r (drop i numbers)) ≡ is_among r numbers → get_or marks r false ≡ is_among r numbers
+marks-all marks numbers i r le is =
+    let none : drop i numbers ≡ [] = drop_all i numbers le in
+    go (get_or marks r false) ∙ ap (λ (l : List ℕ). get_or marks r false || is_among r l) (sym none) ∙ is
+  where
+    go : (b : Bool) → b ≡ (b || false)
+    go true = refl
+    go false = refl

@@ -1,0 +1,11 @@
+use Rattle.std.proofs.Common.{◌≡◌, ◌<◌, ◌||◌, ℕ, drop, false, get_or, length}
+use Rattle.dw_rows.specs.Abi.{is_among}
+use Rattle.dw_unwind.specs.declared.register_file.TheConstants.{PLACES}
+use Rattle.dw_unwind.proofs.kept_registers.marks_of.Given as goal
+
+-- a register is marked, or among the remaining numbers, exactly if it is among all numbers
+abbrev pub invariant-loop-number : goal.invariant-loop-number
+invariant-loop-number l = record {
+  long : length l.marks ≡ PLACES;
+  each : (r : ℕ) → r < PLACES → (get_or l.marks r false || is_among r (drop l.number-index l.numbers)) ≡ is_among r l.numbers;
+}

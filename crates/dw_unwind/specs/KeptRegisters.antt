@@ -1,0 +1,20 @@
+-- Callee-saved registers that are marked by number.
+use Rattle.std.specs.Prelude.{◌≡◌, ◌<◌, ◌==◌, ◌||◌, if◌then◌else◌, ℕ, Bool, false, List, length}
+use Rattle.std.proofs.Math.ListN.{get_or}
+use Rattle.dw_rows.specs.Abi.{is_among}
+use Rattle.dw_unwind.specs.declared.register_file.TheConstants.{PLACES}
+
+-- exactly the registers with these numbers are marked, of those that have a place
+pub record AreMarksOf (numbers : List ℕ) (marks : List Bool) : Type 0 where
+  pub length_is : length marks ≡ PLACES
+  pub each : (r : ℕ) → r < PLACES → get_or marks r false ≡ is_among r numbers
+
+-- `new` has the marks of `old` and one for the register `number`, if that has a place
+pub record IsMarked (number : ℕ) (old new : List Bool) : Type 0 where
+  pub length_is : length new ≡ length old
+  pub each : (r : ℕ) → r < PLACES → get_or new r false ≡ ((number == r) || get_or old r false)
+
+-- each flag of `new` is that of `old` where there is a mark, else 0
+pub record ArePicked (marks : List Bool) (old new : List ℕ) : Type 0 where
+  pub length_is : length new ≡ length old
+  pub each : (r : ℕ) → get_or new r 0 ≡ (if get_or marks r false then get_or old r 0 else 0)

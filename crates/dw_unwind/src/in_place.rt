@@ -1,0 +1,252 @@
+//! The usual step of a walk: the contents of the callee-saved registers stay where they are, and
+//! the registers that the row saves in memory are read.
+
+ghost use Rattle.std.specs.Prelude.{◌≡◌, ◌<◌, ℕ, All, IfSome, MatchOption, Option, Some};
+ghost use Rattle.std.specs.Bool.{OnTrue};
+ghost use Rattle.dw_rows.specs.Abi.{abi_of, rule_under};
+ghost use Rattle.dw_rows.specs.Rules.{IsTable, RuleOver, rule_in};
+ghost use Rattle.dw_rows.specs.Views.{cfa_rule_of, rule_of};
+ghost use Rattle.dw_unwind.specs.Caller.{IsCfa, IsRegister, machine, value};
+ghost use Rattle.dw_unwind.specs.CallerViews.{answer_in, machine_in};
+ghost use Rattle.dw_unwind.specs.Contents.{HasContents, Overlays, UnwindsTo, abi_rules, contents_in};
+ghost use Rattle.dw_unwind.specs.InPlace.{IsSavedAt, IsSavedEntry};
+ghost use Rattle.dw_unwind.specs.Walks.{over_rows};
+
+use crate::caller_contents::{content_of, pointed, saved};
+use crate::kept_registers::KeptRegisters;
+use crate::present::Present;
+use crate::register_file::{PLACES, RegisterFile};
+use crate::unwinding::{Answer, Unwound};
+use dw_bytes::{AddressSize, Order, Target};
+use dw_eval::{Memory, Registers, Width};
+use dw_rows::{CfaRule, RegisterRule, RegisterRules, UnwindRows};
+
+/// The registers of a frame of which none is known.
+#[derive(Drop)]
+struct NoRegisters;
+
+impl Registers for NoRegisters {
+    ghost use Rattle.std.specs.Prelude.{None};
+
+    ghost contents = { λ _ r. None };
+
+    #[inline(always)]
+    fn register(&self, _number: u16) -> Option<u64> {
+        None
+    }
+}
+
+/// The target of nearly all programs.
+const LITTLE_64: Target = Target {
+    order: Order::Little,
+    address_size: AddressSize::Eight,
+};
+
+/// The CFA, if its rule is a register and an offset, and the register's content is known.
+#[inline(always)]
+fn plain_cfa(rule: CfaRule<'_>, file: &RegisterFile) -> Option<u64>
+    ensures { (memory : ℕ → Option ℕ) → IfSome result (λ cfa. IsCfa
+        (machine LITTLE_64 (contents_in file.now) memory) (Some (cfa_rule_of rule.entry))
+        (value cfa)) }
+{
+    let CfaRule::RegisterAndOffset { register, offset } = rule else {
+        return None;
+    };
+    let width = Width {
+        size: AddressSize::Eight,
+    };
+    Some(width.offset(file.register(register)?, offset))
+}
+
+/// The offset from the CFA at which the register `number` is saved, if each of the rules says that a
+/// register with a place is saved relative to the CFA, and one of them says so of `number`.
+#[inline(always)]
+fn offset_if_saved(rules: RegisterRules<'_, '_>, number: u16) -> Option<i64>
+    requires { IsTable 0 rules }
+    ensures { IfSome result (λ n. All IsSavedEntry rules.entry
+        × (rule_in rules.entry number ≡ RuleOver.offset n)) }
+{
+    let mut found = None;
+    for (register, rule) in rules {
+        let RegisterRule::Offset(offset) = rule else {
+            return None;
+        };
+        if usize::from(register) >= PLACES {
+            return None;
+        }
+        found = if register == number {
+            Some(offset)
+        } else {
+            found
+        };
+    }
+    found
+}
+
+/// What a rule gives that says that a register is saved in memory.
+#[inline(always)]
+fn saved_by<R: Registers, M: Memory>(
+    present: &Present<'_, R, M>,
+    cfa: Answer,
+    number: u16,
+    rule: RegisterRule<'_>,
+) -> Answer
+    requires { IsSavedAt (rule_of rule) }
+    ensures { IsRegister (machine_in R.contents M.bytes present.now) (answer_in cfa) number
+        (rule_of rule.entry) (answer_in result) }
+{
+    match rule {
+        RegisterRule::Offset(offset) => saved(present, cfa, offset),
+        _ => unreachable!(),
+    }
+}
+
+/// Gives each register in `rules` the content that is saved for it.
+#[inline(always)]
+fn saved_into<R: Registers, M: Memory>(
+    present: &Present<'_, R, M>,
+    cfa: Answer,
+    rules: RegisterRules<'_, '_>,
+    into: &mut RegisterFile,
+)
+    requires saved { All IsSavedEntry rules }
+    ensures { Overlays (machine_in R.contents M.bytes present.now) (answer_in cfa) rules.entry
+        (contents_in into.old) (contents_in into.new) }
+{
+    for (number, rule) in rules {
+        into.set(number, content_of(saved_by(present, cfa, number, rule)));
+    }
+}
+
+/// Makes the contents of a frame's registers those that the registers which the ABI names have in
+/// the caller if the row has no rules. The frame's CFA is `cfa`. Callee-saved registers keep their
+/// contents, which have 64 bits.
+#[inline(always)]
+fn abi_in_place<M: Memory>(
+    memory: &M,
+    cfa: u64,
+    kept: &KeptRegisters<'_>,
+    stack_pointer: Option<u16>,
+    file: &mut RegisterFile,
+)
+    requires { IfSome stack_pointer (λ number. number < PLACES) }
+    ensures { HasContents (machine LITTLE_64 (contents_in file.old) (M.bytes memory.now))
+        (value cfa) (abi_rules (abi_of kept.now stack_pointer)) (contents_in file.new) }
+{
+    file.fits();
+    file.keep(kept);
+    match stack_pointer {
+        Some(number) => {
+            let present = Present {
+                target: LITTLE_64,
+                registers: &NoRegisters,
+                memory,
+            };
+            file.set(number, content_of(pointed(&present, Answer::Value(cfa))));
+        }
+        None => {}
+    }
+}
+
+/// Makes the contents of a frame's registers those of its caller's registers. The frame's CFA is
+/// `cfa`, and its row has the rules `rules`.
+#[inline(always)]
+fn rules_in_place<M: Memory>(
+    memory: &M,
+    cfa: u64,
+    kept: &KeptRegisters<'_>,
+    stack_pointer: Option<u16>,
+    rules: RegisterRules<'_, '_>,
+    file: &mut RegisterFile,
+)
+    requires saved { All IsSavedEntry rules }
+    requires table { IsTable 0 rules }
+    requires pointer { IfSome stack_pointer (λ number. number < PLACES) }
+    ensures { HasContents (machine LITTLE_64 (contents_in file.old) (M.bytes memory.now))
+        (value cfa) (rule_under (abi_of kept.now stack_pointer) rules.entry)
+        (contents_in file.new) }
+{
+    abi_in_place(memory, cfa, kept, stack_pointer, file);
+    let present = Present {
+        target: LITTLE_64,
+        registers: &NoRegisters,
+        memory,
+    };
+    saved_into(&present, Answer::Value(cfa), rules, file);
+}
+
+/// Whether the target is that of nearly all programs.
+#[inline(always)]
+fn is_little_64(target: Target) -> bool
+    ensures { OnTrue result (target ≡ LITTLE_64) }
+{
+    target == LITTLE_64
+}
+
+/// Whether the stack pointer has a place, if there is one.
+#[inline(always)]
+fn has_place(stack_pointer: Option<u16>) -> bool
+    ensures { OnTrue result (IfSome stack_pointer (λ number. number < PLACES)) }
+{
+    match stack_pointer {
+        Some(number) => usize::from(number) < PLACES,
+        None => true,
+    }
+}
+
+/// The number that is saved at the CFA plus `offset`, if its memory is known.
+#[inline(always)]
+fn saved_number<M: Memory>(memory: &M, cfa: u64, offset: i64) -> Option<u64>
+    ensures { (registers : ℕ → Option ℕ) (number : ℕ) → IfSome result (λ found. IsRegister
+        (machine LITTLE_64 registers (M.bytes memory.now)) (value cfa) number
+        (RuleOver.offset offset) (value found)) }
+{
+    let present = Present {
+        target: LITTLE_64,
+        registers: &NoRegisters,
+        memory,
+    };
+    match saved(&present, Answer::Value(cfa), offset) {
+        Answer::Value(found) => Some(found),
+        _ => None,
+    }
+}
+
+/// Makes the contents of a frame's registers those of its caller's registers, as `contents_by`
+/// finds them, if this is a usual step: numbers have 8 bytes, the least significant one first; the
+/// CFA is a register and an offset; and each rule says that a register is saved relative to the
+/// CFA, the return address among them, which is known. Nearly all rows that compilers write for
+/// x86-64 are so. If the step isn't a usual one, or there is no caller, the result is none and
+/// nothing has changed.
+#[inline(always)]
+pub(crate) fn step_in_place<T: UnwindRows, M: Memory>(
+    rows: &T,
+    kept: &KeptRegisters<'_>,
+    stack_pointer: Option<u16>,
+    address: u64,
+    memory: &M,
+    file: &mut RegisterFile,
+) -> Option<Unwound>
+    ensures steps { MatchOption result (file.new ≡ file.old) (λ unwound. UnwindsTo
+        (over_rows (T.target_of rows.now) (T.finds rows.now) (abi_of kept.now stack_pointer)
+        (M.bytes memory.now)) (contents_in file.old) (Some address) (Some unwound)
+        (contents_in file.new)) }
+    ensures known { IfSome result (λ unwound. (next : ℕ)
+        × (answer_in unwound.return_address ≡ value next)) }
+{
+    dw_rows::laws::rules_under_abis();
+    if !is_little_64(rows.rows_target()) || !has_place(stack_pointer) {
+        return None;
+    }
+    let mut slot = rows.slot();
+    let (row, number) = rows.find_row(address, &mut slot)?;
+    let cfa = plain_cfa(row.cfa(), file)?;
+    let offset = offset_if_saved(row.rules(), number)?;
+    let return_address = saved_number(memory, cfa, offset)?;
+    rules_in_place(memory, cfa, kept, stack_pointer, row.rules(), file);
+    file.ends();
+    Some(Unwound {
+        cfa: Answer::Value(cfa),
+        return_address: Answer::Value(return_address),
+    })
+}
