@@ -13,8 +13,8 @@
      NULL; with the macros at the end of this header, it may also be NULL. Pointers without a
      length, such as `fault`, `count`, `stop`, `size`, `row`, `state` and `context`, are never NULL.
    - A call that takes a process by a pointer to const only reads it: dwcheck_module_at,
-     dwcheck_row_at, dwcheck_unwind, dwcheck_backtrace and dwcheck_process_share, for its first
-     process. Any number of calls may read a process at once, in any threads. A call that takes a
+     dwcheck_row_at, dwcheck_unwind, dwcheck_backtrace, dwcheck_cursor_step and
+     dwcheck_process_share, for its first process. Any number of calls may read a process at once, in any threads. A call that takes a
      pointer without const changes the process, and no other call may use that process meanwhile. So
      a call that changes it comes before or after each call that reads it, and threads synchronize
      for that: by a lock, by an atomic of memory_order_seq_cst, or by a thread's start or join.
@@ -28,10 +28,10 @@
      an open process, even if its modules have been removed.
    - malloc, realloc and free belong to one allocator, and the calling thread may call them. So
      neither a signal handler nor the child of a fork in a program with several threads makes a call
-     that allocates or frees. Both may call dwcheck_module_at, dwcheck_row_at, dwcheck_unwind and
-     dwcheck_backtrace with a process that the interrupted code, or another thread at the time of the
-     fork, may be reading but not changing.
-   - Those four calls may be left by siglongjmp, since they hold no lock and no memory. What their
+     that allocates or frees. Both may call dwcheck_module_at, dwcheck_row_at, dwcheck_unwind,
+     dwcheck_backtrace and dwcheck_cursor_step with a process that the interrupted code, or another
+     thread at the time of the fork, may be reading but not changing.
+   - Those five calls may be left by siglongjmp, since they hold no lock and no memory. What their
      pointers without const point to is then unspecified.
    - The proofs cover calls in threads. They don't cover a call in a signal handler that interrupts
      another call with the same process, a call in the child of a fork, a call that is left, nor
@@ -87,7 +87,8 @@ enum {
     DWCHECK_BAD_KIND = 6,   /* `kind` isn't 0, 1 or 2 */
     DWCHECK_NONE = 7,       /* what was looked up doesn't exist */
     DWCHECK_OVERLAPS = 8,   /* the module's range shares an address with another module's range */
-    DWCHECK_BAD_RANGE = 9   /* the module has no range that it could answer for */
+    DWCHECK_BAD_RANGE = 9,  /* the module has no range that it could answer for */
+    DWCHECK_NO_PLACE = 10   /* a register that is known has no place in a cursor */
 };
 
 enum { DWCHECK_LITTLE = 0, DWCHECK_BIG = 1 }; /* byte orders */
@@ -314,6 +315,43 @@ enum {
 uint32_t dwcheck_backtrace(const dwcheck_process *process, uint64_t address, const dwcheck_state *state, dwcheck_frame *frames,
                            size_t frames_length, size_t *count, uint32_t *stop, dwcheck_fault *fault);
 
+/* The stages of a cursor. A greater stage means that the walk has ended: minus 1, it is the reason, a
+   DWCHECK_STOP_ number. */
+enum {
+    DWCHECK_CURSOR_EXACT = 0, /* the frame is looked up at its address */
+    DWCHECK_CURSOR_CALLER = 1 /* the frame is looked up at its address minus 1, inside of the call */
+};
+
+/* Where a walk up a stack is: the address of a frame, and its registers. The value of register n is
+   contents[n], if known[n] isn't 0; registers with numbers of 96 or more have no place. A cursor is
+   plain data of the caller's. It may be read, copied, changed and dropped at any time, and a walk may
+   be taken up again from a copy. Any bytes are a cursor. If the frame was interrupted by a signal,
+   so that its address isn't a return address, set `stage` to DWCHECK_CURSOR_EXACT before the step. */
+typedef struct {
+    uint64_t contents[96];
+    uint8_t known[96];
+    uint64_t address; /* as loaded */
+    uint32_t stage, reserved;
+} dwcheck_cursor;
+
+/* Places a cursor at the frame at `address`, an address as loaded, with the registers of `state`. The
+   frame is looked up at its address if `exact` isn't 0, as dwcheck_backtrace looks up its first frame,
+   and at its address minus 1 if it is. Returns DONE; REFUSED if the ABI names too many registers or
+   names one twice; or NO_PLACE if a register with a number of 96 or more is known. Only DONE writes
+   `cursor`, and only REFUSED writes `fault`. The call neither allocates nor frees. */
+uint32_t dwcheck_cursor_init(dwcheck_cursor *cursor, uint64_t address, const dwcheck_state *state, uint32_t exact,
+                             dwcheck_fault *fault);
+
+/* Writes the frame that a cursor is at to `frame`, and moves the cursor to the frame's caller. The
+   memory and the ABI are those of `state`, and the registers those of the cursor. Whether the ABI is
+   faulty isn't looked at: dwcheck_cursor_init has done that. If there is no caller, the cursor keeps
+   the frame's address and registers, and its stage says why. So n steps give what dwcheck_backtrace
+   writes to n frames. Returns DONE; NONE if the walk has ended; or NO_PLACE if a register of the
+   caller with a number of 96 or more would be known. Only DONE changes `cursor` and `frame`. The call
+   neither allocates nor frees. */
+uint32_t dwcheck_cursor_step(const dwcheck_process *process, dwcheck_cursor *cursor, const dwcheck_state *state,
+                             dwcheck_frame *frame);
+
 /* ---- expressions --------------------------------------------------------------------------------------------------- */
 
 /* What an expression is used for (`kind`): the rule of a CFA, the rule of a register, or the
@@ -447,6 +485,18 @@ static inline uint32_t dwcheck_backtrace_by(const dwcheck_process *process, uint
                              fault);
 }
 
+static inline uint32_t dwcheck_cursor_init_by(dwcheck_cursor *cursor, uint64_t address, const dwcheck_state *state,
+                                              uint32_t exact, dwcheck_fault *fault) {
+    const dwcheck_state copy = dwcheck_state_or_nothing(state);
+    return dwcheck_cursor_init(cursor, address, &copy, exact, fault);
+}
+
+static inline uint32_t dwcheck_cursor_step_by(const dwcheck_process *process, dwcheck_cursor *cursor,
+                                              const dwcheck_state *state, dwcheck_frame *frame) {
+    const dwcheck_state copy = dwcheck_state_or_nothing(state);
+    return dwcheck_cursor_step(process, cursor, &copy, frame);
+}
+
 static inline uint32_t dwcheck_evaluate_by(const uint8_t *expression, size_t expression_length, uint32_t order,
                                            uint32_t address_size, uint32_t kind, const dwcheck_context *context,
                                            const dwcheck_state *state, uint32_t n, dwcheck_value *value,
@@ -471,6 +521,8 @@ static inline uint32_t dwcheck_locations_by(const uint8_t *lists, size_t lists_l
 #define dwcheck_row_at dwcheck_row_at_by
 #define dwcheck_unwind dwcheck_unwind_by
 #define dwcheck_backtrace dwcheck_backtrace_by
+#define dwcheck_cursor_init dwcheck_cursor_init_by
+#define dwcheck_cursor_step dwcheck_cursor_step_by
 #define dwcheck_evaluate dwcheck_evaluate_by
 #define dwcheck_locations dwcheck_locations_by
 

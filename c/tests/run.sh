@@ -1,6 +1,6 @@
 #!/bin/bash
 # Builds the tests with the static library build/libdwcheck.a, or the one that LIBRARY names, and runs
-# them: those of readers.c and frozen.c; and those of cases.c while allocations fail in turn, with
+# them: those of readers.c, frozen.c and cursor.c; and those of cases.c while allocations fail in turn, with
 # sanitizers, and under valgrind. Before that, the header is compiled as C11 and as C++17; in both,
 # passing a pointer of a wrong type must be an error. Prints a line `ok NAME` or `FAILED NAME` for
 # each, and ends with status 1 if one failed.
@@ -50,6 +50,7 @@ test_of "pointers of wrong types in C" refuses_wrong_pointers c
 test_of "pointers of wrong types in C++" refuses_wrong_pointers c++
 test_of "calls that read one process at once" readers readers
 test_of "the same with the process in memory that can't be written" readers frozen
+test_of "steps of a cursor" readers cursor
 test_of "cases while allocations fail in turn" cases -DREFUSING
 # The sanitizers check only the C code of the tests, because only that is compiled with them.
 test_of "cases with ASan and UBSan" cases -fsanitize=address,undefined -fno-sanitize-recover=all

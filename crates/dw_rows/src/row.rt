@@ -94,11 +94,11 @@ pub(crate) fn given_rule<'a>(
         KeptRule::Register(register) => RegisterRule::Register(register),
         KeptRule::Expression(offset) => RegisterRule::Expression {
             offset,
-            expression: given_expression(offset, expressions),
+            expression: given_expression(offset, *expressions),
         },
         KeptRule::ValExpression(offset) => RegisterRule::ValExpression {
             offset,
-            expression: given_expression(offset, expressions),
+            expression: given_expression(offset, *expressions),
         },
     }
 }
@@ -116,16 +116,18 @@ pub(crate) fn given_cfa<'a>(cfa: KeptCfa, expressions: &LentExpressions<'_, 'a>)
         }
         KeptCfa::Expression(offset) => CfaRule::Expression {
             offset,
-            expression: given_expression(offset, expressions),
+            expression: given_expression(offset, *expressions),
         },
     }
 }
 
-/// Finds the expression that begins at `offset`, by binary search. There must be one.
+/// Finds the expression that begins at `offset`, by binary search. There must be one. `expressions`
+/// is passed by value: if its address were passed, a row would have to be in memory, and reading
+/// the row there would wait for it to be written.
 #[inline(never)]
-fn given_expression<'a>(offset: u32, expressions: &LentExpressions<'_, 'a>) -> CheckedExpression<'a>
-    requires { (e : LocatedExpression) × (expression_at (lent_by expressions.now) offset ≡ Some e) }
-    ensures { located_of (offset, result) ≡ located_at (lent_by expressions.now) offset }
+fn given_expression<'a>(offset: u32, expressions: LentExpressions<'_, 'a>) -> CheckedExpression<'a>
+    requires { (e : LocatedExpression) × (expression_at (lent_by expressions) offset ≡ Some e) }
+    ensures { located_of (offset, result) ≡ located_at (lent_by expressions.entry) offset }
 {
     match expressions.at(offset) {
         Some(expression) => expression,

@@ -26,7 +26,7 @@ pub use frames::{Backtrace, BriefFrame, Frame, Stop};
 pub use kept_registers::KeptRegisters;
 pub use modules::{Module, as_linked, unwind_in};
 pub use packed_registers::PackedRegisters;
-pub use register_file::RegisterFile;
+pub use register_file::{PLACES, RegisterFile};
 pub use unwinder::Unwinder;
 pub use unwinding::{
     Answer, Caller, FoundRegisters, MAX_FOUND, Unwound, unwind_by, unwind_by_section,

@@ -14,7 +14,9 @@ use std::marker::Model;
 /// for the registers that the rows of x86-64, AArch64, RISC-V and most other targets name.
 pub const PLACES: usize = 96;
 
-/// The contents of a frame's registers whose numbers are below `PLACES`. The others have none.
+/// The contents of a frame's registers whose numbers are below `PLACES`. The others have none. It
+/// is laid out as C lays it out, and any bytes are a register file.
+#[repr(C)]
 #[derive(Drop)]
 pub struct RegisterFile {
     contents: [u64; PLACES],
@@ -33,16 +35,19 @@ impl Model for RegisterFile {
     ghost use Rattle.dw_unwind.specs.declared.register_file.TheConstants.{PLACES};
 
     ghost invariant = { λ f. (length f.contents ≡ PLACES) × (length f.known ≡ PLACES) };
+
+    ghost inverse = { λ f. record { contents = f.contents; known = f.known } };
 }
 
-/// Clears the flags that aren't marked. There is no branch, so that this is done for many flags at
-/// once.
+/// Clears the flags that aren't marked. A flag is read whether it is marked or not, so that there is
+/// no branch, and many flags are done at once.
 #[inline(always)]
 fn keep_marked(flags: &mut [u8; PLACES], marks: &[bool; PLACES])
     ensures { ArePicked marks.now flags.old flags.new }
 {
     for place in 0..PLACES {
-        flags[place] = if marks[place] { flags[place] } else { 0 };
+        let flag = flags[place];
+        flags[place] = if marks[place] { flag } else { 0 };
     }
 }
 
@@ -101,7 +106,7 @@ impl RegisterFile {
 
     /// Gives the register `number`, which has a place, a content, or takes its content away.
     #[inline(always)]
-    pub(crate) fn set(&mut self, number: u16, content: Option<u64>)
+    pub fn set(&mut self, number: u16, content: Option<u64>)
         requires { number < PLACES }
         ensures { (r : ℕ) → contents_in self.new r
             ≡ content_changed (contents_in self.old) number content r }
@@ -133,7 +138,7 @@ impl RegisterFile {
     }
 
     /// Registers without a place have no content. This does nothing: only its contract is used.
-    pub(crate) fn ends(&self)
+    pub fn ends(&self)
         ensures { (r : ℕ) → PLACES ≤ r → contents_in self.now r ≡ None }
     {
         let _ = &self.contents;

@@ -1,5 +1,7 @@
 mod AsBox
 mod Assembled
+mod CursorSteps
+mod CursorWalks
 mod FirstBlock
 mod FirstTwice
 mod NameLengths

@@ -1,5 +1,6 @@
 pub mod Callers
 pub mod Checks
+pub mod Cursors
 pub mod Evaluated
 pub mod Faults
 pub mod Frames

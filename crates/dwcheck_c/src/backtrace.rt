@@ -15,7 +15,9 @@ use dw_eval::{Memory, Registers};
 use dw_process::Process;
 use dw_rows::Abi;
 use dw_unwind::laws::frames_that_are_given_are_a_walk;
-use dw_unwind::{BriefFrame, KeptRegisters, Stop, Unwinder, Unwound, Walk, WalkedContents, return_address};
+use dw_unwind::{
+    BriefFrame, KeptRegisters, Stop, Unwinder, Unwound, Walk, WalkedContents, return_address,
+};
 
 /// Walks up a stack from the frame at `address`, and writes its frames to `slots`, as many as fit.
 /// Returns the number of frames written, and why there are no more.
@@ -135,7 +137,7 @@ fn write_more<R: Registers, M: Memory>(
 
 /// A frame in brief.
 #[inline(always)]
-fn brief(address: u64, unwound: Option<Unwound>) -> BriefFrame
+pub(crate) fn brief(address: u64, unwound: Option<Unwound>) -> BriefFrame
     ensures { (found : List (ℕ × Answer)) → brief_in result ≡ brief_of (record {
       address = address;
       caller = option_map (caller_with found) unwound;

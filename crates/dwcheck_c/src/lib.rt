@@ -7,6 +7,7 @@ mod backtrace;
 mod callers;
 mod checks;
 mod context;
+mod cursor;
 mod expressions;
 mod fault;
 mod handle;

@@ -29,3 +29,6 @@ pub const OVERLAPS: u32 = 8;
 
 /// The module has no range that it could answer for.
 pub const BAD_RANGE: u32 = 9;
+
+/// A register with a content has no place in a cursor.
+pub const NO_PLACE: u32 = 10;

@@ -328,6 +328,9 @@ pub enum Error {
     /// and its section covers no address, or covers addresses on both sides of the highest one, as
     /// loaded.
     Range,
+    /// A register with a number of 96 or more is known, which has no place in a
+    /// [`Cursor`](crate::Cursor).
+    NoPlace,
     /// The number of a status that this crate doesn't know, because the library is newer.
     Other(u32),
 }
@@ -351,6 +354,7 @@ impl Error {
             ffi::NO_ROOM => Err(Error::NoRoom),
             ffi::TOO_LONG => Err(Error::TooLong),
             ffi::BAD_RANGE => Err(Error::Range),
+            ffi::NO_PLACE => Err(Error::NoPlace),
             other => Err(Error::Other(other)),
         }
     }
@@ -365,6 +369,7 @@ impl fmt::Display for Error {
             Error::TooLong => f.pad("2^32 bytes or more"),
             Error::Overlaps(id) => write!(f, "the range shares addresses with module {}", id),
             Error::Range => f.pad("no range of addresses to answer for"),
+            Error::NoPlace => f.pad("a register has no place in a cursor"),
             Error::Other(status) => write!(f, "unknown status {}", status),
         }
     }

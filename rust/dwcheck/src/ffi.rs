@@ -54,6 +54,8 @@ pub const NONE: u32 = 7;
 pub const OVERLAPS: u32 = 8;
 /// The module has no range that it could answer for.
 pub const BAD_RANGE: u32 = 9;
+/// A register that is known has no place in a cursor.
+pub const NO_PLACE: u32 = 10;
 
 /// Byte orders: the least significant byte first, or last.
 pub const LITTLE: u32 = 0;
@@ -252,6 +254,36 @@ pub const MAX_REGISTERS: usize = 256;
 pub struct Frame {
     pub address: u64,
     pub cfa: Answer,
+}
+
+/// The frame of a cursor is looked up at its address. (At any stage but this one and the next, the
+/// walk has ended, and the stage minus 1 is the reason.)
+pub const CURSOR_EXACT: u32 = 0;
+/// The frame of a cursor is looked up at its address minus 1, inside of the call.
+pub const CURSOR_CALLER: u32 = 1;
+
+/// Where a walk up a stack is: the address of a frame, and its registers. The value of register n is
+/// contents[n], if known[n] isn't 0; registers with numbers of 96 or more have no place. Any bytes
+/// are a cursor.
+#[repr(C)]
+#[derive(Clone, Copy)]
+pub struct Cursor {
+    pub contents: [u64; 96],
+    pub known: [u8; 96],
+    pub address: u64,
+    pub stage: u32,
+    pub reserved: u32,
+}
+
+impl Cursor {
+    /// No register is known.
+    pub const EMPTY: Cursor = Cursor {
+        contents: [0; 96],
+        known: [0; 96],
+        address: 0,
+        stage: CURSOR_EXACT,
+        reserved: 0,
+    };
 }
 
 /// The walk ends because `frames` has no room for more. (The five STOP_ constants are the reasons.)
@@ -472,6 +504,32 @@ extern "C" {
         count: *mut usize,
         stop: *mut u32,
         fault: *mut Fault,
+    ) -> u32;
+
+    /// Places a cursor at the frame at `address`, an address as loaded, with the registers of
+    /// `state`. The frame is looked up at its address if `exact` isn't 0, and at its address minus 1
+    /// if it is. Returns DONE; REFUSED if the ABI names too many registers or names one twice; or
+    /// NO_PLACE if a register with a number of 96 or more is known. Only DONE writes `cursor`, and
+    /// only REFUSED writes `fault`. The call neither allocates nor frees.
+    pub fn dwcheck_cursor_init(
+        cursor: *mut Cursor,
+        address: u64,
+        state: *const State,
+        exact: u32,
+        fault: *mut Fault,
+    ) -> u32;
+
+    /// Writes the frame that a cursor is at to `frame`, and moves the cursor to the frame's caller.
+    /// The memory and the ABI are those of `state`, and the registers those of the cursor. If there
+    /// is no caller, the cursor keeps the frame's address and registers, and its stage says why.
+    /// Returns DONE; NONE if the walk has ended; or NO_PLACE if a register of the caller with a
+    /// number of 96 or more would be known. Only DONE changes `cursor` and `frame`. The call neither
+    /// allocates nor frees.
+    pub fn dwcheck_cursor_step(
+        process: *const Process,
+        cursor: *mut Cursor,
+        state: *const State,
+        frame: *mut Frame,
     ) -> u32;
 
     /// Checks all paths of an expression, and runs it with the registers and memory of `state`,

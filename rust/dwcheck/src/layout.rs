@@ -55,6 +55,7 @@ fn layouts() -> (String, String) {
         layout!(Register, "dwcheck_register": value kind number),
         layout!(Caller, "dwcheck_caller": cfa return_address count),
         layout!(Frame, "dwcheck_frame": address cfa),
+        layout!(Cursor, "dwcheck_cursor": contents known address stage reserved),
         layout!(Context, "dwcheck_context": cfa frame_base object has_cfa has_frame_base has_object
             reserved),
         layout!(Value, "dwcheck_value": value kind offset steps count),
@@ -76,7 +77,7 @@ macro_rules! numbers {
 fn constants() -> (String, String) {
     let all = numbers! {
         DONE "DONE" REFUSED "REFUSED" NO_MEMORY "NO_MEMORY" NO_ROOM "NO_ROOM" TOO_LONG "TOO_LONG"
-        NONE "NONE" OVERLAPS "OVERLAPS" BAD_RANGE "BAD_RANGE" LITTLE "LITTLE" BIG "BIG"
+        NONE "NONE" OVERLAPS "OVERLAPS" BAD_RANGE "BAD_RANGE" NO_PLACE "NO_PLACE" LITTLE "LITTLE" BIG "BIG"
         IN_FRAME "IN_FRAME" IN_LISTS "IN_LISTS" IN_EXPRESSION "IN_EXPRESSION" IN_ABI "IN_ABI"
         RULE_UNDEFINED "RULE_UNDEFINED"
         RULE_SAME_VALUE "RULE_SAME_VALUE" RULE_OFFSET "RULE_OFFSET"
@@ -88,6 +89,7 @@ fn constants() -> (String, String) {
         STOP_RETURN_UNDEFINED "STOP_RETURN_UNDEFINED"
         STOP_RETURN_UNREADABLE "STOP_RETURN_UNREADABLE"
         STOP_RETURN_DIVISION_BY_ZERO "STOP_RETURN_DIVISION_BY_ZERO"
+        CURSOR_EXACT "CURSOR_EXACT" CURSOR_CALLER "CURSOR_CALLER"
         FRAME_CFA "FRAME_CFA" FRAME_REGISTER "FRAME_REGISTER" LOCATION "LOCATION"
         IS_VALUE "IS_VALUE" IS_UNREADABLE "IS_UNREADABLE"
         IS_DIVISION_BY_ZERO "IS_DIVISION_BY_ZERO" LOCATION_NOWHERE "LOCATION_NOWHERE"

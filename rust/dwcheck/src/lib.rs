@@ -40,6 +40,7 @@ struct Readme;
 
 mod abi;
 mod caller;
+mod cursor;
 mod expression;
 mod fault;
 #[allow(unreachable_pub)]
@@ -60,6 +61,7 @@ mod walk;
 
 pub use abi::Abi;
 pub use caller::{Answer, Caller};
+pub use cursor::{Cursor, Frames};
 pub use expression::{
     evaluate, Context, Evaluation, ExpressionKind, Location, Outcome, Piece, PieceSize,
 };

@@ -396,6 +396,11 @@ impl Process {
         Ok((&slots[..count], stop))
     }
 
+    /// The process, as the type that the library takes. It may only be read.
+    pub(crate) fn raw(&self) -> *const ffi::Process {
+        &self.raw
+    }
+
     /// Walks up the stack, and writes as many frames as fit into `slots`. Returns the number of
     /// frames, and why the walk ended.
     fn walk(

@@ -33,6 +33,7 @@ fn statuses() {
         (5, Err(Error::TooLong)),
         (8, Err(Error::Other(8))),
         (9, Err(Error::Range)),
+        (10, Err(Error::NoPlace)),
         (1000, Err(Error::Other(1000))),
     ] {
         assert_eq!(Error::check(status, fault), want);

@@ -5,8 +5,8 @@ mod common;
 
 use common::*;
 use dwcheck::{
-    Abi, Answer, Backtrace, Block, Error, Frame, Process, Registers, Section, State, Step, Stop,
-    Target,
+    Abi, Answer, Backtrace, Block, Cursor, Error, Frame, Process, Registers, Section, State, Step,
+    Stop, Target,
 };
 
 fn words(words: &[u64]) -> Vec<u8> {
@@ -186,6 +186,79 @@ fn a_walk_and_its_ends() {
 }
 
 #[test]
+fn a_cursor_keeps_registers_and_goes_on_from_a_copy() {
+    let process = process_at(&row_1(), 0);
+    let registers = Registers::from([(3, 5), (6, 0x7f00), (12, 7), (95, 9)]);
+    let stack = words(&[0x7f40, 0x1020]);
+    let memory = [Block::new(0x7f00, &stack)];
+    let state = State {
+        registers: &registers,
+        memory: &memory,
+        abi: Abi::new(&[3, 6], Some(7)),
+    };
+    let mut cursor = Cursor::new(0x1010, &state).unwrap();
+    let copy = cursor.clone();
+    assert_eq!(
+        (cursor.register(95), cursor.register(12)),
+        (Some(9), Some(7))
+    );
+    let frame = process.step(&mut cursor, &state).unwrap().unwrap();
+    assert_eq!((frame.address(), frame.cfa()), (0x1010, value(0x7f10)));
+    assert_eq!((cursor.address(), cursor.stop()), (0x1020, None));
+    // 3 is callee-saved, 6 was saved in memory, 7 is the CFA, and the others aren't known.
+    let found: Vec<_> = (0..200)
+        .filter_map(|n| Some((n, cursor.register(n)?)))
+        .collect();
+    assert_eq!(found, [(3, 5), (6, 0x7f40), (7, 0x7f10), (16, 0x1020)]);
+
+    // The caller's own return address isn't in memory: the walk ends, and its registers stay.
+    let frame = process.step(&mut cursor, &state).unwrap().unwrap();
+    assert_eq!((frame.address(), frame.cfa()), (0x1020, value(0x7f50)));
+    assert_eq!(
+        (cursor.address(), cursor.stop()),
+        (0x1020, Some(Stop::ReturnUnreadable))
+    );
+    assert_eq!(cursor.register(6), Some(0x7f40));
+    assert_eq!(process.step(&mut cursor, &state), Ok(None));
+
+    let mut again = copy;
+    assert!(process.step(&mut again, &state).unwrap().is_some());
+    assert_eq!(again.address(), 0x1020);
+    // At 0x1020 itself there is no row.
+    again.set_interrupted();
+    assert_eq!(
+        process.step(&mut again, &state).unwrap().unwrap().cfa(),
+        None
+    );
+    assert_eq!(again.stop(), Some(Stop::NotCovered));
+}
+
+#[test]
+fn registers_without_a_place_are_refused_by_a_cursor() {
+    let process = Process::new(Target::LITTLE_64);
+    let mut state = State {
+        registers: &Registers::from([(96, 1)]),
+        memory: &[],
+        abi: Abi::NONE,
+    };
+    assert_eq!(Cursor::new(0, &state).err(), Some(Error::NoPlace));
+    assert_eq!(process.frames(0, &state).err(), Some(Error::NoPlace));
+    let nothing = Registers::new();
+    state.registers = &nothing;
+    let mut cursor = Cursor::at_caller(0, &state).unwrap();
+    // There is no address before 0 that could be looked up.
+    assert_eq!(
+        process
+            .step(&mut cursor, &state)
+            .unwrap()
+            .unwrap()
+            .address(),
+        0
+    );
+    assert_eq!(cursor.stop(), Some(Stop::NotCovered));
+}
+
+#[test]
 fn walks_into_slots() {
     let process = process_at(&row_1(), 0);
     let registers = Registers::from([(6, 0x7f00)]);
@@ -213,7 +286,7 @@ fn from_0(program: &str) -> Vec<u8> {
 }
 
 /// Walks through the section of [`from_0`], from the frame at address 3, where register 7 is 0x10.
-/// Also compares the walk with `steps`.
+/// Also compares the walk with `steps` and with `frames`.
 fn walk_from_3(program: &str, limit: usize) -> Backtrace {
     let process = process_at(&from_0(program), 0);
     let registers = Registers::from([(7, 0x10)]);
@@ -225,6 +298,13 @@ fn walk_from_3(program: &str, limit: usize) -> Backtrace {
     let walk = process.backtrace(3, &state, limit).unwrap();
     let steps = process.steps(3, &state).take(limit).map(Result::unwrap);
     assert!(steps.eq_frames(&walk));
+    let mut frames = process.frames(3, &state).unwrap();
+    let taken: Result<Vec<Frame>, Error> = frames.by_ref().take(limit).collect();
+    assert_eq!(taken.as_ref(), Ok(&walk.frames));
+    if walk.frames.len() < limit {
+        assert_eq!(frames.cursor().stop(), Some(walk.stop));
+        assert_eq!(frames.next(), None);
+    }
     walk
 }
 

@@ -1,0 +1,65 @@
+-- A cursor: where a walk up a stack is, as plain data that C owns.
+use Rattle.std.specs.Prelude.{◌≡◌, ℕ, ◌+◌, ◌≤◌, ◌==◌, if◌then◌else◌, IfSome, List, [], ◌∷◌, length, map, Option, Some}
+use Rattle.dw_rows.specs.Abi.{Abi}
+use Rattle.dw_unwind.specs.Contents.{contents_in}
+use Rattle.dw_unwind.specs.Walks.{AreFrames, CallerRelation, IsFrameAt, Place, WalkedFrame, address_before, next_place, stop_after, stop_of_caller}
+use Rattle.dw_unwind.specs.declared.frames.Stop.{Stop}
+use Rattle.dw_process.specs.Processes.{ProcessState}
+use Rattle.dwcheck_c.specs.Frames.{cframe_of, over_held, stop_number}
+use Rattle.dwcheck_c.specs.declared.answer.CFrame.{CFrame}
+use Rattle.dwcheck_c.specs.declared.cursor.CCursor.{CCursor}
+
+-- the contents of the registers of the frame that a cursor is at
+abbrev pub registers_in : CCursor → ℕ → Option ℕ
+registers_in c = contents_in c.registers
+
+-- the address that is looked up for a frame at `address`: at stage 0 the address itself, at any
+-- other the address minus 1
+abbrev pub looked_up_by : ℕ → ℕ → Option ℕ
+looked_up_by stage address = if stage == 0 then Some address else address_before address
+
+-- where the walk of a cursor is
+abbrev pub place_of : CCursor → Place
+place_of c = record { address = c.address; looked_up = looked_up_by c.stage c.address; registers = registers_in c }
+
+-- where a walk begins at a frame at `address`, which is looked up at the address itself if `exact`
+-- isn't 0, and at the address minus 1 if it is
+abbrev pub place_from : ℕ → ℕ → (ℕ → Option ℕ) → Place
+place_from exact address registers = record {
+  address = address;
+  looked_up = if exact == 0 then address_before address else Some address;
+  registers = registers;
+}
+
+-- A cursor takes a step. `frame` is C's struct for the frame that the cursor was at. If that frame
+-- has a caller at a known address, the cursor is there now. Otherwise its stage says why the walk
+-- ends, and it has the address and the registers of the frame.
+pub record IsStepBy (u : CallerRelation) (old new : CCursor) (frame : CFrame) : Type 0 where
+  pub walked : WalkedFrame
+  pub is : IsFrameAt u (place_of old) walked
+  pub shown : frame ≡ cframe_of walked
+  pub goes : IfSome (next_place walked.caller) (λ p. (new.stage ≡ 1) × (place_of new ≡ p))
+  pub ends : IfSome (stop_of_caller walked.caller) (λ why. (new.stage ≡ stop_number why + 1) × (new.address ≡ old.address)
+      × (registers_in new ≡ registers_in old))
+
+-- a step through the modules of a process
+abbrev pub IsStep : Option ProcessState → Abi → (ℕ → Option ℕ) → CCursor → CCursor → CFrame → Type 0
+IsStep held abi memory = IsStepBy (over_held abi memory held)
+
+-- steps, one after the other, each of a cursor whose walk hasn't ended; they give these frames
+abbrev pub AreSteps : CallerRelation → CCursor → List CFrame → CCursor → Type 0
+AreSteps u from [] to = from ≡ to
+AreSteps u from (frame ∷ frames) to =
+    (from.stage ≤ 1) × ((next : CCursor) × IsStepBy u from next frame × AreSteps u next frames to)
+
+-- the walk of a cursor has ended for this reason
+abbrev pub HasEnded : CCursor → Stop → Type 0
+HasEnded c why = (c.stage ≡ stop_number why + 1) × (2 ≤ c.stage)
+
+-- The frames of a walk from the place `p` on are these of C's; after them the cursor `to` is at the
+-- next frame, or says why there is none.
+pub record AreFramesOfSteps (u : CallerRelation) (p : Place) (frames : List CFrame) (to : CCursor) : Type 0 where
+  pub walked : List WalkedFrame
+  pub are : AreFrames u (Some p) walked
+  pub shown : frames ≡ map cframe_of walked
+  pub ends : (why : Stop) → HasEnded to why → 1 ≤ length frames → stop_after walked ≡ Some why

@@ -1,0 +1,340 @@
+//! A cursor: where a walk up a stack is, as plain data that C owns.
+
+ghost use Rattle.std.specs.Prelude.{◌≡◌, ◌≢◌, ◌+◌, ◌≤◌, ◌<◌, ◌⊎◌, ℕ, IsSome, List, None, Option, Some, length};
+ghost use Rattle.std.specs.Bool.{OnTrue, OnFalse};
+ghost use Rattle.dw_process.specs.Processes.{ProcessState};
+ghost use Rattle.dw_rows.specs.Abi.{Abi, abi_of};
+ghost use Rattle.dw_unwind.specs.Contents.{contents_in};
+ghost use Rattle.dw_unwind.specs.Walks.{first_place};
+ghost use Rattle.dw_unwind.specs.declared.frames.Stop.{Stop as Why};
+ghost use Rattle.dwcheck_c.specs.declared.answer.CFrame.{CFrame as Slot};
+ghost use Rattle.dwcheck_c.specs.declared.cursor.CCursor.{CCursor as Cursor};
+ghost use Rattle.dwcheck_c.specs.Slots.{put_into};
+ghost use Rattle.dwcheck_c.specs.Cursors.{AreSteps, HasEnded, IsStep, IsStepBy, looked_up_by, place_from, place_of};
+ghost use Rattle.dwcheck_c.specs.Faults.{Reports};
+ghost use Rattle.dwcheck_c.specs.Frames.{IsBacktrace, cframe_of, over_held, over_process, stop_number};
+ghost use Rattle.dwcheck_c.specs.Lent.{Reads, loan_of, read_by};
+ghost use Rattle.dwcheck_c.specs.Machine.{abi_fault_of, abi_in, is_known, memory_of, register_in, registers_of};
+
+use crate::answer::{CFrame, shown_frame};
+use crate::backtrace::brief;
+use crate::fault::{CFault, IN_ABI, report};
+use crate::lent::{LentProcess, put};
+use crate::right::Right;
+use crate::state::{CState, Contents};
+use crate::status::{DONE, NO_PLACE, NONE, REFUSED};
+use dw_eval::{Memory, Registers};
+use dw_process::Process;
+use dw_unwind::{KeptRegisters, PLACES, RegisterFile, Stop, Unwinder, return_address};
+
+/// The frame is looked up at its own address.
+pub const EXACT: u32 = 0;
+
+/// The frame is looked up at its address minus 1, which is inside the call. A greater stage says
+/// that the walk has ended, and why: it is the number of the reason plus 1.
+pub const CALLER: u32 = 1;
+
+/// Where a walk up a stack is: the address of a frame, and its registers, of which those with
+/// numbers of 96 or more have no content. It is plain data: any bytes are a cursor. `stage` is
+/// `EXACT` or `CALLER`, or greater if the walk has ended. `reserved` isn't looked at.
+#[repr(C)]
+#[derive(Drop)]
+pub struct CCursor {
+    pub registers: RegisterFile,
+    pub address: u64,
+    pub stage: u32,
+    pub reserved: u32,
+}
+
+const _: () = prove!(size_of::<CCursor>() == 880);
+
+/// Where a frame is written, with a part of the right to read the process, which takes no bytes: C
+/// passes a pointer to a frame.
+#[repr(C)]
+pub struct FramePlace {
+    frame: CFrame,
+    right: Right,
+}
+
+const _: () = prove!(size_of::<FramePlace>() == size_of::<CFrame>());
+
+/// Whether the register `number` is known.
+fn is_known(known: &[u8], number: usize) -> bool
+    ensures { result ≡ is_known known.now number }
+{
+    match known.get(number / 8) {
+        Some(byte) => (*byte >> (number % 8)) % 2 == 1,
+        None => false,
+    }
+}
+
+/// Whether a cursor has a place for each of these registers that has a content.
+fn has_places(registers: &Contents<'_>) -> bool
+    ensures all { OnTrue result ((r : ℕ) → PLACES ≤ r
+        → register_in registers.now.contents.now registers.now.known.now r ≡ None) }
+    ensures lacks { OnFalse result ((r : ℕ) × (PLACES ≤ r)
+        × IsSome (register_in registers.now.contents.now registers.now.known.now r)) }
+{
+    let mut number = PLACES;
+    while number < registers.contents.len() {
+        if is_known(registers.known, number) {
+            return false;
+        }
+        number += 1;
+    }
+    true
+}
+
+/// Gives registers the contents that they have in `registers`. Each has a place.
+fn fill(file: &mut RegisterFile, registers: &Contents<'_>)
+    requires { (r : ℕ) → PLACES ≤ r
+        → register_in registers.now.contents.now registers.now.known.now r ≡ None }
+    ensures { contents_in file.new
+        ≡ register_in registers.now.contents.now registers.now.known.now }
+{
+    *file = RegisterFile::none();
+    let mut number = 0;
+    while number < PLACES as u16 {
+        file.set(number, registers.register(number));
+        number += 1;
+    }
+    file.ends();
+}
+
+impl CCursor {
+    /// The address that is looked up for the frame; none if there is no address before it.
+    #[inline(always)]
+    fn looked_up(&self) -> Option<u64>
+        ensures { result ≡ looked_up_by self.now.stage self.now.address }
+    {
+        if self.stage == EXACT {
+            Some(self.address)
+        } else {
+            self.address.checked_sub(1)
+        }
+    }
+}
+
+/// The stage of a cursor whose walk has ended for this reason.
+fn stage_after(stop: Stop) -> u32
+    ensures { result ≡ stop_number stop + 1 }
+{
+    match stop {
+        Stop::Limit => 1,
+        Stop::NotCovered => 2,
+        Stop::ReturnUndefined => 3,
+        Stop::ReturnUnreadable => 4,
+        Stop::ReturnDivisionByZero => 5,
+    }
+}
+
+/// Moves a cursor to the caller of its frame, which is looked up at `address`, in a way that needs
+/// a second file for the caller's registers.
+#[inline(never)]
+fn step_by_copy<M: Memory>(
+    process: &Process,
+    kept: &[u16],
+    stack_pointer: Option<u16>,
+    address: u64,
+    cursor: &mut CCursor,
+    memory: &M,
+    out: &mut CFrame,
+) -> u32
+    requires { looked_up_by cursor.old.stage cursor.old.address ≡ Some address }
+    ensures done { result ≡ DONE → IsStepBy (over_process (abi_of kept.now stack_pointer)
+        (M.bytes memory.now) process.now) cursor.old cursor.new out.new }
+    ensures codes { (result ≡ DONE) ⊎ (result ≡ NO_PLACE) }
+    ensures unwritten { result ≢ DONE → (cursor.new ≡ cursor.old) × (out.new ≡ out.old) }
+{
+    let mut into = RegisterFile::none();
+    let Ok(unwound) = process.contents_into(
+        kept,
+        stack_pointer,
+        address,
+        &cursor.registers,
+        memory,
+        &mut into,
+    ) else {
+        return NO_PLACE;
+    };
+    *out = shown_frame(brief(cursor.address, unwound));
+    match return_address(unwound) {
+        Ok(next) => {
+            cursor.registers = into;
+            cursor.address = next;
+            cursor.stage = CALLER;
+        }
+        Err(stop) => cursor.stage = stage_after(stop),
+    }
+    DONE
+}
+
+/// Writes the frame that a cursor is at to `out`, where the frame has no caller, and ends the walk.
+fn end_uncovered(cursor: &mut CCursor, out: &mut CFrame)
+    ensures cursor { cursor.new ≡ record {
+      registers = cursor.old.registers;
+      address = cursor.old.address;
+      stage = stop_number Stop.NotCovered + 1;
+      reserved = cursor.old.reserved;
+    } }
+    ensures frame { out.new ≡ cframe_of (record { address = cursor.old.address; caller = None }) }
+{
+    *out = shown_frame(brief(cursor.address, None));
+    cursor.stage = stage_after(Stop::NotCovered);
+}
+
+/// Writes the frame that a cursor is at to `out`, and moves the cursor to the frame's caller.
+fn step_by<M: Memory>(
+    process: &Process,
+    kept: &[u16],
+    stack_pointer: Option<u16>,
+    cursor: &mut CCursor,
+    memory: &M,
+    out: &mut CFrame,
+) -> u32
+    requires { cursor.old.stage ≤ CALLER }
+    ensures done { result ≡ DONE → IsStepBy (over_process (abi_of kept.now stack_pointer)
+        (M.bytes memory.now) process.now) cursor.old cursor.new out.new }
+    ensures codes { (result ≡ DONE) ⊎ (result ≡ NO_PLACE) }
+    ensures unwritten { result ≢ DONE → (cursor.new ≡ cursor.old) × (out.new ≡ out.old) }
+{
+    let Some(address) = cursor.looked_up() else {
+        end_uncovered(cursor, out);
+        return DONE;
+    };
+    let marked = KeptRegisters::new(kept);
+    let file = &mut cursor.registers;
+    match process.contents_in_place(&marked, stack_pointer, address, memory, file) {
+        Some(unwound) => match return_address(Some(unwound)) {
+            Ok(next) => {
+                *out = shown_frame(brief(cursor.address, Some(unwound)));
+                cursor.address = next;
+                cursor.stage = CALLER;
+                DONE
+            }
+            Err(_) => unreachable!(),
+        },
+        None => step_by_copy(process, kept, stack_pointer, address, cursor, memory, out),
+    }
+}
+
+/// Calls `step_by` with the memory and the ABI of `state`, if the walk hasn't ended.
+#[inline(never)]
+fn step_of(process: &Process, cursor: &mut CCursor, state: &CState<'_>, out: &mut CFrame) -> u32
+    ensures done { result ≡ DONE → IsStep (Some process.now) (abi_in state.now)
+        (memory_of state.now) cursor.old cursor.new out.new }
+    ensures none { result ≡ NONE → CALLER < cursor.old.stage }
+    ensures some { result ≢ NONE → cursor.old.stage ≤ CALLER }
+    ensures codes { (result ≡ DONE) ⊎ (result ≡ NONE) ⊎ (result ≡ NO_PLACE) }
+    ensures unwritten { result ≢ DONE → (cursor.new ≡ cursor.old) × (out.new ≡ out.old) }
+{
+    if cursor.stage > CALLER {
+        return NONE;
+    }
+    step_by(
+        process,
+        state.kept,
+        state.pointer(),
+        cursor,
+        &state.memory(),
+        out,
+    )
+}
+
+/// Takes a step through a closed process, which has no modules: the frame has no caller.
+fn step_uncovered(cursor: &mut CCursor, out: &mut CFrame) -> u32
+    ensures done { (abi : Abi) (memory : ℕ → Option ℕ) → result ≡ DONE
+        → IsStep None abi memory cursor.old cursor.new out.new }
+    ensures none { result ≡ NONE → CALLER < cursor.old.stage }
+    ensures some { result ≢ NONE → cursor.old.stage ≤ CALLER }
+    ensures codes { (result ≡ DONE) ⊎ (result ≡ NONE) ⊎ (result ≡ NO_PLACE) }
+    ensures unwritten { result ≢ DONE → (cursor.new ≡ cursor.old) × (out.new ≡ out.old) }
+{
+    if cursor.stage > CALLER {
+        return NONE;
+    }
+    end_uncovered(cursor, out);
+    DONE
+}
+
+/// Places a cursor at the frame at `address` with the registers of `state`. The frame is looked up
+/// at its own address if `exact` isn't 0, and at its address minus 1 if it is.
+#[unsafe(no_mangle)]
+pub extern "C" fn dwcheck_cursor_init(
+    cursor: &mut CCursor,
+    address: u64,
+    state: &CState<'_>,
+    exact: u32,
+    fault: &mut CFault,
+) -> u32
+    ensures accepted { result ≢ REFUSED → abi_fault_of state.now ≡ None }
+    ensures done { result ≡ DONE → (cursor.new.stage ≤ CALLER)
+        × (place_of cursor.new ≡ place_from exact address (registers_of state.now)) }
+    ensures lacks { result ≡ NO_PLACE
+        → (r : ℕ) × (PLACES ≤ r) × IsSome (registers_of state.now r) }
+    ensures refused { result ≡ REFUSED → Reports IN_ABI (abi_fault_of state.now) fault.new }
+    ensures codes { (result ≡ DONE) ⊎ (result ≡ REFUSED) ⊎ (result ≡ NO_PLACE) }
+    ensures unwritten { result ≢ DONE → cursor.new ≡ cursor.old }
+    ensures unreported { result ≢ REFUSED → fault.new ≡ fault.old }
+{
+    if let Some(why) = state.abi_fault() {
+        *fault = report(IN_ABI, why);
+        return REFUSED;
+    }
+    let registers = state.registers();
+    if !has_places(&registers) {
+        return NO_PLACE;
+    }
+    fill(&mut cursor.registers, &registers);
+    cursor.address = address;
+    cursor.stage = if exact == 0 { CALLER } else { EXACT };
+    cursor.reserved = 0;
+    DONE
+}
+
+/// Writes the frame that a cursor is at to `frame`, and moves the cursor to the frame's caller. The
+/// memory and the ABI are those of `state`, the registers those of the cursor. Returns `NONE` if
+/// the cursor's walk has ended, and `NO_PLACE` if a register of the caller with a number of 96 or
+/// more has a content.
+#[unsafe(no_mangle)]
+pub extern "C" fn dwcheck_cursor_step(
+    process: &LentProcess,
+    cursor: &mut CCursor,
+    state: &CState<'_>,
+    frame: &mut FramePlace,
+) -> u32
+    requires { Reads frame.old.right process.now }
+    ensures done { result ≡ DONE → IsStep (read_by frame.old.right) (abi_in state.now)
+        (memory_of state.now) cursor.old cursor.new frame.new.frame }
+    ensures none { result ≡ NONE → CALLER < cursor.old.stage }
+    ensures some { result ≢ NONE → cursor.old.stage ≤ CALLER }
+    ensures codes { (result ≡ DONE) ⊎ (result ≡ NONE) ⊎ (result ≡ NO_PLACE) }
+    ensures unwritten { result ≢ DONE
+        → (cursor.new ≡ cursor.old) × (frame.new.frame ≡ frame.old.frame) }
+    ensures same { loan_of frame.new.right ≡ loan_of frame.old.right }
+{
+    let Some(part) = process.take(&mut frame.right) else {
+        return step_uncovered(cursor, &mut frame.frame);
+    };
+    let status = step_of(part.get(), cursor, state, &mut frame.frame);
+    put(part, &mut frame.right);
+    status
+}
+
+/// Steps of a cursor that begins as `dwcheck_backtrace` does give what that call writes to an array:
+/// with as many slots as there are steps, all of them; with more, if the cursor's walk has ended.
+pub fn steps_are_a_backtrace()
+    ensures fills { (held : Option ProcessState) (abi : Abi) (memory registers : ℕ → Option ℕ)
+        (address : ℕ) (from to : Cursor) (frames old : List Slot)
+        → place_of from ≡ first_place address registers
+        → AreSteps (over_held abi memory held) from frames to → 1 ≤ length frames
+        → length frames ≡ length old
+        → IsBacktrace held abi memory registers address old (put_into frames old) (length frames) 0 }
+    ensures ends { (held : Option ProcessState) (abi : Abi) (memory registers : ℕ → Option ℕ)
+        (address : ℕ) (from to : Cursor) (frames old : List Slot) (why : Why)
+        → place_of from ≡ first_place address registers
+        → AreSteps (over_held abi memory held) from frames to → 1 ≤ length frames
+        → length frames < length old → HasEnded to why
+        → IsBacktrace held abi memory registers address old (put_into frames old) (length frames)
+        (stop_number why) }
+{}

@@ -1,0 +1,206 @@
+//! A cursor: where a walk up a stack is.
+
+use crate::fault::Error;
+use crate::ffi;
+use crate::process::Process;
+use crate::state::State;
+use crate::walk::{Frame, Stop};
+use std::fmt;
+
+/// Where a walk up a stack is: the address of a frame, and the frame's registers.
+///
+/// It is plain data of 880 bytes, which borrows nothing. So a walk may be left and taken up again
+/// from a copy, also after modules were added to the process or removed from it.
+///
+/// Registers with numbers of 96 or more have no place in a cursor. The rows of x86-64, AArch64,
+/// RISC-V and most other targets name none.
+///
+/// ```
+/// # const SECTION: &[u8] = &[
+/// #     0x14, 0, 0, 0, 0xff, 0xff, 0xff, 0xff, 4, 0, 8, 0, 1, 0x78, 0x10, 0x0c, 7, 8, 0x90, 1, 0, 0, 0, 0,
+/// #     0x1c, 0, 0, 0, 0, 0, 0, 0, 0, 0x10, 0, 0, 0, 0, 0, 0, 0x20, 0, 0, 0, 0, 0, 0, 0,
+/// #     0x41, 0x0e, 0x10, 0x86, 2, 0x43, 0x0d, 6,
+/// # ];
+/// use dwcheck::{Abi, Block, Cursor, Module, Process, Registers, State, Stop, Target};
+///
+/// let mut process = Process::new(Target::LITTLE_64);
+/// process.add(SECTION, Module::at(0))?;
+/// let registers = Registers::from([(6, 0x7f00)]);
+/// let stack = [0, 0x80, 0, 0, 0, 0, 0, 0, 0x34, 0x12, 0, 0, 0, 0, 0, 0];
+/// let memory = [Block::new(0x7f00, &stack)];
+/// let state = State { registers: &registers, memory: &memory, abi: Abi::X86_64 };
+///
+/// let mut cursor = Cursor::new(0x1010, &state)?;
+/// let frame = process.step(&mut cursor, &state)?.unwrap();
+/// assert_eq!((frame.address(), cursor.address()), (0x1010, 0x1234));
+/// assert_eq!(cursor.register(6), Some(0x8000));
+/// assert_eq!(cursor.stop(), None);
+///
+/// // No module covers the caller, so it is the last frame.
+/// assert_eq!(process.step(&mut cursor, &state)?.unwrap().cfa(), None);
+/// assert_eq!(cursor.stop(), Some(Stop::NotCovered));
+/// assert_eq!(process.step(&mut cursor, &state)?, None);
+/// # Ok::<(), dwcheck::Error>(())
+/// ```
+#[derive(Clone)]
+pub struct Cursor {
+    raw: ffi::Cursor,
+}
+
+impl Cursor {
+    /// A cursor at the first frame of a walk: the frame at `address`, as loaded, with the registers
+    /// of `state`. The frame is looked up at `address` itself.
+    ///
+    /// # Errors
+    ///
+    /// [`Error::Refused`] if the ABI names too many registers or names one twice, or
+    /// [`Error::NoPlace`] if a register with a number of 96 or more is known.
+    pub fn new(address: u64, state: &State<'_>) -> Result<Cursor, Error> {
+        Cursor::place(address, state, true)
+    }
+
+    /// A cursor at a later frame: `address` is a return address, and `state` has the registers of
+    /// the frame to which it leads. The frame is looked up at `address` minus 1, inside the call.
+    ///
+    /// # Errors
+    ///
+    /// The same as those of [`new`](Cursor::new).
+    pub fn at_caller(address: u64, state: &State<'_>) -> Result<Cursor, Error> {
+        Cursor::place(address, state, false)
+    }
+
+    fn place(address: u64, state: &State<'_>, is_exact: bool) -> Result<Cursor, Error> {
+        let mut raw = ffi::Cursor::EMPTY;
+        let mut fault = ffi::Fault::default();
+        // SAFETY: the state's pointers are those of slices that are only read, and the other
+        // pointers are to locals.
+        let status = unsafe {
+            ffi::dwcheck_cursor_init(
+                &mut raw,
+                address,
+                &state.raw(),
+                u32::from(is_exact),
+                &mut fault,
+            )
+        };
+        Error::check(status, fault)?;
+        Ok(Cursor { raw })
+    }
+
+    /// The address of the frame, as loaded.
+    pub fn address(&self) -> u64 {
+        self.raw.address
+    }
+
+    /// The content of a register in the frame. `None` if it isn't known.
+    pub fn register(&self, number: u16) -> Option<u64> {
+        let index = usize::from(number);
+        let known = *self.raw.known.get(index)?;
+        (known != 0).then(|| self.raw.contents[index])
+    }
+
+    /// Why there are no more frames. `None` if another step may be taken.
+    pub fn stop(&self) -> Option<Stop> {
+        match self.raw.stage {
+            ffi::CURSOR_EXACT | ffi::CURSOR_CALLER => None,
+            stage => Some(Stop::of(stage - 1)),
+        }
+    }
+
+    /// Says that the frame was interrupted, as by a signal: its address isn't a return address, so
+    /// the frame is looked up at the address itself. Nothing changes if the walk has ended.
+    pub fn set_interrupted(&mut self) {
+        if self.raw.stage == ffi::CURSOR_CALLER {
+            self.raw.stage = ffi::CURSOR_EXACT;
+        }
+    }
+}
+
+impl fmt::Debug for Cursor {
+    fn fmt(&self, f: &mut fmt::Formatter<'_>) -> fmt::Result {
+        f.debug_struct("Cursor")
+            .field("address", &self.address())
+            .field("stop", &self.stop())
+            .finish_non_exhaustive()
+    }
+}
+
+impl Process {
+    /// The frame that a cursor is at. Moves the cursor to the frame's caller. `None` if the walk has
+    /// ended: [`Cursor::stop`] says why.
+    ///
+    /// The memory and the ABI are those of `state`, and the registers are those of the cursor. If no
+    /// caller follows, the cursor keeps the address and the registers of the last frame. The frames
+    /// are those of [`backtrace`](Process::backtrace). This allocates nothing.
+    ///
+    /// # Errors
+    ///
+    /// [`Error::NoPlace`] if a register of the caller with a number of 96 or more would be known.
+    /// Then nothing changes.
+    pub fn step(&self, cursor: &mut Cursor, state: &State<'_>) -> Result<Option<Frame>, Error> {
+        let mut slot = [Frame::default()];
+        // SAFETY: the process is only read, the cursor is borrowed exclusively, the state's pointers
+        // are those of slices that are only read, and the frame is a local.
+        let status = unsafe {
+            ffi::dwcheck_cursor_step(
+                self.raw(),
+                &mut cursor.raw,
+                &state.raw(),
+                Frame::raw_slots(&mut slot),
+            )
+        };
+        if status == ffi::NONE {
+            return Ok(None);
+        }
+        Error::check(status, ffi::Fault::default())?;
+        Ok(Some(slot[0]))
+    }
+
+    /// The frames of a stack one by one, from the frame at an address: an iterator that allocates
+    /// nothing. On a corrupt stack the frames may never end, so use [`take`](Iterator::take).
+    ///
+    /// # Errors
+    ///
+    /// The same as those of [`Cursor::new`].
+    ///
+    /// ```
+    /// use dwcheck::{Abi, Process, Registers, State, Target};
+    ///
+    /// let process = Process::new(Target::LITTLE_64);
+    /// let state = State { registers: &Registers::new(), memory: &[], abi: Abi::X86_64 };
+    /// for frame in process.frames(0x1010, &state)?.take(64) {
+    ///     assert_eq!(frame?.address(), 0x1010);
+    /// }
+    /// # Ok::<(), dwcheck::Error>(())
+    /// ```
+    pub fn frames<'a>(&'a self, address: u64, state: &State<'a>) -> Result<Frames<'a>, Error> {
+        Ok(Frames {
+            process: self,
+            cursor: Cursor::new(address, state)?,
+            state: *state,
+        })
+    }
+}
+
+/// An iterator over the frames of a stack. [`Process::frames`] makes it.
+#[derive(Clone, Debug)]
+pub struct Frames<'a> {
+    process: &'a Process,
+    cursor: Cursor,
+    state: State<'a>,
+}
+
+impl Frames<'_> {
+    /// The cursor, which is at the caller of the frame that came last.
+    pub fn cursor(&self) -> &Cursor {
+        &self.cursor
+    }
+}
+
+impl Iterator for Frames<'_> {
+    type Item = Result<Frame, Error>;
+
+    fn next(&mut self) -> Option<Result<Frame, Error>> {
+        self.process.step(&mut self.cursor, &self.state).transpose()
+    }
+}
