@@ -1,5 +1,5 @@
 -- Steps in place: contents that stay where they are, and rules that only read memory.
-use Rattle.std.proofs.Common.{◌≡◌, ◌≢◌, ℕ, ◌+◌, ◌<◌, ◌≤◌, ◌%◌, ◌^◌, ◌==◌, Bool, true, false, if◌then◌else◌, List, [], ◌∷◌, ◌++◌}
+use Rattle.std.proofs.Common.{◌≡◌, ◌≢◌, ℕ, ◌+◌, ◌<◌, ◌≤◌, ◌%◌, ◌^◌, ◌==◌, Bool, true, false, if◌then◌else◌, List, [], ◌∷◌}
 use Rattle.std.proofs.Common.{refl, sym, ap, subst, ◌∙◌, add-one, arith, drop, drop-cons}
 use Rattle.std.proofs.Common.{◌||◌, length, get_or, replicate, set, suc, zero}
 use Rattle.std.specs.Prelude.{IfSome, Option, Some, None, pos}
@@ -8,14 +8,15 @@ use Rattle.std.proofs.lemmas.Bool.Decides.{nat_tests}
 use Rattle.std.proofs.lemmas.List.{get_or-set_other, get_or-set_same, drop_all}
 use Rattle.dw_bytes.specs.declared.target.Target.{Target}
 use Rattle.dw_rows.specs.Abi.{Abi, abi_of, is_among, rule_under}
-use Rattle.dw_rows.specs.Rules.{Rule, IsTable, rule_in}
+use Rattle.dw_rows.specs.Rules.{Rule, rule_in}
 use Rattle.dw_unwind.specs.Caller.{Answer, IsRegister, content_plus, machine}
 use Rattle.dw_unwind.specs.Contents.{HasContents, Overlays, abi_rules, content_changed}
-use Rattle.dw_unwind.specs.InPlace.{IsSavedAt, IsSavedEntry}
+use Rattle.dw_rows.specs.PlainRules.{IsSavedBelow}
+use Rattle.dw_unwind.specs.InPlace.{IsSavedAt}
 use Rattle.dw_unwind.specs.Walks.{content_of}
 use Rattle.dw_unwind.specs.declared.in_place.TheConstants.{LITTLE_64}
+use Rattle.dw_unwind.specs.declared.register_file.TheConstants.{PLACES}
 use Rattle.dw_unwind.proofs.Contents.{role-content, role-is, role_answer}
-use Rattle.dw_unwind.proofs.Places.{same-itself}
 
 -- ---- contents that stay where they are
 
@@ -49,7 +50,7 @@ saved-by t registers others memory cfa r rule a saved is =
     (subst (λ (x : Rule). IsRegister (machine t registers memory) cfa r x a) saved.1 is)
 
 pub overlays-by : (t : Target) (registers others memory : ℕ → Option ℕ) (cfa : Answer) (rules : List (ℕ × Rule)) (base final : ℕ → Option ℕ)
-    → AllByRecursion IsSavedEntry rules → Overlays (machine t registers memory) cfa rules base final
+    → AllByRecursion (IsSavedBelow PLACES) rules → Overlays (machine t registers memory) cfa rules base final
     → Overlays (machine t others memory) cfa rules base final
 overlays-by t registers others memory cfa [] base final saved over = over
 overlays-by t registers others memory cfa (entry ∷ rules) base final saved over = (
@@ -62,40 +63,6 @@ overlays-by t registers others memory cfa (entry ∷ rules) base final saved ove
 pub saved-under : (abi : Abi) (rules : List (ℕ × Rule)) (number : ℕ) → IsSavedAt (rule_in rules number)
     → rule_under abi rules number ≡ rule_in rules number
 saved-under abi rules number saved = rw saved.1 refl
-
--- ---- the rule of an entry
-
-above : (low : ℕ) (came : List (ℕ × Rule)) (n : ℕ) (rule : Rule) (rest : List (ℕ × Rule)) → IsTable low (came ++ (n, rule) ∷ rest) → low ≤ n
-above low [] n rule rest table = table.0
-above low (entry ∷ came) n rule rest table =
-    let later = above (entry.0 + 1) came n rule rest table.3 in omega (arith, table.0, later)
-
-entry-is : (low : ℕ) (came : List (ℕ × Rule)) (n : ℕ) (rule : Rule) (rest : List (ℕ × Rule)) → IsTable low (came ++ (n, rule) ∷ rest)
-    → rule_in (came ++ (n, rule) ∷ rest) n ≡ rule
-entry-is low [] n rule rest table = go (n == n) (same-itself n)
-  where
-    go : (here : Bool) → here ≡ true → (if here then rule else rule_in rest n) ≡ rule
-    go true is = refl
-    go false is = absurd (cc)
-entry-is low (entry ∷ came) n rule rest table = go (entry.0 == n) refl (entry-is (entry.0 + 1) came n rule rest table.3)
-  where
-    go : (here : Bool) → (entry.0 == n) ≡ here → rule_in (came ++ (n, rule) ∷ rest) n ≡ rule
-        → (if here then entry.1 else rule_in (came ++ (n, rule) ∷ rest) n) ≡ rule
-    go true is later =
-        let same : entry.0 ≡ n = grind (arith, nat_tests) in
-        absurd (omega (arith, same, above (entry.0 + 1) came n rule rest table.3))
-    go false is later = later
-
-pub rule-of-entry : (came : List (ℕ × Rule)) (n : ℕ) (rule : Rule) (left rest rules : List (ℕ × Rule)) → IsTable 0 rules → came ++ left ≡ rules
-    → left ≡ (n, rule) ∷ rest → rule_in rules n ≡ rule
-rule-of-entry came n rule left rest rules table whole next =
-    let is : came ++ (n, rule) ∷ rest ≡ rules = ap (λ (l : List (ℕ × Rule)). came ++ l) (sym next) ∙ whole in
-    subst (λ (l : List (ℕ × Rule)). rule_in l n ≡ rule) is
-    (entry-is 0 came n rule rest (subst (λ (l : List (ℕ × Rule)). IsTable 0 l) (sym is) table))
-
-pub if-some-and : {X : Type 0} (o : Option X) (P : Type 0) (Q : X → Type 0) → P → IfSome o Q → IfSome o (λ x. P × Q x)
-if-some-and None P Q p q = tt
-if-some-and (Some x) P Q p q = (p, q)
 
 -- ---- flags that are kept where there is a mark
 

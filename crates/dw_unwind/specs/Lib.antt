@@ -27,7 +27,7 @@ pub mod Contents
 pub mod Places
 -- callee-saved registers that are marked by number
 pub mod KeptRegisters
--- rows whose rules all say that a register is saved in memory
+-- rules that say that a register is saved in memory
 pub mod InPlace
 -- translates the code's frames and walks
 pub mod WalkViews

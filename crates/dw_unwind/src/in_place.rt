@@ -4,12 +4,13 @@
 ghost use Rattle.std.specs.Prelude.{◌≡◌, ◌<◌, ℕ, All, IfSome, MatchOption, Option, Some};
 ghost use Rattle.std.specs.Bool.{OnTrue};
 ghost use Rattle.dw_rows.specs.Abi.{abi_of, rule_under};
-ghost use Rattle.dw_rows.specs.Rules.{IsTable, RuleOver, rule_in};
+ghost use Rattle.dw_rows.specs.PlainRules.{IsSavedBelow};
+ghost use Rattle.dw_rows.specs.Rules.{IsTable, RuleOver};
 ghost use Rattle.dw_rows.specs.Views.{cfa_rule_of, rule_of};
 ghost use Rattle.dw_unwind.specs.Caller.{IsCfa, IsRegister, machine, value};
 ghost use Rattle.dw_unwind.specs.CallerViews.{answer_in, machine_in};
 ghost use Rattle.dw_unwind.specs.Contents.{HasContents, Overlays, UnwindsTo, abi_rules, contents_in};
-ghost use Rattle.dw_unwind.specs.InPlace.{IsSavedAt, IsSavedEntry};
+ghost use Rattle.dw_unwind.specs.InPlace.{IsSavedAt};
 ghost use Rattle.dw_unwind.specs.Walks.{over_rows};
 
 use crate::caller_contents::{content_of, pointed, saved};
@@ -58,31 +59,6 @@ fn plain_cfa(rule: CfaRule<'_>, file: &RegisterFile) -> Option<u64>
     Some(width.offset(file.register(register)?, offset))
 }
 
-/// The offset from the CFA at which the register `number` is saved, if each of the rules says that a
-/// register with a place is saved relative to the CFA, and one of them says so of `number`.
-#[inline(always)]
-fn offset_if_saved(rules: RegisterRules<'_, '_>, number: u16) -> Option<i64>
-    requires { IsTable 0 rules }
-    ensures { IfSome result (λ n. All IsSavedEntry rules.entry
-        × (rule_in rules.entry number ≡ RuleOver.offset n)) }
-{
-    let mut found = None;
-    for (register, rule) in rules {
-        let RegisterRule::Offset(offset) = rule else {
-            return None;
-        };
-        if usize::from(register) >= PLACES {
-            return None;
-        }
-        found = if register == number {
-            Some(offset)
-        } else {
-            found
-        };
-    }
-    found
-}
-
 /// What a rule gives that says that a register is saved in memory.
 #[inline(always)]
 fn saved_by<R: Registers, M: Memory>(
@@ -109,7 +85,7 @@ fn saved_into<R: Registers, M: Memory>(
     rules: RegisterRules<'_, '_>,
     into: &mut RegisterFile,
 )
-    requires saved { All IsSavedEntry rules }
+    requires saved { All (IsSavedBelow PLACES) rules }
     ensures { Overlays (machine_in R.contents M.bytes present.now) (answer_in cfa) rules.entry
         (contents_in into.old) (contents_in into.new) }
 {
@@ -159,7 +135,7 @@ fn rules_in_place<M: Memory>(
     rules: RegisterRules<'_, '_>,
     file: &mut RegisterFile,
 )
-    requires saved { All IsSavedEntry rules }
+    requires saved { All (IsSavedBelow PLACES) rules }
     requires table { IsTable 0 rules }
     requires pointer { IfSome stack_pointer (λ number. number < PLACES) }
     ensures { HasContents (machine LITTLE_64 (contents_in file.old) (M.bytes memory.now))
@@ -241,7 +217,7 @@ pub(crate) fn step_in_place<T: UnwindRows, M: Memory>(
     let mut slot = rows.slot();
     let (row, number) = rows.find_row(address, &mut slot)?;
     let cfa = plain_cfa(row.cfa(), file)?;
-    let offset = offset_if_saved(row.rules(), number)?;
+    let offset = row.offset_if_plain(number, PLACES as u16)?;
     let return_address = saved_number(memory, cfa, offset)?;
     rules_in_place(memory, cfa, kept, stack_pointer, row.rules(), file);
     file.ends();

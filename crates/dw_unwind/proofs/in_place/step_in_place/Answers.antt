@@ -3,10 +3,11 @@ use mir.Val.{to_z, of_z}
 use Rattle.std.specs.Prelude.{All}
 use Rattle.dw_bytes.specs.declared.target.Target.{Target}
 use Rattle.dw_rows.specs.Abi.{abi_of, rule_under}
-use Rattle.dw_rows.specs.Rules.{Rule, offset, rule_in}
+use Rattle.dw_rows.specs.Rules.{Rule, offset}
 use Rattle.dw_unwind.specs.Caller.{IsCaller, IsRegister, machine, value}
 use Rattle.dw_unwind.specs.Contents.{HasContents, contents_in}
-use Rattle.dw_unwind.specs.InPlace.{IsSavedEntry}
+use Rattle.dw_rows.specs.PlainRules.{IsSavedBelow}
+use Rattle.dw_unwind.specs.declared.register_file.TheConstants.{PLACES}
 use Rattle.dw_unwind.specs.declared.in_place.TheConstants.{LITTLE_64}
 use Rattle.dw_unwind.proofs.Contents.{by_contents}
 use Rattle.dw_unwind.proofs.InPlace.{saved-under}
@@ -14,7 +15,7 @@ use Rattle.dw_unwind.proofs.in_place.step_in_place.Goals as goal
 
 pub rules_in_place-requires-clause-saved : goal.rules_in_place-requires-clause-saved
 rules_in_place-requires-clause-saved g c =
-    subst (λ (rules : List (ℕ × Rule)). All IsSavedEntry rules) (c.rules.ensures.rules ∙ sym c.rules-2.ensures.rules) c.in_ok-offset.ensures.0
+    subst (λ (rules : List (ℕ × Rule)). All (IsSavedBelow PLACES) rules) (sym c.rules.ensures.rules) c.in_ok-offset.ensures.0
 
 pub returns-clause-steps : goal.returns-clause-steps
 returns-clause-steps g c =
@@ -25,9 +26,8 @@ returns-clause-steps g c =
     let abi = abi_of c.args.kept.now c.args.stack_pointer in
     let row = c.in_ok-row.row in
     let file = contents_in c.rules_in_place.new.file in
-    let has = subst (λ (rules : List (ℕ × Rule)). HasContents e cfa (rule_under abi rules) file) c.rules-2.ensures.rules c.rules_in_place.ensures in
-    let saved = subst (λ (rules : List (ℕ × Rule)). rule_in rules c.in_ok-row.number ≡ offset c.in_ok-offset.offset) c.rules.ensures.rules
-    c.in_ok-offset.ensures.1 in
+    let has = subst (λ (rules : List (ℕ × Rule)). HasContents e cfa (rule_under abi rules) file) c.rules.ensures.rules c.rules_in_place.ensures in
+    let saved = c.in_ok-offset.ensures.1 in
     let same : to_z w64 (of_z w64 c.in_ok-offset.offset) ≡ c.in_ok-offset.offset = search rules in
     let is = saved-under abi row.rules c.in_ok-row.number (c.in_ok-offset.offset, saved) ∙ saved in
     let made = by_contents e abi c.in_ok-row.number row cfa (value c.in_ok-return_address.return_address) _ file
