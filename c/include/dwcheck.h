@@ -36,13 +36,13 @@
    - The proofs cover calls in threads. They don't cover a call in a signal handler that interrupts
      another call with the same process, a call in the child of a fork, a call that is left, nor
      later changes of a process on which a call was left. c/tests/readers.c tests all of these.
-   - The stack is large enough. As measured on x86-64, dwcheck_backtrace takes 3 KB of stack and
-     dwcheck_unwind 7 KB, and both take up to 14 KB more if a rule is an expression.
-     dwcheck_backtrace takes 41 KB if a register with a number of 96 or more has a known content.
-     dwcheck_process_add takes 82 KB, dwcheck_check 41 KB, dwcheck_evaluate 12 KB, and every other
-     call less than 4 KB. So a signal handler on an alternate stack of the usual 8 KB, of which the
-     kernel's own frame takes some 3 KB, can walk by dwcheck_backtrace, unless a rule is an
-     expression, or a rule or the ABI names such a register.
+   - The stack is large enough. As measured on x86-64, dwcheck_backtrace takes 3.2 KB of stack,
+     dwcheck_unwind 7 KB and dwcheck_cursor_step 0.7 KB; if a rule is an expression, 4.8, 8.6 and
+     3.9 KB. dwcheck_backtrace takes 41 KB if a register with a number of 96 or more has a known
+     content. dwcheck_process_add takes 82 KB, dwcheck_check 41 KB, dwcheck_evaluate 12 KB, and every
+     other call less than 4 KB. So a signal handler on an alternate stack of the usual 8 KB, of which
+     the kernel's own frame takes some 3 KB, can walk by dwcheck_backtrace or by a cursor, unless a
+     rule or the ABI names such a register.
    - Fields called `reserved` are set to 0. A later version may give them a meaning.
 
    A later version may add values to enumerations, so treat a value that you don't know as

@@ -29,8 +29,8 @@ const FIRST_FRAMES: usize = 64;
 ///
 /// As measured on x86-64, [`add`](Process::add) takes 82 KB of stack. The walks take 3 KB, or 41 KB
 /// if a register with a number of 96 or more has a known content, and [`unwind`](Process::unwind)
-/// takes 7 KB; each takes up to 14 KB more if a rule is an expression. If a thread's stack is too
-/// small, the program ends, as with any stack overflow.
+/// takes 7 KB; each takes 2 KB more if a rule is an expression. If a thread's stack is too small, the
+/// program ends, as with any stack overflow.
 ///
 /// ```
 /// # const SECTION: &[u8] = &[
@@ -67,10 +67,10 @@ pub struct Process {
 unsafe impl Send for Process {}
 
 // SAFETY: the calls that this crate makes with a `&Process` only read: `dwcheck_module_at`,
-// `dwcheck_row_at`, `dwcheck_unwind`, `dwcheck_backtrace` and `dwcheck_process_share` take the process
-// by a pointer to const, and the library allows any number of them at once, in any threads. The calls
-// that change a process, `dwcheck_process_add`, `_remove` and `_close`, are made with a
-// `&mut Process`.
+// `dwcheck_row_at`, `dwcheck_unwind`, `dwcheck_backtrace`, `dwcheck_cursor_step` and
+// `dwcheck_process_share` take the process by a pointer to const, and the library allows any number of
+// them at once, in any threads. The calls that change a process, `dwcheck_process_add`, `_remove` and
+// `_close`, are made with a `&mut Process`.
 unsafe impl Sync for Process {}
 
 impl Process {
