@@ -2,6 +2,7 @@
 use Rattle.std.specs.Prelude.{◌≡◌, ℕ, ◌+◌, ◌≤◌, ◌==◌, if◌then◌else◌, IfSome, List, [], ◌∷◌, length, map, Option, Some}
 use Rattle.dw_rows.specs.Abi.{Abi}
 use Rattle.dw_unwind.specs.Contents.{contents_in}
+use Rattle.dw_unwind.specs.Places.{LacksPlace}
 use Rattle.dw_unwind.specs.Walks.{AreFrames, CallerRelation, IsFrameAt, Place, WalkedFrame, address_before, next_place, stop_after, stop_of_caller}
 use Rattle.dw_unwind.specs.declared.frames.Stop.{Stop}
 use Rattle.dw_process.specs.Processes.{ProcessState}
@@ -45,6 +46,10 @@ pub record IsStepBy (u : CallerRelation) (old new : CCursor) (frame : CFrame) : 
 -- a step through the modules of a process
 abbrev pub IsStep : Option ProcessState → Abi → (ℕ → Option ℕ) → CCursor → CCursor → CFrame → Type 0
 IsStep held abi memory = IsStepBy (over_held abi memory held)
+
+-- the frame that the cursor is at has a caller, one of whose registers has no place in a cursor
+abbrev pub LacksPlaceIn : Option ProcessState → Abi → (ℕ → Option ℕ) → CCursor → Type 0
+LacksPlaceIn held abi memory c = LacksPlace (over_held abi memory held) (registers_in c) (looked_up_by c.stage c.address)
 
 -- steps, one after the other, each of a cursor whose walk hasn't ended; they give these frames
 abbrev pub AreSteps : CallerRelation → CCursor → List CFrame → CCursor → Type 0

@@ -5,12 +5,13 @@ ghost use Rattle.std.specs.Bool.{OnTrue, OnFalse};
 ghost use Rattle.dw_process.specs.Processes.{ProcessState};
 ghost use Rattle.dw_rows.specs.Abi.{Abi, abi_of};
 ghost use Rattle.dw_unwind.specs.Contents.{contents_in};
+ghost use Rattle.dw_unwind.specs.Places.{LacksPlace};
 ghost use Rattle.dw_unwind.specs.Walks.{first_place};
 ghost use Rattle.dw_unwind.specs.declared.frames.Stop.{Stop as Why};
 ghost use Rattle.dwcheck_c.specs.declared.answer.CFrame.{CFrame as Slot};
 ghost use Rattle.dwcheck_c.specs.declared.cursor.CCursor.{CCursor as Cursor};
 ghost use Rattle.dwcheck_c.specs.Slots.{put_into};
-ghost use Rattle.dwcheck_c.specs.Cursors.{AreSteps, HasEnded, IsStep, IsStepBy, looked_up_by, place_from, place_of};
+ghost use Rattle.dwcheck_c.specs.Cursors.{AreSteps, HasEnded, IsStep, IsStepBy, LacksPlaceIn, looked_up_by, place_from, place_of, registers_in};
 ghost use Rattle.dwcheck_c.specs.Faults.{Reports};
 ghost use Rattle.dwcheck_c.specs.Frames.{IsBacktrace, cframe_of, over_held, over_process, stop_number};
 ghost use Rattle.dwcheck_c.specs.Lent.{Reads, loan_of, read_by};
@@ -143,6 +144,9 @@ fn step_by_copy<M: Memory>(
     requires { looked_up_by cursor.old.stage cursor.old.address ≡ Some address }
     ensures done { result ≡ DONE → IsStepBy (over_process (abi_of kept.now stack_pointer)
         (M.bytes memory.now) process.now) cursor.old cursor.new out.new }
+    ensures lacks { result ≡ NO_PLACE → LacksPlace (over_process (abi_of kept.now stack_pointer)
+        (M.bytes memory.now) process.now) (registers_in cursor.old)
+        (looked_up_by cursor.old.stage cursor.old.address) }
     ensures codes { (result ≡ DONE) ⊎ (result ≡ NO_PLACE) }
     ensures unwritten { result ≢ DONE → (cursor.new ≡ cursor.old) × (out.new ≡ out.old) }
 {
@@ -195,6 +199,9 @@ fn step_by<M: Memory>(
     requires { cursor.old.stage ≤ CALLER }
     ensures done { result ≡ DONE → IsStepBy (over_process (abi_of kept.now stack_pointer)
         (M.bytes memory.now) process.now) cursor.old cursor.new out.new }
+    ensures lacks { result ≡ NO_PLACE → LacksPlace (over_process (abi_of kept.now stack_pointer)
+        (M.bytes memory.now) process.now) (registers_in cursor.old)
+        (looked_up_by cursor.old.stage cursor.old.address) }
     ensures codes { (result ≡ DONE) ⊎ (result ≡ NO_PLACE) }
     ensures unwritten { result ≢ DONE → (cursor.new ≡ cursor.old) × (out.new ≡ out.old) }
 {
@@ -223,6 +230,8 @@ fn step_by<M: Memory>(
 fn step_of(process: &Process, cursor: &mut CCursor, state: &CState<'_>, out: &mut CFrame) -> u32
     ensures done { result ≡ DONE → IsStep (Some process.now) (abi_in state.now)
         (memory_of state.now) cursor.old cursor.new out.new }
+    ensures lacks { result ≡ NO_PLACE → LacksPlaceIn (Some process.now) (abi_in state.now)
+        (memory_of state.now) cursor.old }
     ensures none { result ≡ NONE → CALLER < cursor.old.stage }
     ensures some { result ≢ NONE → cursor.old.stage ≤ CALLER }
     ensures codes { (result ≡ DONE) ⊎ (result ≡ NONE) ⊎ (result ≡ NO_PLACE) }
@@ -247,7 +256,7 @@ fn step_uncovered(cursor: &mut CCursor, out: &mut CFrame) -> u32
         → IsStep None abi memory cursor.old cursor.new out.new }
     ensures none { result ≡ NONE → CALLER < cursor.old.stage }
     ensures some { result ≢ NONE → cursor.old.stage ≤ CALLER }
-    ensures codes { (result ≡ DONE) ⊎ (result ≡ NONE) ⊎ (result ≡ NO_PLACE) }
+    ensures codes { (result ≡ DONE) ⊎ (result ≡ NONE) }
     ensures unwritten { result ≢ DONE → (cursor.new ≡ cursor.old) × (out.new ≡ out.old) }
 {
     if cursor.stage > CALLER {
@@ -306,6 +315,8 @@ pub extern "C" fn dwcheck_cursor_step(
     requires { Reads frame.old.right process.now }
     ensures done { result ≡ DONE → IsStep (read_by frame.old.right) (abi_in state.now)
         (memory_of state.now) cursor.old cursor.new frame.new.frame }
+    ensures lacks { result ≡ NO_PLACE → LacksPlaceIn (read_by frame.old.right) (abi_in state.now)
+        (memory_of state.now) cursor.old }
     ensures none { result ≡ NONE → CALLER < cursor.old.stage }
     ensures some { result ≢ NONE → cursor.old.stage ≤ CALLER }
     ensures codes { (result ≡ DONE) ⊎ (result ≡ NONE) ⊎ (result ≡ NO_PLACE) }
