@@ -10,7 +10,7 @@ mod Elements
 mod Faults
 mod Clashes
 mod Parts
-mod PlainRules
+mod SavedRules
 mod SectionOrder
 pub mod ExpressionOrder
 pub mod Judging

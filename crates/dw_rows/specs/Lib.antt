@@ -25,7 +25,7 @@ pub mod WellFormed
 -- rows as callers get them, with expressions in place of their offsets (6.4.1)
 pub mod GivenRows
 -- rules that say where registers are saved, and nothing else (6.4.1)
-pub mod PlainRules
+pub mod SavedRules
 -- rows whose expressions are all good, which means safe to evaluate (6.4.2.2, 6.4.2.3)
 pub mod GoodRows
 -- the only row of an address in an accepted section (6.4.1)

@@ -1,12 +1,11 @@
 //! The register rules of a row, in order of register.
 
-ghost use Rattle.std.specs.Prelude.{◌≡◌, ◌≢◌, ℕ, ◌+◌, ◌<◌, ◌≤◌, ◌==◌, [], List, ◌-◌, length, All, take, slice_get, insert, remove, slice_range, ◌∷◌, ◌++◌, MatchResult};
+ghost use Rattle.std.specs.Prelude.{◌≡◌, ◌≢◌, ℕ, ◌+◌, ◌<◌, ◌≤◌, ◌==◌, [], List, ◌-◌, length, take, slice_get, insert, remove, slice_range, ◌∷◌, ◌++◌, MatchResult};
 ghost use Rattle.std.specs.List.{remove_range};
 ghost use Rattle.dw_bytes.specs.declared.fault.FaultKind.{FaultKind};
 ghost use Rattle.std.specs.Bool.{OnTrue, OnFalse};
 ghost use Rattle.dw_rows.specs.Rules.{PlacedRule, RuleOver, IsTable, rule_in, rule_list, rule_count, changed_at};
 ghost use Rattle.dw_rows.specs.Views.{kept_rule_of, rule_by, entry_of, entries_of};
-ghost use Rattle.dw_rows.specs.PlainRules.{IsSavedBelow};
 ghost use Rattle.dw_rows.specs.RememberStack.{place_in};
 
 use crate::kept_rule::KeptRule;
@@ -343,23 +342,6 @@ pub fn rule_of_register(entries: &[RuleEntry], register: u16) -> KeptRule
         }
     }
     KeptRule::Default
-}
-
-/// Whether each register is below `limit`, and its rule says that it is saved in memory, relative to
-/// the CFA.
-#[inline(always)]
-pub fn are_saved_below(entries: &[RuleEntry], limit: u16) -> bool
-    ensures { OnTrue result (All (IsSavedBelow limit) (entries_of entries.now)) }
-{
-    for entry in entries {
-        let RuleKind::Offset = entry.kind else {
-            return false;
-        };
-        if entry.register >= limit {
-            return false;
-        }
-    }
-    true
 }
 
 /// The index of the register's entry, or, if it has none, the index at which its entry would be

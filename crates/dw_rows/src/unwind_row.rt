@@ -1,10 +1,10 @@
 //! `UnwindRow`: a row of the unwind table with borrowed rules.
 
-ghost use Rattle.std.specs.Prelude.{◌≡◌, ◌≤◌, ◌+◌, IfSome, Some, All, length};
+ghost use Rattle.std.specs.Prelude.{◌≡◌, ◌≤◌, ◌+◌, ◌<◌, IfSome, Some, All, length, map};
 ghost use Rattle.dw_rows.specs.Abi.{or_rule, rule_under, rules_under};
 ghost use Rattle.dw_rows.specs.AbiViews.{roles_of};
 ghost use Rattle.dw_rows.specs.Rules.{IsTable, RuleOver, rule_in};
-ghost use Rattle.dw_rows.specs.PlainRules.{IsSavedBelow};
+ghost use Rattle.dw_rows.specs.SavedRules.{as_saved};
 ghost use Rattle.dw_rows.specs.Views.{rule_of, cfa_rule_of, entries_of, kept_cfa_of};
 ghost use Rattle.dw_rows.specs.GivenRows.{given_row, LendsCfa, LendsEach, IsRuleOfKind};
 ghost use Rattle.dw_rows.specs.GivenRows.{IsCfaOfKind, IsEntryOfKind};
@@ -13,7 +13,8 @@ ghost use Rattle.dw_rows.specs.LentExpressions.{lent_by};
 use crate::abi::Abi;
 use crate::expressions::LentExpressions;
 use crate::kept_rule::{KeptCfa, KeptRule};
-use crate::map::{MAX_RULES, RuleEntry, are_saved_below, rule_of_register};
+use crate::map::{MAX_RULES, RuleEntry, rule_of_register};
+use crate::plain_rules::PlainRules;
 use crate::row::{CfaRule, RegisterRule, RegisterRules, given_cfa, given_rule};
 use std::marker::Model;
 
@@ -125,22 +126,15 @@ impl<'t, 'a> UnwindRow<'t, 'a> {
         given_rule(rule_of_register(self.rules, number), &self.expressions)
     }
 
-    /// The offset from the CFA at which a register is saved in memory, if the row's rules are plain:
-    /// each is `Offset`, for a register below `limit`, and one of them is for this register. So the
-    /// rules can be used without a match for each. Nearly all rows that compilers write for x86-64
-    /// have such rules.
+    /// The row's rules, if each of them says that a register below `limit` is saved relative to the
+    /// CFA. So nearly all rows are that compilers write for x86-64.
     #[inline(always)]
-    pub fn offset_if_plain(&self, number: u16, limit: u16) -> Option<i64>
-        ensures { IfSome result (λ n. All (IsSavedBelow limit) self.now.rules
-            × (rule_in self.now.rules number ≡ RuleOver.offset n)) }
+    pub fn plain_rules(&self, limit: u16) -> Option<PlainRules<'t>>
+        ensures rules { IfSome result (λ plain. self.now.rules ≡ map as_saved plain) }
+        ensures below { IfSome result (All (λ saved. saved.0 < limit)) }
+        ensures ascending { IsTable 0 self.now.rules }
     {
-        if !are_saved_below(self.rules, limit) {
-            return None;
-        }
-        match rule_of_register(self.rules, number) {
-            KeptRule::Offset(offset) => Some(offset),
-            _ => None,
-        }
+        PlainRules::of(self.rules, limit)
     }
 
     /// The rules other than `Default` as pairs of register and rule, in ascending order of

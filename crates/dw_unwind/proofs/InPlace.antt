@@ -1,18 +1,17 @@
 -- Steps in place: contents that stay where they are, and rules that only read memory.
 use Rattle.std.proofs.Common.{◌≡◌, ◌≢◌, ℕ, ◌+◌, ◌<◌, ◌≤◌, ◌%◌, ◌^◌, ◌==◌, Bool, true, false, if◌then◌else◌, List, [], ◌∷◌}
 use Rattle.std.proofs.Common.{refl, sym, ap, subst, ◌∙◌, add-one, arith, drop, drop-cons}
-use Rattle.std.proofs.Common.{◌||◌, length, get_or, replicate, set, suc, zero}
+use Rattle.std.proofs.Common.{◌||◌, length, get_or, map, replicate, set, suc, zero, ℤ}
 use Rattle.std.specs.Prelude.{IfSome, Option, Some, None, pos}
 use Rattle.std.specs.List.{AllByRecursion}
 use Rattle.std.proofs.lemmas.Bool.Decides.{nat_tests}
 use Rattle.std.proofs.lemmas.List.{get_or-set_other, get_or-set_same, drop_all}
 use Rattle.dw_bytes.specs.declared.target.Target.{Target}
 use Rattle.dw_rows.specs.Abi.{Abi, abi_of, is_among, rule_under}
-use Rattle.dw_rows.specs.Rules.{Rule, rule_in}
+use Rattle.dw_rows.specs.Rules.{Rule, offset, rule_in}
 use Rattle.dw_unwind.specs.Caller.{Answer, IsRegister, content_plus, machine}
 use Rattle.dw_unwind.specs.Contents.{HasContents, Overlays, abi_rules, content_changed}
-use Rattle.dw_rows.specs.PlainRules.{IsSavedBelow}
-use Rattle.dw_unwind.specs.InPlace.{IsSavedAt}
+use Rattle.dw_rows.specs.SavedRules.{Saved, as_saved}
 use Rattle.dw_unwind.specs.Walks.{content_of}
 use Rattle.dw_unwind.specs.declared.in_place.TheConstants.{LITTLE_64}
 use Rattle.dw_unwind.specs.declared.register_file.TheConstants.{PLACES}
@@ -43,26 +42,24 @@ kept-in-place memory old final cfa registers fits is r =
 -- ---- rules that only read memory
 
 -- what such a rule gives doesn't depend on registers
-saved-by : (t : Target) (registers others memory : ℕ → Option ℕ) (cfa : Answer) (r : ℕ) (rule : Rule) (a : Answer) → IsSavedAt rule
-    → IsRegister (machine t registers memory) cfa r rule a → IsRegister (machine t others memory) cfa r rule a
-saved-by t registers others memory cfa r rule a saved is =
-    subst (λ (x : Rule). IsRegister (machine t others memory) cfa r x a) (sym saved.1)
-    (subst (λ (x : Rule). IsRegister (machine t registers memory) cfa r x a) saved.1 is)
+saved-by : (t : Target) (registers others memory : ℕ → Option ℕ) (cfa : Answer) (r : ℕ) (n : ℤ) (a : Answer)
+    → IsRegister (machine t registers memory) cfa r (offset n) a → IsRegister (machine t others memory) cfa r (offset n) a
+saved-by t registers others memory cfa r n a is = is
 
-pub overlays-by : (t : Target) (registers others memory : ℕ → Option ℕ) (cfa : Answer) (rules : List (ℕ × Rule)) (base final : ℕ → Option ℕ)
-    → AllByRecursion (IsSavedBelow PLACES) rules → Overlays (machine t registers memory) cfa rules base final
-    → Overlays (machine t others memory) cfa rules base final
-overlays-by t registers others memory cfa [] base final saved over = over
-overlays-by t registers others memory cfa (entry ∷ rules) base final saved over = (
+pub overlays-by : (t : Target) (registers others memory : ℕ → Option ℕ) (cfa : Answer) (saved : List Saved) (base final : ℕ → Option ℕ)
+    → Overlays (machine t registers memory) cfa (map as_saved saved) base final
+    → Overlays (machine t others memory) cfa (map as_saved saved) base final
+overlays-by t registers others memory cfa [] base final over = over
+overlays-by t registers others memory cfa (x ∷ saved) base final over = (
   over.0,
-  saved-by t registers others memory cfa entry.0 entry.1 over.0 saved.0.1 over.1,
-  overlays-by t registers others memory cfa rules (content_changed base entry.0 (content_of over.0)) final saved.1 over.2,
+  saved-by t registers others memory cfa x.0 x.1 over.0 over.1,
+  overlays-by t registers others memory cfa saved (content_changed base x.0 (content_of over.0)) final over.2,
 )
 
 -- under any ABI, a register that the row saves in memory has the row's rule
-pub saved-under : (abi : Abi) (rules : List (ℕ × Rule)) (number : ℕ) → IsSavedAt (rule_in rules number)
-    → rule_under abi rules number ≡ rule_in rules number
-saved-under abi rules number saved = rw saved.1 refl
+pub saved-under : (abi : Abi) (rules : List (ℕ × Rule)) (number : ℕ) (n : ℤ) → rule_in rules number ≡ offset n
+    → rule_under abi rules number ≡ offset n
+saved-under abi rules number n is = rw is refl
 
 -- ---- flags that are kept where there is a mark
 

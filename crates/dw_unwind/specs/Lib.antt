@@ -27,7 +27,5 @@ pub mod Contents
 pub mod Places
 -- callee-saved registers that are marked by number
 pub mod KeptRegisters
--- rules that say that a register is saved in memory
-pub mod InPlace
 -- translates the code's frames and walks
 pub mod WalkViews

@@ -1,16 +1,16 @@
 //! The usual step of a walk: the contents of the callee-saved registers stay where they are, and
 //! the registers that the row saves in memory are read.
 
-ghost use Rattle.std.specs.Prelude.{◌≡◌, ◌<◌, ℕ, All, IfSome, MatchOption, Option, Some};
+ghost use Rattle.std.specs.Prelude.{◌≡◌, ◌<◌, ℕ, All, IfSome, MatchOption, Option, Some, map};
 ghost use Rattle.std.specs.Bool.{OnTrue};
 ghost use Rattle.dw_rows.specs.Abi.{abi_of, rule_under};
-ghost use Rattle.dw_rows.specs.PlainRules.{IsSavedBelow};
-ghost use Rattle.dw_rows.specs.Rules.{IsTable, RuleOver};
-ghost use Rattle.dw_rows.specs.Views.{cfa_rule_of, rule_of};
+ghost use Rattle.dw_rows.specs.Rules.{IsTable, RuleOver, rule_in};
+ghost use Rattle.dw_rows.specs.SavedRules.{as_saved};
+ghost use Rattle.dw_rows.specs.Views.{cfa_rule_of};
+ghost use Rattle.dw_stack.specs.Located.{LocatedExpression};
 ghost use Rattle.dw_unwind.specs.Caller.{IsCfa, IsRegister, machine, value};
 ghost use Rattle.dw_unwind.specs.CallerViews.{answer_in, machine_in};
 ghost use Rattle.dw_unwind.specs.Contents.{HasContents, Overlays, UnwindsTo, abi_rules, contents_in};
-ghost use Rattle.dw_unwind.specs.InPlace.{IsSavedAt};
 ghost use Rattle.dw_unwind.specs.Walks.{over_rows};
 
 use crate::caller_contents::{content_of, pointed, saved};
@@ -20,7 +20,7 @@ use crate::register_file::{PLACES, RegisterFile};
 use crate::unwinding::{Answer, Unwound};
 use dw_bytes::{AddressSize, Order, Target};
 use dw_eval::{Memory, Registers, Width};
-use dw_rows::{CfaRule, RegisterRule, RegisterRules, UnwindRows};
+use dw_rows::{CfaRule, PlainRules, UnwindRows};
 
 /// The registers of a frame of which none is known.
 #[derive(Drop)]
@@ -59,22 +59,18 @@ fn plain_cfa(rule: CfaRule<'_>, file: &RegisterFile) -> Option<u64>
     Some(width.offset(file.register(register)?, offset))
 }
 
-/// What a rule gives that says that a register is saved in memory.
+/// The offset from the CFA at which the register `number` is saved, if it is.
 #[inline(always)]
-fn saved_by<R: Registers, M: Memory>(
-    present: &Present<'_, R, M>,
-    cfa: Answer,
-    number: u16,
-    rule: RegisterRule<'_>,
-) -> Answer
-    requires { IsSavedAt (rule_of rule) }
-    ensures { IsRegister (machine_in R.contents M.bytes present.now) (answer_in cfa) number
-        (rule_of rule.entry) (answer_in result) }
+fn offset_of(rules: PlainRules<'_>, number: u16) -> Option<i64>
+    ensures { IfSome result (λ n. rule_in {E = LocatedExpression}
+        (map as_saved rules.entry) number ≡ RuleOver.offset n) }
 {
-    match rule {
-        RegisterRule::Offset(offset) => saved(present, cfa, offset),
-        _ => unreachable!(),
+    for (register, offset) in rules {
+        if register == number {
+            return Some(offset);
+        }
     }
+    None
 }
 
 /// Gives each register in `rules` the content that is saved for it.
@@ -82,15 +78,15 @@ fn saved_by<R: Registers, M: Memory>(
 fn saved_into<R: Registers, M: Memory>(
     present: &Present<'_, R, M>,
     cfa: Answer,
-    rules: RegisterRules<'_, '_>,
+    rules: PlainRules<'_>,
     into: &mut RegisterFile,
 )
-    requires saved { All (IsSavedBelow PLACES) rules }
-    ensures { Overlays (machine_in R.contents M.bytes present.now) (answer_in cfa) rules.entry
-        (contents_in into.old) (contents_in into.new) }
+    requires { All (λ register. register.0 < PLACES) rules }
+    ensures { Overlays (machine_in R.contents M.bytes present.now) (answer_in cfa)
+        (map as_saved rules.entry) (contents_in into.old) (contents_in into.new) }
 {
-    for (number, rule) in rules {
-        into.set(number, content_of(saved_by(present, cfa, number, rule)));
+    for (number, offset) in rules {
+        into.set(number, content_of(saved(present, cfa, offset)));
     }
 }
 
@@ -132,14 +128,14 @@ fn rules_in_place<M: Memory>(
     cfa: u64,
     kept: &KeptRegisters<'_>,
     stack_pointer: Option<u16>,
-    rules: RegisterRules<'_, '_>,
+    rules: PlainRules<'_>,
     file: &mut RegisterFile,
 )
-    requires saved { All (IsSavedBelow PLACES) rules }
-    requires table { IsTable 0 rules }
+    requires places { All (λ register. register.0 < PLACES) rules }
+    requires table { IsTable {E = LocatedExpression} 0 (map as_saved rules) }
     requires pointer { IfSome stack_pointer (λ number. number < PLACES) }
     ensures { HasContents (machine LITTLE_64 (contents_in file.old) (M.bytes memory.now))
-        (value cfa) (rule_under (abi_of kept.now stack_pointer) rules.entry)
+        (value cfa) (rule_under (abi_of kept.now stack_pointer) (map as_saved rules.entry))
         (contents_in file.new) }
 {
     abi_in_place(memory, cfa, kept, stack_pointer, file);
@@ -217,9 +213,10 @@ pub(crate) fn step_in_place<T: UnwindRows, M: Memory>(
     let mut slot = rows.slot();
     let (row, number) = rows.find_row(address, &mut slot)?;
     let cfa = plain_cfa(row.cfa(), file)?;
-    let offset = row.offset_if_plain(number, PLACES as u16)?;
+    let rules = row.plain_rules(PLACES as u16)?;
+    let offset = offset_of(rules.again(), number)?;
     let return_address = saved_number(memory, cfa, offset)?;
-    rules_in_place(memory, cfa, kept, stack_pointer, row.rules(), file);
+    rules_in_place(memory, cfa, kept, stack_pointer, rules, file);
     file.ends();
     Some(Unwound {
         cfa: Answer::Value(cfa),

@@ -1,21 +1,19 @@
-use Rattle.std.proofs.Common.{◌≡◌, ◌∙◌, ℕ, List, Some, ap, arith, rules, subst, sym, w64}
+use Rattle.std.proofs.Common.{◌≡◌, ◌∙◌, ℕ, List, Some, ap, arith, map, rules, subst, sym, w64}
 use mir.Val.{to_z, of_z}
-use Rattle.std.specs.Prelude.{All}
 use Rattle.dw_bytes.specs.declared.target.Target.{Target}
 use Rattle.dw_rows.specs.Abi.{abi_of, rule_under}
-use Rattle.dw_rows.specs.Rules.{Rule, offset}
+use Rattle.dw_rows.specs.Rules.{IsTable, Rule, offset, rule_in}
 use Rattle.dw_unwind.specs.Caller.{IsCaller, IsRegister, machine, value}
 use Rattle.dw_unwind.specs.Contents.{HasContents, contents_in}
-use Rattle.dw_rows.specs.PlainRules.{IsSavedBelow}
-use Rattle.dw_unwind.specs.declared.register_file.TheConstants.{PLACES}
+use Rattle.dw_rows.specs.SavedRules.{Saved, as_saved}
 use Rattle.dw_unwind.specs.declared.in_place.TheConstants.{LITTLE_64}
 use Rattle.dw_unwind.proofs.Contents.{by_contents}
 use Rattle.dw_unwind.proofs.InPlace.{saved-under}
 use Rattle.dw_unwind.proofs.in_place.step_in_place.Goals as goal
 
-pub rules_in_place-requires-clause-saved : goal.rules_in_place-requires-clause-saved
-rules_in_place-requires-clause-saved g c =
-    subst (λ (rules : List (ℕ × Rule)). All (IsSavedBelow PLACES) rules) (sym c.rules.ensures.rules) c.in_ok-offset.ensures.0
+pub rules_in_place-requires-clause-table : goal.rules_in_place-requires-clause-table
+rules_in_place-requires-clause-table g c =
+    subst (λ (rules : List (ℕ × Rule)). IsTable 0 rules) c.in_ok-rules.ensures.rules c.plain_rules.ensures.ascending
 
 pub returns-clause-steps : goal.returns-clause-steps
 returns-clause-steps g c =
@@ -26,10 +24,11 @@ returns-clause-steps g c =
     let abi = abi_of c.args.kept.now c.args.stack_pointer in
     let row = c.in_ok-row.row in
     let file = contents_in c.rules_in_place.new.file in
-    let has = subst (λ (rules : List (ℕ × Rule)). HasContents e cfa (rule_under abi rules) file) c.rules.ensures.rules c.rules_in_place.ensures in
-    let saved = c.in_ok-offset.ensures.1 in
+    let has = subst (λ (rules : List (ℕ × Rule)). HasContents e cfa (rule_under abi rules) file) (sym c.in_ok-rules.ensures.rules) c.rules_in_place.ensures in
+    let saved = subst (λ (rules : List (ℕ × Rule)). rule_in rules c.in_ok-row.number ≡ offset c.in_ok-offset.offset)
+    (ap (λ (l : List Saved). map as_saved l) c.again.ensures ∙ sym c.in_ok-rules.ensures.rules) c.in_ok-offset.ensures in
     let same : to_z w64 (of_z w64 c.in_ok-offset.offset) ≡ c.in_ok-offset.offset = search rules in
-    let is = saved-under abi row.rules c.in_ok-row.number (c.in_ok-offset.offset, saved) ∙ saved in
+    let is = saved-under abi row.rules c.in_ok-row.number c.in_ok-offset.offset saved in
     let made = by_contents e abi c.in_ok-row.number row cfa (value c.in_ok-return_address.return_address) _ file
     c.rules_under_abis.ensures.each c.rules_under_abis.ensures.all c.cfa.ensures.cfa (c.in_ok-cfa.ensures memory) has
     (λ r le. c.ends.ensures r (omega (arith, le)))
