@@ -102,7 +102,7 @@ install: all
 	ln -sf libdwcheck.so.$(version) $(DESTDIR)$(LIBDIR)/libdwcheck.so.$(major)
 	ln -sf libdwcheck.so.$(major) $(DESTDIR)$(LIBDIR)/libdwcheck.so
 	$(INSTALL) -m 644 build/dwcheck.pc $(DESTDIR)$(LIBDIR)/pkgconfig/
-	$(INSTALL) -m 644 c/include/dwcheck.h $(DESTDIR)$(INCLUDEDIR)/
+	$(INSTALL) -m 644 c/include/dwcheck.h c/include/dwcheck.hpp $(DESTDIR)$(INCLUDEDIR)/
 	$(INSTALL) -m 644 man/dwcheck.1 $(DESTDIR)$(MANDIR)/man1/
 	if [ -f build/dwcheck-elf ]; then $(INSTALL) -m 644 man/dwcheck-elf.1 $(DESTDIR)$(MANDIR)/man1/; fi
 	$(INSTALL) -m 644 man/dwcheck.3 $(DESTDIR)$(MANDIR)/man3/

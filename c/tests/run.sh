@@ -1,8 +1,8 @@
 #!/bin/bash
 # Builds the tests with the static library build/libdwcheck.a, or the one that LIBRARY names, and runs
-# them: those of readers.c, frozen.c and cursor.c; and those of cases.c while allocations fail in turn, with
-# sanitizers, and under valgrind. Before that, the header is compiled as C11 and as C++17; in both,
-# passing a pointer of a wrong type must be an error. Prints a line `ok NAME` or `FAILED NAME` for
+# them: those of readers.c, frozen.c and cursor.c; those of wrapper.cc, as C++17 and as C++20; and those
+# of cases.c while allocations fail in turn, with sanitizers, and under valgrind. Before that, the
+# header is compiled as C11 and as C++17; in both, passing a pointer of a wrong type must be an error. Prints a line `ok NAME` or `FAILED NAME` for
 # each, and ends with status 1 if one failed.
 set -u
 top=$(dirname "$(dirname "$(dirname "$(realpath "$0")")")")
@@ -40,6 +40,11 @@ readers() { # PROGRAM: builds the tests of calls that read one process at once, 
     cc -std=gnu11 -D_GNU_SOURCE $strict -O2 -g "$top/c/tests/$1.c" "$library" -o "$out/$1" -pthread -ldl && "$out/$1"
 }
 
+wrapper() { # STANDARD: builds the tests of the header for C++, and runs them
+    c++ "-std=$1" $strict -O1 -g -fno-exceptions -fno-rtti -fsanitize=address,undefined -fno-sanitize-recover=all \
+        "$top/c/tests/wrapper.cc" "$library" -o "$out/wrapper" && "$out/wrapper"
+}
+
 cases_under_valgrind() {
     build plain && valgrind -q --error-exitcode=1 --leak-check=full "$out/plain"
 }
@@ -51,6 +56,8 @@ test_of "pointers of wrong types in C++" refuses_wrong_pointers c++
 test_of "calls that read one process at once" readers readers
 test_of "the same with the process in memory that can't be written" readers frozen
 test_of "steps of a cursor" readers cursor
+test_of "the header for C++ as C++17, beside that for C" wrapper c++17
+test_of "the header for C++ as C++20, whose frames are a range" wrapper c++20
 test_of "cases while allocations fail in turn" cases -DREFUSING
 # The sanitizers check only the C code of the tests, because only that is compiled with them.
 test_of "cases with ASan and UBSan" cases -fsanitize=address,undefined -fno-sanitize-recover=all
