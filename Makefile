@@ -6,7 +6,7 @@
 #                   tests of everything else. It installs the Debian packages that it needs.
 #   make install    does what make does; then installs the results in $(DESTDIR)$(PREFIX)
 #   make packages   installs the Debian packages that dwcheck-elf is built with
-# make also needs cc and ar. If cargo or a package is missing, dwcheck-elf is left out, and a line
+# make also needs cc, ar and objcopy. If cargo or a package is missing, dwcheck-elf is left out, and a line
 # says so. JOBS is the number of cargo's parallel jobs (all processors if not set).
 PREFIX ?= /usr/local
 BINDIR ?= $(PREFIX)/bin
@@ -15,6 +15,7 @@ INCLUDEDIR ?= $(PREFIX)/include
 MANDIR ?= $(PREFIX)/share/man
 CC ?= cc
 AR ?= ar
+OBJCOPY ?= objcopy
 INSTALL ?= install
 
 # The version of the C interface. Its major and minor numbers are those of DWCHECK_VERSION in the
@@ -65,11 +66,19 @@ build/dwcheck: build/program.stamp
 build/libdwcheck_c.a: build/library.stamp
 	@[ -f $@ ] || tools/build.sh library
 
-# libdwcheck.a joins two archives: the library that rt made, and the kit's liblibc_c.a, a few lines
-# of C through which the library calls malloc and free.
-build/libdwcheck.a: build/libdwcheck_c.a
+# The calls that allow NULL for empty arrays. Each calls the proved one of the same name, which
+# libdwcheck.a has as proved_..
+build/null.o: c/null.c c/include/dwcheck.h | build
+	@$(CC) -std=gnu11 -O2 -fPIC -Wall -Wextra -Ic/include -c $< -o $@
+
+# libdwcheck.a joins the library that rt made, those calls, and the kit's liblibc_c.a, a few lines of C
+# through which the library calls malloc and free.
+build/libdwcheck.a: build/libdwcheck_c.a build/null.o c/null.c
 	@rm -f $@
-	@printf 'create $@\naddlib $<\naddlib $(kit)c/liblibc_c.a\nsave\nend\n' | $(AR) -M
+	@sed -n 's/^PROVED(\(dwcheck_[a-z_]*\));$$/\1 proved_\1/p' c/null.c >build/null.names
+	@$(OBJCOPY) --redefine-syms=build/null.names $< build/libdwcheck_proved.a
+	@printf 'create $@\naddlib build/libdwcheck_proved.a\naddmod build/null.o\naddlib $(kit)c/liblibc_c.a\nsave\nend\n' | \
+	    $(AR) -M
 
 build/libdwcheck.so.$(version): build/libdwcheck.a c/dwcheck.map
 	$(CC) -shared -Wl,-z,defs -Wl,-soname,libdwcheck.so.$(major) -Wl,--version-script=c/dwcheck.map \

@@ -2,22 +2,24 @@
    up location lists, and evaluates expressions.
 
    Each call is proved to meet its contract, which is written at the function of the same name in
-   crates/dwcheck_c/src. The proof assumes that the caller follows the rules below. The library
-   doesn't check that the caller does.
+   crates/dwcheck_c/src; before that, a few lines of C replace NULL by an address (c/null.c). The
+   proof assumes that the caller follows the rules below. The library doesn't check that the caller
+   does.
 
    Rules for the caller of every call:
    - Each pointer points to a whole, aligned value of its type. No other thread writes that value
      during the call. A value that a pointer without const points to overlaps no other argument.
      Values that pointers to const point to may overlap each other. A pointer that comes with a
-     length points to that many elements. If the length is 0, the pointer may be any address except
-     NULL; with the macros at the end of this header, it may also be NULL. Pointers without a
-     length, such as `fault`, `count`, `stop`, `size`, `row`, `state` and `context`, are never NULL.
+     length points to that many elements. If the length is 0, it may be NULL, except for the `bytes`
+     of a dwcheck_block. Pointers without a length, such as `fault`, `count`, `stop`, `size`, `row`,
+     `state` and `context`, are never NULL.
    - A call that takes a process by a pointer to const only reads it: dwcheck_module_at,
      dwcheck_row_at, dwcheck_unwind, dwcheck_backtrace, dwcheck_cursor_step and
-     dwcheck_process_share, for its first process. Any number of calls may read a process at once, in any threads. A call that takes a
-     pointer without const changes the process, and no other call may use that process meanwhile. So
-     a call that changes it comes before or after each call that reads it, and threads synchronize
-     for that: by a lock, by an atomic of memory_order_seq_cst, or by a thread's start or join.
+     dwcheck_process_share, for its first process. Any number of calls may read a process at once, in
+     any threads. A call that takes a pointer without const changes the process, and no other call
+     may use that process meanwhile. So a call that changes it comes before or after each call that
+     reads it, and threads synchronize for that: by a lock, by an atomic of memory_order_seq_cst, or
+     by a thread's start or join.
    - To add or remove modules while others read: (1) make another process by dwcheck_process_share,
      which copies no table; (2) change that one; (3) publish a pointer to it by an atomic, from which
      each reader takes the process that it reads next; (4) close the old process once all calls that
@@ -236,8 +238,7 @@ uint32_t dwcheck_row_at(const dwcheck_process *process, uint64_t address, dwchec
 
 /* ---- callers and walks --------------------------------------------------------------------------------------------- */
 
-/* A block of memory that starts at address `base`. `bytes` must not be NULL, even if `length` is
-   0: the macros at the end of this file replace NULL in other arrays, but not here. */
+/* A block of memory that starts at address `base`. `bytes` must not be NULL, even if `length` is 0. */
 typedef struct { uint64_t base; const uint8_t *bytes; size_t length; } dwcheck_block;
 
 /* The state of a stopped thread. The value of register n is contents[n] if contents[n] and
@@ -423,110 +424,6 @@ typedef struct { uint64_t offset, length; } dwcheck_location;
 uint32_t dwcheck_locations(const uint8_t *lists, size_t lists_length, uint32_t order, uint32_t address_size,
                            const dwcheck_lookup *lookup, dwcheck_location *locations, size_t locations_length,
                            size_t *count, dwcheck_fault *fault);
-
-/* ---- NULL for empty arrays ----------------------------------------------------------------------------------------- */
-
-/* The library's functions require a pointer that isn't NULL even if a length is 0. For each
-   function that takes an array, the macro below of the same name calls an inline function instead,
-   which replaces NULL by another pointer. So C and C++ may pass NULL for an array of length 0.
-   Define DWCHECK_NO_MACROS to leave out these macros and inline functions. */
-#ifndef DWCHECK_NO_MACROS
-
-static inline void *dwcheck_or_nothing(const void *pointer) {
-    return (void *)(pointer ? (uintptr_t)pointer : (uintptr_t)16);
-}
-
-#define DWCHECK_OR_NOTHING(type, pointer) ((type *)dwcheck_or_nothing(pointer))
-
-static inline dwcheck_state dwcheck_state_or_nothing(const dwcheck_state *state) {
-    dwcheck_state copy = *state;
-    copy.contents = DWCHECK_OR_NOTHING(const uint64_t, copy.contents);
-    copy.known = DWCHECK_OR_NOTHING(const uint8_t, copy.known);
-    copy.blocks = DWCHECK_OR_NOTHING(const dwcheck_block, copy.blocks);
-    copy.kept = DWCHECK_OR_NOTHING(const uint16_t, copy.kept);
-    return copy;
-}
-
-static inline uint32_t dwcheck_fault_name_by(uint32_t number, uint8_t *text, size_t text_length, size_t *size) {
-    return dwcheck_fault_name(number, DWCHECK_OR_NOTHING(uint8_t, text), text_length, size);
-}
-
-static inline uint32_t dwcheck_check_by(const uint8_t *frame, size_t frame_length, const uint8_t *lists, size_t lists_length,
-                                        uint32_t order, uint32_t address_size, dwcheck_fault *fault) {
-    return dwcheck_check(DWCHECK_OR_NOTHING(const uint8_t, frame), frame_length, DWCHECK_OR_NOTHING(const uint8_t, lists),
-                         lists_length, order, address_size, fault);
-}
-
-static inline uint32_t dwcheck_process_add_by(dwcheck_process *process, const dwcheck_module *module, uint64_t *id,
-                                              dwcheck_fault *fault) {
-    dwcheck_module copy = *module;
-    copy.frame = DWCHECK_OR_NOTHING(const uint8_t, copy.frame);
-    return dwcheck_process_add(process, &copy, id, fault);
-}
-
-static inline uint32_t dwcheck_row_at_by(const dwcheck_process *process, uint64_t address, dwcheck_row *row, dwcheck_rule *rules,
-                                         size_t rules_length) {
-    return dwcheck_row_at(process, address, row, DWCHECK_OR_NOTHING(dwcheck_rule, rules), rules_length);
-}
-
-static inline uint32_t dwcheck_unwind_by(const dwcheck_process *process, uint64_t address, const dwcheck_state *state,
-                                         dwcheck_caller *caller, dwcheck_register *registers, size_t registers_length,
-                                         dwcheck_fault *fault) {
-    const dwcheck_state copy = dwcheck_state_or_nothing(state);
-    return dwcheck_unwind(process, address, &copy, caller, DWCHECK_OR_NOTHING(dwcheck_register, registers), registers_length,
-                          fault);
-}
-
-static inline uint32_t dwcheck_backtrace_by(const dwcheck_process *process, uint64_t address, const dwcheck_state *state,
-                                            dwcheck_frame *frames, size_t frames_length, size_t *count, uint32_t *stop,
-                                            dwcheck_fault *fault) {
-    const dwcheck_state copy = dwcheck_state_or_nothing(state);
-    return dwcheck_backtrace(process, address, &copy, DWCHECK_OR_NOTHING(dwcheck_frame, frames), frames_length, count, stop,
-                             fault);
-}
-
-static inline uint32_t dwcheck_cursor_init_by(dwcheck_cursor *cursor, uint64_t address, const dwcheck_state *state,
-                                              uint32_t exact, dwcheck_fault *fault) {
-    const dwcheck_state copy = dwcheck_state_or_nothing(state);
-    return dwcheck_cursor_init(cursor, address, &copy, exact, fault);
-}
-
-static inline uint32_t dwcheck_cursor_step_by(const dwcheck_process *process, dwcheck_cursor *cursor,
-                                              const dwcheck_state *state, dwcheck_frame *frame) {
-    const dwcheck_state copy = dwcheck_state_or_nothing(state);
-    return dwcheck_cursor_step(process, cursor, &copy, frame);
-}
-
-static inline uint32_t dwcheck_evaluate_by(const uint8_t *expression, size_t expression_length, uint32_t order,
-                                           uint32_t address_size, uint32_t kind, const dwcheck_context *context,
-                                           const dwcheck_state *state, uint32_t n, dwcheck_value *value,
-                                           dwcheck_piece *pieces, size_t pieces_length, uint8_t *bytes, size_t bytes_length,
-                                           dwcheck_fault *fault) {
-    const dwcheck_state copy = dwcheck_state_or_nothing(state);
-    return dwcheck_evaluate(DWCHECK_OR_NOTHING(const uint8_t, expression), expression_length, order, address_size, kind,
-                            context, &copy, n, value, DWCHECK_OR_NOTHING(dwcheck_piece, pieces), pieces_length,
-                            DWCHECK_OR_NOTHING(uint8_t, bytes), bytes_length, fault);
-}
-
-static inline uint32_t dwcheck_locations_by(const uint8_t *lists, size_t lists_length, uint32_t order, uint32_t address_size,
-                                            const dwcheck_lookup *lookup, dwcheck_location *locations,
-                                            size_t locations_length, size_t *count, dwcheck_fault *fault) {
-    return dwcheck_locations(DWCHECK_OR_NOTHING(const uint8_t, lists), lists_length, order, address_size, lookup,
-                             DWCHECK_OR_NOTHING(dwcheck_location, locations), locations_length, count, fault);
-}
-
-#define dwcheck_fault_name dwcheck_fault_name_by
-#define dwcheck_check dwcheck_check_by
-#define dwcheck_process_add dwcheck_process_add_by
-#define dwcheck_row_at dwcheck_row_at_by
-#define dwcheck_unwind dwcheck_unwind_by
-#define dwcheck_backtrace dwcheck_backtrace_by
-#define dwcheck_cursor_init dwcheck_cursor_init_by
-#define dwcheck_cursor_step dwcheck_cursor_step_by
-#define dwcheck_evaluate dwcheck_evaluate_by
-#define dwcheck_locations dwcheck_locations_by
-
-#endif
 
 #ifdef __cplusplus
 }

@@ -809,6 +809,13 @@ static void nothing(void) {
     size_t size = 0;
     IS(dwcheck_fault_name(1, NULL, 0, &size), DWCHECK_DONE);
     IS(size > 0, 1);
+    dwcheck_cursor cursor;
+    dwcheck_frame frame;
+    IS(dwcheck_cursor_init(&cursor, 0x6010, &none, 1, &fault), DWCHECK_DONE);
+    IS(dwcheck_cursor_step(&p, &cursor, &none, &frame), DWCHECK_DONE);
+    IS(frame.cfa.kind, DWCHECK_UNREADABLE);
+    uint32_t (*volatile through_pointer)(uint32_t, uint8_t *, size_t, size_t *) = dwcheck_fault_name;
+    IS(through_pointer(1, NULL, 0, &size), DWCHECK_DONE);
     dwcheck_process_close(&p);
 }
 

@@ -1,0 +1,103 @@
+/* The calls of dwcheck.h that take arrays. In the proofs an array has an address even if it is empty,
+   so each call here replaces NULL by an address for the proved one of the same name, which the
+   Makefile calls proved_dwcheck_.. in libdwcheck.a. If no pointer is NULL, that is a few instructions
+   and a jump. */
+#include "dwcheck.h"
+
+/* Any address that isn't NULL and is a multiple of each type's alignment. It isn't read. */
+static _Alignas(16) uint8_t nothing[16];
+
+#define OR_NOTHING(pointer) ((pointer) ? (pointer) : (const void *)nothing)
+#define OR_NO_PLACE(pointer) ((pointer) ? (pointer) : (void *)nothing)
+
+#define PROVED(name) extern __attribute__((visibility("hidden"))) __typeof__(name) proved_##name
+
+static int has_all(const dwcheck_state *state) {
+    return state->contents && state->known && state->blocks && state->kept;
+}
+
+static dwcheck_state with_all(const dwcheck_state *state) {
+    dwcheck_state copy = *state;
+    copy.contents = OR_NOTHING(copy.contents);
+    copy.known = OR_NOTHING(copy.known);
+    copy.blocks = OR_NOTHING(copy.blocks);
+    copy.kept = OR_NOTHING(copy.kept);
+    return copy;
+}
+
+PROVED(dwcheck_fault_name);
+uint32_t dwcheck_fault_name(uint32_t number, uint8_t *text, size_t text_length, size_t *size) {
+    return proved_dwcheck_fault_name(number, OR_NO_PLACE(text), text_length, size);
+}
+
+PROVED(dwcheck_check);
+uint32_t dwcheck_check(const uint8_t *frame, size_t frame_length, const uint8_t *lists, size_t lists_length, uint32_t order,
+                       uint32_t address_size, dwcheck_fault *fault) {
+    return proved_dwcheck_check(OR_NOTHING(frame), frame_length, OR_NOTHING(lists), lists_length, order, address_size, fault);
+}
+
+PROVED(dwcheck_process_add);
+uint32_t dwcheck_process_add(dwcheck_process *process, const dwcheck_module *module, uint64_t *id, dwcheck_fault *fault) {
+    if (module->frame) return proved_dwcheck_process_add(process, module, id, fault);
+    dwcheck_module copy = *module;
+    copy.frame = nothing;
+    return proved_dwcheck_process_add(process, &copy, id, fault);
+}
+
+PROVED(dwcheck_row_at);
+uint32_t dwcheck_row_at(const dwcheck_process *process, uint64_t address, dwcheck_row *row, dwcheck_rule *rules,
+                        size_t rules_length) {
+    return proved_dwcheck_row_at(process, address, row, OR_NO_PLACE(rules), rules_length);
+}
+
+PROVED(dwcheck_unwind);
+uint32_t dwcheck_unwind(const dwcheck_process *process, uint64_t address, const dwcheck_state *state, dwcheck_caller *caller,
+                        dwcheck_register *registers, size_t registers_length, dwcheck_fault *fault) {
+    registers = OR_NO_PLACE(registers);
+    if (has_all(state)) return proved_dwcheck_unwind(process, address, state, caller, registers, registers_length, fault);
+    const dwcheck_state copy = with_all(state);
+    return proved_dwcheck_unwind(process, address, &copy, caller, registers, registers_length, fault);
+}
+
+PROVED(dwcheck_backtrace);
+uint32_t dwcheck_backtrace(const dwcheck_process *process, uint64_t address, const dwcheck_state *state, dwcheck_frame *frames,
+                           size_t frames_length, size_t *count, uint32_t *stop, dwcheck_fault *fault) {
+    frames = OR_NO_PLACE(frames);
+    if (has_all(state)) return proved_dwcheck_backtrace(process, address, state, frames, frames_length, count, stop, fault);
+    const dwcheck_state copy = with_all(state);
+    return proved_dwcheck_backtrace(process, address, &copy, frames, frames_length, count, stop, fault);
+}
+
+PROVED(dwcheck_cursor_init);
+uint32_t dwcheck_cursor_init(dwcheck_cursor *cursor, uint64_t address, const dwcheck_state *state, uint32_t exact,
+                             dwcheck_fault *fault) {
+    if (has_all(state)) return proved_dwcheck_cursor_init(cursor, address, state, exact, fault);
+    const dwcheck_state copy = with_all(state);
+    return proved_dwcheck_cursor_init(cursor, address, &copy, exact, fault);
+}
+
+PROVED(dwcheck_cursor_step);
+uint32_t dwcheck_cursor_step(const dwcheck_process *process, dwcheck_cursor *cursor, const dwcheck_state *state,
+                             dwcheck_frame *frame) {
+    if (has_all(state)) return proved_dwcheck_cursor_step(process, cursor, state, frame);
+    const dwcheck_state copy = with_all(state);
+    return proved_dwcheck_cursor_step(process, cursor, &copy, frame);
+}
+
+PROVED(dwcheck_evaluate);
+uint32_t dwcheck_evaluate(const uint8_t *expression, size_t expression_length, uint32_t order, uint32_t address_size,
+                          uint32_t kind, const dwcheck_context *context, const dwcheck_state *state, uint32_t n,
+                          dwcheck_value *value, dwcheck_piece *pieces, size_t pieces_length, uint8_t *bytes,
+                          size_t bytes_length, dwcheck_fault *fault) {
+    const dwcheck_state copy = with_all(state);
+    return proved_dwcheck_evaluate(OR_NOTHING(expression), expression_length, order, address_size, kind, context, &copy, n,
+                                   value, OR_NO_PLACE(pieces), pieces_length, OR_NO_PLACE(bytes), bytes_length, fault);
+}
+
+PROVED(dwcheck_locations);
+uint32_t dwcheck_locations(const uint8_t *lists, size_t lists_length, uint32_t order, uint32_t address_size,
+                           const dwcheck_lookup *lookup, dwcheck_location *locations, size_t locations_length, size_t *count,
+                           dwcheck_fault *fault) {
+    return proved_dwcheck_locations(OR_NOTHING(lists), lists_length, order, address_size, lookup, OR_NO_PLACE(locations),
+                                    locations_length, count, fault);
+}
