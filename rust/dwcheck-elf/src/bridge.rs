@@ -4,6 +4,8 @@
 //! The call frame instructions are the same bytes, except for these:
 //!
 //! - `DW_CFA_GNU_args_size` says nothing about registers. It is dropped.
+//! - `DW_CFA_AARCH64_negate_ra_state` says where return addresses are signed. It is dropped, and
+//!   [`Bridged::signed`] has these addresses.
 //! - `DW_CFA_set_loc` has an encoded address. It is decoded.
 //! - `DW_CFA_def_cfa_register` becomes `DW_CFA_def_cfa` with the offset 0 where the CFA has no rule
 //!   yet, unless [`Options::strict`] is set. GNU as begins CIEs for alpha, mips and riscv with this
@@ -15,7 +17,9 @@
 //! [`crate::validate`] compares the rows of the `.eh_frame` section with those of the rewritten
 //! section.
 
+mod copies;
 mod error;
+mod header;
 pub(crate) mod instructions;
 mod places;
 mod plain;
@@ -23,11 +27,15 @@ mod pointer;
 mod records;
 
 pub use error::{BridgeError, Reason};
+pub use header::FdeHeader;
 pub use places::{Edge, Place, Record, RecordKind};
-pub use plain::without_empty_records;
+pub use plain::plain;
 
+use crate::cfi::with_nops;
 use crate::target::Target;
 use places::Places;
+use std::borrow::Cow;
+use std::ops::Range;
 
 /// An `.eh_frame` section, with the addresses that its pointers are relative to.
 #[derive(Clone, Copy, Debug)]
@@ -38,6 +46,8 @@ pub struct EhFrame<'a> {
     pub address: u64,
     /// The byte order and the address size.
     pub target: Target,
+    /// The machine's number (`e_machine`).
+    pub machine: u16,
     /// The address of the text section, which pointers with `DW_EH_PE_textrel` are relative to.
     pub text: Option<u64>,
     /// The address of the global offset table, which pointers with `DW_EH_PE_datarel` are relative
@@ -79,6 +89,8 @@ pub struct Counts {
     pub args_sizes: usize,
     /// Instructions `DW_CFA_set_loc` whose address was decoded.
     pub set_locs: usize,
+    /// FDEs that were left out because they are exact copies of an earlier one.
+    pub copies: usize,
 }
 
 /// The result of rewriting a section: a `.debug_frame` section with the same rows.
@@ -88,6 +100,10 @@ pub struct Bridged {
     places: Places,
     counts: Counts,
     mended: Vec<u64>,
+    negated: Vec<u64>,
+    signed: Vec<Range<u64>>,
+    /// The offsets in the file's section of the FDEs that were left out as copies, ascending.
+    copies: Vec<u64>,
 }
 
 /// Rewrites a section. An error names the first CIE or FDE that has no counterpart in
@@ -95,7 +111,13 @@ pub struct Bridged {
 ///
 /// The rewritten section is at most a few times as long as the original.
 pub fn bridge(section: &EhFrame<'_>, options: Options) -> Result<Bridged, BridgeError> {
-    records::Bridge::new(*section, options).run()
+    let bridged = records::Bridge::new(*section, options).run()?;
+    Ok(bridged.without_copies(section.target))
+}
+
+/// Rewrites one FDE of a section, with its CIE. The result is a section that has only these two.
+pub fn bridge_one(section: &EhFrame<'_>, fde: &FdeHeader, options: Options) -> Result<Bridged, BridgeError> {
+    records::Bridge::new(*section, options).run_one(fde.cie, fde.offset)
 }
 
 impl Bridged {
@@ -113,6 +135,29 @@ impl Bridged {
     /// by a `DW_CFA_def_cfa`.
     pub fn mended(&self) -> &[u64] {
         &self.mended
+    }
+
+    /// The offsets in the file's section of the instructions `DW_CFA_AARCH64_negate_ra_state`, which
+    /// were dropped, ascending.
+    pub fn negated(&self) -> &[u64] {
+        &self.negated
+    }
+
+    /// The ranges of addresses at which the return address is signed (aarch64).
+    pub fn signed(&self) -> &[Range<u64>] {
+        &self.signed
+    }
+
+    /// Whether the FDE at an offset of the file's section was left out, because it is an exact copy
+    /// of an earlier one.
+    pub(crate) fn is_copy(&self, source: u64) -> bool {
+        self.copies.binary_search(&source).is_ok()
+    }
+
+    /// The file's section as gimli can read it: it doesn't know
+    /// `DW_CFA_AARCH64_negate_ra_state`, so these instructions become `DW_CFA_nop`.
+    pub(crate) fn comparable<'a>(&self, source: &'a [u8]) -> Cow<'a, [u8]> {
+        with_nops(source, &self.negated)
     }
 
     /// All CIEs and FDEs, in the order of the rewritten section. The section in the file has the

@@ -4,9 +4,10 @@
 //! `dwcheck` checks the records. This module only finds where records and instructions begin, so
 //! that `dwcheck`'s answers can be shown.
 
-use crate::bridge::instructions::{name_of, operands, skip};
 use crate::bytes::Cursor;
+use crate::cfi::{name_of, operands, skip, NEGATE_RA_STATE};
 use crate::target::Target;
+use object::elf::EM_AARCH64;
 use std::ops::Range;
 
 /// A CIE, an FDE, or a record of length 0, as far as it can be read.
@@ -173,4 +174,15 @@ pub fn instructions(section: &[u8], program: Range<usize>, target: Target) -> Ve
         }
     }
     all
+}
+
+/// The offsets of the instructions `DW_CFA_AARCH64_negate_ra_state`, ascending. Empty for another
+/// machine (`e_machine`) than aarch64.
+pub(crate) fn negations(section: &[u8], target: Target, machine: u16) -> Vec<u64> {
+    if machine != EM_AARCH64 {
+        return Vec::new();
+    }
+    let programs = records(section, target).into_iter().filter_map(|record| record.program);
+    let all = programs.flat_map(|program| instructions(section, program, target));
+    all.filter(|one| one.code == NEGATE_RA_STATE).map(|one| one.offset as u64).collect()
 }

@@ -1,6 +1,6 @@
 //! The frame sections of a program, in the form that `dwcheck` takes.
 
-use crate::bridge::{bridge, without_empty_records, BridgeError, Bridged, Edge, EhFrame, Options, Place};
+use crate::bridge::{bridge, plain, BridgeError, Bridged, Edge, EhFrame, Options, Place};
 use crate::program::{Program, ProgramError, Section};
 use crate::target::Target;
 use dwcheck::{Error, Module, Process};
@@ -22,7 +22,7 @@ pub(crate) fn room(section: &[u8]) -> usize {
 /// A section that can be checked.
 #[derive(Clone, Copy, Debug, PartialEq, Eq, PartialOrd, Ord)]
 pub enum Name {
-    /// `.debug_frame`, which `dwcheck` takes as it is, but without the records of length 0.
+    /// `.debug_frame`, which `dwcheck` takes as it is, but for what [`plain`] leaves out.
     DebugFrame,
     /// `.eh_frame`, which is rewritten as `.debug_frame`.
     EhFrame,
@@ -92,7 +92,7 @@ impl<'data> Frames<'data> {
         let (text, data) = (section.text, section.data);
         let bridged = match name {
             Name::EhFrame => bridge(&section, options).map_err(FramesError::Bridge)?,
-            _ => without_empty_records(&source.bytes, target).ok_or(FramesError::TooLong(name))?,
+            _ => plain(&source.bytes, target, program.machine()).ok_or(FramesError::TooLong(name))?,
         };
         Ok(Some(Frames { name, target, machine: program.machine(), source, text, data, bridged }))
     }
@@ -123,6 +123,7 @@ impl<'data> Frames<'data> {
             bytes: &self.source.bytes,
             address: self.source.address,
             target: self.target,
+            machine: self.machine,
             text: self.text,
             data: self.data,
             unresolved: &self.source.unresolved,
@@ -142,7 +143,8 @@ impl<'data> Frames<'data> {
 
     /// Whether the bytes that `dwcheck` takes differ from the file's.
     pub fn is_rewritten(&self) -> bool {
-        self.name == Name::EhFrame || self.bridged.counts().terminators > 0
+        let counts = self.bridged.counts();
+        self.name == Name::EhFrame || counts.terminators + counts.copies + self.bridged.negated().len() > 0
     }
 
     /// The place in the file's section from which the byte at an offset of [`bytes`](Self::bytes)

@@ -55,6 +55,8 @@ pub enum Verdict {
     /// The section is refused. These are its first fault, or all faults if [`Check::all`] is set.
     /// Never empty.
     Refused(Vec<Defect>),
+    /// The section can't be read or checked. The file's other sections can be, even so.
+    Unread(InspectError),
 }
 
 /// Why a section can't be checked.
@@ -75,28 +77,21 @@ pub enum InspectError {
 /// sections that compilers write. A hostile file can take longer, because gimli runs a CIE's
 /// instructions again for each of its FDEs.
 ///
-/// # Errors
-///
-/// The error for the first section that can't be checked. A refused section isn't an error: its
-/// [`Verdict`] has the fault.
-pub fn inspect<'data>(program: &Program<'data>, check: Check) -> Result<Vec<Inspected<'data>>, InspectError> {
-    let mut all = inspect_frame_sections(program, check)?;
-    if let Some(lists) = program.debug_loclists().map_err(InspectError::Program)? {
-        let verdict = inspect_lists(&lists.bytes, program.target())?;
-        all.push(Inspected { name: Name::DebugLoclists, bytes: lists.bytes.len(), frames: None, verdict });
-    }
-    Ok(all)
+/// A section that can't be read or checked doesn't keep the others from it: each has a [`Verdict`].
+pub fn inspect<'data>(program: &Program<'data>, check: Check) -> Vec<Inspected<'data>> {
+    let mut all = inspect_frame_sections(program, check);
+    let (bytes, verdict) = match program.debug_loclists() {
+        Ok(Some(lists)) => (lists.bytes.len(), inspect_lists(&lists.bytes, program.target())),
+        Ok(None) => return all,
+        Err(error) => (0, Err(InspectError::Program(error))),
+    };
+    let verdict = verdict.unwrap_or_else(Verdict::Unread);
+    all.push(Inspected { name: Name::DebugLoclists, bytes, frames: None, verdict });
+    all
 }
 
 /// Checks the frame sections of a program that have bytes: `.debug_frame`, `.eh_frame`.
-///
-/// # Errors
-///
-/// The same as for [`inspect`].
-pub fn inspect_frame_sections<'data>(
-    program: &Program<'data>,
-    check: Check,
-) -> Result<Vec<Inspected<'data>>, InspectError> {
+pub fn inspect_frame_sections<'data>(program: &Program<'data>, check: Check) -> Vec<Inspected<'data>> {
     let sections = Frames::all(program, check.bridge).map(|frames| match frames {
         Ok(frames) => inspect_frames(program, frames, check),
         Err(error) => unread_frames(error),
@@ -105,10 +100,13 @@ pub fn inspect_frame_sections<'data>(
 }
 
 /// The result for a frame section that [`Frames::all`] gives an error for: a section that can't be
-/// rewritten is refused, and a section that can't be read is an error.
-fn unread_frames<'data>(error: FramesError) -> Result<Inspected<'data>, InspectError> {
+/// rewritten is refused.
+fn unread_frames<'data>(error: FramesError) -> Inspected<'data> {
     let (name, defect) = match error {
-        FramesError::Program(_, error) => return Err(InspectError::Program(error)),
+        FramesError::Program(name, error) => {
+            let verdict = Verdict::Unread(InspectError::Program(error));
+            return Inspected { name, bytes: 0, frames: None, verdict };
+        }
         FramesError::Bridge(error) => (Name::EhFrame, Defect::of_bridge(&error)),
         FramesError::TooLong(name) => {
             let reason = crate::bridge::Reason::TooLong;
@@ -116,29 +114,30 @@ fn unread_frames<'data>(error: FramesError) -> Result<Inspected<'data>, InspectE
             (name, Defect { section: name, ..defect })
         }
     };
-    Ok(Inspected { name, bytes: 0, frames: None, verdict: Verdict::Refused(vec![defect]) })
+    Inspected { name, bytes: 0, frames: None, verdict: Verdict::Refused(vec![defect]) }
 }
 
-fn inspect_frames<'data>(
-    program: &Program<'data>,
-    frames: Frames<'data>,
-    check: Check,
-) -> Result<Inspected<'data>, InspectError> {
+fn inspect_frames<'data>(program: &Program<'data>, frames: Frames<'data>, check: Check) -> Inspected<'data> {
+    let verdict = verdict_on(program, &frames, check).unwrap_or_else(Verdict::Unread);
+    Inspected { name: frames.name(), bytes: frames.source().bytes.len(), frames: Some(frames), verdict }
+}
+
+fn verdict_on(program: &Program<'_>, frames: &Frames<'_>, check: Check) -> Result<Verdict, InspectError> {
     let verdict = match frames.process(0) {
         Ok(process) if frames.is_rewritten() => {
-            Verdict::Frames(validate_rows(&frames, &process).map_err(InspectError::Difference)?)
+            Verdict::Frames(validate_rows(frames, &process).map_err(InspectError::Difference)?)
         }
-        Ok(process) => Verdict::Frames(counted(&frames, &process)),
+        Ok(process) => Verdict::Frames(counted(frames, &process)),
         Err(Error::Refused(fault)) => {
-            compared_by_gimli(&frames)?;
+            compared_by_gimli(frames)?;
             let functions = program.functions();
-            let terms = Terms::of(&frames, &functions);
-            let faults = if check.all { every_fault(&frames, fault) } else { vec![fault] };
+            let terms = Terms::of(frames, &functions);
+            let faults = if check.all { every_fault(frames, fault) } else { vec![fault] };
             Verdict::Refused(faults.into_iter().map(|fault| terms.defect(fault)).collect())
         }
         Err(error) => return Err(InspectError::Dwcheck(frames.name(), error)),
     };
-    Ok(Inspected { name: frames.name(), bytes: frames.source().bytes.len(), frames: Some(frames), verdict })
+    Ok(verdict)
 }
 
 /// Makes sure that a fault isn't due to the rewriting of `.eh_frame`: it is an error if the

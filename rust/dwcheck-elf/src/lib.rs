@@ -18,6 +18,7 @@ pub mod abi;
 pub mod alone;
 pub mod bridge;
 mod bytes;
+mod cfi;
 pub mod core_file;
 mod covered;
 pub mod debug_frame;

@@ -155,6 +155,7 @@ impl<'data> Program<'data> {
             bytes: &section.bytes,
             address: section.address,
             target: self.target,
+            machine: self.machine,
             text: address(".text"),
             data: address(".got.plt").or_else(|| address(".got")),
             unresolved: &section.unresolved,

@@ -125,7 +125,11 @@ fn shown(outcome: &Result<bool, String>, row: &Row<'_>) -> String {
 
 /// Compares each CIE and FDE of `.eh_frame` with its counterpart in the rewritten section, as gimli
 /// reads both.
+///
+/// FDEs that were left out as copies of earlier ones have no counterpart.
 pub fn validate(section: &EhFrame<'_>, bridged: &Bridged) -> Result<Agreement, Difference> {
+    let comparable = bridged.comparable(section.bytes);
+    let section = &EhFrame { bytes: &comparable, ..*section };
     let mut original = Original::new(section);
     let mut other = BridgedSection::new(section.target, bridged.bytes());
     let frames: DebugFrame<_> = other.section;
@@ -134,6 +138,9 @@ pub fn validate(section: &EhFrame<'_>, bridged: &Bridged) -> Result<Agreement, D
     let mut agreement = Agreement::default();
     let mut cursor = Cursor::new(section.bytes, section.target);
     while let Some(record) = next_record(&mut cursor) {
+        if bridged.is_copy(record as u64) {
+            continue;
+        }
         let fail = |what| Difference { section: Name::EhFrame, record: record as u64, what };
         let theirs = entries.next().map_err(|error| fail(What::UnreadableBridged(error.to_string())))?;
         let theirs = theirs.ok_or_else(|| fail(What::Missing))?;

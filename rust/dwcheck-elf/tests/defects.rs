@@ -41,7 +41,7 @@ fn def_cfa_register_after_an_expression() {
     let source = function(&folder, ".cfi_escape 0x0f, 2, 0x77, 99\n nop\n.cfi_def_cfa_register 6");
     let (bridged, agreement) = bridged(&folder, Options::default());
     assert_eq!((agreement.fdes, agreement.refused), (2, 1));
-    assert_eq!(bridged.mended(), []);
+    assert!(bridged.mended().is_empty());
     let defect = [0x77, 99, 0x41, 0x0d, 6];
     let (there, here) = (place_of(&source, &defect) + 3, place_of(bridged.bytes(), &defect) + 3);
     let place = bridged.place(here as u64, Edge::End).unwrap();
@@ -104,7 +104,7 @@ fn args_size_is_dropped() {
 const TARGET: Target = Target { order: Order::Little, address_size: AddressSize::Eight };
 
 fn section(bytes: &[u8]) -> EhFrame<'_> {
-    EhFrame { bytes, address: 0x1000, target: TARGET, text: None, data: None, unresolved: &[] }
+    EhFrame { bytes, address: 0x1000, target: TARGET, machine: 62, text: None, data: None, unresolved: &[] }
 }
 
 /// A CIE of version 1 with this augmentation string, which includes its NUL. `instructions` may
@@ -140,7 +140,7 @@ fn def_cfa_register_without_a_rule() {
     assert!(mended.bytes()[..cie.len() + 1].ends_with(&[0x0c, 7, 0]));
     assert_eq!(validate(&section(&bytes), &mended).unwrap().rows, 3);
     let strict = bridge(&section(&bytes), Options { strict: true }).unwrap();
-    assert_eq!(strict.mended(), []);
+    assert!(strict.mended().is_empty());
     assert!(strict.bytes()[..cie.len()].ends_with(&[0x0d, 7]));
     assert_eq!(validate(&section(&bytes), &strict).unwrap().rows, 3);
 }

@@ -212,18 +212,18 @@ fn strict_refuses_a_register_without_an_offset() {
     }
 }
 
-/// The name of a vendor's instruction depends on the machine: this one is aarch64's, for signed
-/// return addresses.
+/// The name of a vendor's instruction depends on the machine: this one is sparc64's, for register
+/// windows. aarch64 has the same code for signed return addresses.
 #[test]
 fn a_code_of_a_machine_has_its_name() {
-    let folder = Folder::new("signed");
-    if !has("aarch64-linux-gnu-as") {
+    let folder = Folder::new("windows");
+    if !has("sparc64-linux-gnu-as") {
         return;
     }
-    folder.write("a.s", ".type f, %function\nf: .cfi_startproc\n nop\n .cfi_negate_ra_state\n nop\n .cfi_endproc\n");
-    folder.run("aarch64-linux-gnu-as a.s -o a.o");
+    folder.write("a.s", ".type f, #function\nf: .cfi_startproc\n nop\n .cfi_window_save\n nop\n .cfi_endproc\n");
+    folder.run("sparc64-linux-gnu-as a.s -o a.o");
     let ran = dwcheck_elf(&folder, "check a.o");
-    assert!(ran.lines()[0].ends_with(": UnknownInstruction: AARCH64_negate_ra_state, FDE 0x0..0x8 (f)"), "{}", ran.out);
+    assert!(ran.lines()[0].ends_with(": UnknownInstruction: GNU_window_save, FDE 0x0..0x8 (f)"), "{}", ran.out);
 }
 
 /// Checks unlinked objects for each machine. They have two sections of code, each of which gets its

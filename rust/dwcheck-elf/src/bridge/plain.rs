@@ -1,8 +1,9 @@
-//! Copies `.debug_frame`, without the records of length 0.
+//! Copies `.debug_frame`, without the records of length 0 and without copies of FDEs.
 
 use super::places::{Pair, Places, Record, RecordKind};
 use super::{Bridged, Counts};
-use crate::debug_frame::{self, Kind};
+use crate::cfi::with_nops;
+use crate::debug_frame::{self, negations, Kind};
 use crate::target::Target;
 use std::collections::HashMap;
 
@@ -10,13 +11,23 @@ use std::collections::HashMap;
 /// left out of the copy. The written pointer leads to no CIE either.
 const NOWHERE: u64 = 0xffff_fffe;
 
-/// Copies a `.debug_frame` section for `dwcheck`, without the records of length 0.
+/// Copies a `.debug_frame` section for `dwcheck`, without the records of length 0 and without FDEs
+/// that are exact copies of earlier ones. On aarch64, `DW_CFA_AARCH64_negate_ra_state` becomes
+/// `DW_CFA_nop`. `machine` is the machine's number (`e_machine`).
 ///
-/// Some linkers leave such records, which DWARF doesn't have. If the section has none, its bytes
-/// are copied unchanged. Bytes after the last record that can be read are always copied unchanged.
+/// Some linkers leave records of length 0, which DWARF doesn't have. If the section has nothing of
+/// all this, its bytes are copied unchanged. Bytes after the last record that can be read are always
+/// copied unchanged.
 ///
 /// `None` if the section has 2^32 bytes or more.
-pub fn without_empty_records(section: &[u8], target: Target) -> Option<Bridged> {
+pub fn plain(section: &[u8], target: Target, machine: u16) -> Option<Bridged> {
+    let negated = negations(section, target, machine);
+    let bridged = without_empty_records(&with_nops(section, &negated), target)?;
+    Some(Bridged { negated, ..bridged }.without_copies(target))
+}
+
+/// Copies a section without the records of length 0. `None` if it has 2^32 bytes or more.
+fn without_empty_records(section: &[u8], target: Target) -> Option<Bridged> {
     u32::try_from(section.len()).ok()?;
     let records = debug_frame::records(section, target);
     let starts = new_starts(&records);
@@ -40,7 +51,9 @@ pub fn without_empty_records(section: &[u8], target: Target) -> Option<Bridged> 
         places.records.push(Record { bridged: bridged as u64, source: rest as u64, kind: RecordKind::Cie });
         copy.bytes.extend_from_slice(section.get(rest..).unwrap_or(&[]));
     }
-    Some(Bridged { bytes: copy.bytes, places, counts: copy.counts, mended: Vec::new() })
+    let Copy { bytes, counts, .. } = copy;
+    let (mended, negated, signed, copies) = (Vec::new(), Vec::new(), Vec::new(), Vec::new());
+    Some(Bridged { bytes, places, counts, mended, negated, signed, copies })
 }
 
 /// Maps the offset of each record in the section to its offset in the copy. Records of length 0

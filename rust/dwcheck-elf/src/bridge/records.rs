@@ -1,9 +1,12 @@
 //! Reads the CIEs and FDEs of `.eh_frame`, and writes those of `.debug_frame`.
 
+use super::header::{augmentation, length, Augmentation};
 use super::instructions::CfaKnown;
 use super::places::{Pair, Places, Record, RecordKind};
 use super::{pointer, BridgeError, Bridged, Counts, EhFrame, Options, Reason};
 use crate::bytes::Cursor;
+use crate::cfi::Signing;
+use std::ops::Range;
 
 /// The id of a CIE in `.debug_frame`.
 const CIE_ID: u64 = 0xffff_ffff;
@@ -15,14 +18,14 @@ pub(super) struct CieParts {
     source: usize,
     /// Its offset in the rewritten section.
     bridged: u64,
-    /// The pointer encoding (`DW_EH_PE`) of its FDEs' addresses.
-    pub encoding: u8,
-    /// Whether its FDEs have augmentation data.
-    has_data: bool,
-    /// Whether its FDEs are signal frames.
-    signal: bool,
+    /// What its augmentation says about its FDEs.
+    pub augmentation: Augmentation,
+    /// The code alignment factor.
+    code_factor: u64,
     /// Whether its initial instructions give the CFA a rule.
     cfa_known: bool,
+    /// Whether return addresses are signed after its initial instructions.
+    is_signed: bool,
 }
 
 /// A section that is being rewritten.
@@ -32,6 +35,8 @@ pub(super) struct Bridge<'a> {
     pub bytes: Vec<u8>,
     pub counts: Counts,
     pub mended: Vec<u64>,
+    pub negated: Vec<u64>,
+    signed: Vec<Range<u64>>,
     places: Places,
     cies: Vec<CieParts>,
 }
@@ -48,6 +53,8 @@ impl<'a> Bridge<'a> {
             bytes: Vec::with_capacity(section.bytes.len()),
             counts: Counts::default(),
             mended: Vec::new(),
+            negated: Vec::new(),
+            signed: Vec::new(),
             places: Places::default(),
             cies: Vec::new(),
         }
@@ -60,14 +67,33 @@ impl<'a> Bridge<'a> {
         }
         let mut cursor = Cursor::new(self.section.bytes, self.section.target);
         while !cursor.is_at_end() {
-            let start = cursor.at();
-            self.record(&mut cursor).map_err(|(field, reason)| reason.at(start, field))?;
-            if u32::try_from(self.bytes.len()).is_err() {
-                return Err(Reason::TooLong.at(start, start));
-            }
+            self.next(&mut cursor)?;
         }
-        let Bridge { bytes, places, counts, mended, .. } = self;
-        Ok(Bridged { bytes, places, counts, mended })
+        Ok(self.finished())
+    }
+
+    /// Rewrites a CIE and one of its FDEs, which are at these offsets.
+    pub fn run_one(mut self, cie: usize, fde: usize) -> Result<Bridged, BridgeError> {
+        for start in [cie, fde] {
+            let mut cursor = Cursor::new(self.section.bytes, self.section.target);
+            cursor.take(start as u64).map_err(|error| Reason::from(error).at(start, start))?;
+            self.next(&mut cursor)?;
+        }
+        Ok(self.finished())
+    }
+
+    fn next(&mut self, cursor: &mut Cursor<'a>) -> Result<(), BridgeError> {
+        let start = cursor.at();
+        self.record(cursor).map_err(|(field, reason)| reason.at(start, field))?;
+        match u32::try_from(self.bytes.len()) {
+            Ok(_) => Ok(()),
+            Err(_) => Err(Reason::TooLong.at(start, start)),
+        }
+    }
+
+    fn finished(self) -> Bridged {
+        let Bridge { bytes, places, counts, mended, negated, signed, .. } = self;
+        Bridged { bytes, places, counts, mended, negated, signed, copies: Vec::new() }
     }
 
     /// Stores that the bytes that are written next come from the bytes at the offset `source` of
@@ -140,18 +166,22 @@ impl<'a> Bridge<'a> {
             return Err((at, Reason::Version(version)));
         }
         self.bytes.push(version);
-        let mut cie =
-            CieParts { source, bridged: bridged as u64, encoding: 0, has_data: false, signal: false, cfa_known: false };
         let at = record.at();
         self.pair(at);
-        let letters = augmentation(record).map_err(|reason| (at, reason))?;
+        let letters = augmentation(record).map_err(|error| (at, error.into()))?;
         self.bytes.push(0);
+        let code_factor = record.clone().uleb().unwrap_or(0);
         self.numbers(record, version)?;
         let at = record.at();
-        self.augmentation_data(record, letters, &mut cie).map_err(|reason| (at, reason))?;
+        let augmentation = Augmentation::read(record, letters, &self.section).map_err(|reason| (at, reason))?;
+        self.count(&augmentation);
+        let mut cie =
+            CieParts { source, bridged: bridged as u64, augmentation, code_factor, cfa_known: false, is_signed: false };
         let mut known = CfaKnown::new(false);
-        self.instructions(record, &cie, None, &mut known)?;
+        let mut signing = Signing::new(0, code_factor, false);
+        self.instructions(record, &cie, None, (&mut known, &mut signing))?;
         cie.cfa_known = known.now();
+        cie.is_signed = signing.is_signed();
         self.cies.push(cie);
         self.counts.cies += 1;
         Ok(())
@@ -169,39 +199,11 @@ impl<'a> Bridge<'a> {
         Ok(())
     }
 
-    /// Reads the augmentation data of a CIE, whose augmentation string is `letters`. Stores in
-    /// `cie` whether its FDEs have augmentation data, their pointer encoding, and whether they are
-    /// signal frames. Drops the rest.
-    fn augmentation_data(&mut self, record: &mut Cursor<'a>, letters: &[u8], cie: &mut CieParts) -> Result<(), Reason> {
-        let unknown = || Reason::Augmentation(String::from_utf8_lossy(letters).into_owned());
-        let rest = match letters.split_first() {
-            None => return Ok(()),
-            Some((b'z', rest)) => rest,
-            Some(_) => return Err(unknown()),
-        };
-        self.counts.augmentations += 1;
-        cie.has_data = true;
-        let length = record.uleb()?;
-        let mut data = record.split(length)?;
-        for letter in rest {
-            match letter {
-                b'R' => cie.encoding = data.byte()?,
-                b'P' => {
-                    let encoding = data.byte()?;
-                    pointer::skip(&mut data, encoding, &self.section)?;
-                    self.counts.personalities += 1;
-                }
-                b'L' => {
-                    data.byte()?;
-                    self.counts.data_areas += 1;
-                }
-                b'S' => cie.signal = true,
-                // The return addresses are signed with aarch64's key B. That changes no rule.
-                b'B' => {}
-                _ => return Err(unknown()),
-            }
-        }
-        Ok(())
+    /// Counts what is dropped with the augmentation of a CIE.
+    fn count(&mut self, augmentation: &Augmentation) {
+        self.counts.augmentations += usize::from(augmentation.has_data);
+        self.counts.personalities += augmentation.personalities;
+        self.counts.data_areas += augmentation.data_areas;
     }
 
     /// Rewrites the rest of an FDE, which begins with the CIE pointer.
@@ -209,37 +211,25 @@ impl<'a> Bridge<'a> {
         self.section.target.push(&mut self.bytes, cie.bridged, 4);
         let at = record.at();
         self.pair(at);
-        let begin = pointer::address(record, cie.encoding, &self.section, None).map_err(|reason| (at, reason))?;
+        let encoding = cie.augmentation.encoding;
+        let begin = pointer::address(record, encoding, &self.section, None).map_err(|reason| (at, reason))?;
         self.address(begin);
         let at = record.at();
         self.pair(at);
-        let size = pointer::range(record, cie.encoding, &self.section).map_err(|reason| (at, reason))?;
+        let size = pointer::range(record, encoding, &self.section).map_err(|reason| (at, reason))?;
         self.address(size);
-        if cie.has_data {
+        if cie.augmentation.has_data {
             let at = record.at();
             let skipped = record.uleb().and_then(|length| record.take(length));
             skipped.map_err(|error| (at, error.into()))?;
         }
         let mut known = CfaKnown::new(cie.cfa_known);
-        self.instructions(record, cie, Some(begin), &mut known)?;
+        let mut signing = Signing::new(begin, cie.code_factor, cie.is_signed);
+        self.instructions(record, cie, Some(begin), (&mut known, &mut signing))?;
+        self.signed.extend(signing.ranges(begin.saturating_add(size)));
+        let signal = cie.augmentation.is_signal_frame;
         self.counts.fdes += 1;
-        self.counts.signal_frames += usize::from(cie.signal);
-        Ok(RecordKind::Fde { begin, size, signal: cie.signal })
+        self.counts.signal_frames += usize::from(signal);
+        Ok(RecordKind::Fde { begin, size, signal })
     }
-}
-
-/// Reads an initial length, in the 32-bit or the 64-bit format.
-fn length(cursor: &mut Cursor<'_>) -> Result<u64, Reason> {
-    match cursor.number(4)? {
-        0xffff_ffff => Ok(cursor.number(8)?),
-        0xffff_fff0..=0xffff_fffe => Err(Reason::ReservedLength),
-        length => Ok(length),
-    }
-}
-
-/// Reads an augmentation string and the NUL that ends it. The NUL isn't part of the result.
-fn augmentation<'a>(record: &mut Cursor<'a>) -> Result<&'a [u8], Reason> {
-    let start = record.at();
-    while record.byte()? != 0 {}
-    Ok(record.since(start).strip_suffix(&[0]).unwrap_or(&[]))
 }

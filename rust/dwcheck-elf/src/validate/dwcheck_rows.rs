@@ -118,15 +118,16 @@ impl<'a> RowSource<'a> for DwcheckRows<'a> {
 /// The first difference. A row that gimli refuses is a difference, too.
 pub fn validate_rows(frames: &Frames<'_>, process: &Process) -> Result<Agreement, Difference> {
     let source = frames.eh_frame();
+    let comparable = frames.bridged().comparable(source.bytes);
     let (order, address_size) = (source.target.gimli_order(), source.target.address_size.bytes());
     match frames.name() {
         Name::EhFrame => {
-            let mut section = gimli::EhFrame::new(source.bytes, order);
+            let mut section = gimli::EhFrame::new(&comparable, order);
             section.set_address_size(address_size);
             Comparison { frames, process, bases: source.bases(), section }.run()
         }
         _ => {
-            let mut section = DebugFrame::new(source.bytes, order);
+            let mut section = DebugFrame::new(&comparable, order);
             section.set_address_size(address_size);
             Comparison { frames, process, bases: BaseAddresses::default(), section }.run()
         }
@@ -167,6 +168,11 @@ where
         let mut given = debug_frame::records(self.frames.bytes(), source.target).into_iter();
         while let Some(offset) = next_record(&mut cursor) {
             let fail = |what| Difference { section: self.frames.name(), record: offset as u64, what };
+            if self.frames.bridged().is_copy(offset as u64) {
+                // Its rows are those of the FDE that it is a copy of.
+                self.compare(offset, &mut room).map_err(fail)?;
+                continue;
+            }
             let given = given.next().ok_or_else(|| fail(What::Missing))?;
             match given.kind {
                 Kind::Fde { .. } => {

@@ -2,7 +2,7 @@
 
 use crate::arguments::CheckWords;
 use crate::end::{Done, Failure};
-use crate::opened::{program, read, write_defect};
+use crate::opened::{note, program, read, write_defect};
 use dwcheck_elf::bridge::{Bridged, Counts};
 use dwcheck_elf::debug_frame::{instructions, records, Kind};
 use dwcheck_elf::expression::Measure;
@@ -50,18 +50,26 @@ fn check_one(words: &CheckWords, path: &Path, out: &mut impl Write) -> Result<Do
         true => (inspect_frame_sections(&program, check), ".debug_frame or .eh_frame"),
         false => (inspect(&program, check), ".debug_frame, .eh_frame or .debug_loclists"),
     };
-    let sections = sections.map_err(|error| Failure::judging(path, &error))?;
     let mut done = Done::Accepted;
     if sections.is_empty() {
         writeln!(out, "{}: no {}", path.display(), names)?;
     }
     for section in &sections {
-        if let Verdict::Refused(defects) = &section.verdict {
-            defects.iter().try_for_each(|defect| write_defect(out, path, defect))?;
-            done = Done::Refused;
-        } else {
-            writeln!(out, "{}: {}: accepted", path.display(), section.name)?;
-            write_accepted(out, &program, section)?;
+        match &section.verdict {
+            Verdict::Refused(defects) => {
+                defects.iter().try_for_each(|defect| write_defect(out, path, defect))?;
+                done = done.max(Done::Refused);
+            }
+            Verdict::Unread(error) => {
+                out.flush()?;
+                note(path, error);
+                done = Done::Unread;
+                continue;
+            }
+            _ => {
+                writeln!(out, "{}: {}: accepted", path.display(), section.name)?;
+                write_accepted(out, &program, section)?;
+            }
         }
         if let Some(frames) = section.frames.as_ref().filter(|_| words.notes.notes) {
             write_notes(out, section.name, frames.bridged())?;
@@ -135,16 +143,21 @@ fn write_lists(out: &mut impl Write, contents: &Contents, lists: &[u8], target: 
 /// Writes what was dropped or changed when a section was rewritten, with a line for each kind of
 /// change.
 pub fn write_notes(out: &mut impl Write, name: Name, bridged: &Bridged) -> io::Result<()> {
-    let Counts { terminators, augmentations, personalities, data_areas, signal_frames, args_sizes, set_locs, .. } =
-        *bridged.counts();
+    let Counts { terminators, augmentations, personalities, data_areas, signal_frames, .. } = *bridged.counts();
+    let Counts { args_sizes, set_locs, copies, .. } = *bridged.counts();
     let notes = [
         (augmentations, "augmentations of CIEs dropped"),
         (personalities, "CIEs had a personality routine"),
         (data_areas, "CIEs had language-specific data in their FDEs"),
         (signal_frames, "FDEs are of signal frames, whose caller was interrupted and didn't call"),
         (args_sizes, "DW_CFA_GNU_args_size dropped"),
+        (
+            bridged.negated().len(),
+            "DW_CFA_AARCH64_negate_ra_state dropped, which says where return addresses are signed",
+        ),
         (set_locs, "DW_CFA_set_loc decoded"),
         (terminators, "records of length 0 left out"),
+        (copies, "FDEs left out that are exact copies of an earlier one"),
         (
             bridged.mended().len(),
             "DW_CFA_def_cfa_register before a rule for the CFA, read as DW_CFA_def_cfa with offset 0",

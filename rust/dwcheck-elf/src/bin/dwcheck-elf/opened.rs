@@ -33,24 +33,32 @@ pub fn program<'data>(path: &Path, data: &'data [u8]) -> Result<Program<'data>, 
 }
 
 /// Checks the frame sections of a program, and returns those in which rows are then looked up. If
-/// all are accepted, it returns all. If `.debug_frame` is refused and `.eh_frame` is accepted, it
-/// returns only `.eh_frame`, and says so on standard error. In any other case, the inner error is
-/// the fault of the first section that is refused. If a section had to be rewritten for `dwcheck`,
-/// as `.eh_frame` is, its rows are also compared with gimli's, and a difference is an outer error.
+/// all are accepted, it returns all. If `.debug_frame` is refused or can't be read, and `.eh_frame`
+/// is accepted, it returns only `.eh_frame`, and says so on standard error. In any other case, the
+/// inner error is the fault of the first section that is refused. If a section had to be rewritten
+/// for `dwcheck`, as `.eh_frame` is, its rows are also compared with gimli's, and a difference is an
+/// outer error.
 pub fn accepted_frames<'data>(
     path: &Path,
     program: &Program<'data>,
     options: Options,
 ) -> Result<Result<Vec<Frames<'data>>, Defect>, Failure> {
     let check = Check { bridge: options, all: false };
-    let sections = inspect_frame_sections(program, check).map_err(|error| Failure::judging(path, &error))?;
     let mut accepted = Vec::new();
     let mut refused = Vec::new();
-    for section in sections {
+    let mut unread = Vec::new();
+    for section in inspect_frame_sections(program, check) {
         match section.verdict {
             Verdict::Refused(mut defects) => refused.push(defects.swap_remove(0)),
+            Verdict::Unread(error) => unread.push((section.name, error)),
             _ => accepted.extend(section.frames),
         }
+    }
+    for (name, error) in unread {
+        if name != Name::DebugFrame || accepted.is_empty() {
+            return Err(Failure::judging(path, &error));
+        }
+        note(path, format_args!("{}; .eh_frame is used", error));
     }
     match refused.into_iter().next() {
         None => Ok(Ok(accepted)),

@@ -7,7 +7,7 @@ mod totals;
 
 use crate::arguments::SurveyWords;
 use crate::end::{Done, Failure};
-use crate::opened::write_defect;
+use crate::opened::{note, write_defect};
 use dwcheck_elf::bridge::Counts;
 use dwcheck_elf::fault::Defect;
 use dwcheck_elf::frames::Name;
@@ -38,10 +38,14 @@ pub struct Section {
     bytes: usize,
     /// How much the section holds, if it was accepted.
     held: Held,
-    /// The section's faults. Empty if it was accepted.
+    /// The section's faults. Empty if it was accepted, or couldn't be checked.
     defects: Vec<Defect>,
+    /// Why the section can't be read or checked.
+    error: Option<String>,
     counts: Counts,
     mended: usize,
+    /// The instructions `DW_CFA_AARCH64_negate_ra_state` that were dropped.
+    negated: usize,
 }
 
 /// How much an accepted section holds.
@@ -56,7 +60,7 @@ pub enum Held {
         lists: usize,
         expressions: usize,
     },
-    /// Not known, because the section was refused.
+    /// Not known, because the section was refused, or couldn't be checked.
     Unknown,
 }
 
@@ -117,15 +121,19 @@ fn inspected_bytes(path: PathBuf, data: &[u8], check: Check, has_lists: bool) ->
         Err(error) => return Surveyed { path, machine: None, outcome: Err(error.to_string()) },
     };
     let sections = if has_lists { inspect(&program, check) } else { inspect_frame_sections(&program, check) };
-    let sections = sections.map_err(|error| error.to_string());
-    let outcome = sections.map(|sections| sections.into_iter().map(Section::of).collect());
+    let outcome = Ok(sections.into_iter().map(Section::of).collect());
     Surveyed { path, machine: Some(program.machine()), outcome }
 }
 
 impl Surveyed {
-    /// Whether all sections that were checked are accepted.
+    /// Whether all sections are accepted.
     fn is_accepted(&self) -> bool {
-        self.outcome.as_ref().map_or(false, |sections| sections.iter().all(|section| section.defects.is_empty()))
+        self.outcome.as_ref().map_or(false, |sections| sections.iter().all(Section::is_accepted))
+    }
+
+    /// Whether the file or one of its sections can't be read or checked.
+    fn is_unread(&self) -> bool {
+        self.outcome.as_ref().map_or(true, |sections| sections.iter().any(|section| section.error.is_some()))
     }
 }
 
@@ -135,14 +143,24 @@ impl Section {
         let bridged = frames.as_ref().map(|frames| frames.bridged());
         let counts = bridged.map_or(Counts::default(), |bridged| *bridged.counts());
         let mended = bridged.map_or(0, |bridged| bridged.mended().len());
+        let negated = bridged.map_or(0, |bridged| bridged.negated().len());
+        let mut error = None;
         let (held, defects) = match verdict {
             Verdict::Frames(Agreement { cies, fdes, rows, .. }) => (Held::Frames { cies, fdes, rows }, Vec::new()),
             Verdict::Lists(found) => {
                 (Held::Lists { lists: found.lists, expressions: found.expressions.len() }, Vec::new())
             }
             Verdict::Refused(defects) => (Held::Unknown, defects),
+            Verdict::Unread(why) => {
+                error = Some(why.to_string());
+                (Held::Unknown, Vec::new())
+            }
         };
-        Section { name, bytes, held, defects, counts, mended }
+        Section { name, bytes, held, defects, error, counts, mended, negated }
+    }
+
+    fn is_accepted(&self) -> bool {
+        self.defects.is_empty() && self.error.is_none()
     }
 }
 
@@ -157,10 +175,9 @@ fn write_refused(out: &mut impl Write, files: &Files, surveyed: &[Surveyed]) -> 
             Ok(sections) => {
                 let mut defects = sections.iter().flat_map(|section| &section.defects);
                 defects.try_for_each(|defect| write_defect(out, path, defect))?;
+                sections.iter().filter_map(|section| section.error.as_ref()).for_each(|error| note(path, error));
             }
-            Err(error) => {
-                let _ = writeln!(io::stderr(), "dwcheck-elf: {}: {}", path.display(), error);
-            }
+            Err(error) => note(path, error),
         }
     }
     Ok(())

@@ -29,6 +29,9 @@ pub fn write(out: &mut impl Write, files: &Files, surveyed: &[Surveyed], totals:
 }
 
 fn section(section: &Section) -> String {
+    if let Some(error) = &section.error {
+        return format!("{{\"section\":\"{}\",\"error\":{}}}", section.name, text(error));
+    }
     let start = format!("{{\"section\":\"{}\",\"bytes\":{}", section.name, section.bytes);
     match section.held {
         Held::Frames { cies, fdes, rows } => {

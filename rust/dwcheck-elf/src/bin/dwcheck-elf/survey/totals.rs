@@ -12,7 +12,7 @@ pub struct Totals {
     pub files: usize,
     /// Further ELF files, each with the same bytes as a file that is counted in `files`.
     pub repeated: usize,
-    /// Files and folders that couldn't be read, and files that couldn't be checked.
+    /// Files and folders that couldn't be read, and files with a section that couldn't be.
     pub unread: usize,
     /// Sections that were checked.
     pub sections: usize,
@@ -38,12 +38,16 @@ pub struct Totals {
     pub mended: usize,
     /// Records of length 0, which were left out.
     pub empty_records: usize,
+    /// FDEs that were left out because they are exact copies of an earlier one.
+    pub copies: usize,
+    /// `DW_CFA_AARCH64_negate_ra_state`, which were dropped.
+    pub negated: usize,
 }
 
 impl Totals {
     /// Counts the files and their sections.
     pub fn of(files: &Files, surveyed: &[Surveyed]) -> Self {
-        let unread = files.unread.len() + surveyed.iter().filter(|one| one.outcome.is_err()).count();
+        let unread = files.unread.len() + surveyed.iter().filter(|one| one.is_unread()).count();
         let mut totals = Totals { files: surveyed.len(), repeated: files.repeated, unread, ..Totals::default() };
         let sections = surveyed.iter().filter_map(|one| one.outcome.as_ref().ok()).flatten();
         sections.for_each(|section| totals.add(section));
@@ -51,6 +55,9 @@ impl Totals {
     }
 
     fn add(&mut self, section: &Section) {
+        if section.error.is_some() {
+            return;
+        }
         self.sections += 1;
         self.bytes += section.bytes;
         self.accepted += usize::from(section.defects.is_empty());
@@ -73,6 +80,8 @@ impl Totals {
         self.set_locs += section.counts.set_locs;
         self.empty_records += section.counts.terminators;
         self.mended += section.mended;
+        self.copies += section.counts.copies;
+        self.negated += section.negated;
     }
 
     /// How the survey ended, for the exit status.
@@ -85,7 +94,7 @@ impl Totals {
     }
 
     /// Each count with its name, in the order in which they are written.
-    pub fn named(&self) -> [(&'static str, usize); 18] {
+    pub fn named(&self) -> [(&'static str, usize); 20] {
         [
             ("files", self.files),
             ("repeated", self.repeated),
@@ -105,6 +114,8 @@ impl Totals {
             ("set-locs", self.set_locs),
             ("mended", self.mended),
             ("empty-records", self.empty_records),
+            ("copies", self.copies),
+            ("negated", self.negated),
         ]
     }
 

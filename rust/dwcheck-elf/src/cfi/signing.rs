@@ -1,0 +1,104 @@
+//! Where return addresses are signed, on aarch64.
+//!
+//! A function that is built with `-mbranch-protection` signs its return address: the high bits of
+//! the address hold a code that authenticates it. `DW_CFA_AARCH64_negate_ra_state` changes whether
+//! the return address is signed from the instruction's location on. A `DW_CFA_restore_state` gives
+//! back what a `DW_CFA_remember_state` remembered.
+
+use super::{NEGATE_RA_STATE, REMEMBER_STATE, RESTORE_STATE, SET_LOC};
+use crate::target::Target;
+use std::ops::Range;
+
+/// Follows the instructions of an FDE to find the addresses at which the return address is signed.
+#[derive(Clone, Debug)]
+pub(crate) struct Signing {
+    location: u64,
+    /// The code alignment factor, by which the operands of advances are multiplied.
+    factor: u64,
+    /// Where the return address began to be signed. `None` if it isn't signed.
+    since: Option<u64>,
+    remembered: Vec<bool>,
+    ranges: Vec<Range<u64>>,
+}
+
+impl Signing {
+    /// The state before the first instruction of a CIE or an FDE, whose location is `begin`.
+    pub fn new(begin: u64, factor: u64, is_signed: bool) -> Self {
+        let since = if is_signed { Some(begin) } else { None };
+        Signing { location: begin, factor, since, remembered: Vec::new(), ranges: Vec::new() }
+    }
+
+    /// Whether the return address is signed after the instructions so far.
+    pub fn is_signed(&self) -> bool {
+        self.since.is_some()
+    }
+
+    /// Follows an instruction. `rest` begins with its operands; an address in them has the target's
+    /// address size.
+    pub fn step(&mut self, code: u8, rest: &[u8], target: Target) {
+        let number = |size: u8| target.number(rest.get(..usize::from(size)).unwrap_or(&[]));
+        match code {
+            0x40..=0x7f => self.advance(u64::from(code & 0x3f)),
+            0x02 => self.advance(number(1)),
+            0x03 => self.advance(number(2)),
+            0x04 => self.advance(number(4)),
+            SET_LOC => self.location = number(target.address_size.bytes()),
+            REMEMBER_STATE => self.remembered.push(self.is_signed()),
+            RESTORE_STATE => {
+                let is_signed = self.remembered.pop().unwrap_or_else(|| self.is_signed());
+                self.set(is_signed);
+            }
+            NEGATE_RA_STATE => self.set(!self.is_signed()),
+            _ => {}
+        }
+    }
+
+    fn advance(&mut self, count: u64) {
+        self.location = self.location.wrapping_add(count.wrapping_mul(self.factor));
+    }
+
+    fn set(&mut self, is_signed: bool) {
+        match (self.since, is_signed) {
+            (None, true) => self.since = Some(self.location),
+            (Some(since), false) => {
+                self.since = None;
+                self.ranges.push(since..self.location);
+            }
+            _ => {}
+        }
+    }
+
+    /// The ranges of addresses, up to the FDE's end, at which the return address is signed.
+    pub fn ranges(mut self, end: u64) -> impl Iterator<Item = Range<u64>> {
+        self.location = end;
+        self.set(false);
+        self.ranges.into_iter().filter(|range| range.start < range.end)
+    }
+}
+
+#[cfg(test)]
+mod tests {
+    use super::Signing;
+    use crate::target::{AddressSize, Order, Target};
+
+    /// paciasp; a conditional return with autiasp, around which the state is remembered; autiasp.
+    #[test]
+    fn a_state_that_is_restored() {
+        let target = Target { order: Order::Little, address_size: AddressSize::Eight };
+        let mut signing = Signing::new(0x1000, 4, false);
+        for (code, operands) in [
+            (0x41, &[][..]),
+            (0x2d, &[]),
+            (0x0a, &[]),
+            (0x02, &[3]),
+            (0x2d, &[]),
+            (0x41, &[]),
+            (0x0b, &[]),
+            (0x03, &[2, 0]),
+            (0x2d, &[]),
+        ] {
+            signing.step(code, operands, target);
+        }
+        assert_eq!(signing.ranges(0x1100).collect::<Vec<_>>(), [0x1004..0x1010, 0x1014..0x101c]);
+    }
+}
