@@ -21,6 +21,11 @@ pub struct Abi {
     pub stack_pointer: u16,
     /// The DWARF number of the instruction pointer.
     pub program_counter: u16,
+    /// The DWARF number of the register that code with frame pointers uses for them.
+    pub frame_pointer: u16,
+    /// The DWARF number of the register in which a call leaves the return address. `None` if a call
+    /// writes it to the stack.
+    pub link_register: Option<u16>,
 }
 
 const X86_64: Abi = Abi {
@@ -30,6 +35,8 @@ const X86_64: Abi = Abi {
     kept: &[3, 6, 12, 13, 14, 15],
     stack_pointer: 7,
     program_counter: 16,
+    frame_pointer: 6,
+    link_register: None,
 };
 
 const I386: Abi = Abi {
@@ -39,6 +46,8 @@ const I386: Abi = Abi {
     kept: &[3, 5, 6, 7],
     stack_pointer: 4,
     program_counter: 8,
+    frame_pointer: 5,
+    link_register: None,
 };
 
 const AARCH64: Abi = Abi {
@@ -48,6 +57,8 @@ const AARCH64: Abi = Abi {
     kept: &[19, 20, 21, 22, 23, 24, 25, 26, 27, 28, 29, 30],
     stack_pointer: 31,
     program_counter: 32,
+    frame_pointer: 29,
+    link_register: Some(30),
 };
 
 /// The calling convention of a machine (`e_machine`) with this address size. `None` if the two
@@ -55,4 +66,21 @@ const AARCH64: Abi = Abi {
 pub fn abi(machine: u16, address_size: AddressSize) -> Option<&'static Abi> {
     const KNOWN: [&Abi; 3] = [&X86_64, &I386, &AARCH64];
     KNOWN.into_iter().find(|abi| abi.machine == machine && abi.address_size == address_size)
+}
+
+impl Abi {
+    /// The name of a register, such as `rip`, by its DWARF number. A register without a name is `r`
+    /// and its number.
+    pub fn register_name(&self, number: u16) -> String {
+        let register = gimli::Register(number);
+        let name = match self.machine {
+            elf::EM_X86_64 if number == self.program_counter => Some("rip"),
+            elf::EM_386 if number == self.program_counter => Some("eip"),
+            elf::EM_AARCH64 if number == self.program_counter => Some("pc"),
+            elf::EM_X86_64 => gimli::X86_64::register_name(register),
+            elf::EM_386 => gimli::X86::register_name(register),
+            _ => gimli::AArch64::register_name(register),
+        };
+        name.map_or_else(|| format!("r{}", number), str::to_lowercase)
+    }
 }

@@ -7,6 +7,7 @@ use crate::debug_frame::{records, Kind, Record};
 use crate::frames::Frames;
 use crate::target::Target;
 use dwcheck::{Fault, FaultKind, Section};
+use std::borrow::Cow;
 use std::collections::{HashMap, HashSet};
 
 /// Lists the first fault of each CIE and of each FDE of a refused section, and every overlap of
@@ -89,6 +90,25 @@ pub fn accepted_part(frames: &Frames<'_>, first: Fault) -> AcceptedPart {
         });
     }
     AcceptedPart { bytes, left_out }
+}
+
+/// The bytes of a section for `dwcheck`, without the CIEs and FDEs that it refuses. If there are such,
+/// the second part of the result says how many.
+pub(crate) fn accepted<'f>(frames: &'f Frames<'_>) -> Result<(Cow<'f, [u8]>, Option<String>), String> {
+    let check = |bytes: &[u8]| dwcheck::check(bytes, &[], frames.target().into());
+    let fault = match check(frames.bytes()) {
+        Ok(()) => return Ok((frames.bytes().into(), None)),
+        Err(dwcheck::Error::Refused(fault)) => fault,
+        Err(error) => return Err(format!("{}: {}", frames.name(), error)),
+    };
+    let AcceptedPart { bytes, left_out } = accepted_part(frames, fault);
+    match check(&bytes) {
+        Ok(()) => {
+            let problem = format!("{}: {}: {} of its records aren't used", frames.name(), fault.kind, left_out);
+            Ok((bytes.into(), Some(problem)))
+        }
+        Err(_) => Err(format!("{}: {}: not used", frames.name(), fault.kind)),
+    }
 }
 
 /// A frame section whose CIEs and FDEs are checked one by one.

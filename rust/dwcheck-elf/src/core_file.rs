@@ -4,13 +4,16 @@ mod files;
 mod memory;
 mod modules;
 mod notes;
+mod ranges;
 mod registers;
+mod signal;
 
-pub use files::{FileError, Files, MappedFile, FILES_LIMIT, FILE_LIMIT};
+pub use files::{FileError, Files, MappedFile};
 pub use memory::{Block, Memory, Origin};
 pub use modules::{Image, Module};
-pub use notes::{Mapping, Signal};
+pub use notes::{Mapping, ProcessInfo};
 pub use registers::Thread;
+pub use signal::Signal;
 
 use crate::abi::{abi, Abi};
 use crate::target::{AddressSize, Order, Target};
@@ -19,7 +22,9 @@ use object::elf::{self, FileHeader32, FileHeader64, ET_CORE, PF_X, PT_LOAD};
 use object::read::elf::{FileHeader, ProgramHeader};
 use object::read::FileKind;
 use object::Endianness;
+use ranges::Ranges;
 use std::fmt;
+use std::ops::Range;
 
 /// A core file.
 #[derive(Clone, Debug)]
@@ -31,7 +36,11 @@ pub struct CoreFile<'data> {
     mappings: Vec<Mapping<'data>>,
     vdso: Option<u64>,
     entry: Option<u64>,
+    name: Option<u64>,
+    process: Option<ProcessInfo>,
+    pac_mask: Option<u64>,
     segments: Vec<CoreSegment<'data>>,
+    code: Code,
 }
 
 /// A segment of a core file (`PT_LOAD`): a part of the process's memory, with those of its bytes
@@ -99,8 +108,9 @@ impl<'data> CoreFile<'data> {
                 }
             }
         }
-        let Notes { threads, signal, mappings, vdso, entry, .. } = notes;
-        Ok(CoreFile { target, abi, threads, signal, mappings, vdso, entry, segments })
+        let Notes { threads, signal, mappings, vdso, entry, name, process, pac_mask, .. } = notes;
+        let code = Code::of(&segments, &mappings);
+        Ok(CoreFile { target, abi, threads, signal, mappings, vdso, entry, name, process, pac_mask, segments, code })
     }
 
     /// The byte order and the address size.
@@ -119,14 +129,36 @@ impl<'data> CoreFile<'data> {
         &self.threads
     }
 
-    /// The signal that ended the process, if the core has a note on it.
+    /// The signal that ended the process, if the core says so. If no note has its cause, it is the
+    /// signal that the first thread received.
     pub fn signal(&self) -> Option<Signal> {
-        self.signal
+        let number = self.threads.first().map_or(0, |thread| thread.signal);
+        let received = Signal { number: number.into(), code: None, address: 0 };
+        self.signal.or_else(|| Some(received).filter(|received| received.number != 0))
+    }
+
+    /// The process, if the core has a note on it.
+    pub fn process(&self) -> Option<&ProcessInfo> {
+        self.process.as_ref()
+    }
+
+    /// The path of the program as it was started, if the core has it. It may be relative.
+    pub fn program_name(&self) -> Option<&'data [u8]> {
+        let bytes = self.bytes_from(self.name?)?;
+        bytes.split(|byte| *byte == 0).next().filter(|name| !name.is_empty() && name.len() < bytes.len())
     }
 
     /// The parts of files that the process had mapped, in the order of the core.
     pub fn mappings(&self) -> &[Mapping<'data>] {
         &self.mappings
+    }
+
+    /// A signed return address without its authentication code (aarch64). The core's note says which
+    /// bits hold the code. Without the note, they are the bits above those that addresses have.
+    pub fn without_code(&self, address: u64) -> u64 {
+        let is_wide = self.segments.iter().any(|segment| segment.address >> 48 != 0);
+        let unused = if is_wide { u64::MAX << 52 } else { u64::MAX << 48 };
+        address & !self.pac_mask.unwrap_or(unused)
     }
 
     /// Whether the core file is cut off: its headers list memory that would be past the end of the
@@ -135,12 +167,26 @@ impl<'data> CoreFile<'data> {
         self.segments.iter().any(|segment| segment.is_cut)
     }
 
-    /// Whether the process could execute code at an address. True if no segment of the core has the
-    /// address.
-    fn may_execute(&self, address: u64) -> bool {
-        let holds =
-            |segment: &&CoreSegment<'_>| address.checked_sub(segment.address).map_or(false, |past| past < segment.size);
-        self.segments.iter().find(holds).map_or(true, |segment| segment.is_executable)
+    /// Whether the process could execute code at an address. Debuggers leave mapped files out of the
+    /// memory that a core lists; the addresses of such files count as executable here.
+    ///
+    /// True for every address if the core doesn't say of any of its memory that it is executable.
+    pub fn is_executable(&self, address: u64) -> bool {
+        let Code { executable, listed, mapped } = &self.code;
+        executable.is_empty() || executable.contains(address) || !listed.contains(address) && mapped.contains(address)
+    }
+
+    /// The parts of an address range that the process could execute, ascending. Parts that the core
+    /// doesn't list count as executable.
+    fn executable_in(&self, range: &Range<u64>) -> Vec<Range<u64>> {
+        let Code { executable, listed, .. } = &self.code;
+        if executable.is_empty() {
+            return vec![range.clone()];
+        }
+        let mut parts = listed.outside(range);
+        parts.extend(executable.within(range));
+        parts.sort_unstable_by_key(|part| part.start);
+        parts
     }
 
     /// The bytes that the core has from an address to the end of a segment. `None` if the core
@@ -169,6 +215,29 @@ impl<'data> CoreSegment<'data> {
             size: header.p_memsz(endian).into(),
             is_executable: header.p_flags(endian) & PF_X != 0,
             is_cut: (held.len() as u64) < size,
+        }
+    }
+}
+
+/// What a core says about which memory is executable.
+#[derive(Clone, Debug)]
+struct Code {
+    /// The executable segments.
+    executable: Ranges,
+    /// All segments.
+    listed: Ranges,
+    /// The mapped files.
+    mapped: Ranges,
+}
+
+impl Code {
+    fn of(segments: &[CoreSegment<'_>], mappings: &[Mapping<'_>]) -> Self {
+        let range = |segment: &CoreSegment<'_>| segment.address..segment.address.saturating_add(segment.size);
+        let executable = segments.iter().filter(|segment| segment.is_executable);
+        Code {
+            executable: Ranges::of(executable.map(range)),
+            listed: Ranges::of(segments.iter().map(range)),
+            mapped: Ranges::of(mappings.iter().map(|mapping| mapping.begin..mapping.end)),
         }
     }
 }

@@ -5,7 +5,7 @@
 //! that `dwcheck`'s answers can be shown.
 
 use crate::bytes::Cursor;
-use crate::cfi::{name_of, operands, skip, NEGATE_RA_STATE};
+use crate::cfi::{name_of, operands, skip, Signing, NEGATE_RA_STATE};
 use crate::target::Target;
 use object::elf::EM_AARCH64;
 use std::ops::Range;
@@ -81,6 +81,14 @@ pub fn records(section: &[u8], target: Target) -> Vec<Record> {
         }
     }
     all
+}
+
+/// The record at an offset. `None` if its length can't be read, or if its end is past the end of the
+/// section.
+pub(crate) fn record_at(section: &[u8], offset: usize, target: Target) -> Option<Record> {
+    let mut cursor = Cursor::new(section, target);
+    cursor.take(offset as u64).ok()?;
+    record(&mut cursor)
 }
 
 fn record(cursor: &mut Cursor<'_>) -> Option<Record> {
@@ -185,4 +193,34 @@ pub(crate) fn negations(section: &[u8], target: Target, machine: u16) -> Vec<u64
     let programs = records(section, target).into_iter().filter_map(|record| record.program);
     let all = programs.flat_map(|program| instructions(section, program, target));
     all.filter(|one| one.code == NEGATE_RA_STATE).map(|one| one.offset as u64).collect()
+}
+
+/// The ranges of addresses at which the return address is signed, for an FDE of aarch64.
+pub(crate) fn signed(section: &[u8], cie: &Record, fde: &Record, target: Target) -> Vec<Range<u64>> {
+    let (begin, size) = match fde.kind {
+        Kind::Fde { range: Some(range), .. } => range,
+        _ => return Vec::new(),
+    };
+    let follow = |mut signing: Signing, record: &Record| {
+        let program = record.program.clone().unwrap_or(0..0);
+        for one in instructions(section, program, target) {
+            signing.step(one.code, section.get(one.offset + 1..).unwrap_or(&[]), target);
+        }
+        signing
+    };
+    let factor = code_factor(section, cie, target).unwrap_or(0);
+    let is_signed = follow(Signing::new(0, factor, false), cie).is_signed();
+    follow(Signing::new(begin, factor, is_signed), fde).ranges(begin.saturating_add(size)).collect()
+}
+
+/// The code alignment factor of a CIE.
+fn code_factor(section: &[u8], cie: &Record, target: Target) -> Option<u64> {
+    let mut cursor = Cursor::new(section, target);
+    cursor.take(cie.body as u64 + u64::from(cie.offset_size())).ok()?;
+    let version = cursor.byte().ok()?;
+    while cursor.byte().ok()? != 0 {}
+    if version == 4 {
+        cursor.take(2).ok()?;
+    }
+    cursor.uleb().ok()
 }

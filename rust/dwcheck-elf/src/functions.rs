@@ -64,11 +64,18 @@ impl<'data> Functions<'data> {
     /// Reads the functions in `.symtab` and `.dynsym`. Leaves out symbols whose names aren't UTF-8.
     pub(crate) fn read(file: &object::File<'data>, layout: &Layout, machine: u16, target: Target) -> Self {
         let code = code_sections(file, layout);
-        let mut functions: Vec<_> = file
-            .symbols()
-            .chain(file.dynamic_symbols())
-            .filter_map(|symbol| function(&symbol, layout, &code, machine, target))
-            .collect();
+        let symbols = file.symbols().chain(file.dynamic_symbols());
+        Functions::of(symbols.filter_map(|symbol| function(&symbol, layout, &code, machine, target)).collect())
+    }
+
+    /// These functions, and those of another file that has the same code, such as a file of debug
+    /// information.
+    pub(crate) fn with(mut self, other: Functions<'data>) -> Self {
+        self.functions.extend(other.functions);
+        Functions::of(self.functions)
+    }
+
+    fn of(mut functions: Vec<Function<'data>>) -> Self {
         functions.sort_by_key(|function| (function.begin, function.rank, function.size, function.name));
         functions.dedup();
         let ends = functions.iter().scan(0, |highest: &mut u64, function| {

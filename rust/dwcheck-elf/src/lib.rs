@@ -11,7 +11,7 @@
 //!
 //! No function here trusts its input: a malformed file gives an error.
 
-#![forbid(unsafe_code)]
+#![deny(unsafe_code)]
 #![warn(missing_docs)]
 
 pub mod abi;
@@ -21,6 +21,7 @@ mod bytes;
 mod cfi;
 pub mod core_file;
 mod covered;
+mod debug_files;
 pub mod debug_frame;
 pub mod expression;
 pub mod fault;
@@ -30,6 +31,7 @@ pub mod inspect;
 mod layout;
 pub mod lint;
 pub mod loclists;
+pub mod mapped;
 pub mod modules;
 pub mod names;
 pub mod program;

@@ -50,6 +50,11 @@ fn shown(demangled: &str) -> impl Iterator<Item = char> + '_ {
     demangled.chars().filter(|c| !c.is_control())
 }
 
+/// A function's name as it is shown: demangled, without control characters.
+pub(crate) fn shown_name(symbol: &str) -> String {
+    shown(&demangled(symbol)).collect()
+}
+
 /// Whether the function that has the name `symbol` in the file is shown as `name`.
 pub(crate) fn is_shown_as(symbol: &str, name: &str) -> bool {
     shown(&demangled(symbol)).eq(name.chars())

@@ -167,6 +167,27 @@ impl<'data> Program<'data> {
         Functions::read(&self.file, &self.layout, self.machine, self.target)
     }
 
+    /// The file's build id, which its file of debug information has too.
+    pub(crate) fn build_id(&self) -> Option<&'data [u8]> {
+        self.file.build_id().ok().flatten()
+    }
+
+    /// The name and the checksum (CRC-32) of the file of debug information that `.gnu_debuglink`
+    /// names.
+    pub(crate) fn debug_link(&self) -> Option<(&'data [u8], u32)> {
+        self.file.gnu_debuglink().ok().flatten()
+    }
+
+    /// The name and the build id of the file that `.gnu_debugaltlink` names.
+    pub(crate) fn debug_alt_link(&self) -> Option<(&'data [u8], &'data [u8])> {
+        self.file.gnu_debugaltlink().ok().flatten()
+    }
+
+    /// The bytes of a section of debug information, decompressed.
+    pub(crate) fn debug_section(&self, name: &'static str) -> Result<Option<Cow<'data, [u8]>>, ProgramError> {
+        Ok(self.section(name)?.map(|section| section.bytes))
+    }
+
     /// Whether the file has a section with this name.
     pub fn has_section(&self, name: &str) -> bool {
         self.file.section_by_name(name).is_some()

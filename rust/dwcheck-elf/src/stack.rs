@@ -1,71 +1,128 @@
 //! Unwinds the stacks of the threads of a core file.
+//!
+//! A row is used for an address only if the address is in an executable mapping of the very file
+//! and offset that the row describes. Each FDE is checked when a frame needs it, so that what is
+//! refused costs that FDE alone. A frame that no row is found for may have a caller that is found by
+//! another rule; such a caller is a guess, and marked with the rule ([`FoundBy`]).
 
-use crate::alone::{accepted_part, AcceptedPart};
-use crate::bridge::{Options, RecordKind};
-use crate::core_file::{CoreFile, Files, Memory, Module, Thread};
-use crate::frames::Frames;
-use crate::functions::Functions;
-use crate::modules::Modules;
-use crate::names::Spot;
-use crate::program::Program;
-use crate::text::Address;
-use dwcheck::{Abi, Answer, Block, Registers, State, Stop};
-use std::borrow::Cow;
+mod guess;
+mod json;
+mod names;
+mod pieces;
+mod section;
+mod tables;
+mod text;
+mod walker;
+
+pub(crate) use crate::alone::accepted;
+pub use names::{Inlined, NameOptions, Place, SourceLine};
+pub use text::Lines;
+
+use crate::core_file::{CoreFile, Files, Memory, Thread};
+use dwcheck::{Block, Registers};
+use names::Names;
+use std::cell::RefCell;
+use std::collections::{HashMap, HashSet};
 use std::fmt;
-use std::ops::Range;
 use std::path::{Path, PathBuf};
+use tables::Tables;
+use walker::Walker;
 
 /// A sensible limit for [`Stacks::walk`]. A stack with more frames is most likely corrupt, or in a
 /// loop.
 pub const MOST_FRAMES: usize = 10_000;
 
-/// A module of a process that died, with the names of its functions.
-#[derive(Debug)]
-struct Loaded<'a> {
-    module: Module<'a>,
-    functions: Functions<'a>,
-}
-
 /// A process that died: its memory and its modules.
 ///
 /// ```no_run
 /// use dwcheck_elf::core_file::{CoreFile, Files};
-/// use dwcheck_elf::stack::{Stacks, MOST_FRAMES};
+/// use dwcheck_elf::stack::Stacks;
 ///
 /// let bytes = std::fs::read("core")?;
 /// let core = CoreFile::read(&bytes)?;
 /// let files = Files::read(&core, "/".as_ref());
 /// let stacks = Stacks::of(&core, &files);
 /// for thread in core.threads() {
-///     print!("{}", stacks.walk(thread, MOST_FRAMES)?);
+///     print!("{}", stacks.walk(thread, Default::default())?);
 /// }
 /// # Ok::<(), Box<dyn std::error::Error>>(())
 /// ```
 pub struct Stacks<'a> {
     core: &'a CoreFile<'a>,
     memory: Memory<'a>,
-    modules: Modules,
-    loaded: Vec<Loaded<'a>>,
-    /// The address ranges in the process of the FDEs of signal frames.
-    signals: Vec<Range<u64>>,
-    missing: Vec<(PathBuf, String)>,
+    /// The files that can't be read.
+    unread: Vec<(PathBuf, String)>,
+    files: &'a Files,
+    tables: RefCell<Tables<'a>>,
+    name_options: NameOptions,
+    /// The names of each module that a stack passes, by its index.
+    names: RefCell<HashMap<usize, Names<'a>>>,
+}
+
+/// How to walk.
+#[derive(Clone, Copy, Debug, PartialEq, Eq)]
+pub struct WalkOptions {
+    /// The most frames of a thread.
+    pub limit: usize,
+    /// Whether to leave out frames that are guesses: those that are found by another rule than a row.
+    pub is_strict: bool,
+    /// Whether to store the registers of each frame.
+    pub keeps_registers: bool,
+}
+
+/// How a frame was found.
+#[derive(Clone, Copy, Debug, PartialEq, Eq)]
+pub enum FoundBy {
+    /// It is the frame that the thread was in.
+    Thread,
+    /// By a row of an unwind table.
+    Row,
+    /// A guess: the frame that it called isn't at an executable address, so a call led there. On
+    /// x86, the return address is at the stack pointer, and on aarch64 it is in x30.
+    Call,
+    /// A guess: no row covers the frame that it called, whose frame pointer leads to the caller.
+    FramePointer,
 }
 
 /// A frame of a stack.
-#[derive(Clone, Copy, Debug, PartialEq, Eq)]
+#[derive(Clone, Debug, PartialEq, Eq)]
 pub struct Frame {
     /// Where the frame continues: the instruction pointer of a thread, or a return address.
     pub address: u64,
     /// Whether `address` follows a call. It doesn't in the first frame, nor in a frame that a
     /// signal interrupted.
     pub is_after_call: bool,
+    /// How the frame was found.
+    pub found_by: FoundBy,
+    /// Whether it is the frame in which the kernel called a signal handler.
+    pub is_signal_frame: bool,
+    /// The canonical frame address (CFA): the stack pointer before the call of this frame. `None` if
+    /// it isn't known.
+    pub cfa: Option<u64>,
+    /// The frame's registers, as far as they are known, by their DWARF numbers, ascending. Empty
+    /// unless [`WalkOptions::keeps_registers`] is set.
+    pub registers: Vec<(u16, u64)>,
 }
 
-impl Frame {
-    /// The address at which the frame's row is looked up.
-    fn looked_up(&self) -> u64 {
-        self.address.wrapping_sub(u64::from(self.is_after_call))
-    }
+/// Why a stack has no more frames.
+#[derive(Clone, Copy, Debug, PartialEq, Eq, Hash)]
+pub enum Stop {
+    /// It has as many frames as the limit allows.
+    Limit,
+    /// No row covers the last frame, and no other rule finds its caller.
+    NotCovered,
+    /// The return address of the last frame is undefined: that is how tables mark the end.
+    ReturnUndefined,
+    /// The return address isn't known, because memory or a register isn't.
+    ReturnUnreadable,
+    /// The expression of the return address divides by zero.
+    ReturnDivisionByZero,
+    /// The return address is this one, where no code is.
+    NotExecutable(u64),
+    /// The CFA of the last frame isn't above that of the frame that it called.
+    CfaNotGrowing,
+    /// The caller of the last frame is one of the frames before, with the same CFA.
+    Loop,
 }
 
 /// The frames of a thread. Its text has a line for the thread, a line for each frame, and a line
@@ -81,171 +138,6 @@ pub struct Stack<'s, 'a> {
     pub stop: Stop,
 }
 
-impl<'a> Stacks<'a> {
-    /// Reads the modules of a core file. CIEs and FDEs that `dwcheck` refuses are left out, and so
-    /// are files that can't be read. [`missing`](Self::missing) lists the files with something left
-    /// out, and the reasons.
-    pub fn of(core: &'a CoreFile<'a>, files: &'a Files) -> Self {
-        let memory = core.memory(files);
-        let mut stacks = Stacks {
-            core,
-            memory,
-            modules: Modules::new(core.target()),
-            loaded: Vec::new(),
-            signals: Vec::new(),
-            missing: Vec::new(),
-        };
-        core.modules(files).into_iter().for_each(|module| stacks.add(module));
-        let unread = files.all().iter();
-        let unread = unread.filter_map(|file| Some((file.path.clone(), file.bytes.as_ref().err()?.to_string())));
-        stacks.missing.extend(unread);
-        stacks
-    }
-
-    /// Adds the program of a core that doesn't list its mapped files, such as qemu's. Does nothing
-    /// for any other core, whose modules are known: for these, see
-    /// [`Files::use_program`](crate::core_file::Files::use_program).
-    pub fn add_program(&mut self, path: &Path, bytes: &'a [u8]) {
-        if self.core.mappings().is_empty() {
-            if let Some(module) = self.core.program_module(path, bytes) {
-                self.add(module);
-            }
-        }
-    }
-
-    /// Adds the sections of a module, and the names of its functions.
-    fn add(&mut self, module: Module<'a>) {
-        let program = match Program::read(module.image.bytes()) {
-            Ok(program) => program,
-            Err(error) => return self.missing.push((module.path, error.to_string())),
-        };
-        let (all, mut problems) = readable(&program);
-        let mut sections = Vec::new();
-        for frames in &all {
-            self.signals.extend(signal_frames(frames, module.bias));
-            match accepted(frames) {
-                Ok((section, problem)) => {
-                    sections.push(section);
-                    problems.extend(problem);
-                }
-                Err(problem) => problems.push(problem),
-            }
-        }
-        match self.modules.add(&module.path, &program, &sections, module.bias) {
-            Ok(lost) => problems.extend(lost.map(|lost| lost.to_string())),
-            Err(error) => problems.push(error.to_string()),
-        }
-        self.missing.extend(problems.into_iter().map(|problem| (module.path.clone(), problem)));
-        self.loaded.push(Loaded { functions: program.functions(), module });
-    }
-
-    /// The files whose unwind tables aren't used or are used only in part, each with the reason.
-    pub fn missing(&self) -> &[(PathBuf, String)] {
-        &self.missing
-    }
-
-    /// Whether a file is a module of the process.
-    pub fn has(&self, path: &Path) -> bool {
-        self.loaded.iter().any(|loaded| loaded.module.path == path)
-    }
-
-    /// The frames of a thread, at most `limit` of them.
-    ///
-    /// The row for a frame is looked up at the byte before the frame's address, where the call is.
-    /// For the first frame and for the caller of a signal frame, it is looked up at the address
-    /// itself, because that address doesn't follow a call.
-    ///
-    /// # Errors
-    ///
-    /// If the thread has no instruction pointer, or `dwcheck` gives an error.
-    pub fn walk<'s>(&'s self, thread: &Thread, limit: usize) -> Result<Stack<'s, 'a>, StackError> {
-        let abi = self.core.abi();
-        let blocks: Vec<_> = self.memory.blocks().map(|block| Block::new(block.address, block.bytes)).collect();
-        let mut registers: Registers = thread.registers.iter().copied().collect();
-        let address = thread.register(abi.program_counter).ok_or(StackError::NoInstructionPointer)?;
-        let mut next = Frame { address, is_after_call: false };
-        let mut frames = Vec::new();
-        let stop = loop {
-            if frames.len() == limit {
-                break Stop::Limit;
-            }
-            frames.push(next);
-            let abi = Abi::new(abi.kept, Some(abi.stack_pointer));
-            let state = State { registers: &registers, memory: &blocks, abi };
-            let caller = match self.modules.process().unwind(next.looked_up(), &state).map_err(StackError::Dwcheck)? {
-                Some(caller) => caller,
-                None => break Stop::NotCovered,
-            };
-            match caller.return_address {
-                Answer::Value(address) => {
-                    let is_after_call = !self.signals.iter().any(|range| range.contains(&next.looked_up()));
-                    next = Frame { address, is_after_call };
-                }
-                Answer::Undefined => break Stop::ReturnUndefined,
-                Answer::DivisionByZero => break Stop::ReturnDivisionByZero,
-                _ => break Stop::ReturnUnreadable,
-            }
-            registers = caller.known();
-        };
-        Ok(Stack { stacks: self, thread: u64::from(thread.id), frames, stop })
-    }
-
-    /// Writes a frame's address, with the function and the file that contain it. If the address
-    /// follows a call, these are the function and the file that contain the call.
-    fn write_place(&self, f: &mut fmt::Formatter<'_>, frame: &Frame) -> fmt::Result {
-        let Frame { address, is_after_call } = *frame;
-        let inside = frame.looked_up();
-        write!(f, "{}", Address(self.core.target(), address))?;
-        let holds = |loaded: &&Loaded<'_>| (loaded.module.begin..loaded.module.end).contains(&inside);
-        let loaded = match self.loaded.iter().find(holds) {
-            Some(loaded) => loaded,
-            None => return Ok(()),
-        };
-        let linked = self.core.target().wrap(address.wrapping_sub(loaded.module.bias));
-        let find = if is_after_call { Spot::after_call } else { Spot::at };
-        if let Some(spot) = find(&loaded.functions, linked) {
-            write!(f, " {}", spot)?;
-        }
-        write!(f, " ({})", loaded.module.path.display())
-    }
-}
-
-/// The frame sections of a program, and why the others can't be rewritten for `dwcheck`.
-fn readable<'data>(program: &Program<'data>) -> (Vec<Frames<'data>>, Vec<String>) {
-    let mut problems = Vec::new();
-    let all = Frames::all(program, Options::default());
-    let sections = all.filter_map(|frames| frames.map_err(|error| problems.push(error.to_string())).ok()).collect();
-    (sections, problems)
-}
-
-/// The bytes of a section for `dwcheck`, without the CIEs and FDEs that it refuses. If there are such,
-/// the second part of the result says how many.
-pub(crate) fn accepted<'f>(frames: &'f Frames<'_>) -> Result<(Cow<'f, [u8]>, Option<String>), String> {
-    let check = |bytes: &[u8]| dwcheck::check(bytes, &[], frames.target().into());
-    let fault = match check(frames.bytes()) {
-        Ok(()) => return Ok((frames.bytes().into(), None)),
-        Err(dwcheck::Error::Refused(fault)) => fault,
-        Err(error) => return Err(format!("{}: {}", frames.name(), error)),
-    };
-    let AcceptedPart { bytes, left_out } = accepted_part(frames, fault);
-    match check(&bytes) {
-        Ok(()) => {
-            let problem = format!("{}: {}: {} of its records aren't used", frames.name(), fault.kind, left_out);
-            Ok((bytes.into(), Some(problem)))
-        }
-        Err(_) => Err(format!("{}: {}: not used", frames.name(), fault.kind)),
-    }
-}
-
-/// The address ranges in the process of the FDEs of signal frames.
-fn signal_frames<'f>(frames: &'f Frames<'_>, bias: u64) -> impl Iterator<Item = Range<u64>> + 'f {
-    let loaded = move |address: u64| frames.target().wrap(address.wrapping_add(bias));
-    frames.bridged().records().iter().filter_map(move |record| match record.kind {
-        RecordKind::Fde { begin, size, signal: true } => Some(loaded(begin)..loaded(begin).saturating_add(size)),
-        _ => None,
-    })
-}
-
 /// Why a thread has no stack.
 #[derive(Clone, Copy, Debug, PartialEq, Eq)]
 pub enum StackError {
@@ -255,24 +147,152 @@ pub enum StackError {
     Dwcheck(dwcheck::Error),
 }
 
-impl fmt::Display for Stack<'_, '_> {
-    fn fmt(&self, f: &mut fmt::Formatter<'_>) -> fmt::Result {
-        writeln!(f, "thread {}:", self.thread)?;
-        for (number, frame) in self.frames.iter().enumerate() {
-            write!(f, "#{} ", number)?;
-            self.stacks.write_place(f, frame)?;
-            writeln!(f)?;
+impl Default for WalkOptions {
+    fn default() -> Self {
+        WalkOptions { limit: MOST_FRAMES, is_strict: false, keeps_registers: false }
+    }
+}
+
+impl FoundBy {
+    /// Whether the frame is a guess.
+    pub fn is_guess(self) -> bool {
+        matches!(self, FoundBy::Call | FoundBy::FramePointer)
+    }
+}
+
+impl Frame {
+    /// The frame that a thread is in.
+    fn first(address: u64) -> Self {
+        Frame { is_after_call: false, ..Frame::caller(address, FoundBy::Thread) }
+    }
+
+    /// A frame that made a call.
+    fn caller(address: u64, found_by: FoundBy) -> Self {
+        let registers = Vec::new();
+        Frame { address, is_after_call: true, found_by, is_signal_frame: false, cfa: None, registers }
+    }
+
+    /// The address at which the frame's row is looked up.
+    fn looked_up(&self) -> u64 {
+        self.address.wrapping_sub(u64::from(self.is_after_call))
+    }
+}
+
+impl<'a> Stacks<'a> {
+    /// Finds the modules of a core file. Their unwind tables are read when a walk needs them.
+    pub fn of(core: &'a CoreFile<'a>, files: &'a Files) -> Self {
+        let unread = files.all().iter();
+        let unread = unread.filter_map(|file| Some((file.path.clone(), file.bytes.as_ref().err()?.to_string())));
+        Stacks {
+            core,
+            memory: core.memory(files),
+            unread: unread.collect(),
+            files,
+            tables: RefCell::new(Tables::new(core.target(), core.modules(files))),
+            name_options: NameOptions::default(),
+            names: RefCell::default(),
         }
-        writeln!(f, "stop: {}", self.stop)
+    }
+
+    /// Says which names to show.
+    pub fn show_names(&mut self, options: NameOptions) {
+        self.name_options = options;
+        self.names.get_mut().clear();
+    }
+
+    /// Adds the program of a core that doesn't list its mapped files, such as qemu's. Does nothing
+    /// for any other core, whose modules are known: for these, see
+    /// [`Files::use_program`](crate::core_file::Files::use_program).
+    pub fn add_program(&mut self, path: &Path, bytes: &'a [u8]) {
+        if self.core.mappings().is_empty() {
+            if let Some(module) = self.core.program_module(path, bytes) {
+                self.tables.get_mut().add(module);
+            }
+        }
+    }
+
+    /// The files that can't be read; after walks, the parts of their unwind tables that the walks
+    /// needed but that can't be used; and, after frames were named, the files of debug information that
+    /// can't be used; each with the reason.
+    pub fn missing(&self) -> Vec<(PathBuf, String)> {
+        let (tables, names) = (self.tables.borrow(), self.names.borrow());
+        let mut named: Vec<_> = names.values().flat_map(|names| &names.problems).cloned().collect();
+        named.sort();
+        self.unread.iter().chain(tables.problems()).cloned().chain(named).collect()
+    }
+
+    /// Whether a file is a module of the process.
+    pub fn has(&self, path: &Path) -> bool {
+        self.tables.borrow().modules().iter().any(|module| module.path == path)
+    }
+
+    /// The frames of a thread.
+    ///
+    /// The row for a frame is looked up at the byte before the frame's address, where the call is.
+    /// For the first frame and for the caller of a signal frame, it is looked up at the address
+    /// itself, because that address doesn't follow a call.
+    ///
+    /// # Errors
+    ///
+    /// If the thread has no instruction pointer, or `dwcheck` gives an error.
+    pub fn walk<'s>(&'s self, thread: &Thread, options: WalkOptions) -> Result<Stack<'s, 'a>, StackError> {
+        let abi = self.core.abi();
+        let registers: Registers = thread.registers.iter().copied().collect();
+        let address = thread.register(abi.program_counter).ok_or(StackError::NoInstructionPointer)?;
+        let blocks = self.blocks(thread.register(abi.stack_pointer).unwrap_or(0));
+        let walker = Walker {
+            core: self.core,
+            memory: &self.memory,
+            blocks: &blocks,
+            tables: &mut self.tables.borrow_mut(),
+            options,
+            floor: None,
+            seen: HashSet::new(),
+        };
+        let (frames, stop) = walker.walk(address, registers).map_err(StackError::Dwcheck)?;
+        Ok(Stack { stacks: self, thread: u64::from(thread.id), frames, stop })
+    }
+
+    /// All blocks of memory. The one that has the address `stack` comes first, because the first
+    /// block that has an address is the one that is found fastest.
+    fn blocks(&self, stack: u64) -> Vec<Block<'a>> {
+        let first = self.memory.from(stack).map(|bytes| Block::new(stack, bytes));
+        first.into_iter().chain(self.memory.blocks().map(|block| Block::new(block.address, block.bytes))).collect()
+    }
+
+    /// Where a frame is: its function, file and line. If the frame's address follows a call, these
+    /// are those of the call.
+    pub fn place(&self, frame: &Frame) -> Place {
+        let tables = self.tables.borrow();
+        let looked_up = frame.looked_up();
+        let found = tables.module_at(looked_up);
+        let (place, module) = match found.and_then(|place| Some((place, tables.modules().get(place)?))) {
+            Some(found) => found,
+            None => return Place::default(),
+        };
+        let mut names = self.names.borrow_mut();
+        let names = names.entry(place).or_insert_with(|| Names::read(module, self.files, self.name_options));
+        let linked = |address: u64| self.core.target().wrap(address.wrapping_sub(module.bias));
+        let found = names.place(linked(frame.address), linked(looked_up), self.name_options);
+        Place { module: Some(module.path.clone()), ..found }
+    }
+}
+
+impl fmt::Display for FoundBy {
+    fn fmt(&self, f: &mut fmt::Formatter<'_>) -> fmt::Result {
+        f.pad(match self {
+            FoundBy::Thread => "thread",
+            FoundBy::Row => "row",
+            FoundBy::Call => "call",
+            FoundBy::FramePointer => "frame pointer",
+        })
     }
 }
 
 impl fmt::Debug for Stacks<'_> {
     fn fmt(&self, f: &mut fmt::Formatter<'_>) -> fmt::Result {
-        f.debug_struct("Stacks")
-            .field("loaded", &self.loaded.len())
-            .field("missing", &self.missing)
-            .finish_non_exhaustive()
+        let modules = self.tables.borrow().modules().len();
+        f.debug_struct("Stacks").field("modules", &modules).field("unread", &self.unread).finish_non_exhaustive()
     }
 }
 
@@ -285,4 +305,11 @@ impl fmt::Display for StackError {
     }
 }
 
-impl std::error::Error for StackError {}
+impl std::error::Error for StackError {
+    fn source(&self) -> Option<&(dyn std::error::Error + 'static)> {
+        match self {
+            StackError::NoInstructionPointer => None,
+            StackError::Dwcheck(error) => Some(error),
+        }
+    }
+}

@@ -21,6 +21,11 @@ use std::fmt;
 #[derive(Clone, Copy, Debug)]
 pub struct Address(pub Target, pub u64);
 
+/// A text of the input, such as the name of a file. Control characters, which could change what a
+/// terminal shows, are written as escapes.
+#[derive(Clone, Copy, Debug)]
+pub struct Plain<'a>(pub &'a str);
+
 /// An offset in a section, such as `0x00000018`.
 #[derive(Clone, Copy, Debug)]
 pub struct Offset(pub u64);
@@ -51,6 +56,15 @@ impl fmt::Display for Address {
             AddressSize::Four => write!(f, "{:#010x}", self.1),
             AddressSize::Eight => write!(f, "{:#018x}", self.1),
         }
+    }
+}
+
+impl fmt::Display for Plain<'_> {
+    fn fmt(&self, f: &mut fmt::Formatter<'_>) -> fmt::Result {
+        use fmt::Write;
+        self.0
+            .chars()
+            .try_for_each(|c| if c.is_control() { write!(f, "{}", c.escape_default()) } else { f.write_char(c) })
     }
 }
 

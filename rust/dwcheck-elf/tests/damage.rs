@@ -8,6 +8,7 @@ use dwcheck_elf::bridge::{bridge, Edge, EhFrame, Options};
 use dwcheck_elf::core_file::{CoreFile, Files};
 use dwcheck_elf::inspect::{inspect, Check, Inspected, Verdict};
 use dwcheck_elf::program::Program;
+use dwcheck_elf::stack::{Stacks, WalkOptions};
 use dwcheck_elf::validate::{validate, What};
 use std::path::Path;
 
@@ -111,6 +112,11 @@ fn core(bytes: &[u8]) -> bool {
         memory.read(pointer, &mut [0; 300]);
     }
     assert!(core.modules(&files).iter().all(|module| module.begin <= module.end));
+    let stacks = Stacks::of(&core, &files);
+    for thread in core.threads() {
+        let stack = stacks.walk(thread, WalkOptions { limit: 50, ..WalkOptions::default() }).unwrap();
+        assert!(stack.frames.len() <= 50 && stack.to_string().ends_with('\n') && stack.json().is_object());
+    }
     true
 }
 

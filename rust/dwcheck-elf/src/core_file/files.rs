@@ -1,20 +1,14 @@
-//! Reads the files that a process had mapped into memory when it died.
+//! Opens the files that a process had mapped into memory when it died.
 
 use super::{CoreFile, Mapping};
-use std::collections::HashMap;
+use crate::debug_files::DebugFiles;
+use crate::mapped::Bytes;
+use std::collections::{HashMap, HashSet};
 use std::ffi::OsStr;
 use std::fmt;
 use std::fs::File;
-use std::io::Read;
 use std::os::unix::ffi::OsStrExt;
 use std::path::{Component, Path, PathBuf};
-
-/// The most bytes that a mapped file may have. A larger file isn't read.
-pub const FILE_LIMIT: u64 = 1 << 30;
-
-/// The most bytes that all mapped files together may have. A file that would exceed this isn't
-/// read.
-pub const FILES_LIMIT: u64 = 4 << 30;
 
 /// How many of a file's first bytes are compared with the core's memory.
 const COMPARED: usize = 4096;
@@ -26,7 +20,7 @@ pub struct MappedFile {
     pub path: PathBuf,
     /// The bytes that the file has now, or why they can't be used. If
     /// [`use_program`](Files::use_program) has replaced them, the bytes of the program.
-    pub bytes: Result<Vec<u8>, FileError>,
+    pub bytes: Result<Bytes, FileError>,
 }
 
 /// Why a mapped file can't be used.
@@ -38,53 +32,59 @@ pub enum FileError {
     Read(std::io::Error),
     /// The file isn't a regular file, or its size is 0, like that of files in `/proc`.
     NotRegular,
-    /// The file has this many bytes: more than [`FILE_LIMIT`], or too many to stay within
-    /// [`FILES_LIMIT`].
-    TooLarge(u64),
     /// The file isn't the one that was mapped: its first bytes differ from those in the core.
     Changed,
 }
 
-/// The files that a process had mapped, each once.
+/// The files whose code a process had mapped, each once. Other mapped files, such as those with data
+/// alone, aren't opened.
 #[derive(Debug, Default)]
 pub struct Files {
     files: Vec<MappedFile>,
     /// The index of each file in `files`, by its name.
     places: HashMap<Vec<u8>, usize>,
+    debug_files: DebugFiles,
 }
 
 impl Files {
-    /// Reads the files that a core names. Their paths are looked up in the folder `root`, which is
-    /// `/` for this machine's own files.
+    /// Opens the files that a core names and of which the process could execute a part. Their paths
+    /// are looked up in the folder `root`, which is `/` for this machine's own files.
     pub fn read(core: &CoreFile<'_>, root: &Path) -> Self {
-        let mut places = HashMap::new();
-        let mut left = FILES_LIMIT;
-        let mut files = Vec::new();
-        for mapping in core.mappings() {
-            if places.contains_key(mapping.path) {
+        Files::open(core, root, |mapping| {
+            let path = Path::new(OsStr::from_bytes(mapping.path));
+            below(root, path).and_then(|path| content(&path))
+        })
+    }
+
+    fn open(core: &CoreFile<'_>, root: &Path, open: impl Fn(&Mapping<'_>) -> Result<Bytes, FileError>) -> Self {
+        let has_code = |mapping: &&Mapping<'_>| !core.executable_in(&(mapping.begin..mapping.end)).is_empty();
+        let mut starts = starts(core);
+        let mut files = Files { debug_files: DebugFiles::new(root), ..Files::default() };
+        for mapping in core.mappings().iter().filter(has_code) {
+            if files.places.contains_key(mapping.path) {
                 continue;
             }
-            places.insert(mapping.path.to_vec(), files.len());
+            files.places.insert(mapping.path.to_vec(), files.files.len());
             let path = PathBuf::from(OsStr::from_bytes(mapping.path));
-            let bytes = below(root, &path)
-                .and_then(|path| content(&path, left))
-                .and_then(|bytes| same(core, mapping.path, bytes));
-            left = left.saturating_sub(bytes.as_ref().map_or(0, |bytes| bytes.len() as u64));
-            files.push(MappedFile { path, bytes });
+            let bytes = open(mapping);
+            let starts = starts.remove(mapping.path).unwrap_or_default();
+            let bytes = bytes.and_then(|bytes| same(core, &starts, bytes));
+            files.files.push(MappedFile { path, bytes });
         }
-        Files { files, places }
+        files
     }
 
     /// Uses `bytes` as the content of the program's file, for a program that isn't at its path in
     /// the core anymore. Returns false, and changes nothing, if `bytes` can't be what the process
     /// had mapped there: the segments have to be those that are mapped, and the first bytes have to
     /// be those in the core, if the core has them.
-    pub fn use_program(&mut self, core: &CoreFile<'_>, bytes: &[u8]) -> bool {
-        let is_mapped = |path: &&[u8]| core.maps_segments(path, bytes) && is_same(core, path, bytes);
+    pub fn use_program(&mut self, core: &CoreFile<'_>, bytes: &Bytes) -> bool {
+        let starts = |path: &[u8]| starts(core).remove(path).unwrap_or_default();
+        let is_mapped = |path: &&[u8]| core.maps_segments(path, bytes) && is_same(core, &starts(path), bytes);
         let place = core.program_path().filter(is_mapped).and_then(|path| self.places.get(path));
         match place.and_then(|place| self.files.get_mut(*place)) {
             Some(file) => {
-                file.bytes = Ok(bytes.to_vec());
+                file.bytes = Ok(bytes.clone());
                 true
             }
             None => false,
@@ -95,6 +95,11 @@ impl Files {
     /// instruction. `None` if the core doesn't have that address or names no file there.
     pub fn program(&self, core: &CoreFile<'_>) -> Option<&MappedFile> {
         self.places.get(core.program_path()?).and_then(|place| self.files.get(*place))
+    }
+
+    /// The separate files of debug information, which are opened when they are needed.
+    pub(crate) fn debug_files(&self) -> &DebugFiles {
+        &self.debug_files
     }
 
     /// All files, in the order in which the core first names them.
@@ -123,9 +128,8 @@ fn below(root: &Path, path: &Path) -> Result<PathBuf, FileError> {
     }
 }
 
-/// Reads a regular file of at most `left` bytes. Other files, such as devices and pipes, aren't
-/// opened.
-fn content(path: &Path, left: u64) -> Result<Vec<u8>, FileError> {
+/// Opens a regular file. Other files, such as devices and pipes, aren't opened.
+fn content(path: &Path) -> Result<Bytes, FileError> {
     if !path.metadata().map_err(FileError::Read)?.is_file() {
         return Err(FileError::NotRegular);
     }
@@ -134,29 +138,23 @@ fn content(path: &Path, left: u64) -> Result<Vec<u8>, FileError> {
     if size == 0 {
         return Err(FileError::NotRegular);
     }
-    if size > FILE_LIMIT.min(left) {
-        return Err(FileError::TooLarge(size));
-    }
-    let mut bytes = Vec::with_capacity(usize::try_from(size).unwrap_or(0));
-    file.take(size).read_to_end(&mut bytes).map_err(FileError::Read)?;
-    Ok(bytes)
+    Bytes::of_file(&file, size).map_err(FileError::Read)
 }
 
 /// Returns the bytes of a file if the file still seems to be the one that was mapped.
-fn same(core: &CoreFile<'_>, path: &[u8], bytes: Vec<u8>) -> Result<Vec<u8>, FileError> {
-    if is_same(core, path, &bytes) {
+fn same(core: &CoreFile<'_>, starts: &[&Mapping<'_>], bytes: Bytes) -> Result<Bytes, FileError> {
+    if is_same(core, starts, &bytes) {
         Ok(bytes)
     } else {
         Err(FileError::Changed)
     }
 }
 
-/// Whether a file with these bytes still seems to be the one that was mapped. If the core has the
-/// beginning of an ELF file at the address where the file was mapped, the file has to begin with
-/// the same bytes. Other files aren't compared.
-fn is_same(core: &CoreFile<'_>, path: &[u8], bytes: &[u8]) -> bool {
-    let mut starts = core.mappings().iter().filter(|mapping| mapping.path == path && is_start(core, mapping));
-    starts.all(|mapping| {
+/// Whether a file with these bytes still seems to be the one that was mapped. `starts` are the
+/// mappings of its beginning. If the core has the beginning of an ELF file there, the file has to
+/// begin with the same bytes. Other files aren't compared.
+fn is_same(core: &CoreFile<'_>, starts: &[&Mapping<'_>], bytes: &[u8]) -> bool {
+    starts.iter().all(|mapping| {
         let size = usize::try_from(mapping.end.saturating_sub(mapping.begin)).unwrap_or(COMPARED).min(COMPARED);
         let held = core.bytes_from(mapping.begin).unwrap_or(&[]);
         let held = held.get(..size).unwrap_or(held);
@@ -165,12 +163,18 @@ fn is_same(core: &CoreFile<'_>, path: &[u8], bytes: &[u8]) -> bool {
     })
 }
 
-/// Whether a mapping is that of a file's beginning, which nothing is written to. In a small program
-/// the other segments are in the file's first page too. That page is then mapped again for each of
-/// them, right after the mapping before it, and the data in it may have changed.
-fn is_start(core: &CoreFile<'_>, mapping: &Mapping<'_>) -> bool {
-    let precedes = |other: &Mapping<'_>| other.path == mapping.path && other.end == mapping.begin;
-    mapping.offset == 0 && !core.mappings().iter().any(precedes)
+/// The mappings of the beginning of each file, by its name, to which nothing is written. In a small
+/// program the other segments are in the file's first page too. That page is then mapped again for
+/// each of them, right after the mapping before it, and the data in it may have changed.
+fn starts<'c>(core: &'c CoreFile<'_>) -> HashMap<&'c [u8], Vec<&'c Mapping<'c>>> {
+    let ends: HashSet<(&[u8], u64)> = core.mappings().iter().map(|mapping| (mapping.path, mapping.end)).collect();
+    let mut starts: HashMap<&[u8], Vec<&Mapping<'_>>> = HashMap::new();
+    for mapping in core.mappings().iter().filter(|mapping| mapping.offset == 0) {
+        if !ends.contains(&(mapping.path, mapping.begin)) {
+            starts.entry(mapping.path).or_default().push(mapping);
+        }
+    }
+    starts
 }
 
 impl fmt::Display for FileError {
@@ -179,7 +183,6 @@ impl fmt::Display for FileError {
             FileError::Name => f.write_str("isn't the absolute path of a file"),
             FileError::Read(error) => write!(f, "can't be read: {}", error),
             FileError::NotRegular => f.write_str("isn't a regular file with bytes"),
-            FileError::TooLarge(size) => write!(f, "is too large with {} bytes", size),
             FileError::Changed => f.write_str("isn't the file that was mapped"),
         }
     }

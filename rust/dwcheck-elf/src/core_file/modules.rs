@@ -4,6 +4,7 @@ use super::{CoreFile, Files, Mapping};
 use crate::program::{Program, Segment};
 use std::collections::HashMap;
 use std::ffi::OsStr;
+use std::ops::Range;
 use std::os::unix::ffi::OsStrExt;
 use std::path::{Path, PathBuf};
 
@@ -31,6 +32,9 @@ pub struct Module<'a> {
     pub begin: u64,
     /// The address after its last mapping.
     pub end: u64,
+    /// The addresses in the process of the parts of its code that are mapped and can be executed,
+    /// ascending. The file's unwind tables say nothing about any other address.
+    pub code: Vec<Range<u64>>,
     /// The module's ELF file.
     pub image: Image<'a>,
 }
@@ -45,11 +49,10 @@ impl<'a> Image<'a> {
 }
 
 /// An ELF file that is mapped with some bias, as far as the mappings that were looked at so far
-/// show. It is a module if `has_code` is true, which means that one of its executable segments is
-/// mapped. `place` is the file's index in [`Files::all`].
+/// show. It is a module if some of its code is mapped. `place` is the file's index in
+/// [`Files::all`].
 struct Candidate<'a> {
     place: usize,
-    has_code: bool,
     module: Module<'a>,
 }
 
@@ -70,8 +73,10 @@ impl CoreFile<'_> {
     pub fn modules<'a>(&'a self, files: &'a Files) -> Vec<Module<'a>> {
         let mut finder = Finder { core: self, files, segments: HashMap::new(), found: Vec::new() };
         self.mappings().iter().for_each(|mapping| finder.add(mapping));
-        let loaded = finder.found.into_iter().filter(|candidate| candidate.has_code);
-        loaded.map(|candidate| candidate.module).chain(self.vdso_module()).collect()
+        let loaded = finder.found.into_iter().map(|candidate| candidate.module).chain(self.vdso_module());
+        let mut modules: Vec<_> = loaded.filter(|module| !module.code.is_empty()).collect();
+        modules.iter_mut().for_each(|module| module.code.sort_unstable_by_key(|range| range.start));
+        modules
     }
 
     /// Makes a module of the program, for a core that doesn't list its mapped files, such as
@@ -84,7 +89,18 @@ impl CoreFile<'_> {
         let segments = program.segments();
         let begin = segments.iter().map(|segment| segment.address).min()?.wrapping_add(bias);
         let end = segments.iter().map(|segment| segment.address.saturating_add(segment.size)).max()?.wrapping_add(bias);
-        Some(Module { path: path.to_path_buf(), bias, begin, end, image: Image::Program(bytes) })
+        let code = self.code_of(&segments, bias);
+        Some(Module { path: path.to_path_buf(), bias, begin, end, code, image: Image::Program(bytes) })
+    }
+
+    /// The addresses in the process of the executable segments of a file that is loaded as a whole.
+    fn code_of(&self, segments: &[Segment], bias: u64) -> Vec<Range<u64>> {
+        let code = segments.iter().filter(|segment| segment.is_executable);
+        let loaded = code.map(|segment| {
+            let begin = self.target().wrap(segment.address.wrapping_add(bias));
+            begin..begin.saturating_add(segment.size)
+        });
+        loaded.flat_map(|range| self.executable_in(&range)).collect()
     }
 
     /// The name of the file that is mapped at the address of the program's first instruction.
@@ -121,8 +137,9 @@ impl CoreFile<'_> {
         let segments = Program::read(bytes).ok()?.segments();
         let bias = begin.wrapping_sub(segments.first()?.address);
         let end = begin.saturating_add(bytes.len() as u64);
-        let path = PathBuf::from("[vdso]");
-        Some(Module { path, bias: self.target().wrap(bias), begin, end, image: Image::Vdso(bytes) })
+        let (path, bias) = (PathBuf::from("[vdso]"), self.target().wrap(bias));
+        let code = self.code_of(&segments, bias);
+        Some(Module { path, bias, begin, end, code, image: Image::Vdso(bytes) })
     }
 }
 
@@ -147,19 +164,27 @@ impl<'a> Finder<'a> {
             Some(bias) => bias,
             None => return,
         };
-        let has_code = self.core.may_execute(mapping.begin)
-            && shown.iter().any(|segment| segment.is_executable && bias_of(segment) == bias);
+        let executable = shown.iter().filter(|segment| segment.is_executable && bias_of(segment) == bias);
+        let code = executable.flat_map(|segment| self.core.executable_in(&mapped_part(mapping, segment)));
+        let mut code: Vec<_> = code.collect();
         if let Some(candidate) = self.found.iter_mut().find(|candidate| is_module(candidate, bias)) {
-            candidate.has_code |= has_code;
+            candidate.module.code.append(&mut code);
             candidate.module.begin = candidate.module.begin.min(mapping.begin);
             candidate.module.end = candidate.module.end.max(mapping.end);
             return;
         }
         let path = PathBuf::from(OsStr::from_bytes(mapping.path));
         let image = Image::File(place, bytes);
-        let module = Module { path, bias, begin: mapping.begin, end: mapping.end, image };
-        self.found.push(Candidate { place, has_code, module });
+        let module = Module { path, bias, begin: mapping.begin, end: mapping.end, code, image };
+        self.found.push(Candidate { place, module });
     }
+}
+
+/// The addresses in the process at which a mapping has bytes of a segment.
+fn mapped_part(mapping: &Mapping<'_>, segment: &Segment) -> Range<u64> {
+    let address = |offset: u64| mapping.begin.saturating_add(offset.saturating_sub(mapping.offset));
+    let begin = address(segment.offset);
+    begin..address(segment.offset.saturating_add(segment.file_size)).min(mapping.end).max(begin)
 }
 
 /// Whether a mapping has at least one byte of a segment.

@@ -1,18 +1,24 @@
 //! Reads the notes of a core file.
 
 use super::registers::{thread, Thread};
-use super::CoreError;
+use super::{CoreError, Signal};
 use crate::abi::Abi;
 use crate::bytes::{Cursor, ReadError};
 use crate::target::{AddressSize, Target};
-use object::elf::{NT_AUXV, NT_FILE, NT_PRSTATUS, NT_SIGINFO};
+use object::elf::{NT_AUXV, NT_FILE, NT_PRPSINFO, NT_PRSTATUS, NT_SIGINFO};
 
 /// The type of the entry of the auxiliary vector that has the address of the program's first
 /// instruction.
 const AT_ENTRY: u64 = 9;
 
+/// The type of the note that says which bits of an address hold an authentication code on aarch64.
+const NT_ARM_PAC_MASK: u32 = 0x406;
+
 /// The type of the entry of the auxiliary vector that has the address of the vDSO.
 const AT_SYSINFO_EHDR: u64 = 33;
+
+/// The type of the entry of the auxiliary vector that has the address of the program's file name.
+const AT_EXECFN: u64 = 31;
 
 /// A part of a file that is mapped into memory.
 #[derive(Clone, Copy, Debug, PartialEq, Eq)]
@@ -27,16 +33,14 @@ pub struct Mapping<'data> {
     pub path: &'data [u8],
 }
 
-/// The signal that ended a process.
-#[derive(Clone, Copy, Debug, PartialEq, Eq)]
-pub struct Signal {
-    /// Its number.
-    pub number: u32,
-    /// Its cause (`si_code`).
-    pub code: u32,
-    /// For SIGSEGV, SIGBUS, SIGILL and SIGFPE: the address of the fault. For any other signal, this
-    /// has no meaning.
-    pub address: u64,
+/// What a core file says about its process.
+#[derive(Clone, Debug, Default, PartialEq, Eq)]
+pub struct ProcessInfo {
+    /// The process's id.
+    pub id: u32,
+    /// The name of its first thread, which is the beginning of the program's name if the program
+    /// didn't change it.
+    pub name: String,
 }
 
 /// What the notes that were read so far say.
@@ -49,30 +53,46 @@ pub(super) struct Notes<'data> {
     pub mappings: Vec<Mapping<'data>>,
     pub vdso: Option<u64>,
     pub entry: Option<u64>,
+    /// The address of the program's file name.
+    pub name: Option<u64>,
+    pub process: Option<ProcessInfo>,
+    /// The bits of a return address that hold an authentication code.
+    pub pac_mask: Option<u64>,
 }
 
 impl<'data> Notes<'data> {
     pub fn new(target: Target, abi: &'static Abi) -> Self {
-        Notes { target, abi, threads: Vec::new(), signal: None, mappings: Vec::new(), vdso: None, entry: None }
+        let (threads, mappings) = (Vec::new(), Vec::new());
+        let (vdso, entry, name) = (None, None, None);
+        Notes { target, abi, threads, signal: None, mappings, vdso, entry, name, process: None, pac_mask: None }
     }
 
     /// Reads a note. Does nothing for a note that isn't needed.
     pub fn add(&mut self, owner: &[u8], kind: u32, bytes: &'data [u8]) -> Result<(), CoreError> {
-        if owner != b"CORE" {
-            return Ok(());
-        }
         let read = match kind {
+            NT_ARM_PAC_MASK if owner == b"LINUX" => self.pac_mask(bytes),
+            _ if owner != b"CORE" => Ok(()),
             NT_PRSTATUS => thread(bytes, self.target, self.abi).map(|thread| self.threads.push(thread)),
             NT_SIGINFO => signal(bytes, self.target).map(|signal| self.signal = self.signal.or(Some(signal))),
             NT_FILE => self.files(bytes),
+            NT_PRPSINFO => process(bytes, self.target).map(|process| self.process = Some(process)),
             NT_AUXV => {
                 self.vdso = auxiliary(bytes, self.target, AT_SYSINFO_EHDR);
                 self.entry = auxiliary(bytes, self.target, AT_ENTRY);
+                self.name = auxiliary(bytes, self.target, AT_EXECFN);
                 Ok(())
             }
             _ => Ok(()),
         };
         read.map_err(|_| CoreError::Note(kind))
+    }
+
+    /// Reads an `NT_ARM_PAC_MASK` note: a mask for addresses of data, and one for those of code.
+    fn pac_mask(&mut self, bytes: &[u8]) -> Result<(), ReadError> {
+        let mut cursor = Cursor::new(bytes, self.target);
+        cursor.take(8)?;
+        self.pac_mask = Some(cursor.number(8)?);
+        Ok(())
     }
 
     /// Reads an `NT_FILE` note. It has the number of mappings, the page size, the mappings, and
@@ -102,7 +122,7 @@ fn signal(bytes: &[u8], target: Target) -> Result<Signal, ReadError> {
     let mut cursor = Cursor::new(bytes, target);
     let number = cursor.number(4)? as u32;
     cursor.take(4)?;
-    let code = cursor.number(4)? as u32;
+    let code = Some(cursor.number(4)? as i32);
     if target.address_size == AddressSize::Eight {
         cursor.take(4)?;
     }
@@ -121,4 +141,21 @@ fn auxiliary(bytes: &[u8], target: Target, wanted: u64) -> Option<u64> {
             return Some(value);
         }
     }
+}
+
+/// Reads an `NT_PRPSINFO` note (`struct elf_prpsinfo`).
+fn process(bytes: &[u8], target: Target) -> Result<ProcessInfo, ReadError> {
+    // Four bytes, the flags in a word, the ids of the user and the group, four ids of 4 bytes, of
+    // which the first is the process's, and 16 bytes for the name.
+    let id = match target.address_size {
+        AddressSize::Four => 12,
+        AddressSize::Eight => 24,
+    };
+    let mut cursor = Cursor::new(bytes, target);
+    cursor.take(id)?;
+    let id = cursor.number(4)? as u32;
+    cursor.take(12)?;
+    let name = cursor.take(16)?;
+    let name = name.split(|byte| *byte == 0).next().unwrap_or(&[]);
+    Ok(ProcessInfo { id, name: String::from_utf8_lossy(name).into_owned() })
 }

@@ -10,6 +10,9 @@ use object::elf;
 pub struct Thread {
     /// Its id.
     pub id: u32,
+    /// Its name, if it is known. Core files have only the name of the process's first thread:
+    /// [`CoreFile::process`](super::CoreFile::process).
+    pub name: Option<String>,
     /// The signal that the thread received, 0 if it received none.
     pub signal: u16,
     /// Its registers by their DWARF numbers, ascending.
@@ -55,7 +58,6 @@ fn numbers(abi: &Abi) -> &'static [u16] {
 
 /// Reads a note of type `NT_PRSTATUS`.
 pub(super) fn thread(bytes: &[u8], target: Target, abi: &Abi) -> Result<Thread, ReadError> {
-    let word = target.address_size.bytes();
     // The note begins with three numbers of 4 bytes, the signal in 2 bytes, 2 bytes of padding, two
     // signal masks of one word, four ids of 4 bytes, and four times (`struct timeval`) of two
     // words. The first id is the thread's. The registers come next.
@@ -69,6 +71,15 @@ pub(super) fn thread(bytes: &[u8], target: Target, abi: &Abi) -> Result<Thread, 
     cursor.take(id - 14)?;
     let id = cursor.number(4)? as u32;
     cursor.take(registers - cursor.at() as u64)?;
+    let registers = general(cursor.rest(), target, abi)?;
+    Ok(Thread { id, name: None, signal, registers })
+}
+
+/// Reads the general registers of a thread, as the kernel writes them for debuggers
+/// (`elf_gregset_t`). The result is in ascending order of the DWARF numbers.
+fn general(bytes: &[u8], target: Target, abi: &Abi) -> Result<Vec<(u16, u64)>, ReadError> {
+    let word = target.address_size.bytes();
+    let mut cursor = Cursor::new(bytes, target);
     let mut held = Vec::new();
     for number in numbers(abi) {
         let value = cursor.number(word)?;
@@ -77,5 +88,5 @@ pub(super) fn thread(bytes: &[u8], target: Target, abi: &Abi) -> Result<Thread, 
         }
     }
     held.sort_unstable();
-    Ok(Thread { id, signal, registers: held })
+    Ok(held)
 }

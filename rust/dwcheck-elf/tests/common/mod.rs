@@ -47,6 +47,14 @@ impl Folder {
         self.run(&format!("{}/../../tools/make_core.sh {}", env!("CARGO_MANIFEST_DIR"), words));
     }
 
+    /// Runs a program that a signal ends which it doesn't handle, and makes its core file `core`: the
+    /// kernel's, if it writes core files here, else gdb's.
+    pub fn crash(&self, words: &str) {
+        let kernel = format!("(ulimit -c unlimited; {}) > /dev/null 2>&1 < /dev/null", words);
+        let gdb = format!("gdb --batch -ex 'set startup-with-shell off' -ex run -ex 'gcore core' --args {} < /dev/null > gdb.log 2>&1", words);
+        self.run(&format!("rm -f core core.*; {}; [ -f core ] || mv core.* core 2> /dev/null || {}", kernel, gdb));
+    }
+
     /// The bytes of a section of a file, decompressed, as objcopy writes them.
     pub fn section(&self, file: &str, section: &str) -> Vec<u8> {
         self.run(&format!("objcopy --decompress-debug-sections --dump-section {}=taken {} /dev/null", section, file));

@@ -171,16 +171,36 @@ pub struct LocsWords {
 
 #[derive(Args, Debug)]
 pub struct StackWords {
-    /// The program of the core file
-    pub program: PathBuf,
-    /// A core file of x86-64, i386 or aarch64
-    pub core: PathBuf,
+    /// A core file of x86-64, i386 or aarch64; before it, the program, if it isn't where the core file says
+    #[arg(value_name = "[PROGRAM] CORE", num_args = 1..=2, required = true)]
+    pub files: Vec<PathBuf>,
+    /// Only the thread with this id. Can be given several times
+    #[arg(long, value_name = "TID")]
+    pub tid: Vec<u32>,
     /// The folder in which the paths of the core file are looked up
     #[arg(long, value_name = "FOLDER", default_value = "/")]
     pub root: PathBuf,
     /// Print at most this many frames of each thread
     #[arg(long, value_name = "N", default_value_t = 10_000)]
     pub limit: usize,
+    /// Leave out frames that are guesses: those that no row of an unwind table gives
+    #[arg(long)]
+    pub strict: bool,
+    /// Leave out inlined functions
+    #[arg(long)]
+    pub no_inline: bool,
+    /// Leave out files and lines of source code
+    #[arg(long)]
+    pub no_source: bool,
+    /// Print the registers of each frame, as far as they are known
+    #[arg(long)]
+    pub registers: bool,
+    /// Print the stack of several threads once if it is the same
+    #[arg(long)]
+    pub group: bool,
+    /// Write one document of JSON
+    #[arg(long)]
+    pub json: bool,
 }
 
 #[derive(Args, Debug)]

@@ -9,6 +9,7 @@ use dwcheck_elf::expression::Measure;
 use dwcheck_elf::frames::{Frames, Name};
 use dwcheck_elf::inspect::{inspect, inspect_frame_sections, source_offset, Inspected, Verdict};
 use dwcheck_elf::loclists::Contents;
+use dwcheck_elf::mapped::Bytes;
 use dwcheck_elf::program::Program;
 use dwcheck_elf::target::Target;
 use dwcheck_elf::text::Offset;
@@ -35,7 +36,7 @@ pub fn check(words: &CheckWords, out: &mut impl Write) -> Result<Done, Failure> 
 }
 
 /// Reads a program. If it is a folder, the failure names the command that takes folders.
-fn read_program(path: &Path) -> Result<Vec<u8>, Failure> {
+fn read_program(path: &Path) -> Result<Bytes, Failure> {
     read(path).map_err(|failure| match failure {
         Failure::File(text) if path.is_dir() => Failure::File(format!("{}: survey reads folders", text)),
         failure => failure,

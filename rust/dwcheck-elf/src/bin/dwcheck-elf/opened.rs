@@ -8,6 +8,7 @@ use dwcheck_elf::fault::Defect;
 use dwcheck_elf::frames::{Frames, Name};
 use dwcheck_elf::functions::Functions;
 use dwcheck_elf::inspect::{inspect_frame_sections, Check, InspectError, Verdict};
+use dwcheck_elf::mapped::Bytes;
 use dwcheck_elf::names::Spot;
 use dwcheck_elf::program::Program;
 use dwcheck_elf::state_file::address as number;
@@ -17,8 +18,13 @@ use std::fs::File;
 use std::io::{self, Read, Write};
 use std::path::Path;
 
-/// Reads a file to its end, even if it is a pipe or another file that isn't regular.
-pub fn read(path: &Path) -> Result<Vec<u8>, Failure> {
+/// Opens an ELF file, which may also be a pipe or another file that isn't regular.
+pub fn read(path: &Path) -> Result<Bytes, Failure> {
+    Bytes::of_elf(path).map_err(|error| Failure::File(format!("cannot read {}: {}", path.display(), error)))
+}
+
+/// Reads a text to its end, even if it is a pipe or another file that isn't regular.
+pub fn read_text(path: &Path) -> Result<Vec<u8>, Failure> {
     let content = || -> io::Result<Vec<u8>> {
         let mut bytes = Vec::new();
         File::open(path)?.read_to_end(&mut bytes)?;

@@ -1,43 +1,88 @@
 //! The command `stack`: prints the stack of each thread of a core file.
 
+mod report;
+
 use crate::arguments::StackWords;
 use crate::end::{Done, Failure};
 use crate::opened::read;
 use dwcheck_elf::core_file::{CoreError, CoreFile, Files, MappedFile};
-use dwcheck_elf::stack::Stacks;
+use dwcheck_elf::mapped::Bytes;
+use dwcheck_elf::stack::{NameOptions, Stacks};
+use report::Report;
+use std::ffi::OsStr;
 use std::io::{self, Write};
-use std::path::Path;
+use std::os::unix::ffi::OsStrExt;
+use std::path::{Path, PathBuf};
 
 /// Prints the stacks on `out`, and warnings on standard error.
 pub fn stack(words: &StackWords, out: &mut impl Write) -> Result<Done, Failure> {
-    let bytes = read(&words.core)?;
-    let core = CoreFile::read(&bytes).map_err(|error| unread(&words.core, &error))?;
+    match words.files.as_slice() {
+        [core] => of_core(words, None, core, out),
+        [program, core] => of_core(words, Some(program), core, out),
+        _ => Err(Failure::Argument("give [PROGRAM] CORE".to_string())),
+    }
+}
+
+/// The program of a core file: its path, and its bytes.
+struct Given {
+    path: PathBuf,
+    bytes: Bytes,
+}
+
+fn of_core(words: &StackWords, program: Option<&PathBuf>, path: &Path, out: &mut impl Write) -> Result<Done, Failure> {
+    let bytes = read(path)?;
+    let core = CoreFile::read(&bytes).map_err(|error| unread(path, &error))?;
     let mut files = Files::read(&core, &words.root);
-    let program = words.program.canonicalize();
-    let program =
-        program.map_err(|error| Failure::File(format!("cannot read {}: {}", words.program.display(), error)))?;
-    let program_bytes = read(&program)?;
-    let is_program = files.use_program(&core, &program_bytes);
+    let given = match program {
+        Some(program) => Some(given(program)?),
+        None if core.mappings().is_empty() => {
+            core.program_name().and_then(|name| given(Path::new(OsStr::from_bytes(name))).ok())
+        }
+        None => None,
+    };
+    let is_used = given.as_ref().map_or(false, |given| files.use_program(&core, &given.bytes));
     let mut stacks = Stacks::of(&core, &files);
-    stacks.add_program(&program, &program_bytes);
-    let mut warnings: Vec<_> =
-        stacks.missing().iter().map(|(path, why)| format!("{}: {}", path.display(), why)).collect();
-    if !is_program && !has_program(&stacks, &program, &words.root) {
-        warnings.push(other_program(&words.program, files.program(&core)));
+    if let Some(given) = &given {
+        stacks.add_program(&given.path, &given.bytes);
+    }
+    let mut warnings = Vec::new();
+    match &given {
+        Some(given) if !is_used && !has_program(&stacks, &given.path, &words.root) => {
+            warnings.push(other_program(program.unwrap_or(&given.path), files.program(&core)));
+        }
+        None if core.mappings().is_empty() => {
+            warnings.push(format!("{} names no files: give its program, as in PROGRAM CORE", path.display()));
+        }
+        _ => {}
     }
     if core.is_cut() {
-        warnings.push(format!("{} ends before the memory that it should hold", words.core.display()));
+        warnings.push(format!("{} ends before the memory that it should hold", path.display()));
     }
+    print(words, &core, &mut stacks, warnings, out)
+}
+
+/// Walks the stacks, prints them, and then the warnings.
+fn print(
+    words: &StackWords,
+    core: &CoreFile<'_>,
+    stacks: &mut Stacks<'_>,
+    mut warnings: Vec<String>,
+    out: &mut impl Write,
+) -> Result<Done, Failure> {
+    stacks.show_names(NameOptions { inlined: !words.no_inline, source: !words.no_source });
+    let report = Report { words, core, stacks };
+    report.write(out, &mut warnings)?;
+    out.flush()?;
     for warning in warnings {
         let _ = writeln!(io::stderr(), "dwcheck-elf: {}", warning);
     }
-    for thread in core.threads() {
-        let stack = stacks
-            .walk(thread, words.limit)
-            .map_err(|error| Failure::File(format!("thread {}: {}", thread.id, error)))?;
-        write!(out, "{}", stack)?;
-    }
     Ok(Done::Accepted)
+}
+
+fn given(program: &Path) -> Result<Given, Failure> {
+    let path = program.canonicalize();
+    let path = path.map_err(|error| Failure::File(format!("cannot read {}: {}", program.display(), error)))?;
+    Ok(Given { bytes: read(&path)?, path })
 }
 
 /// The failure for a core file that can't be read.

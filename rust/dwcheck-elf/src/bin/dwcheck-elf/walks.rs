@@ -3,10 +3,11 @@
 
 use crate::arguments::{BacktraceWords, UnwindWords};
 use crate::end::{Done, Failure};
-use crate::opened::{accepted_frames, address, note, number_argument, program, read, write_defect};
+use crate::opened::{accepted_frames, address, note, number_argument, program, read, read_text, write_defect};
 use dwcheck::{Answer, Error, Frame};
 use dwcheck_elf::fault::Defect;
 use dwcheck_elf::functions::Functions;
+use dwcheck_elf::mapped::Bytes;
 use dwcheck_elf::modules::Modules;
 use dwcheck_elf::names::Spot;
 use dwcheck_elf::program::Program;
@@ -22,7 +23,7 @@ use std::path::{Path, PathBuf};
 struct Given {
     path: PathBuf,
     load: u64,
-    data: Vec<u8>,
+    data: Bytes,
 }
 
 /// A process that has the program and the further modules that the command line names.
@@ -48,7 +49,7 @@ impl<'a> Loaded<'a> {
 
 /// Lists the modules that the command line names: first the program, whose bytes are `data`, then
 /// the further modules, whose files are read here.
-fn given(words: &UnwindWords, target: Target, data: Vec<u8>) -> Result<Vec<Given>, Failure> {
+fn given(words: &UnwindWords, target: Target, data: Bytes) -> Result<Vec<Given>, Failure> {
     let load = number_argument(&words.modules.load, target)?;
     let mut all = vec![Given { path: words.program.clone(), load, data }];
     for module in &words.modules.module {
@@ -128,7 +129,7 @@ fn run<W: Write>(
 
 /// Reads a state file.
 pub fn state_file(path: &Path, target: Target) -> Result<StateFile, Failure> {
-    StateFile::parse(&read(path)?, target).map_err(|line| Failure::Argument(format!("state line {}", line)))
+    StateFile::parse(&read_text(path)?, target).map_err(|line| Failure::Argument(format!("state line {}", line)))
 }
 
 fn no_answer(error: Error) -> Failure {

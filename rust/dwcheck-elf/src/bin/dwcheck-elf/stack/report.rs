@@ -1,0 +1,147 @@
+//! Writes the stacks of all threads, as text or as JSON.
+
+use crate::arguments::StackWords;
+use crate::end::Failure;
+use dwcheck_elf::core_file::{CoreFile, Signal, Thread};
+use dwcheck_elf::stack::{Stack, Stacks, Stop, WalkOptions};
+use dwcheck_elf::text::{Address, Plain};
+use serde_json::{json, Value};
+use std::collections::HashMap;
+use std::io::{self, Write};
+
+/// The stacks of a process, and what of them is to be written.
+pub struct Report<'r, 'a> {
+    pub words: &'r StackWords,
+    pub core: &'r CoreFile<'r>,
+    pub stacks: &'r Stacks<'a>,
+}
+
+/// The stack of one thread, or of several threads that have the same one.
+struct Group<'r, 'a> {
+    threads: Vec<&'r Thread>,
+    stack: Stack<'r, 'a>,
+}
+
+impl<'r, 'a> Report<'r, 'a> {
+    /// Writes everything. Appends what isn't used to `warnings`, which a document of JSON has too.
+    pub fn write(&self, out: &mut impl Write, warnings: &mut Vec<String>) -> Result<(), Failure> {
+        self.write_head(out)?;
+        if self.words.group {
+            for (number, group) in self.groups()?.iter().enumerate() {
+                self.write_group(out, number, group)?;
+            }
+        } else {
+            for (number, thread) in self.threads()?.into_iter().enumerate() {
+                let stack = self.walk(thread)?;
+                self.write_group(out, number, &Group { threads: vec![thread], stack })?;
+            }
+        }
+        let missing = self.stacks.missing();
+        warnings.splice(..0, missing.iter().map(|(path, why)| format!("{}: {}", Plain(&path.to_string_lossy()), why)));
+        if self.words.json {
+            writeln!(out, "],\"warnings\":{}}}", Value::from(warnings.clone()))?;
+        }
+        Ok(())
+    }
+
+    /// The threads that are to be shown.
+    fn threads(&self) -> Result<Vec<&'r Thread>, Failure> {
+        let all = self.core.threads();
+        let tids = &self.words.tid;
+        match tids.iter().find(|tid| !all.iter().any(|thread| thread.id == **tid)) {
+            Some(tid) => Err(Failure::Argument(format!("there is no thread {}", tid))),
+            None => Ok(all.iter().filter(|thread| tids.is_empty() || tids.contains(&thread.id)).collect()),
+        }
+    }
+
+    fn walk(&self, thread: &Thread) -> Result<Stack<'r, 'a>, Failure> {
+        let options = WalkOptions {
+            limit: self.words.limit,
+            is_strict: self.words.strict,
+            keeps_registers: self.words.registers,
+        };
+        self.stacks.walk(thread, options).map_err(|error| Failure::File(format!("thread {}: {}", thread.id, error)))
+    }
+
+    /// The threads with the same stacks together, in the order of the first one of each group.
+    fn groups(&self) -> Result<Vec<Group<'r, 'a>>, Failure> {
+        let mut groups: Vec<Group<'_, '_>> = Vec::new();
+        let mut places: HashMap<(Vec<u64>, Stop), usize> = HashMap::new();
+        for thread in self.threads()? {
+            let stack = self.walk(thread)?;
+            let key = (stack.frames.iter().map(|frame| frame.address).collect(), stack.stop);
+            match places.get(&key) {
+                Some(place) => groups[*place].threads.push(thread),
+                None => {
+                    places.insert(key, groups.len());
+                    groups.push(Group { threads: vec![thread], stack });
+                }
+            }
+        }
+        Ok(groups)
+    }
+
+    fn write_head(&self, out: &mut impl Write) -> io::Result<()> {
+        let signal = self.core.signal();
+        if self.words.json {
+            let process = self.core.process();
+            let signal = signal.map(|signal| self.json_signal(signal));
+            write!(out, "{{\"pid\":{},", Value::from(process.map(|process| process.id)))?;
+            write!(out, "\"name\":{},", Value::from(process.map(|process| process.name.clone())))?;
+            return write!(out, "\"signal\":{},\"threads\":[", Value::from(signal));
+        }
+        let signal = match signal {
+            Some(signal) => signal,
+            None => return Ok(()),
+        };
+        write!(out, "signal {}", signal.number)?;
+        signal.name().map_or(Ok(()), |name| write!(out, " {}", name))?;
+        match (signal.code_name(), signal.code) {
+            (Some(name), _) => write!(out, ", code {}", name)?,
+            (None, Some(code)) => write!(out, ", code {}", code)?,
+            _ => {}
+        }
+        if let Some(address) = signal.fault_address() {
+            write!(out, ", address {}", Address(self.core.target(), address))?;
+        }
+        writeln!(out)
+    }
+
+    fn json_signal(&self, signal: Signal) -> Value {
+        json!({
+            "number": signal.number,
+            "name": signal.name(),
+            "code": signal.code,
+            "code_name": signal.code_name(),
+            "address": signal.fault_address().map(|address| format!("{:#x}", address)),
+        })
+    }
+
+    /// The name of a thread, if it is known.
+    fn name(&self, thread: &'r Thread) -> Option<&'r str> {
+        let process = self.core.process().filter(|process| process.id == thread.id);
+        thread.name.as_deref().or_else(|| process.map(|process| process.name.as_str()))
+    }
+
+    fn write_group(&self, out: &mut impl Write, number: usize, group: &Group<'r, 'a>) -> io::Result<()> {
+        if self.words.json {
+            let comma = if number > 0 { "," } else { "" };
+            return write!(out, "{}\n{}", comma, self.json_group(group));
+        }
+        write!(out, "{}", if group.threads.len() > 1 { "threads" } else { "thread" })?;
+        for (number, thread) in group.threads.iter().enumerate() {
+            write!(out, "{} {}", if number > 0 { "," } else { "" }, thread.id)?;
+            self.name(thread).map_or(Ok(()), |name| write!(out, " {:?}", name))?;
+        }
+        write!(out, ":\n{}", group.stack.lines())
+    }
+
+    fn json_group(&self, group: &Group<'r, 'a>) -> Value {
+        let threads = group.threads.iter();
+        let threads =
+            threads.map(|thread| json!({ "id": thread.id, "name": self.name(thread), "signal": thread.signal }));
+        let mut object = group.stack.json();
+        object["threads"] = threads.collect();
+        object
+    }
+}

@@ -1,0 +1,163 @@
+//! Finds separate files of debug information: by build id in `/usr/lib/debug/.build-id`, or by the
+//! section `.gnu_debuglink`.
+
+use crate::mapped::Bytes;
+use crate::program::Program;
+use std::ffi::OsStr;
+use std::fmt;
+use std::fs::File;
+use std::io;
+use std::os::unix::ffi::OsStrExt;
+use std::path::{Component, Path, PathBuf};
+use typed_arena::Arena;
+
+/// The folder in which separate files of debug information are installed.
+const FOLDER: &str = "usr/lib/debug";
+
+/// The separate files of debug information that were opened, and what was decompressed of them.
+pub(crate) struct DebugFiles {
+    /// The folder that stands for `/`.
+    root: PathBuf,
+    files: Arena<Bytes>,
+    sections: Arena<Vec<u8>>,
+}
+
+/// Why a file of debug information that was found isn't used.
+#[derive(Clone, Debug, PartialEq, Eq)]
+pub(crate) enum NotUsed {
+    /// It can't be read.
+    Unreadable(String),
+    /// Its build id is the first one, that of the program is the second one.
+    BuildId(Vec<u8>, Vec<u8>),
+    /// Its checksum isn't the one in `.gnu_debuglink`.
+    Checksum,
+}
+
+impl DebugFiles {
+    /// Looks for files in the folder `root`, which stands for `/`.
+    pub fn new(root: &Path) -> Self {
+        DebugFiles { root: root.to_path_buf(), files: Arena::new(), sections: Arena::new() }
+    }
+
+    /// Keeps the bytes of a section that was decompressed.
+    pub fn keep(&self, bytes: Vec<u8>) -> &[u8] {
+        self.sections.alloc(bytes)
+    }
+
+    /// The file of debug information of a program whose file is `path`. `None` if there is none. If
+    /// the file that has its name can't be used, the error has its path and the reason.
+    pub fn of(&self, path: &Path, program: &Program<'_>) -> Result<Option<&Bytes>, (PathBuf, NotUsed)> {
+        if let Some(id) = program.build_id() {
+            let file = self.root.join(FOLDER).join(".build-id").join(name_of(id));
+            match self.open(&file)? {
+                Some(bytes) => return same_id(bytes, id).map(Some).map_err(|why| (file, why)),
+                None => {}
+            }
+        }
+        match program.debug_link() {
+            Some((name, checksum)) => self.linked(path, program, (name, checksum)),
+            None => Ok(None),
+        }
+    }
+
+    /// The file that `.gnu_debuglink` names: in the program's folder, in `.debug` there, or in the
+    /// folder of debug information.
+    fn linked(
+        &self,
+        path: &Path,
+        program: &Program<'_>,
+        (name, checksum): (&[u8], u32),
+    ) -> Result<Option<&Bytes>, (PathBuf, NotUsed)> {
+        let name = Path::new(OsStr::from_bytes(name));
+        let is_plain =
+            name.components().count() == 1 && name.components().all(|part| matches!(part, Component::Normal(_)));
+        let folder = path.parent().and_then(|folder| folder.strip_prefix("/").ok());
+        let folder = match folder.filter(|_| is_plain) {
+            Some(folder) => folder,
+            None => return Ok(None),
+        };
+        let inner = self.root.join(folder);
+        for file in [inner.join(name), inner.join(".debug").join(name), self.root.join(FOLDER).join(folder).join(name)]
+        {
+            let bytes = match self.open(&file)? {
+                Some(bytes) => bytes,
+                None => continue,
+            };
+            if crc32fast::hash(bytes) != checksum {
+                return Err((file, NotUsed::Checksum));
+            }
+            let id = program.build_id().unwrap_or(&[]);
+            return same_id(bytes, id).map(Some).map_err(|why| (file, why));
+        }
+        Ok(None)
+    }
+
+    /// The file that `.gnu_debugaltlink` of a file of debug information names, which has what several
+    /// such files share.
+    pub fn shared(&self, program: &Program<'_>) -> Option<&Bytes> {
+        let (_, id) = program.debug_alt_link()?;
+        let file = self.root.join(FOLDER).join(".build-id").join(name_of(id));
+        self.open(&file).ok()?.filter(|bytes| same_id(bytes, id).is_ok())
+    }
+
+    /// Opens a regular file. `None` if it isn't there.
+    fn open(&self, path: &Path) -> Result<Option<&Bytes>, (PathBuf, NotUsed)> {
+        let read = || -> io::Result<Option<Bytes>> {
+            if !path.metadata()?.is_file() {
+                return Ok(None);
+            }
+            let file = File::open(path)?;
+            let size = file.metadata()?.len();
+            Bytes::of_file(&file, size).map(Some)
+        };
+        match read() {
+            Ok(bytes) => Ok(bytes.map(|bytes| &*self.files.alloc(bytes))),
+            Err(error) if error.kind() == io::ErrorKind::NotFound => Ok(None),
+            Err(error) => Err((path.to_path_buf(), NotUsed::Unreadable(error.to_string()))),
+        }
+    }
+}
+
+/// The name of a file by its build id, such as `3f/2ab01c.debug`.
+fn name_of(id: &[u8]) -> String {
+    let digits = hex(id);
+    let (first, rest) = digits.split_at(digits.len().min(2));
+    format!("{}/{}.debug", first, rest)
+}
+
+fn hex(id: &[u8]) -> String {
+    id.iter().map(|byte| format!("{:02x}", byte)).collect()
+}
+
+/// Returns the bytes of a file if it has this build id, or none.
+fn same_id<'b>(bytes: &'b Bytes, id: &[u8]) -> Result<&'b Bytes, NotUsed> {
+    let program = Program::read(bytes).map_err(|error| NotUsed::Unreadable(error.to_string()))?;
+    match program.build_id() {
+        Some(other) if other != id && !id.is_empty() => Err(NotUsed::BuildId(other.to_vec(), id.to_vec())),
+        _ => Ok(bytes),
+    }
+}
+
+impl Default for DebugFiles {
+    fn default() -> Self {
+        DebugFiles::new(Path::new("/"))
+    }
+}
+
+impl fmt::Debug for DebugFiles {
+    fn fmt(&self, f: &mut fmt::Formatter<'_>) -> fmt::Result {
+        f.debug_struct("DebugFiles").field("root", &self.root).finish_non_exhaustive()
+    }
+}
+
+impl fmt::Display for NotUsed {
+    fn fmt(&self, f: &mut fmt::Formatter<'_>) -> fmt::Result {
+        match self {
+            NotUsed::Unreadable(error) => write!(f, "can't be read: {}", error),
+            NotUsed::BuildId(own, program) => {
+                write!(f, "not used: its build id is {}, that of the program is {}", hex(own), hex(program))
+            }
+            NotUsed::Checksum => f.write_str("not used: its checksum isn't the one in .gnu_debuglink"),
+        }
+    }
+}

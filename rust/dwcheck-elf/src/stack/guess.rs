@@ -1,0 +1,124 @@
+//! Finds the caller of a frame that no row is found for. The result is a guess.
+
+use super::FoundBy;
+use crate::core_file::{CoreFile, Memory};
+use dwcheck::Registers;
+
+/// A caller that was found by a rule other than a row.
+pub(super) struct Guess {
+    pub found_by: FoundBy,
+    /// Where the caller continues.
+    pub address: u64,
+    /// The caller's registers, as far as they are known.
+    pub registers: Registers,
+    /// The stack pointer of the caller.
+    pub cfa: u64,
+}
+
+/// The memory and the registers of a frame that no row is found for.
+pub(super) struct Guesser<'a> {
+    pub core: &'a CoreFile<'a>,
+    pub memory: &'a Memory<'a>,
+    pub registers: &'a Registers,
+}
+
+impl Guesser<'_> {
+    /// The caller of a frame whose address isn't executable, because a call led there: on x86 the
+    /// return address is at the stack pointer, on aarch64 it is in x30.
+    pub fn by_call(&self) -> Option<Guess> {
+        let abi = self.core.abi();
+        let stack = self.registers.get(abi.stack_pointer)?;
+        let (address, cfa) = match abi.link_register {
+            Some(link) => (self.core.without_code(self.registers.get(link)?), stack),
+            None => (self.word(stack)?, stack.checked_add(self.word_size())?),
+        };
+        let mut registers = self.registers.clone();
+        registers.set(abi.stack_pointer, cfa);
+        registers.set(abi.program_counter, address);
+        let guess = Guess { found_by: FoundBy::Call, address, registers, cfa };
+        Some(guess).filter(|_| self.is_code(address) && self.may_follow_call(address))
+    }
+
+    /// The caller of a frame whose code keeps a frame pointer. It points to the caller's frame
+    /// pointer and the return address.
+    pub fn by_frame_pointer(&self) -> Option<Guess> {
+        let abi = self.core.abi();
+        let size = self.word_size();
+        let pointer = self.registers.get(abi.frame_pointer)?;
+        let is_in_stack = self.registers.get(abi.stack_pointer).map_or(true, |stack| stack <= pointer);
+        let saved = self.word(pointer).filter(|_| is_in_stack && pointer % size == 0)?;
+        let held = self.word(pointer.checked_add(size)?)?;
+        let address = abi.link_register.map_or(held, |_| self.core.without_code(held));
+        let cfa = pointer.checked_add(2 * size)?;
+        let known = [(abi.frame_pointer, saved), (abi.stack_pointer, cfa), (abi.program_counter, address)];
+        let guess = Guess { found_by: FoundBy::FramePointer, address, registers: known.into(), cfa };
+        // Interpreters, such as HotSpot's, push return addresses that follow no call.
+        Some(guess).filter(|_| self.is_code(address))
+    }
+
+    fn word_size(&self) -> u64 {
+        u64::from(self.core.target().address_size.bytes())
+    }
+
+    fn word(&self, address: u64) -> Option<u64> {
+        let mut bytes = [0; 8];
+        let word = bytes.get_mut(..usize::from(self.core.target().address_size.bytes()))?;
+        self.memory.read(address, word).then(|| self.core.target().number(word))
+    }
+
+    fn is_code(&self, address: u64) -> bool {
+        self.core.is_executable(address) && address != 0
+    }
+
+    /// Whether a call may come before an address. False only for code of x86 that is known.
+    fn may_follow_call(&self, address: u64) -> bool {
+        let mut before = [0; 7];
+        let is_known = address >= 7 && self.memory.read(address - 7, &mut before);
+        self.core.abi().link_register.is_some() || !is_known || ends_with_call(&before)
+    }
+}
+
+/// Whether bytes of x86 code end with a near call: e8 and four bytes, or ff, a ModRM byte whose
+/// middle bits are 2, and what this byte says that follows.
+fn ends_with_call(code: &[u8; 7]) -> bool {
+    let is_indirect = |length: usize| {
+        let (code, modrm) = (code[7 - length], code[8 - length]);
+        code == 0xff && modrm >> 3 & 7 == 2 && length_of(modrm) == length
+    };
+    code[2] == 0xe8 || [2, 3, 4, 6, 7].into_iter().any(is_indirect)
+}
+
+/// The length of an instruction ff whose ModRM byte is this one.
+fn length_of(modrm: u8) -> usize {
+    let sib = usize::from(modrm & 7 == 4 && modrm >> 6 != 3);
+    let displacement = match (modrm >> 6, modrm & 7) {
+        (0, 5) | (2, _) => 4,
+        (1, _) => 1,
+        _ => 0,
+    };
+    2 + sib + displacement
+}
+
+#[cfg(test)]
+mod tests {
+    use super::ends_with_call;
+
+    /// Calls as GNU as encodes them.
+    #[test]
+    fn calls() {
+        for (call, is_call) in [
+            (&[0x90, 0x90, 0xe8, 1, 2, 3, 4][..], true),
+            (&[0x90, 0x90, 0x90, 0x90, 0x90, 0xff, 0xd0], true), // call *%rax
+            (&[0x90, 0x90, 0x90, 0x90, 0xff, 0x14, 0x24], true), // call *(%rsp)
+            (&[0x90, 0x90, 0x90, 0x90, 0xff, 0x50, 0x08], true), // call *8(%rax)
+            (&[0x90, 0x90, 0x90, 0xff, 0x54, 0x24, 0x08], true), // call *8(%rsp)
+            (&[0x90, 0xff, 0x15, 1, 2, 3, 4], true),             // call *0x4030201(%rip)
+            (&[0xff, 0x94, 0x24, 0, 1, 0, 0], true),             // call *256(%rsp)
+            (&[0x90, 0x90, 0x90, 0x90, 0x90, 0xff, 0xe0], false), // jmp *%rax
+            (&[0x90, 0x90, 0x90, 0x90, 0x90, 0x90, 0xc3], false),
+            (&[0x90, 0x90, 0x90, 0x90, 0x90, 0xff, 0x50], false),
+        ] {
+            assert_eq!(ends_with_call(call.try_into().unwrap()), is_call, "{:x?}", call);
+        }
+    }
+}

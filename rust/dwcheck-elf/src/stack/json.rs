@@ -1,0 +1,58 @@
+//! Writes stacks as JSON.
+
+use super::text::Why;
+use super::{Frame, Inlined, Place, SourceLine, Stack};
+use serde_json::{json, Map, Value};
+
+impl Stack<'_, '_> {
+    /// The stack as an object. Addresses are strings such as `"0x401136"`, because numbers of JSON
+    /// are exact only up to 2^53. docs/OUTPUT.md lists the keys.
+    pub fn json(&self) -> Value {
+        let frames: Vec<_> = self.frames.iter().enumerate().map(|(number, frame)| self.frame(number, frame)).collect();
+        json!({
+            "thread": self.thread,
+            "frames": frames,
+            "stop": Why(self.stacks.core.target(), self.stop).to_string(),
+        })
+    }
+
+    fn frame(&self, number: usize, frame: &Frame) -> Value {
+        let Place { module, function, offset, source, inlined } = self.stacks.place(frame);
+        let mut object = json!({
+            "number": number,
+            "address": hex(frame.address),
+            "after_call": frame.is_after_call,
+            "found_by": frame.found_by.to_string(),
+            "guess": frame.found_by.is_guess(),
+            "signal_frame": frame.is_signal_frame,
+            "cfa": frame.cfa.map(hex),
+            "module": module.map(|path| path.to_string_lossy().into_owned()),
+            "function": function,
+            "offset": offset,
+            "inlined": inlined.iter().map(inlined_function).collect::<Vec<_>>(),
+        });
+        add_source(&mut object, &source);
+        if !frame.registers.is_empty() {
+            let abi = self.stacks.core.abi();
+            let named = frame.registers.iter().map(|(number, value)| (abi.register_name(*number), hex(*value).into()));
+            object["registers"] = Value::Object(named.collect::<Map<_, _>>());
+        }
+        object
+    }
+}
+
+fn inlined_function(one: &Inlined) -> Value {
+    let mut object = json!({ "function": one.name });
+    add_source(&mut object, &one.source);
+    object
+}
+
+fn add_source(object: &mut Value, source: &Option<SourceLine>) {
+    object["file"] = source.as_ref().map(|source| source.file.clone()).into();
+    object["line"] = source.as_ref().and_then(|source| source.line).into();
+}
+
+/// A number in hexadecimal, such as `0x401136`.
+pub(crate) fn hex(number: u64) -> String {
+    format!("{:#x}", number)
+}

@@ -1,0 +1,222 @@
+//! The unwind tables of a process's modules. An FDE is checked and compiled when a look-up first
+//! needs it.
+
+use super::section::{OneFde, SectionTable};
+use crate::core_file::{Image, Module};
+use crate::frames::room;
+use crate::program::Program;
+use crate::target::Target;
+use dwcheck::{Caller, Error, Fault, FaultKind, Process, State};
+use std::collections::{HashMap, HashSet};
+use std::ops::Range;
+use std::path::PathBuf;
+
+/// The modules of a process, with the tables that say how to unwind in their code.
+pub(super) struct Tables<'a> {
+    target: Target,
+    modules: Vec<Module<'a>>,
+    /// Where which module's code is, in ascending order.
+    code: Vec<Code>,
+    /// The frame sections of each file that was needed so far, `.debug_frame` first.
+    files: HashMap<FileKey, Vec<SectionTable<'a>>>,
+    process: Process,
+    /// What is known of the FDEs in `process`, by their cookies.
+    compiled: Vec<Compiled>,
+    /// The FDEs that can't be used: the file, the index of its section, and that of the FDE.
+    refused: HashSet<(FileKey, usize, usize)>,
+    problems: Vec<(PathBuf, String)>,
+}
+
+/// What tells files apart: the index of a mapped file, or that it is the program or the vDSO. A file
+/// that is mapped several times is read once.
+type FileKey = (u8, usize);
+
+/// A part of a module's code: its addresses in the process, and the index of the module.
+#[derive(Clone, Debug)]
+struct Code {
+    range: Range<u64>,
+    module: usize,
+}
+
+/// An address for which a row is needed.
+struct Wanted {
+    address: u64,
+    /// The address in the module's file.
+    linked: u64,
+    file: FileKey,
+    code: Code,
+}
+
+/// An FDE that `dwcheck` has accepted.
+struct Compiled {
+    is_signal_frame: bool,
+    /// The addresses in the process at which the return address is signed.
+    signed: Vec<Range<u64>>,
+}
+
+/// The caller of a frame that a row was found for.
+pub(super) struct Found {
+    pub caller: Caller,
+    /// Whether the frame is a signal frame, whose caller was interrupted and didn't call.
+    pub is_signal_frame: bool,
+    /// Whether the return address is signed.
+    pub is_signed: bool,
+}
+
+impl<'a> Tables<'a> {
+    /// The tables of these modules. Reads nothing yet.
+    pub fn new(target: Target, modules: Vec<Module<'a>>) -> Self {
+        let mut tables = Tables {
+            target,
+            modules,
+            code: Vec::new(),
+            files: HashMap::new(),
+            process: Process::new(target.into()),
+            compiled: Vec::new(),
+            refused: HashSet::new(),
+            problems: Vec::new(),
+        };
+        tables.place_code();
+        tables
+    }
+
+    /// Adds a module.
+    pub fn add(&mut self, module: Module<'a>) {
+        self.modules.push(module);
+        self.place_code();
+    }
+
+    fn place_code(&mut self) {
+        let of = |(module, one): (usize, &Module<'_>)| {
+            one.code.iter().map(|range| Code { range: range.clone(), module }).collect::<Vec<_>>()
+        };
+        self.code = self.modules.iter().enumerate().flat_map(of).collect();
+        self.code.sort_by_key(|code| code.range.start);
+    }
+
+    /// The modules.
+    pub fn modules(&self) -> &[Module<'a>] {
+        &self.modules
+    }
+
+    /// The index of the module that has code at an address.
+    pub fn module_at(&self, address: u64) -> Option<usize> {
+        self.code_at(address).map(|code| code.module)
+    }
+
+    /// The files with something that isn't used, and why.
+    pub fn problems(&self) -> &[(PathBuf, String)] {
+        &self.problems
+    }
+
+    fn code_at(&self, address: u64) -> Option<&Code> {
+        let next = self.code.partition_point(|code| code.range.start <= address);
+        self.code.get(next.checked_sub(1)?).filter(|code| code.range.contains(&address))
+    }
+
+    /// The caller of the frame that is looked up at an address. `None` if no FDE that can be used
+    /// covers the address.
+    pub fn caller(&mut self, address: u64, state: &State<'_>) -> Result<Option<Found>, Error> {
+        if self.process.module_at(address).is_none() {
+            self.compile(address)?;
+        }
+        let compiled = self.process.module_at(address).and_then(|module| self.compiled.get(module.cookie as usize));
+        let caller = self.process.unwind(address, state)?;
+        Ok(compiled.zip(caller).map(|(compiled, caller)| Found {
+            caller,
+            is_signal_frame: compiled.is_signal_frame,
+            is_signed: compiled.signed.iter().any(|range| range.contains(&address)),
+        }))
+    }
+
+    /// Checks and compiles the FDE that covers an address, if there is one that can be used.
+    fn compile(&mut self, address: u64) -> Result<(), Error> {
+        let code = match self.code_at(address) {
+            Some(code) => code.clone(),
+            None => return Ok(()),
+        };
+        let module = &self.modules[code.module];
+        let file = key(module);
+        let linked = self.target.wrap(address.wrapping_sub(module.bias));
+        let problems = &mut self.problems;
+        let sections = self.files.entry(file).or_insert_with(|| {
+            let (sections, unread) = read(module);
+            problems.extend(unread.into_iter().map(|problem| (module.path.clone(), problem)));
+            sections
+        });
+        let count = sections.len();
+        let wanted = Wanted { address, linked, file, code };
+        for section in 0..count {
+            if self.compile_in(section, &wanted)? {
+                break;
+            }
+        }
+        Ok(())
+    }
+
+    /// Does [`compile`](Self::compile) with one of the file's sections. Returns whether an FDE was
+    /// added.
+    fn compile_in(&mut self, section: usize, wanted: &Wanted) -> Result<bool, Error> {
+        let module = &self.modules[wanted.code.module];
+        let table = &self.files[&wanted.file][section];
+        let piece = match table.find(wanted.linked) {
+            Some(piece) if !self.refused.contains(&(wanted.file, section, piece.fde)) => piece,
+            _ => return Ok(false),
+        };
+        // The addresses of the piece in the process, as far as they are in this code.
+        let before = wanted.linked - piece.range.start;
+        let after = piece.range.end - wanted.linked;
+        let begin = wanted.address.saturating_sub(before).max(wanted.code.range.start);
+        let end = wanted.address.saturating_add(after).min(wanted.code.range.end);
+        let loaded = dwcheck::Module::at(module.bias).cookie(self.compiled.len() as u64).range(begin..=end - 1);
+        let one = table.one(piece.fde);
+        let added = one.map(|one| (add(&mut self.process, &one, &loaded, wanted.address), one));
+        let reason = match added {
+            Ok((Ok(()), one)) => {
+                let move_by =
+                    |range: &Range<u64>| range.start.wrapping_add(module.bias)..range.end.wrapping_add(module.bias);
+                let signed = one.signed.iter().map(move_by).collect();
+                self.compiled.push(Compiled { is_signal_frame: one.is_signal_frame, signed });
+                return Ok(true);
+            }
+            Ok((Err(Error::Refused(fault)), _)) => fault.name().to_string(),
+            Ok((Err(error), _)) => return Err(error),
+            Err(reason) => reason,
+        };
+        self.problems.push((module.path.clone(), table.problem(piece.fde, &reason)));
+        self.refused.insert((wanted.file, section, piece.fde));
+        Ok(false)
+    }
+}
+
+fn key(module: &Module<'_>) -> FileKey {
+    match module.image {
+        Image::File(place, _) => (0, place),
+        Image::Program(_) => (1, 0),
+        Image::Vdso(_) => (2, 0),
+    }
+}
+
+/// Reads the frame sections of a module, and says which can't be used.
+fn read<'a>(module: &Module<'a>) -> (Vec<SectionTable<'a>>, Vec<String>) {
+    match Program::read(module.image.bytes()) {
+        Ok(program) => SectionTable::all(&program),
+        Err(error) => (Vec::new(), vec![error.to_string()]),
+    }
+}
+
+/// Adds an FDE to a process, for the addresses of `loaded`, or, if another FDE answers for one of
+/// these, for `address` alone. A remember_state that is left over at the end of the FDE changes no
+/// row, so the rows of such an FDE are used too.
+fn add(process: &mut Process, one: &OneFde, loaded: &dwcheck::Module, address: u64) -> Result<(), Error> {
+    let loaded = loaded.clone().room(room(&one.bytes));
+    let mut add = |bytes: &[u8]| match process.add(bytes, loaded.clone()) {
+        Err(Error::Overlaps(_)) => process.add(bytes, loaded.clone().range(address..=address)),
+        added => added,
+    };
+    let added = match add(&one.bytes) {
+        Err(Error::Refused(Fault { kind: FaultKind::Unrestored, .. })) => add(&one.without_left_over_states()),
+        added => added,
+    };
+    added.map(|_| ())
+}

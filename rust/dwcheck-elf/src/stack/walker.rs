@@ -1,0 +1,124 @@
+//! Walks up the stack of a thread.
+
+use super::guess::{Guess, Guesser};
+use super::tables::{Found, Tables};
+use super::{FoundBy, Frame, Stop, WalkOptions};
+use crate::core_file::{CoreFile, Memory};
+use dwcheck::{Abi, Answer, Block, Error, Registers, State};
+use std::collections::HashSet;
+
+/// A walk up the stack of a thread.
+pub(super) struct Walker<'w, 'a> {
+    pub core: &'a CoreFile<'a>,
+    pub memory: &'w Memory<'a>,
+    pub blocks: &'w [Block<'a>],
+    pub tables: &'w mut Tables<'a>,
+    pub options: WalkOptions,
+    /// The CFA of the frame before, which the next frame's has to exceed. `None` for the first frame,
+    /// and next to a signal frame, where the stack may be another one.
+    pub floor: Option<u64>,
+    /// The frames so far: their addresses and CFAs.
+    pub seen: HashSet<(u64, u64)>,
+}
+
+/// A frame that called, with its registers; or that there is none.
+enum Caller {
+    Frame(Frame, Registers),
+    None(Stop),
+}
+
+impl Walker<'_, '_> {
+    /// The frames from the one with these registers on, and why there are no more.
+    pub fn walk(mut self, address: u64, mut registers: Registers) -> Result<(Vec<Frame>, Stop), Error> {
+        let mut frames = Vec::new();
+        let mut next = Frame::first(address);
+        loop {
+            if frames.len() >= self.options.limit {
+                return Ok((frames, Stop::Limit));
+            }
+            if self.options.keeps_registers {
+                next.registers = registers.iter().collect();
+            }
+            match self.caller(&mut next, &registers)? {
+                Caller::Frame(frame, known) => {
+                    frames.push(std::mem::replace(&mut next, frame));
+                    registers = known;
+                }
+                // The frame is among those before it.
+                Caller::None(Stop::Loop) => return Ok((frames, Stop::Loop)),
+                Caller::None(stop) => {
+                    frames.push(next);
+                    return Ok((frames, stop));
+                }
+            }
+        }
+    }
+
+    /// The caller of a frame. Stores the frame's CFA in it.
+    fn caller(&mut self, frame: &mut Frame, registers: &Registers) -> Result<Caller, Error> {
+        let abi = self.core.abi();
+        let state = State { registers, memory: self.blocks, abi: Abi::new(abi.kept, Some(abi.stack_pointer)) };
+        match self.tables.caller(frame.looked_up(), &state)? {
+            Some(found) => Ok(self.by_row(frame, found)),
+            None => Ok(self.by_guess(frame, registers)),
+        }
+    }
+
+    fn by_row(&mut self, frame: &mut Frame, found: Found) -> Caller {
+        let Found { caller, is_signal_frame, is_signed } = found;
+        frame.cfa = caller.cfa.value();
+        frame.is_signal_frame = is_signal_frame;
+        if let Some(stop) = self.stop_at(frame) {
+            return Caller::None(stop);
+        }
+        let address = match caller.return_address {
+            Answer::Value(address) if is_signed => self.core.without_code(address),
+            Answer::Value(address) => address,
+            Answer::Undefined => return Caller::None(Stop::ReturnUndefined),
+            Answer::DivisionByZero => return Caller::None(Stop::ReturnDivisionByZero),
+            _ => return Caller::None(Stop::ReturnUnreadable),
+        };
+        // A signal may have interrupted anything, but a call is only in code.
+        if !is_signal_frame && !self.core.is_executable(address) {
+            return Caller::None(Stop::NotExecutable(address));
+        }
+        let next = Frame { is_after_call: !is_signal_frame, ..Frame::caller(address, FoundBy::Row) };
+        Caller::Frame(next, caller.known())
+    }
+
+    fn by_guess(&mut self, frame: &mut Frame, registers: &Registers) -> Caller {
+        let guesser = Guesser { core: self.core, memory: self.memory, registers };
+        let guess = match (self.options.is_strict, self.core.is_executable(frame.address)) {
+            (true, _) => None,
+            (_, true) => guesser.by_frame_pointer(),
+            (_, false) if !frame.is_after_call => guesser.by_call(),
+            _ => None,
+        };
+        let Guess { found_by, address, registers, cfa } = match guess {
+            Some(guess) => guess,
+            None => return Caller::None(Stop::NotCovered),
+        };
+        frame.cfa = Some(cfa);
+        match self.stop_at(frame) {
+            Some(stop) => Caller::None(stop),
+            None => Caller::Frame(Frame::caller(address, found_by), registers),
+        }
+    }
+
+    /// Why the stack ends at a frame whose CFA is known: the CFA isn't higher than that of the frame
+    /// that it called, or the frame was there before.
+    fn stop_at(&mut self, frame: &Frame) -> Option<Stop> {
+        let cfa = frame.cfa?;
+        if !self.seen.insert((frame.address, cfa)) {
+            return Some(Stop::Loop);
+        }
+        // Where calls don't write to the stack, a frame may take nothing of it.
+        let may_be_empty = self.core.abi().link_register.is_some();
+        let floor = std::mem::replace(&mut self.floor, Some(cfa).filter(|_| !frame.is_signal_frame));
+        let grows = |floor| floor < cfa || may_be_empty && floor == cfa;
+        match floor {
+            Some(floor) if !frame.is_signal_frame && !grows(floor) => Some(Stop::CfaNotGrowing),
+            _ => None,
+        }
+    }
+}

@@ -1,0 +1,332 @@
+//! Stacks of programs that crash where no row is found, or where rows would be wrong. The expected
+//! frames are those of gdb or eu-stack, or those that the program's source implies.
+
+mod common;
+
+use common::run::dwcheck_elf;
+use common::{has, skipped, Folder};
+
+/// Crashes in the way that its argument names.
+const CRASH: &str = r#"
+#define _GNU_SOURCE
+#include <signal.h>
+#include <stdlib.h>
+#include <string.h>
+#include <sys/mman.h>
+typedef int fn(int);
+static char data[64];
+__attribute__((noinline)) int callee(fn *volatile f) { return f(3) + 1; }
+__attribute__((noinline)) int middle(fn *f, int n) { volatile int k = n; return callee(f) + k; }
+static int aborts(int n) { if (n) abort(); return n; }
+static void handler(int n) { if (n) abort(); }
+static int faulty(int n) { return *(volatile int *)(long)n; }
+static void handle(int flags) {
+    static char other[1 << 16];
+    stack_t stack = {.ss_sp = other, .ss_size = sizeof other};
+    sigaltstack(&stack, 0);
+    struct sigaction action = {.sa_handler = handler, .sa_flags = flags};
+    sigaction(SIGSEGV, &action, 0);
+}
+static fn *code(const char *bytes, size_t size) {
+    char *page = mmap(0, 4096, PROT_READ | PROT_WRITE | PROT_EXEC, MAP_PRIVATE | MAP_ANONYMOUS, -1, 0);
+    return (fn *)memcpy(page, bytes, size);
+}
+__attribute__((noinline)) int smash(int n) {
+    volatile long room[2];
+    for (int i = 0; i < 12; i++) ((volatile long *)room)[i] = 0x4141414141414141;
+    return n;
+}
+int main(int c, char **v) {
+    const char *way = v[1];
+    if (!strcmp(way, "null")) return middle(0, c) + 1;
+    if (!strcmp(way, "wild")) return middle((fn *)0x1234500000, c) + 1;
+    if (!strcmp(way, "data")) return middle((fn *)data, c) + 1;
+    if (!strcmp(way, "handled")) { handle(0); return middle(0, c) + 1; }
+    if (!strcmp(way, "other-stack")) { handle(SA_ONSTACK); return middle(faulty, c) + 1; }
+    if (!strcmp(way, "smash")) return smash(c) + 1;
+    /* push %rbp; mov %rsp, %rbp; sub $32, %rsp; ud2 */
+    if (!strcmp(way, "frame-pointer")) return middle(code("\x55\x48\x89\xe5\x48\x83\xec\x20\x0f\x0b", 10), c) + 1;
+    /* sub $40, %rsp; ud2 */
+    if (!strcmp(way, "none")) return middle(code("\x48\x83\xec\x28\x0f\x0b", 6), c) + 1;
+    return aborts(c);
+}
+"#;
+
+/// Says the addresses of all frames that gdb finds by unwinding.
+const FRAMES: &str = "set backtrace past-main on
+python
+frame = gdb.newest_frame()
+while frame is not None:
+    if frame.type() not in (gdb.INLINE_FRAME, gdb.TAILCALL_FRAME):
+        print('frame', '%#018x' % frame.pc())
+    frame = frame.older()
+end
+";
+
+/// The lines of frames that `dwcheck-elf stack` writes, without the numbers.
+fn frames(out: &str) -> Vec<&str> {
+    out.lines().filter_map(|line| line.strip_prefix('#')?.split_once(' ')).map(|(_, rest)| rest).collect()
+}
+
+/// The addresses of lines of frames.
+fn addresses<'a>(frames: &[&'a str]) -> Vec<&'a str> {
+    frames.iter().map(|frame| frame.split(' ').next().unwrap()).collect()
+}
+
+fn stop(out: &str) -> &str {
+    out.lines().last().unwrap()
+}
+
+/// Builds the program `crash`. Returns false if a tool isn't installed.
+fn build(folder: &Folder, flags: &str) -> bool {
+    folder.write("crash.c", CRASH);
+    folder.run(&format!("gcc -O1 {} crash.c -o crash", flags));
+    ["gdb", "eu-stack"].iter().all(|tool| has(tool))
+}
+
+fn by_gdb(folder: &Folder, program: &str) -> Vec<String> {
+    folder.write("frames.gdb", FRAMES);
+    let shown = folder.run(&format!("gdb --batch -x frames.gdb {} core | sed -n 's/^frame //p'", program));
+    shown.lines().map(str::to_string).collect()
+}
+
+fn by_eu_stack(folder: &Folder, program: &str) -> Vec<String> {
+    let shown = folder.run(&format!("eu-stack --core core -e {} 2> /dev/null || true", program));
+    let frames = shown.lines().filter(|line| line.starts_with('#'));
+    frames.map(|line| line.split_whitespace().nth(1).unwrap().to_string()).collect()
+}
+
+/// A call to an address where no code is: the caller is found by the return address on the stack, and
+/// marked. eu-stack finds none of these callers.
+#[test]
+fn calls_to_where_no_code_is() {
+    let folder = Folder::new("crash-calls");
+    if !build(&folder, "") {
+        return;
+    }
+    for way in ["null", "wild", "data", "handled"] {
+        folder.crash(&format!("./crash {}", way));
+        let ran = dwcheck_elf(&folder, "stack --no-inline --no-source core");
+        assert_eq!((ran.status, ran.error.as_str()), (0, ""));
+        let shown = frames(&ran.out);
+        assert_eq!(addresses(&shown), by_gdb(&folder, "crash"), "{}: {}", way, ran.out);
+        let guesses: Vec<_> = shown.iter().filter(|line| line.contains(" guess: ")).collect();
+        assert!(
+            guesses.len() == 1 && guesses[0].contains(" callee+") && guesses[0].ends_with(" guess: call"),
+            "{}",
+            ran.out
+        );
+        let strict = dwcheck_elf(&folder, "stack --no-inline --no-source --strict core");
+        let place = shown.iter().position(|line| line == guesses[0]).unwrap();
+        assert_eq!(frames(&strict.out), shown[..place]);
+        assert_eq!(stop(&strict.out), "stop: not covered");
+    }
+}
+
+/// Code without a row that keeps a frame pointer is passed by it, and its caller is marked. The next
+/// frames are found by rows again. Code that keeps none ends the stack.
+#[test]
+fn code_without_rows() {
+    let folder = Folder::new("crash-jit");
+    if !build(&folder, "") {
+        return;
+    }
+    folder.crash("./crash frame-pointer");
+    let ran = dwcheck_elf(&folder, "stack --no-inline --no-source core");
+    let shown = frames(&ran.out);
+    assert_eq!(addresses(&shown), by_eu_stack(&folder, "crash"), "{}", ran.out);
+    assert!(shown[1].contains(" callee+") && shown[1].ends_with(" guess: frame pointer"), "{}", ran.out);
+    assert_eq!(ran.out.matches(" guess: ").count(), 1);
+    folder.crash("./crash none");
+    let ran = dwcheck_elf(&folder, "stack --no-inline --no-source core");
+    assert_eq!((frames(&ran.out).len(), stop(&ran.out)), (1, "stop: not covered"), "{}", ran.out);
+}
+
+/// A signal handler on another stack, whose CFAs are above or below those of the frames that it
+/// interrupted.
+#[test]
+fn a_handler_on_another_stack() {
+    let folder = Folder::new("crash-other-stack");
+    for flags in ["", "-static-pie"] {
+        if !build(&folder, flags) {
+            return;
+        }
+        folder.make_core("./crash other-stack");
+        let ran = dwcheck_elf(&folder, "stack --no-inline --no-source core");
+        let shown = frames(&ran.out);
+        assert_eq!(addresses(&shown), by_eu_stack(&folder, "crash"), "{}", ran.out);
+        assert!(
+            ran.out.contains(" faulty") && ran.out.contains(" main+") && !ran.out.contains(" guess: "),
+            "{}",
+            ran.out
+        );
+    }
+}
+
+/// A return address that isn't code isn't a frame. gdb shows frames with what it finds on the stack.
+#[test]
+fn a_stack_that_is_smashed() {
+    let folder = Folder::new("crash-smash");
+    if !build(&folder, "-fno-stack-protector") {
+        return;
+    }
+    folder.crash("./crash smash");
+    let ran = dwcheck_elf(&folder, "stack --no-inline --no-source core");
+    assert_eq!(frames(&ran.out).len(), 1, "{}", ran.out);
+    assert_eq!(stop(&ran.out), "stop: return address 0x4141414141414141 isn't code");
+}
+
+/// Maps a page of its own code again, and other code right after it, where the file has the function
+/// `filler`, whose rows would be wrong there.
+const GHOST: &str = r#"
+#define _GNU_SOURCE
+#include <stdint.h>
+#include <fcntl.h>
+#include <stdlib.h>
+#include <string.h>
+#include <sys/mman.h>
+extern char __executable_start;
+__attribute__((noinline)) int stop(void) { abort(); }
+__attribute__((noinline)) static int call(int (*f)(int (*)(void))) { return f(stop) + 1; }
+int filler(int a) { char x[200]; memset(x, a, 200); return x[a % 200]; }
+int main(void) {
+    int file = open("/proc/self/exe", O_RDONLY);
+    uintptr_t linked = (uintptr_t)filler - (uintptr_t)&__executable_start, page = linked & -4096;
+    char *room = mmap(0, 4 * 4096, PROT_READ | PROT_WRITE | PROT_EXEC, MAP_PRIVATE | MAP_ANONYMOUS, -1, 0);
+    mmap(room, 4096, PROT_READ | PROT_EXEC, MAP_PRIVATE | MAP_FIXED, file, page - 4096);
+    char *code = room + 4096 + linked % 4096 + 16;
+    /* push %rbp; mov %rsp, %rbp; sub $32, %rsp; call *%rdi; leave; ret */
+    memcpy(code, "\x55\x48\x89\xe5\x48\x83\xec\x20\xff\xd7\xc9\xc3", 12);
+    return call((int (*)(int (*)(void)))code);
+}
+"#;
+
+/// The code before `main` has to fill the page before that of `filler`.
+const PAD: &str = ".text\n.globl pad\npad: .cfi_startproc\n .fill 0x3000, 1, 0x90\n ret\n .cfi_endproc\n.section .note.GNU-stack,\"\",@progbits\n";
+
+/// Rows are used only for the very pages of the file that they describe.
+#[test]
+fn a_page_that_is_mapped_again() {
+    let folder = Folder::new("crash-ghost");
+    if !has("eu-stack") {
+        return;
+    }
+    folder.write("pad.s", PAD);
+    folder.write("ghost.c", GHOST);
+    folder.run("gcc -O1 -g pad.s ghost.c -o ghost");
+    folder.make_core("./ghost");
+    let ran = dwcheck_elf(&folder, "stack --no-inline --no-source core");
+    let shown = frames(&ran.out);
+    assert_eq!(addresses(&shown), by_eu_stack(&folder, "ghost"), "{}", ran.out);
+    let jit = shown.iter().position(|line| line.contains(" stop+")).unwrap() + 1;
+    assert!(!shown[jit].contains('('), "{}", ran.out);
+    assert!(shown[jit + 1].contains(" call+") && shown[jit + 1].ends_with(" guess: frame pointer"), "{}", ran.out);
+}
+
+/// A fault in `last`, whose FDE ends with a remember_state that nothing restores; and in `bad`, whose
+/// FDE is refused.
+const FDES: &str = ".globl main
+main: .cfi_startproc
+ push %rbp
+ .cfi_adjust_cfa_offset 8
+ .cfi_offset %rbp, -16
+ mov %rsp, %rbp
+ cmp $1, %edi
+ jne 1f
+ call last
+1: call bad
+.cfi_endproc
+last: .cfi_startproc
+ sub $40, %rsp
+ .cfi_adjust_cfa_offset 40
+ .cfi_remember_state
+ ud2
+.cfi_endproc
+bad: .cfi_startproc
+ push %rbp
+ .cfi_escape 0x0f, 2, 0x77, 16
+ mov %rsp, %rbp
+ .cfi_def_cfa_register %rbp
+ ud2
+.cfi_endproc
+.section .note.GNU-stack,\"\",@progbits
+";
+
+/// A remember_state that is left over is refused by `check`, but changes no row, so `stack` uses the
+/// rows. An FDE that is refused for another reason costs only its own frame.
+#[test]
+fn refused_fdes() {
+    let folder = Folder::new("crash-fdes");
+    if !has("eu-stack") {
+        return;
+    }
+    folder.write("a.s", FDES);
+    folder.run("gcc a.s -o crash");
+    let check = dwcheck_elf(&folder, "check --all --no-lists crash");
+    assert!(check.out.contains(": Unrestored: ") && check.out.contains(": CfaNotRegister: "), "{}", check.out);
+    folder.crash("./crash");
+    let last = dwcheck_elf(&folder, "stack --no-inline --no-source core");
+    let shown = frames(&last.out);
+    assert!(
+        shown[0].contains(" last+0x4 ") && shown[1].contains(" main+") && !last.out.contains("guess"),
+        "{}",
+        last.out
+    );
+    assert_eq!(
+        (last.error.as_str(), addresses(&shown)),
+        ("", by_eu_stack(&folder, "crash").iter().map(String::as_str).collect())
+    );
+    folder.crash("./crash 2");
+    let bad = dwcheck_elf(&folder, "stack --no-inline --no-source core");
+    let shown = frames(&bad.out);
+    assert!(shown[0].contains(" bad+0x4 ") && shown[1].contains(" main+"), "{}", bad.out);
+    assert!(shown[1].ends_with(" guess: frame pointer") && bad.out.matches("guess").count() == 1, "{}", bad.out);
+    assert!(bad.error.contains(": CfaNotRegister: FDE ") && bad.error.ends_with(" isn't used\n"), "{}", bad.error);
+}
+
+const DEEP: &str = "
+#include <stdlib.h>
+__attribute__((noinline)) int deep(int n) { volatile int k = n; if (n == 0) abort(); return deep(n - 1) + k; }
+int main(void) { return deep(5) + 1; }
+";
+
+/// Return addresses that are signed (aarch64), in memory and in a register.
+#[test]
+fn signed_return_addresses() {
+    let folder = Folder::new("crash-signed");
+    if !["aarch64-linux-gnu-gcc", "qemu-aarch64"].iter().all(|tool| has(tool)) {
+        return;
+    }
+    folder.write("a.c", DEEP);
+    for flags in ["", "-fno-asynchronous-unwind-tables"] {
+        folder
+            .run(&format!("aarch64-linux-gnu-gcc -O1 -g -static -mbranch-protection=standard {} a.c -o crash", flags));
+        folder.run("ulimit -c unlimited; qemu-aarch64 -cpu max ./crash 2> /dev/null || mv qemu_crash_*.core core");
+        let ran = dwcheck_elf(&folder, "stack --no-inline --no-source crash core");
+        assert_eq!((ran.status, ran.error.as_str()), (0, ""), "{}", ran.out);
+        assert!(ran.out.matches(" deep+").count() == 6 && ran.out.contains(" main+"), "{}", ran.out);
+        assert!(ran.out.contains(" _start+") && !ran.out.contains("guess"), "{}", ran.out);
+    }
+}
+
+/// In glibc 2.36 for i386, the FDE of memcpy has a remember_state that is left over.
+#[test]
+fn a_fault_in_memcpy_of_i386() {
+    let folder = Folder::new("crash-memcpy");
+    folder.write(
+        "a.c",
+        "#include <string.h>\nint main(int c, char **v) { return memcpy((char *)16, v[0], 4000 + c) != 0; }",
+    );
+    let builds = std::process::Command::new("gcc")
+        .args(["-m32", "-fno-builtin", "a.c", "-o", "a"])
+        .current_dir(folder.path())
+        .output();
+    if !builds.map_or(false, |output| output.status.success()) || !has("eu-stack") {
+        return skipped("gcc -m32 doesn't link");
+    }
+    folder.crash("env GLIBC_TUNABLES=glibc.cpu.hwcaps=-SSE4_2,-SSSE3,-SSE2,-AVX2 ./a");
+    let ran = dwcheck_elf(&folder, "stack --no-inline --no-source core");
+    let shown = frames(&ran.out);
+    assert_eq!(addresses(&shown), by_eu_stack(&folder, "a"), "{}{}", ran.out, ran.error);
+    assert!(ran.out.contains(" main+") && !ran.out.contains("guess"), "{}", ran.out);
+}

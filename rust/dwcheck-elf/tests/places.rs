@@ -1,0 +1,150 @@
+//! Names, lines and registers of frames, beside those of addr2line and gdb; and separate files of
+//! debug information.
+
+mod common;
+
+use common::run::dwcheck_elf;
+use common::{has, Folder};
+use serde_json::Value;
+
+const INLINES: &str = "
+#include <stdlib.h>
+static inline __attribute__((always_inline)) int inner(int n) { if (n < 9) abort(); return n; }
+static inline __attribute__((always_inline)) int outer(int n) {
+    return inner(n + 1) + 1;
+}
+__attribute__((noinline)) int calls(int n) {
+    volatile int kept = n;
+    return outer(kept) + kept;
+}
+int main(int argc, char **argv) { return calls(argc) + 1; }
+";
+
+/// Builds the program `program` and makes its core file. Returns false if gdb isn't installed.
+fn build(folder: &Folder, flags: &str) -> bool {
+    folder.write("a.c", INLINES);
+    folder.run(&format!("gcc -O1 {} a.c -o program", flags));
+    let runs = has("gdb");
+    if runs {
+        folder.make_core("./program");
+    }
+    runs
+}
+
+/// The document of JSON that `stack` writes.
+fn document(folder: &Folder, words: &str) -> Value {
+    let ran = dwcheck_elf(folder, &format!("stack --json {}", words));
+    assert_eq!(ran.status, 0, "{}", ran.error);
+    serde_json::from_str(&ran.out).unwrap_or_else(|error| panic!("{}: {}", error, ran.out))
+}
+
+/// The frames of the first thread whose module is the program.
+fn own_frames(document: &Value) -> Vec<&Value> {
+    let frames = document["threads"][0]["frames"].as_array().unwrap();
+    frames.iter().filter(|frame| frame["module"].as_str().map_or(false, |path| path.ends_with("/program"))).collect()
+}
+
+/// The functions and lines of a frame, the innermost first, as addr2line writes them.
+fn lines(frame: &Value) -> String {
+    let own = frame["inlined"].as_array().unwrap().iter().chain([frame]);
+    own.map(|one| format!("{}\n{}:{}\n", one["function"].as_str().unwrap(), one["file"].as_str().unwrap(), one["line"]))
+        .collect()
+}
+
+/// Functions, inlined functions and lines are those of addr2line for the byte before the return
+/// address.
+#[test]
+fn functions_and_lines_are_those_of_addr2line() {
+    let folder = Folder::new("places-lines");
+    if !build(&folder, "-g -no-pie") {
+        return;
+    }
+    let document = document(&folder, "core");
+    let frames = own_frames(&document);
+    assert_eq!(frames[0]["inlined"].as_array().unwrap().len(), 2, "{}", document);
+    for frame in &frames[..2] {
+        let address = common::hex(frame["address"].as_str().unwrap()) - 1;
+        assert_eq!(lines(frame), folder.run(&format!("addr2line -i -f -e program {:#x}", address)));
+    }
+    assert_eq!(document["signal"]["name"], "SIGABRT");
+    assert_eq!(document["name"], "program");
+    let plain = dwcheck_elf(&folder, "stack --no-inline --no-source core");
+    assert!(!plain.out.contains("inlined") && !plain.out.contains(" at /"), "{}", plain.out);
+    let text = dwcheck_elf(&folder, "stack core").out;
+    assert!(text.starts_with("signal 6 SIGABRT, code SI_TKILL\nthread "), "{}", text);
+    let expected = format!(" inner inlined ({0}/program) at {0}/a.c:3\n", folder.path().display());
+    assert!(text.contains(&expected) && text.contains(" calls+"), "{}", text);
+}
+
+/// The callee-saved registers of each frame are gdb's.
+#[test]
+fn registers_are_those_of_gdb() {
+    let folder = Folder::new("places-registers");
+    if !build(&folder, "-g -fno-omit-frame-pointer") {
+        return;
+    }
+    let document = document(&folder, "--registers --no-inline --no-source core");
+    let frames = document["threads"][0]["frames"].as_array().unwrap();
+    folder.write(
+        "registers.gdb",
+        "python
+frame = gdb.newest_frame()
+while frame is not None:
+    if frame.type() == gdb.NORMAL_FRAME:
+        print('frame', *['%#x' % (int(frame.read_register(name)) & (2**64 - 1)) for name in ('rip', 'rsp', 'rbx', 'rbp', 'r12', 'r15')])
+    frame = frame.older()
+end
+",
+    );
+    let shown = folder.run("gdb --batch -x registers.gdb program core 2> /dev/null | sed -n 's/^frame //p'");
+    for (line, frame) in shown.lines().zip(frames) {
+        let names = ["rip", "rsp", "rbx", "rbp", "r12", "r15"];
+        let ours: Vec<_> = names.iter().map(|name| frame["registers"][name].as_str().unwrap()).collect();
+        assert_eq!(ours.join(" "), line);
+    }
+    assert!(shown.lines().count() > 3);
+}
+
+/// The names of a program without symbols and debug information come from a separate file: by its
+/// build id, or by `.gnu_debuglink`. A file that doesn't fit isn't used, and a warning says why.
+#[test]
+fn separate_files_of_debug_information() {
+    let folder = Folder::new("places-separate");
+    if !has("gdb") {
+        return;
+    }
+    folder.write("a.c", INLINES);
+    folder.run("gcc -O1 -g -Wl,--build-id a.c -o program; objcopy --only-keep-debug program whole.debug");
+    folder.run("strip program; objcopy --add-gnu-debuglink=whole.debug program; mkdir away; mv whole.debug away");
+    folder.make_core("./program");
+    let home = format!("root{}", folder.path().display());
+    folder
+        .run(&format!("mkdir -p root/usr/lib {0}; ln -s /usr/lib/x86_64-linux-gnu root/usr/lib; cp program {0}", home));
+    let text = || dwcheck_elf(&folder, "stack --root root core");
+    let is_named = |out: &str| out.contains(" inner inlined ") && out.contains("/a.c:3\n") && out.contains(" calls+");
+    let bare = text();
+    assert!(
+        bare.error.is_empty() && !is_named(&bare.out) && bare.out.contains("/program)"),
+        "{}{}",
+        bare.error,
+        bare.out
+    );
+
+    let id = folder.run("readelf -n program | sed -n 's/.*Build ID: //p'");
+    let (first, rest) = id.trim().split_at(2);
+    let by_id = format!("root/usr/lib/debug/.build-id/{}/{}.debug", first, rest);
+    folder.run(&format!("mkdir -p $(dirname {0}); cp away/whole.debug {0}", by_id));
+    assert!(is_named(&text().out), "{}", text().out);
+    folder.run(&format!("gcc -O2 -g -Wl,--build-id a.c -o other; objcopy --only-keep-debug other {}", by_id));
+    let other = text();
+    assert!(other.error.contains(&format!("{}: not used: its build id is ", by_id)), "{}", other.error);
+    assert_eq!(other.out, bare.out);
+
+    folder.run(&format!("rm {}; mkdir {1}/.debug; cp away/whole.debug {1}/.debug", by_id, home));
+    assert!(is_named(&text().out), "{}", text().out);
+    folder.run(&format!("echo >> {}/.debug/whole.debug", home));
+    let changed = text();
+    let why = "/whole.debug: not used: its checksum isn't the one in .gnu_debuglink\n";
+    assert!(changed.error.ends_with(why), "{}", changed.error);
+    assert_eq!(changed.out, bare.out);
+}
