@@ -5,7 +5,7 @@ mod memory;
 mod modules;
 mod notes;
 mod ranges;
-mod registers;
+pub(crate) mod registers;
 mod signal;
 
 pub use files::{FileError, Files, MappedFile};
@@ -16,6 +16,7 @@ pub use registers::Thread;
 pub use signal::Signal;
 
 use crate::abi::{abi, Abi};
+use crate::live::{Map, Snapshot};
 use crate::target::{AddressSize, Order, Target};
 use notes::Notes;
 use object::elf::{self, FileHeader32, FileHeader64, ET_CORE, PF_X, PT_LOAD};
@@ -111,6 +112,44 @@ impl<'data> CoreFile<'data> {
         let Notes { threads, signal, mappings, vdso, entry, name, process, pac_mask, .. } = notes;
         let code = Code::of(&segments, &mappings);
         Ok(CoreFile { target, abi, threads, signal, mappings, vdso, entry, name, process, pac_mask, segments, code })
+    }
+
+    /// The copy of a process as a core file. The bytes of its segments are those that were copied.
+    pub(crate) fn of_live(live: &'data Snapshot) -> Self {
+        let Snapshot { process, target, abi, threads, blocks, pac_mask, .. } = live;
+        let copied = blocks.iter().map(|(address, bytes)| CoreSegment {
+            address: *address,
+            bytes,
+            size: bytes.len() as u64,
+            is_executable: false,
+            is_cut: false,
+        });
+        let listed = process.maps.iter().map(|map| CoreSegment {
+            address: map.begin,
+            bytes: &[],
+            size: map.end.saturating_sub(map.begin),
+            is_executable: map.is_executable,
+            is_cut: false,
+        });
+        let segments: Vec<_> = copied.chain(listed).collect();
+        let files = process.maps.iter().filter(|map| map.path.starts_with(b"/"));
+        let mapping = |map: &'data Map| Mapping { begin: map.begin, end: map.end, offset: map.offset, path: &map.path };
+        let mappings: Vec<_> = files.map(mapping).collect();
+        let auxiliary = |kind| notes::auxiliary(&process.auxiliary, *target, kind);
+        CoreFile {
+            target: *target,
+            abi,
+            threads: threads.clone(),
+            signal: None,
+            code: Code::of(&segments, &mappings),
+            mappings,
+            vdso: auxiliary(notes::AT_SYSINFO_EHDR),
+            entry: auxiliary(notes::AT_ENTRY),
+            name: None,
+            process: Some(ProcessInfo { id: process.id, name: process.name.clone().unwrap_or_default() }),
+            pac_mask: *pac_mask,
+            segments,
+        }
     }
 
     /// The byte order and the address size.

@@ -30,6 +30,7 @@ pub mod functions;
 pub mod inspect;
 mod layout;
 pub mod lint;
+pub mod live;
 pub mod loclists;
 pub mod mapped;
 pub mod modules;

@@ -56,6 +56,18 @@ impl Files {
         })
     }
 
+    /// Opens the files of which the process with this id, which runs, can execute a part. They are
+    /// the mapped files themselves, even if they were deleted or replaced, as far as this program may
+    /// open these; otherwise the files at their paths.
+    pub fn of_live(core: &CoreFile<'_>, pid: u32) -> Self {
+        let root = PathBuf::from(format!("/proc/{}/root", pid));
+        Files::open(core, &root, |mapping| {
+            let mapped = format!("/proc/{}/map_files/{:x}-{:x}", pid, mapping.begin, mapping.end);
+            let path = Path::new(OsStr::from_bytes(mapping.path));
+            content(Path::new(&mapped)).or_else(|_| below(&root, path).and_then(|path| content(&path)))
+        })
+    }
+
     fn open(core: &CoreFile<'_>, root: &Path, open: impl Fn(&Mapping<'_>) -> Result<Bytes, FileError>) -> Self {
         let has_code = |mapping: &&Mapping<'_>| !core.executable_in(&(mapping.begin..mapping.end)).is_empty();
         let mut starts = starts(core);

@@ -9,13 +9,13 @@ use object::elf::{NT_AUXV, NT_FILE, NT_PRPSINFO, NT_PRSTATUS, NT_SIGINFO};
 
 /// The type of the entry of the auxiliary vector that has the address of the program's first
 /// instruction.
-const AT_ENTRY: u64 = 9;
+pub(super) const AT_ENTRY: u64 = 9;
 
 /// The type of the note that says which bits of an address hold an authentication code on aarch64.
 const NT_ARM_PAC_MASK: u32 = 0x406;
 
 /// The type of the entry of the auxiliary vector that has the address of the vDSO.
-const AT_SYSINFO_EHDR: u64 = 33;
+pub(super) const AT_SYSINFO_EHDR: u64 = 33;
 
 /// The type of the entry of the auxiliary vector that has the address of the program's file name.
 const AT_EXECFN: u64 = 31;
@@ -132,7 +132,7 @@ fn signal(bytes: &[u8], target: Target) -> Result<Signal, ReadError> {
 
 /// Finds the value whose type is `wanted` in the auxiliary vector, which is pairs of a type and a
 /// value. `None` if there is no such pair.
-fn auxiliary(bytes: &[u8], target: Target, wanted: u64) -> Option<u64> {
+pub(super) fn auxiliary(bytes: &[u8], target: Target, wanted: u64) -> Option<u64> {
     let word = target.address_size.bytes();
     let mut cursor = Cursor::new(bytes, target);
     loop {

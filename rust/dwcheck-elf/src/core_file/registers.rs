@@ -77,7 +77,7 @@ pub(super) fn thread(bytes: &[u8], target: Target, abi: &Abi) -> Result<Thread, 
 
 /// Reads the general registers of a thread, as the kernel writes them for debuggers
 /// (`elf_gregset_t`). The result is in ascending order of the DWARF numbers.
-fn general(bytes: &[u8], target: Target, abi: &Abi) -> Result<Vec<(u16, u64)>, ReadError> {
+pub(crate) fn general(bytes: &[u8], target: Target, abi: &Abi) -> Result<Vec<(u16, u64)>, ReadError> {
     let word = target.address_size.bytes();
     let mut cursor = Cursor::new(bytes, target);
     let mut held = Vec::new();

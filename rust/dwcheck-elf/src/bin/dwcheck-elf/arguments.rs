@@ -172,8 +172,11 @@ pub struct LocsWords {
 #[derive(Args, Debug)]
 pub struct StackWords {
     /// A core file of x86-64, i386 or aarch64; before it, the program, if it isn't where the core file says
-    #[arg(value_name = "[PROGRAM] CORE", num_args = 1..=2, required = true)]
+    #[arg(value_name = "[PROGRAM] CORE", num_args = 1..=2, required_unless_present = "pid")]
     pub files: Vec<PathBuf>,
+    /// Print the stacks of this process, which goes on as soon as they are copied
+    #[arg(long, value_name = "PID", conflicts_with_all = ["files", "root"])]
+    pub pid: Option<u32>,
     /// Only the thread with this id. Can be given several times
     #[arg(long, value_name = "TID")]
     pub tid: Vec<u32>,

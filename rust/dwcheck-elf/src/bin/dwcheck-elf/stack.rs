@@ -1,4 +1,4 @@
-//! The command `stack`: prints the stack of each thread of a core file.
+//! The command `stack`: prints the stack of each thread of a core file or of a process.
 
 mod report;
 
@@ -6,6 +6,7 @@ use crate::arguments::StackWords;
 use crate::end::{Done, Failure};
 use crate::opened::read;
 use dwcheck_elf::core_file::{CoreError, CoreFile, Files, MappedFile};
+use dwcheck_elf::live::Snapshot;
 use dwcheck_elf::mapped::Bytes;
 use dwcheck_elf::stack::{NameOptions, Stacks};
 use report::Report;
@@ -16,10 +17,13 @@ use std::path::{Path, PathBuf};
 
 /// Prints the stacks on `out`, and warnings on standard error.
 pub fn stack(words: &StackWords, out: &mut impl Write) -> Result<Done, Failure> {
+    if let Some(pid) = words.pid {
+        return of_process(words, pid, out);
+    }
     match words.files.as_slice() {
         [core] => of_core(words, None, core, out),
         [program, core] => of_core(words, Some(program), core, out),
-        _ => Err(Failure::Argument("give [PROGRAM] CORE".to_string())),
+        _ => Err(Failure::Argument("give [PROGRAM] CORE, or --pid".to_string())),
     }
 }
 
@@ -58,6 +62,16 @@ fn of_core(words: &StackWords, program: Option<&PathBuf>, path: &Path, out: &mut
     if core.is_cut() {
         warnings.push(format!("{} ends before the memory that it should hold", path.display()));
     }
+    print(words, &core, &mut stacks, warnings, out)
+}
+
+fn of_process(words: &StackWords, pid: u32, out: &mut impl Write) -> Result<Done, Failure> {
+    let copy = Snapshot::take(pid, &words.tid);
+    let copy = copy.map_err(|error| Failure::File(format!("process {}: {}", pid, error)))?;
+    let core = copy.core();
+    let files = Files::of_live(&core, pid);
+    let mut stacks = Stacks::of(&core, &files);
+    let warnings = copy.skipped().map(|(tid, why)| format!("thread {}: {}", tid, why)).collect();
     print(words, &core, &mut stacks, warnings, out)
 }
 

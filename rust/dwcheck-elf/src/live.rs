@@ -1,0 +1,172 @@
+//! Copies what a walk needs of a process that runs: the registers of its threads and the used part of
+//! their stacks.
+//!
+//! Each thread is stopped only while it is copied. If this program ends meanwhile, also by a signal,
+//! the kernel lets the thread go on.
+
+mod maps;
+mod trace;
+
+pub use maps::Map;
+
+use crate::abi::Abi;
+use crate::core_file::{CoreFile, Thread};
+use crate::target::Target;
+use maps::Process;
+use std::fmt;
+use std::io;
+use std::time::Duration;
+use trace::{Stopped, TraceError};
+
+/// At most this many bytes of a thread's stack are copied.
+pub const STACK_LIMIT: u64 = 16 << 20;
+
+/// How many bytes below the stack pointer are copied too: the red zone of x86-64.
+const RED_ZONE: u64 = 128;
+
+/// A copy of what a walk needs of a process.
+#[derive(Debug)]
+pub struct Snapshot {
+    pub(crate) process: Process,
+    pub(crate) target: Target,
+    pub(crate) abi: &'static Abi,
+    pub(crate) threads: Vec<Thread>,
+    /// Copied memory: its address and bytes.
+    pub(crate) blocks: Vec<(u64, Vec<u8>)>,
+    /// The bits of a return address that hold an authentication code (aarch64).
+    pub(crate) pac_mask: Option<u64>,
+    skipped: Vec<(u32, TraceError)>,
+    longest: Duration,
+}
+
+/// Why a process can't be copied.
+#[derive(Debug)]
+pub enum LiveError {
+    /// There is no such process, or it ended.
+    NoProcess,
+    /// A file of the process in `/proc` can't be read.
+    Unreadable(io::Error),
+    /// It can't be traced: another program traces it, which has this id, or this program may not.
+    NotTraced(Option<u32>),
+    /// Code for its machine isn't read.
+    Machine,
+}
+
+impl Snapshot {
+    /// Copies a process. `wanted` are the ids of the threads to copy; empty for all threads.
+    ///
+    /// # Errors
+    ///
+    /// If no thread can be copied. Single threads that can't be copied are listed in
+    /// [`skipped`](Self::skipped).
+    pub fn take(pid: u32, wanted: &[u32]) -> Result<Snapshot, LiveError> {
+        let process = Process::read(pid)?;
+        let (target, abi) = process.machine()?;
+        let mut copy = Snapshot {
+            process,
+            target,
+            abi,
+            threads: Vec::new(),
+            blocks: Vec::new(),
+            pac_mask: None,
+            skipped: Vec::new(),
+            longest: Duration::ZERO,
+        };
+        copy.copy_vdso();
+        // A thread may make others meanwhile.
+        let mut seen = Vec::new();
+        loop {
+            let tasks = copy.process.threads()?;
+            let fresh: Vec<_> = tasks.into_iter().filter(|tid| !seen.contains(tid)).collect();
+            if fresh.is_empty() {
+                break;
+            }
+            let chosen = fresh.iter().filter(|tid| wanted.is_empty() || wanted.contains(tid));
+            chosen.for_each(|tid| copy.copy_thread(*tid));
+            seen.extend(fresh);
+        }
+        match copy.threads.is_empty() {
+            true => Err(copy.failure()),
+            false => Ok(copy),
+        }
+    }
+
+    /// The threads that couldn't be copied, and why.
+    pub fn skipped(&self) -> impl Iterator<Item = (u32, String)> + '_ {
+        self.skipped.iter().map(|(tid, error)| (*tid, error.to_string()))
+    }
+
+    /// The longest time for which a thread was stopped.
+    pub fn longest_stop(&self) -> Duration {
+        self.longest
+    }
+
+    /// The copy as a core file, whose threads can be walked.
+    pub fn core(&self) -> CoreFile<'_> {
+        CoreFile::of_live(self)
+    }
+
+    /// Why no thread was copied.
+    fn failure(&self) -> LiveError {
+        match self.skipped.first() {
+            Some((_, TraceError::NotPermitted)) => LiveError::NotTraced(self.process.tracer()),
+            _ => LiveError::NoProcess,
+        }
+    }
+
+    fn copy_vdso(&mut self) {
+        let vdso = self.process.maps.iter().find(|map| map.path == b"[vdso]");
+        let bytes = vdso.and_then(|map| Some((map.begin, self.process.memory(map.begin, map.end - map.begin)?)));
+        self.blocks.extend(bytes);
+    }
+
+    /// Stops a thread, copies its registers and its stack, and lets it go on.
+    fn copy_thread(&mut self, tid: u32) {
+        let stopped = match Stopped::stop(tid) {
+            Ok(stopped) => stopped,
+            Err(TraceError::Gone) => return,
+            Err(error) => return self.skipped.push((tid, error)),
+        };
+        let registers = stopped.registers(self.target, self.abi);
+        let stack = registers.as_ref().and_then(|registers| self.stack(registers));
+        self.pac_mask = self.pac_mask.or_else(|| stopped.pac_mask());
+        self.longest = self.longest.max(stopped.resume());
+        if let Some(registers) = registers {
+            self.blocks.extend(stack);
+            let name = self.process.thread_name(tid);
+            self.threads.push(Thread { id: tid, name, signal: 0, registers });
+        }
+    }
+
+    /// The used part of the stack of a thread with these registers.
+    fn stack(&self, registers: &[(u16, u64)]) -> Option<(u64, Vec<u8>)> {
+        let (_, pointer) = registers.iter().find(|(number, _)| *number == self.abi.stack_pointer)?;
+        let map = self.process.maps.iter().find(|map| (map.begin..map.end).contains(pointer));
+        // The stack may have grown downwards since the list of the memory was read.
+        let above = self.process.maps.iter().filter(|map| map.begin > *pointer).min_by_key(|map| map.begin);
+        let map = map.or(above)?;
+        let begin = pointer.saturating_sub(RED_ZONE).max(map.begin.min(*pointer));
+        Some((begin, self.process.memory(begin, (map.end - begin).min(STACK_LIMIT))?))
+    }
+}
+
+impl fmt::Display for LiveError {
+    fn fmt(&self, f: &mut fmt::Formatter<'_>) -> fmt::Result {
+        match self {
+            LiveError::NoProcess => f.write_str("there is no such process, or it ended"),
+            LiveError::Unreadable(error) => write!(f, "its memory can't be read: {}", error),
+            LiveError::NotTraced(Some(tracer)) => write!(f, "the process {} traces it already", tracer),
+            LiveError::NotTraced(None) => f.write_str("it may not be traced: that needs its user's rights, or root's"),
+            LiveError::Machine => f.write_str("its machine isn't x86-64, i386 or aarch64"),
+        }
+    }
+}
+
+impl std::error::Error for LiveError {
+    fn source(&self) -> Option<&(dyn std::error::Error + 'static)> {
+        match self {
+            LiveError::Unreadable(error) => Some(error),
+            _ => None,
+        }
+    }
+}

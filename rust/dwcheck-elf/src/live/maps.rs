@@ -1,0 +1,132 @@
+//! What `/proc` says about a process.
+
+use super::LiveError;
+use crate::abi::{abi, Abi};
+use crate::program::Program;
+use crate::target::Target;
+use nix::sys::uio::{process_vm_readv, RemoteIoVec};
+use nix::unistd::Pid;
+use std::fs;
+use std::io::{self, IoSliceMut};
+use std::path::PathBuf;
+
+/// A part of the memory of a process (a line of `/proc/PID/maps`).
+#[derive(Clone, Debug, PartialEq, Eq)]
+pub struct Map {
+    /// The first address.
+    pub begin: u64,
+    /// The address after the last one.
+    pub end: u64,
+    /// Whether it may be executed.
+    pub is_executable: bool,
+    /// The offset in the file of the byte at `begin`.
+    pub offset: u64,
+    /// The file's path, or a name such as `[stack]`; empty if it has neither.
+    pub path: Vec<u8>,
+}
+
+/// A process, by its id.
+#[derive(Debug)]
+pub(crate) struct Process {
+    pub id: u32,
+    pub maps: Vec<Map>,
+    /// The auxiliary vector.
+    pub auxiliary: Vec<u8>,
+    pub name: Option<String>,
+}
+
+impl Process {
+    pub fn read(id: u32) -> Result<Process, LiveError> {
+        let folder = PathBuf::from(format!("/proc/{}", id));
+        let maps = fs::read(folder.join("maps")).map_err(failure)?;
+        let auxiliary = fs::read(folder.join("auxv")).map_err(failure)?;
+        let maps: Vec<_> = maps.split(|byte| *byte == b'\n').filter_map(map).collect();
+        let mut process = Process { id, maps, auxiliary, name: None };
+        process.name = process.thread_name(id);
+        Ok(process)
+    }
+
+    /// The byte order, the address size and the calling convention, by the program's file.
+    pub fn machine(&self) -> Result<(Target, &'static Abi), LiveError> {
+        let file = fs::File::open(format!("/proc/{}/exe", self.id)).map_err(failure)?;
+        let size = file.metadata().map_err(LiveError::Unreadable)?.len();
+        let bytes = crate::mapped::Bytes::of_file(&file, size).map_err(LiveError::Unreadable)?;
+        let program = Program::read(&bytes).map_err(|_| LiveError::Machine)?;
+        let target = program.target();
+        let abi = abi(program.machine(), target.address_size).ok_or(LiveError::Machine)?;
+        Ok((target, abi))
+    }
+
+    /// The ids of the threads, ascending.
+    pub fn threads(&self) -> Result<Vec<u32>, LiveError> {
+        let folder = fs::read_dir(format!("/proc/{}/task", self.id)).map_err(failure)?;
+        let names = folder.filter_map(|entry| entry.ok()?.file_name().to_str()?.parse().ok());
+        let mut tids: Vec<u32> = names.collect();
+        tids.sort_unstable();
+        Ok(tids)
+    }
+
+    pub fn thread_name(&self, tid: u32) -> Option<String> {
+        let name = fs::read(format!("/proc/{}/task/{}/comm", self.id, tid)).ok()?;
+        Some(String::from_utf8_lossy(&name).trim_end_matches('\n').to_string())
+    }
+
+    /// The id of the process that traces this one.
+    pub fn tracer(&self) -> Option<u32> {
+        let status = fs::read_to_string(format!("/proc/{}/status", self.id)).ok()?;
+        let tracer = status.lines().find_map(|line| line.strip_prefix("TracerPid:"))?;
+        tracer.trim().parse().ok().filter(|tracer| *tracer != 0)
+    }
+
+    /// A copy of the memory from an address on: `size` bytes, or fewer if not all can be read. `None`
+    /// if none can be read.
+    pub fn memory(&self, address: u64, size: u64) -> Option<Vec<u8>> {
+        let mut bytes = vec![0; usize::try_from(size).ok()?];
+        let remote = RemoteIoVec { base: usize::try_from(address).ok()?, len: bytes.len() };
+        let pid = Pid::from_raw(self.id as i32);
+        let count = process_vm_readv(pid, &mut [IoSliceMut::new(&mut bytes)], &[remote]).ok()?;
+        bytes.truncate(count);
+        Some(bytes).filter(|bytes| !bytes.is_empty())
+    }
+}
+
+/// A file in `/proc` that isn't there belongs to a process that isn't there.
+fn failure(error: io::Error) -> LiveError {
+    match error.kind() {
+        io::ErrorKind::NotFound => LiveError::NoProcess,
+        io::ErrorKind::PermissionDenied => LiveError::NotTraced(None),
+        _ if error.raw_os_error() == Some(libc::ESRCH) => LiveError::NoProcess,
+        _ => LiveError::Unreadable(error),
+    }
+}
+
+/// Reads a line such as `7f00-7f01 r-xp 00001000 08:01 123      /bin/a b`.
+fn map(line: &[u8]) -> Option<Map> {
+    let mut words = line.splitn(6, |byte| *byte == b' ');
+    let mut word = || std::str::from_utf8(words.next()?).ok();
+    let number = |text: &str| u64::from_str_radix(text, 16).ok();
+    let (begin, end) = word()?.split_once('-')?;
+    let (begin, end) = (number(begin)?, number(end)?);
+    let is_executable = word()?.as_bytes().get(2) == Some(&b'x');
+    let offset = number(word()?)?;
+    let (_device, _inode) = (word()?, word()?);
+    let path = words.next().unwrap_or(&[]);
+    let path = path.iter().position(|byte| *byte != b' ').map_or(&[][..], |first| &path[first..]);
+    Some(Map { begin, end, is_executable, offset, path: path.to_vec() })
+}
+
+#[cfg(test)]
+mod tests {
+    use super::{map, Map};
+
+    #[test]
+    fn lines_of_maps() {
+        let line = b"7f0000001000-7f0000002000 r-xp 00003000 08:01 1234                       /tmp/a b (deleted)";
+        let (begin, end) = (0x7f00_0000_1000, 0x7f00_0000_2000);
+        let path = b"/tmp/a b (deleted)".to_vec();
+        assert_eq!(map(line), Some(Map { begin, end, is_executable: true, offset: 0x3000, path }));
+        let line = b"7f0000001000-7f0000002000 rw-p 00000000 00:00 0 ";
+        assert_eq!(map(line), Some(Map { begin, end, is_executable: false, offset: 0, path: Vec::new() }));
+        assert_eq!(map(b""), None);
+    }
+}

@@ -1,0 +1,119 @@
+//! Stacks of processes that run, beside those of eu-stack.
+
+mod common;
+
+use common::run::dwcheck_elf;
+use common::{has, may_trace, Folder};
+use std::io::Read;
+use std::process::{Child, Command, Stdio};
+
+const WAITS: &str = "
+#define _GNU_SOURCE
+#include <pthread.h>
+#include <stdio.h>
+#include <stdlib.h>
+#include <unistd.h>
+static pthread_barrier_t ready;
+static int order(const void *x, const void *y) { pthread_barrier_wait(&ready); for (;;) pause(); return x < y; }
+static void *sorts(void *unused) {
+    int values[] = {3, 1, 2};
+    pthread_setname_np(pthread_self(), \"sorter\");
+    qsort(values, 3, sizeof *values, order);
+    return unused;
+}
+int main(void) {
+    pthread_t thread;
+    pthread_barrier_init(&ready, NULL, 4);
+    for (int i = 0; i < 3; i++) if (pthread_create(&thread, NULL, sorts, NULL) != 0) return 1;
+    pthread_barrier_wait(&ready);
+    usleep(100000);
+    puts(\"ready\");
+    fflush(stdout);
+    for (;;) pause();
+}
+";
+
+/// A process that waits, which ends with the test.
+struct Waiting(Child);
+
+impl Waiting {
+    fn start(folder: &Folder) -> Waiting {
+        let mut child = Command::new(folder.file("waits")).stdout(Stdio::piped()).spawn().unwrap();
+        let mut said = [0; 6];
+        child.stdout.as_mut().unwrap().read_exact(&mut said).unwrap();
+        Waiting(child)
+    }
+
+    /// The letter that says what the process does, such as S if it sleeps.
+    fn state(&self) -> char {
+        let status = std::fs::read_to_string(format!("/proc/{}/status", self.0.id())).unwrap();
+        let state = status.lines().find_map(|line| line.strip_prefix("State:")).unwrap();
+        state.trim().chars().next().unwrap()
+    }
+}
+
+impl Drop for Waiting {
+    fn drop(&mut self) {
+        let _ = self.0.kill();
+        let _ = self.0.wait();
+    }
+}
+
+fn addresses(out: &str) -> Vec<String> {
+    let words = out.lines().filter(|line| line.starts_with('#') || line.to_lowercase().starts_with('t'));
+    words.map(|line| line.split_whitespace().nth(1).unwrap().trim_matches(':').to_string()).collect()
+}
+
+/// The stacks of a process are those of eu-stack, also after its file was removed. The process goes
+/// on. A process that another program traces is left alone.
+#[test]
+fn a_process_that_waits() {
+    let folder = Folder::new("live");
+    if !may_trace() || !has("eu-stack") {
+        return;
+    }
+    folder.write("waits.c", WAITS);
+    folder.run("gcc -O1 -pthread waits.c -o waits");
+    let process = Waiting::start(&folder);
+    let pid = process.0.id();
+    let ran = dwcheck_elf(&folder, &format!("stack --no-inline --no-source --pid {}", pid));
+    assert_eq!((ran.status, ran.error.as_str(), process.state()), (0, "", 'S'), "{}", ran.out);
+    let theirs = folder.run(&format!("eu-stack -p {} 2> /dev/null || true", pid));
+    assert_eq!(addresses(&ran.out), addresses(&theirs), "{}{}", ran.out, theirs);
+    assert!(
+        ran.out.contains(" sorts+") && ran.out.contains(" main+") && ran.out.matches("\"sorter\"").count() == 3,
+        "{}",
+        ran.out
+    );
+    let group = dwcheck_elf(&folder, &format!("stack --no-inline --no-source --group --pid {}", pid));
+    assert_eq!(group.out.matches("\nthreads ").count() + group.out.matches("thread ").count(), 2, "{}", group.out);
+    let one = dwcheck_elf(&folder, &format!("stack --no-inline --no-source --pid {0} --tid {0}", pid));
+    assert_eq!(one.out, ran.out[..ran.out.find("stop: return undefined\n").unwrap() + 23]);
+    std::fs::remove_file(folder.file("waits")).unwrap();
+    let removed = dwcheck_elf(&folder, &format!("stack --no-inline --no-source --pid {}", pid));
+    assert_eq!(removed.out.replace(" (deleted)", ""), ran.out, "{}", removed.error);
+    let mut gdb = Command::new("gdb");
+    let mut gdb = gdb
+        .args(["-q", "--batch", "-p", &pid.to_string(), "-ex", "shell sleep 5"])
+        .stdout(Stdio::null())
+        .stderr(Stdio::null())
+        .stdin(Stdio::null())
+        .spawn()
+        .unwrap();
+    while process.state() != 't' {
+        std::thread::sleep(std::time::Duration::from_millis(10));
+    }
+    let traced = dwcheck_elf(&folder, &format!("stack --pid {}", pid));
+    assert_eq!(
+        (traced.status, traced.error),
+        (3, format!("dwcheck-elf: process {}: the process {} traces it already\n", pid, gdb.id()))
+    );
+    gdb.kill().unwrap();
+    gdb.wait().unwrap();
+    drop(process);
+    let ended = dwcheck_elf(&folder, &format!("stack --pid {}", pid));
+    assert_eq!(
+        (ended.status, ended.error),
+        (3, format!("dwcheck-elf: process {}: there is no such process, or it ended\n", pid))
+    );
+}
