@@ -9,7 +9,7 @@ use object::elf;
 use object::read::{
     CompressionFormat, Object, ObjectSection, ObjectSegment, ObjectSymbol, ObjectSymbolTable, RelocationTarget,
 };
-use object::SegmentFlags;
+use object::{SectionFlags, SegmentFlags};
 use std::borrow::Cow;
 use std::fmt;
 use std::ops::RangeInclusive;
@@ -19,6 +19,11 @@ pub const DECOMPRESSED_LIMIT: u64 = 1 << 30;
 
 /// Deflate makes at most this many bytes from one compressed byte.
 const DEFLATE_RATIO: u64 = 1032;
+
+/// The type of a section that is compressed by zstd.
+const ELFCOMPRESS_ZSTD: u64 = 2;
+
+const OTHER_SIZE: &str = "the section has another size when it is decompressed";
 
 /// What an ELF file is, by its `e_type`.
 #[derive(Clone, Copy, Debug, PartialEq, Eq)]
@@ -247,7 +252,8 @@ impl<'data> Program<'data> {
             (Some(found), None) => found,
             (Some(_), Some(_)) => return Err(ProgramError::Repeated(name)),
         };
-        let mut section = Section { bytes: uncompressed(&found, name)?, address: 0, unresolved: Vec::new() };
+        let mut section =
+            Section { bytes: uncompressed(&found, name, self.target)?, address: 0, unresolved: Vec::new() };
         if is_loaded(found.flags()) {
             section.address = self.layout.address(found.index());
         }
@@ -266,8 +272,12 @@ impl<'data> Program<'data> {
 fn uncompressed<'data>(
     section: &object::Section<'data, '_>,
     name: &'static str,
+    target: Target,
 ) -> Result<Cow<'data, [u8]>, ProgramError> {
     let fail = |error: object::Error| ProgramError::Section(name, error.to_string());
+    if let Some((data, size)) = by_zstd(section, target) {
+        return zstd_bytes(data, size, name).map(Cow::Owned);
+    }
     let data = section.compressed_data().map_err(fail)?;
     if data.format == CompressionFormat::None {
         return Ok(Cow::Borrowed(data.data));
@@ -279,9 +289,39 @@ fn uncompressed<'data>(
     }
     let bytes = data.decompress().map_err(fail)?;
     if bytes.len() as u64 != size {
-        return Err(ProgramError::Section(name, "the section has another size when it is decompressed".to_string()));
+        return Err(ProgramError::Section(name, OTHER_SIZE.to_string()));
     }
     Ok(bytes)
+}
+
+/// For a section that is compressed by zstd, which `object` doesn't know: the compressed bytes, and
+/// the size of the others.
+fn by_zstd<'data>(section: &object::Section<'data, '_>, target: Target) -> Option<(&'data [u8], u64)> {
+    let flags = match section.flags() {
+        SectionFlags::Elf { sh_flags } => sh_flags,
+        _ => 0,
+    };
+    let data = section.data().ok().filter(|_| flags & u64::from(elf::SHF_COMPRESSED) != 0)?;
+    // The type in 4 bytes, in 64-bit files 4 unused bytes, the size and the alignment in a word each.
+    let (word, size, header) = match target.address_size {
+        AddressSize::Four => (4, 4, 12),
+        AddressSize::Eight => (8, 8, 24),
+    };
+    let is_zstd = target.number(data.get(..4)?) == ELFCOMPRESS_ZSTD;
+    let size = target.number(data.get(size..size + word)?);
+    data.get(header..).filter(|_| is_zstd).map(|bytes| (bytes, size))
+}
+
+fn zstd_bytes(data: &[u8], size: u64, name: &'static str) -> Result<Vec<u8>, ProgramError> {
+    if size > DECOMPRESSED_LIMIT {
+        return Err(ProgramError::TooLarge(name, size));
+    }
+    let bytes = zstd::bulk::decompress(data, size as usize);
+    let bytes = bytes.map_err(|error| ProgramError::Section(name, error.to_string()))?;
+    match bytes.len() as u64 == size {
+        true => Ok(bytes),
+        false => Err(ProgramError::Section(name, OTHER_SIZE.to_string())),
+    }
 }
 
 impl fmt::Display for ProgramError {

@@ -95,15 +95,35 @@ fn signed_return_addresses() {
     }
 }
 
+/// Compiles a program with a `.debug_frame` that is long enough for objcopy to compress it.
+fn with_debug_frame(folder: &Folder) {
+    let function = |number| format!("int unused{}(int x) {{ volatile int kept = x; return kept; }}\n", number);
+    folder.write("b.c", (0..20).map(function).collect::<String>());
+    folder.write("a.c", common::C);
+    folder.run("gcc -g -fno-asynchronous-unwind-tables -c b.c; gcc -O1 -g a.c b.o -o whole");
+}
+
+/// Sections that are compressed by zlib or by zstd have the rows that they had before.
+#[test]
+fn compressed_sections() {
+    let folder = Folder::new("compressed");
+    with_debug_frame(&folder);
+    let rows = dwcheck_elf(&folder, "rows whole").out;
+    assert!(rows.starts_with("section .debug_frame\n"), "{}", rows);
+    for kind in ["zlib", "zlib-gnu", "zstd"] {
+        folder.run(&format!("objcopy --compress-debug-sections={} whole linked", kind));
+        let shown = folder.run("readelf -SW linked | grep debug_frame");
+        assert!(shown.contains(" .zdebug_frame ") || shown.contains("   C  "), "{}: {}", kind, shown);
+        let ran = dwcheck_elf(&folder, "rows linked");
+        assert_eq!((ran.status, ran.error.as_str(), &ran.out), (0, "", &rows), "{}", kind);
+    }
+}
+
 /// A `.debug_frame` that can't be decompressed doesn't keep any command from `.eh_frame`.
 #[test]
 fn an_unreadable_section_leaves_the_others() {
     let folder = Folder::new("unreadable");
-    folder.write("a.c", common::C);
-    // A section with only a few FDEs wouldn't be compressed.
-    let function = |number| format!("int unused{}(int x) {{ volatile int kept = x; return kept; }}\n", number);
-    folder.write("b.c", (0..20).map(function).collect::<String>());
-    folder.run("gcc -g -fno-asynchronous-unwind-tables -c b.c; gcc -O1 -g a.c b.o -o whole");
+    with_debug_frame(&folder);
     folder.run("objcopy --compress-debug-sections=zlib whole linked");
     let place = common::hex(folder.run("objdump -h linked | awk '$2 == \".debug_frame\" {print $6}'").trim());
     let mut bytes = folder.bytes("linked");

@@ -14,6 +14,7 @@ use std::ffi::OsStr;
 use std::io::{self, Write};
 use std::os::unix::ffi::OsStrExt;
 use std::path::{Path, PathBuf};
+use std::time::Duration;
 
 /// Prints the stacks on `out`, and warnings on standard error.
 pub fn stack(words: &StackWords, out: &mut impl Write) -> Result<Done, Failure> {
@@ -62,7 +63,7 @@ fn of_core(words: &StackWords, program: Option<&PathBuf>, path: &Path, out: &mut
     if core.is_cut() {
         warnings.push(format!("{} ends before the memory that it should hold", path.display()));
     }
-    print(words, &core, &mut stacks, warnings, out)
+    print(words, &core, (&mut stacks, None), warnings, out)
 }
 
 fn of_process(words: &StackWords, pid: u32, out: &mut impl Write) -> Result<Done, Failure> {
@@ -72,19 +73,20 @@ fn of_process(words: &StackWords, pid: u32, out: &mut impl Write) -> Result<Done
     let files = Files::of_live(&core, pid);
     let mut stacks = Stacks::of(&core, &files);
     let warnings = copy.skipped().map(|(tid, why)| format!("thread {}: {}", tid, why)).collect();
-    print(words, &core, &mut stacks, warnings, out)
+    print(words, &core, (&mut stacks, Some(copy.longest_stop())), warnings, out)
 }
 
-/// Walks the stacks, prints them, and then the warnings.
+/// Walks the stacks, prints them, and then the warnings. For a process that runs, `longest_stop` is
+/// the longest time for which a thread was stopped.
 fn print(
     words: &StackWords,
     core: &CoreFile<'_>,
-    stacks: &mut Stacks<'_>,
+    (stacks, longest_stop): (&mut Stacks<'_>, Option<Duration>),
     mut warnings: Vec<String>,
     out: &mut impl Write,
 ) -> Result<Done, Failure> {
     stacks.show_names(NameOptions { inlined: !words.no_inline, source: !words.no_source });
-    let report = Report { words, core, stacks };
+    let report = Report { words, core, stacks, longest_stop };
     report.write(out, &mut warnings)?;
     out.flush()?;
     for warning in warnings {

@@ -8,12 +8,15 @@ use dwcheck_elf::text::{Address, Plain};
 use serde_json::{json, Value};
 use std::collections::HashMap;
 use std::io::{self, Write};
+use std::time::Duration;
 
 /// The stacks of a process, and what of them is to be written.
 pub struct Report<'r, 'a> {
     pub words: &'r StackWords,
     pub core: &'r CoreFile<'r>,
     pub stacks: &'r Stacks<'a>,
+    /// For a process that runs: the longest time for which a thread was stopped.
+    pub longest_stop: Option<Duration>,
 }
 
 /// The stack of one thread, or of several threads that have the same one.
@@ -88,6 +91,8 @@ impl<'r, 'a> Report<'r, 'a> {
             let signal = signal.map(|signal| self.json_signal(signal));
             write!(out, "{{\"pid\":{},", Value::from(process.map(|process| process.id)))?;
             write!(out, "\"name\":{},", Value::from(process.map(|process| process.name.clone())))?;
+            let longest = self.longest_stop.map(|longest| longest.as_micros() as u64);
+            write!(out, "\"longest_stop_us\":{},", Value::from(longest))?;
             return write!(out, "\"signal\":{},\"threads\":[", Value::from(signal));
         }
         let signal = match signal {
