@@ -127,8 +127,10 @@ def elf_files(program, made_elf, work, seed, count):
     if wrong or len(lines) != len(expected) + 1:
         problems.append(f"seed {seed}: survey: {wrong or f'{len(lines)} lines of {len(expected) + 1}'}")
     for line in lines[:-1]:
-        accepted = [section["accepted"] for section in line.get("sections", [])]
-        came["not judged" if "error" in line else "refused" if False in accepted else "accepted"] += 1
+        # A section that can't be read has an error of its own.
+        parts = [line, *line.get("sections", [])]
+        accepted = [part["accepted"] for part in parts if "accepted" in part]
+        came["not judged" if any("error" in part for part in parts) else "refused" if False in accepted else "accepted"] += 1
     for number in range(0, count, 50):
         name = f"{number:04}"
         for words in [["check", "--all", "--notes", name], ["rows", name], ["row", name, "main+4"], ["locs", name, "0xc", "0x0", "deep"]]:

@@ -35,6 +35,9 @@ def main():
         if "error" in one:
             refused.append((one["file"], "", one["error"]))
         for section in one.get("sections", []):
+            if "error" in section:
+                refused.append((one["file"], section["section"], section["error"]))
+                continue
             counts[section["section"]] += 1
             counts["accepted" if section["accepted"] else "refused"] += 1
             counts["fdes"] += section.get("fdes", 0)
