@@ -101,6 +101,8 @@ pub struct Bridged {
     counts: Counts,
     mended: Vec<u64>,
     negated: Vec<u64>,
+    /// The offsets in the file's section of the letters of augmentations that only aarch64 has.
+    letters: Vec<u64>,
     signed: Vec<Range<u64>>,
     /// The offsets in the file's section of the FDEs that were left out as copies, ascending.
     copies: Vec<u64>,
@@ -154,10 +156,17 @@ impl Bridged {
         self.copies.binary_search(&source).is_ok()
     }
 
-    /// The file's section as gimli can read it: it doesn't know
-    /// `DW_CFA_AARCH64_negate_ra_state`, so these instructions become `DW_CFA_nop`.
+    /// The file's section as gimli can read it. It doesn't know
+    /// `DW_CFA_AARCH64_negate_ra_state`, so these instructions become `DW_CFA_nop`; nor the letters B
+    /// and G of aarch64's augmentations, which have no data either, so these become S.
     pub(crate) fn comparable<'a>(&self, source: &'a [u8]) -> Cow<'a, [u8]> {
-        with_nops(source, &self.negated)
+        let mut bytes = with_nops(source, &self.negated);
+        for place in &self.letters {
+            if let Some(letter) = bytes.to_mut().get_mut(*place as usize) {
+                *letter = b'S';
+            }
+        }
+        bytes
     }
 
     /// All CIEs and FDEs, in the order of the rewritten section. The section in the file has the

@@ -190,6 +190,7 @@ impl fmt::Display for InspectError {
     fn fmt(&self, f: &mut fmt::Formatter<'_>) -> fmt::Result {
         match self {
             InspectError::Program(error) => error.fmt(f),
+            InspectError::Difference(difference) if difference.is_unread() => difference.fmt(f),
             InspectError::Difference(difference) => write!(f, "the rows differ: {}", difference),
             InspectError::Dwcheck(name, error) => write!(f, "{}: {}", name, error),
         }

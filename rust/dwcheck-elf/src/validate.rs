@@ -185,11 +185,23 @@ fn next_record(cursor: &mut Cursor<'_>) -> Option<usize> {
     None
 }
 
+impl What {
+    /// What gimli's error for a record that should be a CIE means.
+    fn of_cie(error: gimli::Error) -> Self {
+        match error {
+            gimli::Error::NotCieId => What::Kind,
+            error => What::Unreadable(error.to_string()),
+        }
+    }
+}
+
 impl fmt::Display for What {
     fn fmt(&self, f: &mut fmt::Formatter<'_>) -> fmt::Result {
         match self {
-            What::Unreadable(error) => write!(f, "gimli can't read the record: {}", error),
-            What::UnreadableBridged(error) => write!(f, "gimli can't read the bridged record: {}", error),
+            What::Unreadable(error) => write!(f, "not compared, because gimli can't read it: {}", error),
+            What::UnreadableBridged(error) => {
+                write!(f, "not compared, because gimli can't read the bridged record: {}", error)
+            }
             What::Missing => f.write_str("the record was lost"),
             What::Surplus => f.write_str("there is a bridged record too many"),
             What::Kind => f.write_str("one record is a CIE, the other an FDE"),
@@ -203,6 +215,13 @@ impl fmt::Display for What {
                 write!(f, "row {} differs: {}, bridged {}", number, section, bridged)
             }
         }
+    }
+}
+
+impl Difference {
+    /// Whether nothing is known to differ, but gimli can't read one of the records.
+    pub fn is_unread(&self) -> bool {
+        matches!(self.what, What::Unreadable(_) | What::UnreadableBridged(_))
     }
 }
 

@@ -146,3 +146,18 @@ fn an_unreadable_section_leaves_the_others() {
         assert!(ran.error.starts_with(why) && ran.error.ends_with("; .eh_frame is used\n"), "{}", ran.error);
     }
 }
+
+/// The letter B of an augmentation says that return addresses are signed with aarch64's key B.
+#[test]
+fn the_other_key_of_signed_return_addresses() {
+    let folder = Folder::new("key-b");
+    if !has("aarch64-linux-gnu-as") {
+        return;
+    }
+    folder.write("a.s", SIGNS.replace(".cfi_startproc", ".cfi_startproc\n .cfi_b_key_frame"));
+    folder.run("aarch64-linux-gnu-as a.s -o a.o; aarch64-linux-gnu-ld -e f a.o -o linked");
+    assert!(folder.run("readelf --debug-dump=frames linked").contains("\"zRB\""));
+    let ran = dwcheck_elf(&folder, "check linked");
+    assert_eq!((ran.status, ran.error.as_str()), (0, ""), "{}", ran.out);
+    assert!(ran.out.starts_with("linked: .eh_frame: accepted\ncies 1 fdes 1 rows 6 "), "{}", ran.out);
+}

@@ -86,8 +86,7 @@ impl Rest<'_> {
         let mut counts = self.old.counts;
         counts.fdes -= copies.len();
         counts.copies = copies.len();
-        let Bridged { mended, negated, signed, .. } = self.old.clone();
-        Bridged { bytes, places: self.places(&starts), counts, mended, negated, signed, copies }
+        Bridged { bytes, places: self.places(&starts), counts, copies, ..self.old.clone() }
     }
 
     /// The entries of the list of records for the FDEs that are left out.

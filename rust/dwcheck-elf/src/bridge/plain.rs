@@ -52,8 +52,8 @@ fn without_empty_records(section: &[u8], target: Target) -> Option<Bridged> {
         copy.bytes.extend_from_slice(section.get(rest..).unwrap_or(&[]));
     }
     let Copy { bytes, counts, .. } = copy;
-    let (mended, negated, signed, copies) = (Vec::new(), Vec::new(), Vec::new(), Vec::new());
-    Some(Bridged { bytes, places, counts, mended, negated, signed, copies })
+    let (mended, negated, letters) = (Vec::new(), Vec::new(), Vec::new());
+    Some(Bridged { bytes, places, counts, mended, negated, letters, signed: Vec::new(), copies: Vec::new() })
 }
 
 /// Maps the offset of each record in the section to its offset in the copy. Records of length 0

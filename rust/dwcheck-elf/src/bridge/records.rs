@@ -36,6 +36,7 @@ pub(super) struct Bridge<'a> {
     pub counts: Counts,
     pub mended: Vec<u64>,
     pub negated: Vec<u64>,
+    letters: Vec<u64>,
     signed: Vec<Range<u64>>,
     places: Places,
     cies: Vec<CieParts>,
@@ -54,6 +55,7 @@ impl<'a> Bridge<'a> {
             counts: Counts::default(),
             mended: Vec::new(),
             negated: Vec::new(),
+            letters: Vec::new(),
             signed: Vec::new(),
             places: Places::default(),
             cies: Vec::new(),
@@ -92,8 +94,8 @@ impl<'a> Bridge<'a> {
     }
 
     fn finished(self) -> Bridged {
-        let Bridge { bytes, places, counts, mended, negated, signed, .. } = self;
-        Bridged { bytes, places, counts, mended, negated, signed, copies: Vec::new() }
+        let Bridge { bytes, places, counts, mended, negated, letters, signed, .. } = self;
+        Bridged { bytes, places, counts, mended, negated, letters, signed, copies: Vec::new() }
     }
 
     /// Stores that the bytes that are written next come from the bytes at the offset `source` of
@@ -169,6 +171,8 @@ impl<'a> Bridge<'a> {
         let at = record.at();
         self.pair(at);
         let letters = augmentation(record).map_err(|error| (at, error.into()))?;
+        let of_aarch64 = letters.iter().enumerate().filter(|(_, letter)| matches!(letter, b'B' | b'G'));
+        self.letters.extend(of_aarch64.map(|(place, _)| (at + place) as u64));
         self.bytes.push(0);
         let code_factor = record.clone().uleb().unwrap_or(0);
         self.numbers(record, version)?;

@@ -180,8 +180,11 @@ where
                     agreement.fdes += 1;
                     agreement.rows += rows;
                 }
-                _ if self.is_cie(offset) => agreement.cies += 1,
-                _ => return Err(fail(What::Kind)),
+                _ => {
+                    let read = self.section.cie_from_offset(&self.bases, offset.into());
+                    read.map_err(|error| fail(What::of_cie(error)))?;
+                    agreement.cies += 1;
+                }
             }
         }
         match given.next() {
@@ -191,10 +194,6 @@ where
                 Err(Difference { section: self.frames.name(), record, what: What::Surplus })
             }
         }
-    }
-
-    fn is_cie(&self, offset: usize) -> bool {
-        self.section.cie_from_offset(&self.bases, offset.into()).is_ok()
     }
 
     /// Compares gimli's rows of the FDE at an offset with `dwcheck`'s. Returns the number of rows,
