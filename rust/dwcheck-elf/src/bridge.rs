@@ -30,6 +30,7 @@ pub use error::{BridgeError, Reason};
 pub use header::FdeHeader;
 pub use places::{Edge, Place, Record, RecordKind};
 pub use plain::plain;
+pub(crate) use pointer::pointer_at;
 
 use crate::cfi::with_nops;
 use crate::target::Target;

@@ -69,11 +69,27 @@ pub enum CoreError {
     Machine(u16),
     /// A note of this type is too short.
     Note(u32),
+    /// The file is of this kind, which isn't read; the second text says what to do.
+    Packed(&'static str, &'static str),
 }
+
+/// The first bytes of files that a core file may be packed in, what they are, and what to do.
+const PACKED: [(&[u8], &str, &str); 7] = [
+    (b"\x28\xb5\x2f\xfd", "compressed by zstd", "unpack it by unzstd"),
+    (b"\x1f\x8b", "compressed by gzip", "unpack it by gunzip"),
+    (b"\xfd7zXZ", "compressed by xz", "unpack it by unxz"),
+    (b"\x04\x22\x4d\x18", "compressed by lz4", "unpack it by unlz4"),
+    (b"MDMP", "a minidump", "convert it by minidump-2-core"),
+    (b"KDUMP   ", "a dump of a kernel", "its tools are crash and drgn"),
+    (b"makedumpfile", "a dump of a kernel", "its tools are crash and drgn"),
+];
 
 impl<'data> CoreFile<'data> {
     /// Reads the headers and the notes of a core file.
     pub fn read(data: &'data [u8]) -> Result<Self, CoreError> {
+        if let Some((_, kind, help)) = PACKED.iter().find(|(magic, ..)| data.starts_with(magic)) {
+            return Err(CoreError::Packed(kind, help));
+        }
         match FileKind::parse(data).map_err(elf_error)? {
             FileKind::Elf32 => Self::read_class::<FileHeader32<Endianness>>(data, AddressSize::Four),
             FileKind::Elf64 => Self::read_class::<FileHeader64<Endianness>>(data, AddressSize::Eight),
@@ -319,6 +335,7 @@ impl fmt::Display for CoreError {
                 f.write_str(": x86-64, i386 and aarch64 are read")
             }
             CoreError::Note(kind) => write!(f, "the note of type {:#x} is too short", kind),
+            CoreError::Packed(kind, help) => write!(f, "not a core file, but {}: {}", kind, help),
         }
     }
 }

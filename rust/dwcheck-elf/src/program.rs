@@ -1,5 +1,7 @@
 //! An ELF file: its frame sections, location lists, functions and segments.
 
+mod by_segment;
+
 use crate::bridge::EhFrame;
 use crate::functions::Functions;
 use crate::layout::{is_loaded, Layout};
@@ -42,6 +44,7 @@ pub enum Kind {
 
 /// An ELF file.
 pub struct Program<'data> {
+    data: &'data [u8],
     file: object::File<'data>,
     layout: Layout,
     target: Target,
@@ -111,7 +114,7 @@ impl<'data> Program<'data> {
             elf::ET_CORE => Kind::Core,
             other => Kind::Other(other),
         };
-        Ok(Program { file, layout, target, machine, kind })
+        Ok(Program { data, file, layout, target, machine, kind })
     }
 
     /// The byte order and the address size.
@@ -144,9 +147,13 @@ impl<'data> Program<'data> {
         self.section(".debug_loclists")
     }
 
-    /// The section `.eh_frame`, if the file has it and it has bytes.
+    /// The section `.eh_frame`, if the file has it and it has bytes. If the file has no section
+    /// headers, the segment `PT_GNU_EH_FRAME` leads to it.
     pub fn eh_frame(&self) -> Result<Option<Section<'data>>, ProgramError> {
-        self.section(".eh_frame")
+        match self.file.sections().next() {
+            Some(_) => self.section(".eh_frame"),
+            None => Ok(self.eh_frame_by_segment()),
+        }
     }
 
     /// A section of this program, with the addresses that its pointers may be relative to, as

@@ -34,3 +34,16 @@ fn files_without_an_end_and_without_bytes() {
     let (status, error) = bounded(&folder, "check <(cat /bin/true; cat /dev/zero)");
     assert!(status == 3 && error.contains("it isn't a regular file, and has more than "), "{}", error);
 }
+
+/// A core file that is packed isn't read, but the message says how to unpack it.
+#[test]
+fn packed_core_files() {
+    let folder = Folder::new("packed");
+    folder.run("echo core > core; gzip -k core; printf MDMPxx > mini");
+    let (status, error) = bounded(&folder, "stack core.gz");
+    assert_eq!(
+        (status, error.as_str()),
+        (3, "dwcheck-elf: core.gz: not a core file, but compressed by gzip: unpack it by gunzip\n")
+    );
+    assert!(bounded(&folder, "stack mini").1.contains("but a minidump: "));
+}

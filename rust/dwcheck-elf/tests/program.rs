@@ -2,6 +2,7 @@
 
 mod common;
 
+use common::run::dwcheck_elf;
 use common::{has, hex, Folder, C};
 use dwcheck_elf::functions::NameError;
 use dwcheck_elf::names::Spot;
@@ -280,6 +281,29 @@ fn sizes_that_lie() {
     changed[offset + 8] ^= 1;
     let program = Program::read(&changed).unwrap();
     assert!(matches!(program.debug_frame(), Err(ProgramError::Section(".debug_frame", _))));
+}
+
+/// Without section headers, as sstrip leaves a file, `.eh_frame` is found by its segment. The rows are
+/// those that the file had before.
+#[test]
+fn a_file_without_section_headers() {
+    let folder = Folder::new("headers-gone");
+    folder.write("a.c", common::C);
+    for flags in ["-O2", "-O2 -no-pie"] {
+        folder.run(&format!("gcc {} a.c -o whole; strip whole", flags));
+        let mut bytes = folder.bytes("whole");
+        bytes[40..48].fill(0);
+        bytes[58..64].fill(0);
+        folder.write("bare", &bytes);
+        assert!(!folder.run("readelf -S bare 2>&1").contains(".eh_frame"));
+        let before = dwcheck_elf(&folder, "rows whole");
+        let after = dwcheck_elf(&folder, "rows bare");
+        assert!(before.out.lines().filter(|line| line.starts_with("fde ")).count() > 5);
+        assert_eq!((after.status, after.error.as_str()), (0, ""));
+        let nameless =
+            |out: &str| out.lines().map(|line| line.split(" (").next().unwrap().to_string()).collect::<Vec<_>>();
+        assert!(nameless(&after.out) == nameless(&before.out), "{}", flags);
+    }
 }
 
 #[test]

@@ -2,6 +2,7 @@
 
 use super::{EhFrame, Reason};
 use crate::bytes::Cursor;
+use crate::target::Target;
 
 /// The encoding that says that there is no pointer.
 pub(super) const OMIT: u8 = 0xff;
@@ -104,4 +105,13 @@ fn align(cursor: &mut Cursor<'_>, encoding: u8, section: &EhFrame<'_>) -> Result
         cursor.take((size - past) % size)?;
     }
     Ok(())
+}
+
+/// Reads the pointer at an offset of bytes that are loaded at an address. `None` if it can't be read,
+/// or is relative to something else than itself.
+pub(crate) fn pointer_at(bytes: &[u8], loaded: u64, offset: u64, encoding: u8, target: Target) -> Option<u64> {
+    let nothing = EhFrame { bytes, address: loaded, target, machine: 0, text: None, data: None, unresolved: &[] };
+    let mut cursor = Cursor::new(bytes, target);
+    cursor.take(offset).ok()?;
+    address(&mut cursor, encoding, &nothing, None).ok()
 }
