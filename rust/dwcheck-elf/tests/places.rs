@@ -27,13 +27,22 @@ fn build(folder: &Folder, flags: &str) -> bool {
     let runs = has("gdb");
     if runs {
         folder.make_core("./program");
+        make_root(folder);
     }
     runs
 }
 
+/// Makes the folder `root` with the program and the libraries, but without the C library's debug
+/// information, which takes long to read.
+fn make_root(folder: &Folder) {
+    let home = format!("root{}", folder.path().display());
+    folder
+        .run(&format!("mkdir -p root/usr/lib {0}; ln -s /usr/lib/x86_64-linux-gnu root/usr/lib; cp program {0}", home));
+}
+
 /// The document of JSON that `stack` writes.
 fn document(folder: &Folder, words: &str) -> Value {
-    let ran = dwcheck_elf(folder, &format!("stack --json {}", words));
+    let ran = dwcheck_elf(folder, &format!("stack --root root --json {}", words));
     assert_eq!(ran.status, 0, "{}", ran.error);
     serde_json::from_str(&ran.out).unwrap_or_else(|error| panic!("{}: {}", error, ran.out))
 }
@@ -68,9 +77,9 @@ fn functions_and_lines_are_those_of_addr2line() {
     }
     assert_eq!(document["signal"]["name"], "SIGABRT");
     assert_eq!(document["name"], "program");
-    let plain = dwcheck_elf(&folder, "stack --no-inline --no-source core");
+    let plain = dwcheck_elf(&folder, "stack --root root --no-inline --no-source core");
     assert!(!plain.out.contains("inlined") && !plain.out.contains(" at /"), "{}", plain.out);
-    let text = dwcheck_elf(&folder, "stack core").out;
+    let text = dwcheck_elf(&folder, "stack --root root core").out;
     assert!(text.starts_with("signal 6 SIGABRT, code SI_TKILL\nthread "), "{}", text);
     let expected = format!(" inner inlined ({0}/program) at {0}/a.c:3\n", folder.path().display());
     assert!(text.contains(&expected) && text.contains(" calls+"), "{}", text);
@@ -117,9 +126,8 @@ fn separate_files_of_debug_information() {
     folder.run("gcc -O1 -g -Wl,--build-id a.c -o program; objcopy --only-keep-debug program whole.debug");
     folder.run("strip program; objcopy --add-gnu-debuglink=whole.debug program; mkdir away; mv whole.debug away");
     folder.make_core("./program");
+    make_root(&folder);
     let home = format!("root{}", folder.path().display());
-    folder
-        .run(&format!("mkdir -p root/usr/lib {0}; ln -s /usr/lib/x86_64-linux-gnu root/usr/lib; cp program {0}", home));
     let text = || dwcheck_elf(&folder, "stack --root root core");
     let is_named = |out: &str| out.contains(" inner inlined ") && out.contains("/a.c:3\n") && out.contains(" calls+");
     let bare = text();
