@@ -10,7 +10,7 @@ use std::fmt;
 use std::ptr::null_mut;
 use std::time::{Duration, Instant};
 
-/// A thread that doesn't stop for so long, because the kernel doesn't let it, is skipped.
+/// A thread that the kernel doesn't stop within this time is skipped.
 const PATIENCE: Duration = Duration::from_secs(1);
 
 /// The kind of register set that says which bits of an address hold an authentication code.
