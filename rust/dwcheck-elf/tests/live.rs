@@ -64,6 +64,39 @@ fn addresses(out: &str) -> Vec<String> {
     words.map(|line| line.split_whitespace().nth(1).unwrap().trim_matches(':').to_string()).collect()
 }
 
+const HANDLES: &str = "
+#include <signal.h>
+#include <stdio.h>
+#include <unistd.h>
+static char other[1 << 16];
+static void handler(int number) { if (number) puts(\"ready\"); fflush(stdout); for (;;) pause(); }
+__attribute__((noinline)) static int faulty(volatile int *address) { return *address + 1; }
+int main(void) {
+    stack_t stack = {.ss_sp = other, .ss_size = sizeof other};
+    sigaltstack(&stack, NULL);
+    struct sigaction action = {.sa_handler = handler, .sa_flags = SA_ONSTACK};
+    sigaction(SIGSEGV, &action, NULL);
+    return faulty((volatile int *)16) + 1;
+}
+";
+
+/// The first thread, in a signal handler on another stack.
+#[test]
+fn a_handler_on_another_stack() {
+    let folder = Folder::new("live-handler");
+    if !may_trace() || !has("eu-stack") {
+        return;
+    }
+    folder.write("waits.c", HANDLES);
+    folder.run("gcc -O1 waits.c -o waits");
+    let process = Waiting::start(&folder);
+    let pid = process.0.id();
+    let ran = dwcheck_elf(&folder, &format!("stack --no-inline --no-source --pid {}", pid));
+    let theirs = folder.run(&format!("eu-stack -p {} 2> /dev/null || true", pid));
+    assert_eq!(addresses(&ran.out), addresses(&theirs), "{}{}", ran.out, theirs);
+    assert!(ran.out.contains(" handler+") && ran.out.contains(" faulty") && ran.out.contains(" main+"), "{}", ran.out);
+}
+
 /// The stacks of a process are those of eu-stack, also after its file was removed. The process goes
 /// on. A process that another program traces is left alone.
 #[test]
