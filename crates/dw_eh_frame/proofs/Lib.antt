@@ -1,0 +1,10 @@
+pub mod Written
+pub mod Numbers
+pub mod Steps
+pub mod Refusing
+pub mod Nops
+pub mod PastInstructions
+pub mod Moved
+pub mod SaidAgain
+pub mod OneProgram
+pub mod ReadBack

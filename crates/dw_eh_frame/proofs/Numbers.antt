@@ -1,0 +1,62 @@
+-- The bytes that were read as the alignment factors and the return address register encode them.
+use Rattle.std.proofs.Common.{◌≡◌, ℕ, ◌+◌, Bool, true, false, cond, List, [], ◌∷◌, ◌++◌, length, Ok, refl, sym, subst, ◌∙◌, arith}
+use Rattle.std.specs.Prelude.{◌==◌}
+use Rattle.dw_bytes.specs.declared.target.Target.{Target}
+use Rattle.dw_bytes.specs.Operands.{fixed, unsigned}
+use Rattle.dw_bytes.specs.Reading.{ReadPosition}
+use Rattle.dw_bytes.specs.Fields.{Encodes, made, field, fields_at}
+use Rattle.dw_bytes.proofs.FieldsOf.{fields-exact}
+use Rattle.dw_frame.specs.Sections.{Header, column_fault, factors}
+use Rattle.dw_eh_frame.specs.Written.{EncodesNumbers}
+
+-- the same bytes encode the return address register at any other offset
+column-anywhere : (target : Target) (at other : ℕ) (is_byte : Bool) (make : ℕ → Header) (bytes : List ℕ) (h : Header)
+    → Encodes target (cond is_byte (field (fixed 1) column_fault (λ n. made (make n)))
+    (field unsigned column_fault (λ n. made (make n)))) at bytes h
+    → Encodes target (cond is_byte (field (fixed 1) column_fault (λ n. made (make n)))
+    (field unsigned column_fault (λ n. made (make n)))) other bytes h
+column-anywhere target at other true make bytes h e = e
+column-anywhere target at other false make bytes h e = e
+
+factors-anywhere : (target : Target) (version at other : ℕ) (bytes : List ℕ) (h : Header) → Encodes target (factors version) at bytes h
+    → Encodes target (factors version) other bytes h
+factors-anywhere target version at other bytes h (a, x, more, parts, first, fine, (b, y, last, split, second, good, column)) = (
+  a,
+  x,
+  more,
+  parts,
+  first,
+  fine,
+  (
+    b,
+    y,
+    last,
+    split,
+    second,
+    good,
+    column-anywhere target _ _ (version == 1) _ last h column,
+  ),
+)
+
+-- two ways to split a list at the same length give the same front
+front-same : (a b x y : List ℕ) → length a ≡ length b → a ++ x ≡ b ++ y → a ≡ b
+front-same [] [] x y long e = refl
+front-same [] (b ∷ t) x y long e = absurd (omega arith)
+front-same (a ∷ s) [] x y long e = absurd (omega arith)
+front-same (a ∷ s) (b ∷ t) x y long e =
+    let head : a ≡ b = cc in
+    let tail : s ++ x ≡ t ++ y = cc in
+    let same : s ≡ t = front-same s t x y (omega arith) tail in
+    cc
+
+pub numbers-encoded : (target : Target) (version : ℕ) (r after left : ReadPosition) (h : Header) (numbers : List ℕ) → r.target ≡ target
+    → fields_at (factors version) r ≡ Ok (h, after) → r.rest ≡ numbers ++ left.rest → r.position + length numbers ≡ after.position
+    → EncodesNumbers target version numbers h
+numbers-encoded target version r after left h numbers same is split long =
+    let next = (fields-exact target (factors version) r same).found h after is in
+    let equal : next.bytes ≡ numbers = front-same next.bytes numbers after.rest left.rest (omega (arith, next.position, long))
+    (sym next.parts ∙ split) in
+    record {
+      at_each = λ at. factors-anywhere target version r.position at numbers h
+          (subst (λ (b : List ℕ). Encodes target (factors version) r.position b h) equal next.encoded);
+    }

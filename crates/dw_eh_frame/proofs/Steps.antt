@@ -1,0 +1,247 @@
+-- One record of a rewriting after another.
+use Rattle.std.proofs.Common.{◌≡◌, ℕ, ◌+◌, ◌<◌, ◌≤◌, Bool, List, [], ◌∷◌, ◌++◌, length, Result, Ok, refl, sym, ap, subst, ◌∙◌, arith, append_assoc, inl, inr}
+use Rattle.std.specs.Prelude.{true, map, filter, Contains}
+use Rattle.std.proofs.lemmas.List.{length-append, length-drop, map-append, append-nil}
+use Rattle.std.proofs.lemmas.List.Elements.{filter-append, Contains-append_left, Contains-push, Contains-push_cases}
+use Rattle.dw_bytes.specs.declared.target.Target.{Target}
+use Rattle.dw_bytes.specs.declared.fault.Fault.{Fault}
+use Rattle.dw_bytes.specs.Reading.{ReadPosition, ◌>>=◌, section_from}
+use Rattle.dw_bytes.specs.Bodies.{framed_at}
+use Rattle.dw_bytes.proofs.Readers.{bind-ok, ok-is}
+use Rattle.dw_bytes.proofs.Bodies.{framed-found}
+use Rattle.dw_bytes.proofs.Sequences.{Forward, goes-on, ends}
+use Rattle.dw_frame.specs.Records.{Record, cie_record, fde_record}
+use Rattle.dw_frame.specs.Sections.{IsRecord, AreRecords}
+use Rattle.dw_frame.proofs.EachRecord.{some-length}
+use Rattle.dw_eh_frame.specs.declared.rewriting.CiePlace.{CiePlace}
+use Rattle.dw_eh_frame.specs.Records.{EhCie, EhFde, EhRecord, eh_cie, eh_fde, eh_nothing, eh_cie_at, eh_body_at, eh_record_at, eh_entries_from, eh_entries_of}
+use Rattle.dw_eh_frame.specs.Rewriting.{Pair, SaysTheSame, LeadsTo, says_something, IsRewritten}
+use Rattle.dw_eh_frame.specs.Progress.{IsPlace, IsUnderWay, WritesCie, WritesPointing}
+
+-- ---- reading
+
+-- a record has at least one byte
+pub records-forward : (address : ℕ) (section : List ℕ) → Forward (eh_record_at address section)
+unfolding eh_record_at
+records-forward address section r x after is =
+    let a = bind-ok (framed_at r) (λ f. eh_body_at address section r.position f.0.0 f.0.1 >>= λ found. Ok (found, f.1)) (x, after) is in
+    let b = bind-ok (eh_body_at address section r.position a.0.0.0 a.0.0.1) (λ found. Ok (found, a.0.1)) (x, after) a.2 in
+    let same : (b.0, a.0.1) ≡ (x, after) = ok-is {A = EhRecord} (b.0, a.0.1) (x, after) b.2 in
+    let frame = framed-found r a.0.0.0 a.0.0.1 a.0.1 a.1 in
+    let some = some-length r.target.order frame.front a.0.0.0 (length a.0.0.1.rest) frame.length_is in
+    let left : length a.0.1.rest < length r.rest = omega (
+      arith,
+      some,
+      ap length frame.parts,
+      length-append frame.front (a.0.0.1.rest ++ a.0.1.rest),
+      length-append a.0.0.1.rest a.0.1.rest,
+    ) in
+    subst (λ (p : EhRecord × ReadPosition). length p.1.rest < length r.rest) same left
+
+pub at-record : (address : ℕ) (target : Target) (section : List ℕ) (at next : ℕ) (x : EhRecord)
+    → eh_record_at address section (section_from target section at) ≡ Ok (x, section_from target section next)
+    → eh_entries_from address target section at ≡ Ok x ∷ eh_entries_from address target section next
+unfolding eh_entries_from
+at-record address target section at next x is = goes-on (eh_record_at address section) (records-forward address section)
+    (section_from target section at) x (section_from target section next) is
+
+pub at-end : (address : ℕ) (target : Target) (section : List ℕ) (at : ℕ) → length section ≤ at
+    → eh_entries_from address target section at ≡ []
+unfolding eh_entries_from
+at-end address target section at h = ends (eh_record_at address section) (section_from target section at) (omega (arith, length-drop at section))
+
+-- ---- writing
+
+-- records, and one more after them
+records-more : (target : Target) (at : ℕ) (bytes more : List ℕ) (rs : List Record) (r : Record) → AreRecords target at bytes rs
+    → IsRecord target (at + length bytes) more r → AreRecords target at (bytes ++ more) (rs ++ r ∷ [])
+records-more target at bytes more [] r are next =
+    let here : at + length bytes ≡ at = omega (arith, ap length are) in (
+      more,
+      [],
+      ap (λ (b : List ℕ). b ++ more) are ∙ sym (append-nil more),
+      subst (λ n. IsRecord target n more r) here next,
+      refl,
+    )
+records-more target at bytes more (x ∷ rs) r (first, rest, parts, record_is, others) next =
+    let here : at + length bytes ≡ at + length first + length rest = omega (arith, ap length parts, length-append first rest) in (
+      first,
+      rest ++ more,
+      ap (λ (b : List ℕ). b ++ more) parts ∙ append_assoc first rest more,
+      record_is,
+      records-more target (at + length first) rest more rs r others (subst (λ n. IsRecord target n more r) here next),
+    )
+
+-- what the records of a pair say doesn't depend on further pairs
+says-still : (a : Bool) (pairs : List Pair) (p q : Pair) → SaysTheSame a pairs q → SaysTheSame a (pairs ++ p ∷ []) q
+says-still a pairs p (eh_cie e, cie_record c) same = same
+says-still a pairs p (eh_cie e, fde_record f) same = same
+says-still a pairs p (eh_fde e, cie_record c) same = same
+says-still a pairs p (eh_fde e, fde_record f) (same, leads) = (
+  same,
+  record {
+    cie = leads.cie;
+    among = Contains-append_left pairs (p ∷ []) (eh_cie e.cie, cie_record leads.cie) leads.among;
+    offset = leads.offset;
+  },
+)
+says-still a pairs p (eh_nothing n, cie_record c) same = same
+says-still a pairs p (eh_nothing n, fde_record f) same = same
+
+all-say : (a : Bool) (pairs : List Pair) (p : Pair) → ((q : Pair) → Contains pairs q → SaysTheSame a pairs q) → SaysTheSame a (pairs ++ p ∷ []) p
+    → (q : Pair) → Contains (pairs ++ p ∷ []) q → SaysTheSame a (pairs ++ p ∷ []) q
+all-say a pairs p same last q among = elim (Contains-push_cases pairs p q among) [
+  | inl h ↦ says-still a pairs p q (same q h)
+  | inr e ↦ subst (SaysTheSame a (pairs ++ p ∷ [])) e last
+]
+
+place-still : (target : Target) (section : List ℕ) (pairs : List Pair) (p : Pair) (q : CiePlace) → IsPlace target section pairs q
+    → IsPlace target section (pairs ++ p ∷ []) q
+place-still target section pairs p q h = record {
+  cie = h.cie;
+  read = h.read;
+  written = h.written;
+  among = Contains-append_left pairs (p ∷ []) (eh_cie h.cie, cie_record h.written) h.among;
+  offset = h.offset;
+}
+
+-- the records so far, after one more
+read-more : (address : ℕ) (target : Target) (section : List ℕ) (at next : ℕ) (records : List EhRecord) (x : EhRecord)
+    → eh_entries_of address target section ≡ map Ok records ++ eh_entries_from address target section at
+    → eh_record_at address section (section_from target section at) ≡ Ok (x, section_from target section next)
+    → eh_entries_of address target section ≡ map Ok (records ++ x ∷ []) ++ eh_entries_from address target section next
+read-more address target section at next records x read is =
+    read
+    ∙ (ap (λ (items : List (Result EhRecord Fault)). map Ok records ++ items) (at-record address target section at next x is)
+    ∙ (sym (append_assoc (map Ok records) (Ok x ∷ []) (eh_entries_from address target section next))
+    ∙ ap (λ (items : List (Result EhRecord Fault)). items ++ eh_entries_from address target section next)
+    (sym (map-append Ok records (x ∷ [])))))
+
+-- the records that say something, after one more
+sources-more : (pairs : List Pair) (records : List EhRecord) (p : Pair) → says_something p.0 ≡ true
+    → map (λ (q : Pair). q.0) pairs ≡ filter says_something records
+    → map (λ (q : Pair). q.0) (pairs ++ p ∷ []) ≡ filter says_something (records ++ p.0 ∷ [])
+sources-more pairs records p says sources =
+    map-append (λ (q : Pair). q.0) pairs (p ∷ [])
+    ∙ (ap (λ (items : List EhRecord). items ++ p.0 ∷ []) sources
+    ∙ (ap (λ (items : List EhRecord). filter says_something records ++ items) (sym (kept p.0 says))
+    ∙ sym (filter-append says_something records (p.0 ∷ []))))
+  where
+    kept : (x : EhRecord) → says_something x ≡ true → filter says_something (x ∷ []) ≡ x ∷ []
+    kept x says = rw says refl
+
+from-zero : (target : Target) (made bytes : List ℕ) (r : Record) → IsRecord target (length made) bytes r
+    → IsRecord target (0 + length made) bytes r
+from-zero target made bytes r h =
+    let zero : length made ≡ 0 + length made = omega arith in
+    subst (λ n. IsRecord target n bytes r) zero h
+
+-- ---- the steps
+
+pub under-way-first : (a : Bool) (address : ℕ) (target : Target) (section : List ℕ) → IsUnderWay a address target section 0 [] []
+under-way-first a address target section = record {
+  inside = omega arith;
+  records = [];
+  read = refl;
+  pairs = [];
+  sources = refl;
+  encoded = refl;
+  same = λ p (k, inside, is). absurd (omega arith);
+  places = λ q (k, inside, is). absurd (omega arith);
+}
+
+pub under-way-nothing : (a : Bool) (address : ℕ) (target : Target) (section : List ℕ) (at next n : ℕ) (made : List ℕ) (cies : List CiePlace)
+    → IsUnderWay a address target section at made cies
+    → eh_record_at address section (section_from target section at) ≡ Ok (eh_nothing n, section_from target section next)
+    → next ≤ length section → IsUnderWay a address target section next made cies
+under-way-nothing a address target section at next n made cies way is inside = record {
+  inside = inside;
+  records = way.records ++ eh_nothing n ∷ [];
+  read = read-more address target section at next way.records (eh_nothing n) way.read is;
+  pairs = way.pairs;
+  sources = way.sources ∙ (sym (append-nil (filter says_something way.records)) ∙ sym (filter-append says_something way.records (eh_nothing n ∷ [])));
+  encoded = way.encoded;
+  same = way.same;
+  places = way.places;
+}
+
+pub under-way-cie : (a : Bool) (address : ℕ) (target : Target) (section : List ℕ) (at next source : ℕ) (e : EhCie) (made new : List ℕ)
+    (cies : List CiePlace) → IsUnderWay a address target section at made cies
+    → eh_record_at address section (section_from target section at) ≡ Ok (eh_cie e, section_from target section next)
+    → next ≤ length section → eh_cie_at target section source ≡ Ok e → WritesCie a target e made new
+    → IsUnderWay a address target section next new (cies ++ record { source = source; made = length made } ∷ [])
+under-way-cie a address target section at next source e made new cies way is inside found wrote =
+    let p : Pair = (eh_cie e, cie_record wrote.cie) in
+    let q : CiePlace = record { source = source; made = length made } in
+    let more : AreRecords target 0 (made ++ wrote.bytes) (map (λ (p : Pair). p.1) way.pairs ++ cie_record wrote.cie ∷ []) =
+    records-more target 0 made wrote.bytes (map (λ (p : Pair). p.1) way.pairs) (cie_record wrote.cie) way.encoded
+    (from-zero target made wrote.bytes _ wrote.encoded) in
+    record {
+      inside = inside;
+      records = way.records ++ eh_cie e ∷ [];
+      read = read-more address target section at next way.records (eh_cie e) way.read is;
+      pairs = way.pairs ++ p ∷ [];
+      sources = sources-more way.pairs way.records p refl way.sources;
+      encoded = subst (λ (b : List ℕ). AreRecords target 0 b (map (λ (p : Pair). p.1) (way.pairs ++ p ∷ []))) (sym wrote.appended)
+          (subst (AreRecords target 0 (made ++ wrote.bytes)) (sym (map-append (λ (p : Pair). p.1) way.pairs (p ∷ []))) more);
+      same = all-say a way.pairs p way.same wrote.same;
+      places = λ place among. elim (Contains-push_cases cies q place among) [
+        | inl h ↦ place-still target section way.pairs p place (way.places place h)
+        | inr same ↦ subst (IsPlace target section (way.pairs ++ p ∷ [])) same (record {
+          cie = e;
+          read = found;
+          written = wrote.cie;
+          among = Contains-push way.pairs p;
+          offset = wrote.offset;
+        })
+      ];
+    }
+
+abbrev ok-cie : EhCie → Result EhCie Fault
+ok-cie e = Ok e
+
+same-cie : (a b : EhCie) → ok-cie a ≡ ok-cie b → a ≡ b
+same-cie a b e = cc
+
+pub under-way-fde : (a : Bool) (address : ℕ) (target : Target) (section : List ℕ) (at next : ℕ) (e : EhFde) (made new : List ℕ)
+    (cies : List CiePlace) → IsUnderWay a address target section at made cies
+    → eh_record_at address section (section_from target section at) ≡ Ok (eh_fde e, section_from target section next)
+    → next ≤ length section → eh_cie_at target section e.cie.offset ≡ Ok e.cie → WritesPointing a target e cies made new
+    → IsUnderWay a address target section next new cies
+under-way-fde a address target section at next e made new cies way is inside found pointing =
+    let wrote = pointing.wrote in
+    let p : Pair = (eh_fde e, fde_record wrote.fde) in
+    let place = way.places pointing.place pointing.among in
+    let cie_is : place.cie ≡ e.cie = same-cie place.cie e.cie
+    (sym place.read ∙ (ap (eh_cie_at target section) pointing.source ∙ found)) in
+    let leads : LeadsTo (way.pairs ++ p ∷ []) e.cie wrote.fde.cie_pointer = record {
+      cie = place.written;
+      among = Contains-append_left way.pairs (p ∷ []) (eh_cie e.cie, cie_record place.written)
+          (subst (λ (c : EhCie). Contains way.pairs (eh_cie c, cie_record place.written)) cie_is place.among);
+      offset = place.offset ∙ sym wrote.pointer_is;
+    } in
+    let more : AreRecords target 0 (made ++ wrote.bytes) (map (λ (p : Pair). p.1) way.pairs ++ fde_record wrote.fde ∷ []) =
+    records-more target 0 made wrote.bytes (map (λ (p : Pair). p.1) way.pairs) (fde_record wrote.fde) way.encoded
+    (from-zero target made wrote.bytes _ wrote.encoded) in
+    record {
+      inside = inside;
+      records = way.records ++ eh_fde e ∷ [];
+      read = read-more address target section at next way.records (eh_fde e) way.read is;
+      pairs = way.pairs ++ p ∷ [];
+      sources = sources-more way.pairs way.records p refl way.sources;
+      encoded = subst (λ (b : List ℕ). AreRecords target 0 b (map (λ (p : Pair). p.1) (way.pairs ++ p ∷ []))) (sym wrote.appended)
+          (subst (AreRecords target 0 (made ++ wrote.bytes)) (sym (map-append (λ (p : Pair). p.1) way.pairs (p ∷ []))) more);
+      same = all-say a way.pairs p way.same (wrote.same, leads);
+      places = λ q among. place-still target section way.pairs p q (way.places q among);
+    }
+
+pub under-way-end : (a : Bool) (address : ℕ) (target : Target) (section : List ℕ) (at : ℕ) (made : List ℕ) (cies : List CiePlace)
+    → IsUnderWay a address target section at made cies → length section ≤ at → IsRewritten a address target section made
+under-way-end a address target section at made cies way end = record {
+  records = way.records;
+  are = way.read ∙ (ap (λ (items : List (Result EhRecord Fault)). map Ok way.records ++ items) (at-end address target section at end)
+      ∙ append-nil (map Ok way.records));
+  rewriting = record { pairs = way.pairs; sources = way.sources; encoded = way.encoded; same = way.same };
+}
+
+pub ruleset steps = (under-way-first, under-way-nothing, under-way-cie, under-way-fde, under-way-end)

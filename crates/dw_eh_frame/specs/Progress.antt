@@ -1,0 +1,54 @@
+-- The state of a rewriting: what is known after some records.
+use Rattle.std.specs.Prelude.{◌≡◌, ◌≤◌, ℕ, Bool, List, ◌++◌, map, filter, length, Contains, Ok}
+use Rattle.dw_bytes.specs.declared.target.Target.{Target}
+use Rattle.dw_frame.specs.Records.{Cie, Fde, cie_record, fde_record}
+use Rattle.dw_frame.specs.Sections.{AreRecords, IsRecord}
+use Rattle.dw_eh_frame.specs.declared.rewriting.CiePlace.{CiePlace}
+use Rattle.dw_eh_frame.specs.Records.{EhCie, EhFde, EhRecord, eh_cie, eh_cie_at, eh_entries_from, eh_entries_of}
+use Rattle.dw_eh_frame.specs.Rewriting.{Pair, SaysTheSame, says_something, IsSameCie, IsSameFde}
+
+-- A CIE was written: it begins at `source` in `.eh_frame`, and at `made` in `.debug_frame`.
+pub record IsPlace (target : Target) (section : List ℕ) (pairs : List Pair) (q : CiePlace) : Type 0 where
+  pub cie : EhCie
+  pub read : eh_cie_at target section q.source ≡ Ok cie
+  pub written : Cie
+  pub among : Contains pairs (eh_cie cie, cie_record written)
+  pub offset : written.offset ≡ q.made
+
+-- The records before the offset `at` were read, and the bytes `made` were written for them. `cies`
+-- has the places of the CIEs.
+pub record IsUnderWay (is_aarch64 : Bool) (address : ℕ) (target : Target) (section : List ℕ) (at : ℕ) (made : List ℕ) (cies : List CiePlace) : Type 0 where
+  pub inside : at ≤ length section
+  pub records : List EhRecord
+  pub read : eh_entries_of address target section ≡ map Ok records ++ eh_entries_from address target section at
+  pub pairs : List Pair
+  pub sources : map (λ (p : Pair). p.0) pairs ≡ filter says_something records
+  pub encoded : AreRecords target 0 made (map (λ (p : Pair). p.1) pairs)
+  pub same : (p : Pair) → Contains pairs p → SaysTheSame is_aarch64 pairs p
+  pub places : (q : CiePlace) → Contains cies q → IsPlace target section pairs q
+
+-- A CIE that says what `e` says was written after the bytes `old`.
+pub record WritesCie (is_aarch64 : Bool) (target : Target) (e : EhCie) (old new : List ℕ) : Type 0 where
+  pub bytes : List ℕ
+  pub cie : Cie
+  pub appended : new ≡ old ++ bytes
+  pub encoded : IsRecord target (length old) bytes (cie_record cie)
+  pub same : IsSameCie is_aarch64 e cie
+  pub offset : cie.offset ≡ length old
+
+-- An FDE that says what `e` says, with this CIE pointer, was written after the bytes `old`.
+pub record WritesFde (is_aarch64 : Bool) (target : Target) (e : EhFde) (pointer : ℕ) (old new : List ℕ) : Type 0 where
+  pub bytes : List ℕ
+  pub fde : Fde
+  pub appended : new ≡ old ++ bytes
+  pub encoded : IsRecord target (length old) bytes (fde_record fde)
+  pub same : IsSameFde is_aarch64 e fde
+  pub pointer_is : fde.cie_pointer ≡ pointer
+
+-- An FDE that says what `e` says was written after the bytes `old`. Its CIE pointer leads to the place
+-- of its CIE.
+pub record WritesPointing (is_aarch64 : Bool) (target : Target) (e : EhFde) (cies : List CiePlace) (old new : List ℕ) : Type 0 where
+  pub place : CiePlace
+  pub among : Contains cies place
+  pub source : place.source ≡ e.cie.offset
+  pub wrote : WritesFde is_aarch64 target e place.made old new

@@ -1,0 +1,142 @@
+-- The records of an `.eh_frame` section, and how they are read (LSB Core, section 10.6.1).
+use Rattle.std.specs.Prelude.{ℕ, ◌-◌, ◌==◌, ◌||◌, nat_le, Bool, true, false, if◌then◌else◌, List, length, Result, Ok, Err}
+use Rattle.dw_bytes.specs.declared.target.Target.{Target}
+use Rattle.dw_bytes.specs.declared.target.Format.{Format}
+use Rattle.dw_bytes.specs.declared.fault.Fault.{Fault}
+use Rattle.dw_bytes.specs.declared.fault.FaultKind.TheVariants.{Version, NoSuchCie}
+use Rattle.dw_bytes.specs.Reading.{ReadPosition, ◌>>=◌, section_from, fixed_at}
+use Rattle.dw_bytes.specs.Operands.{fixed, block_at}
+use Rattle.dw_bytes.specs.Fields.{unless, field_at, fields_at}
+use Rattle.dw_bytes.specs.Bodies.{framed_at}
+use Rattle.dw_bytes.specs.Sequence.{sequence_of}
+use Rattle.dw_frame.specs.Sections.{Header, factors}
+use Rattle.dw_eh_frame.specs.declared.augmentation.Augmentation.{Augmentation}
+use Rattle.dw_eh_frame.specs.Pointers.{pointer_at, range_at}
+use Rattle.dw_eh_frame.specs.Augmentations.{string_at, augmentation_at}
+
+-- ---- the records
+
+-- What a CIE says before its program. `numbers` has the alignment factors and the return address
+-- register, as in the header of a CIE of `.debug_frame`.
+pub record EhCieHead : Type 0 where
+  pub version : ℕ
+  pub numbers : Header
+  pub augmentation : Augmentation
+
+-- A CIE: the offset of its record, what it says, and its program.
+pub record EhCie : Type 0 where
+  pub offset : ℕ
+  pub format : Format
+  pub head : EhCieHead
+  pub program : ReadPosition
+
+-- An FDE: the offset of its record, its CIE, the offset of its CIE pointer, its addresses, and its
+-- program.
+pub record EhFde : Type 0 where
+  pub offset : ℕ
+  pub format : Format
+  pub cie : EhCie
+  pub cie_pointer_offset : ℕ
+  pub initial_location : ℕ
+  pub address_range : ℕ
+  pub program : ReadPosition
+
+-- A record of length 0 marks the end of a section. Linkers leave such records between others, so it
+-- says nothing here.
+pub data EhRecord : Type 0 where
+  eh_cie : EhCie → EhRecord
+  eh_fde : EhFde → EhRecord
+  eh_nothing : ℕ → EhRecord
+
+-- ---- reading a CIE
+
+abbrev pub is_eh_version : ℕ → Bool
+is_eh_version version = version == 1 || version == 3
+
+-- The fields of a CIE after its id: the version; the augmentation's string; the alignment factors and
+-- the return address register, as in `.debug_frame`; the augmentation's data.
+unfoldable pub eh_cie_head_at : ReadPosition → Result (EhCieHead × ReadPosition) Fault
+eh_cie_head_at r = do
+  version ← field_at (fixed 1) (λ number. unless (is_eh_version number) Version) r
+  letters ← string_at version.1
+  numbers ← fields_at (factors version.0) letters.1
+  augmentation ← augmentation_at version.1.position letters.0 numbers.1
+  Ok (record { version = version.0; numbers = numbers.0; augmentation = augmentation.0 }, augmentation.1)
+
+-- a CIE whose record begins at the offset `at`, read from the offset after its id on
+unfoldable pub eh_cie_from : ℕ → Format → ReadPosition → Result EhCie Fault
+eh_cie_from at format r = do
+  head ← eh_cie_head_at r
+  Ok (record { offset = at; format = format; head = head.0; program = head.1 })
+
+-- the CIE that begins at an offset of a section: its id is 0
+unfoldable pub eh_cie_at : Target → List ℕ → ℕ → Result EhCie Fault
+eh_cie_at target section at = do
+  framed ← framed_at (section_from target section at)
+  id ← fixed_at 4 framed.0.1
+  if id.0 == 0 then eh_cie_from at framed.0.0 id.1 else Err (record { kind = NoSuchCie; at = at })
+
+-- ---- reading an FDE
+
+-- any fault as a CIE pointer that leads to no CIE
+abbrev pub no_such_cie : {X : Type 0} → ℕ → Result X Fault → Result X Fault
+no_such_cie place (Ok x) = Ok x
+no_such_cie place (Err fault) = Err (record { kind = NoSuchCie; at = place })
+
+-- The CIE of an FDE. Its CIE pointer, at the offset `place`, is how far the CIE begins before that
+-- offset.
+abbrev pub eh_cie_before : Target → List ℕ → ℕ → ℕ → Result EhCie Fault
+eh_cie_before target section place back =
+    if nat_le back place then no_such_cie place (eh_cie_at target section (place - back))
+    else Err (record { kind = NoSuchCie; at = place })
+
+-- the augmentation data of an FDE: a size and as many bytes, if its CIE has augmentation data
+abbrev pub eh_area_at : Bool → ReadPosition → Result ReadPosition Fault
+eh_area_at true r = block_at r >>= λ area. Ok area.1
+eh_area_at false r = Ok r
+
+-- An FDE whose record begins at the offset `at`, read from the offset after its CIE pointer on. The
+-- section has the address `address`.
+unfoldable pub eh_fde_from : ℕ → ℕ → Format → ℕ → EhCie → ReadPosition → Result EhFde Fault
+eh_fde_from address at format place cie r = do
+  initial ← pointer_at address cie.head.augmentation.addresses r
+  range ← range_at cie.head.augmentation.addresses.format initial.0 initial.1
+  program ← eh_area_at cie.head.augmentation.has_data range.1
+  Ok (record {
+    offset = at;
+    format = format;
+    cie = cie;
+    cie_pointer_offset = place;
+    initial_location = initial.0;
+    address_range = range.0;
+    program = program;
+  })
+
+-- ---- reading a section
+
+-- The body of a record begins with four bytes, in the 64-bit format too: 0 in a CIE, and the CIE
+-- pointer in an FDE.
+unfoldable pub eh_full_at : ℕ → List ℕ → ℕ → Format → ReadPosition → ℕ × ReadPosition → Result EhRecord Fault
+eh_full_at address section at format body id =
+    if id.0 == 0 then (eh_cie_from at format id.1 >>= λ cie. Ok (eh_cie cie))
+    else (eh_cie_before body.target section body.position id.0 >>= λ cie.
+    eh_fde_from address at format body.position cie id.1 >>= λ fde. Ok (eh_fde fde))
+
+-- a body of no bytes is a record of length 0
+unfoldable pub eh_body_at : ℕ → List ℕ → ℕ → Format → ReadPosition → Result EhRecord Fault
+eh_body_at address section at format body =
+    if length body.rest == 0 then Ok (eh_nothing at) else (fixed_at 4 body >>= eh_full_at address section at format body)
+
+-- a record: its length and its body
+unfoldable pub eh_record_at : ℕ → List ℕ → ReadPosition → Result (EhRecord × ReadPosition) Fault
+eh_record_at address section r = do
+  framed ← framed_at r
+  found ← eh_body_at address section r.position framed.0.0 framed.0.1
+  Ok (found, framed.1)
+
+-- the records of a section with this address, from an offset on, up to its end or the first fault
+unfoldable pub eh_entries_from : ℕ → Target → List ℕ → ℕ → List (Result EhRecord Fault)
+eh_entries_from address target section at = sequence_of (eh_record_at address section) (section_from target section at)
+
+abbrev pub eh_entries_of : ℕ → Target → List ℕ → List (Result EhRecord Fault)
+eh_entries_of address target section = eh_entries_from address target section 0

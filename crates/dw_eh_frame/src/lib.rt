@@ -1,0 +1,19 @@
+//! Reads `.eh_frame` sections (LSB Core, section 10.6), and rewrites them as `.debug_frame` sections.
+#![tactic(auto)]
+
+mod augmentation;
+mod dialect;
+mod head;
+pub mod laws;
+mod pointer;
+mod record;
+mod rewriting;
+mod silence;
+mod write;
+
+pub use augmentation::Augmentation;
+pub use dialect::Dialect;
+pub use head::{EhCieHead, Factors};
+pub use pointer::{PointerBase, PointerEncoding, PointerFormat};
+pub use record::{EhCie, EhFde, EhProgram, EhRecord, eh_record};
+pub use rewriting::rewrite;

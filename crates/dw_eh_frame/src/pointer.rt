@@ -1,0 +1,176 @@
+//! Encoded pointers (LSB Core, section 10.5.1).
+
+ghost use Rattle.std.specs.Prelude.{◌≡◌, ◌+◌, ◌^◌, ◌<◌, ◌≤◌, IfOk, IfErr};
+ghost use Rattle.dw_bytes.specs.Reading.{MovesForward};
+ghost use Rattle.dw_bytes.specs.Readers.{IsRefusedWithin, ParsesBy};
+ghost use Rattle.dw_bytes.specs.Encoding.{max_address};
+ghost use Rattle.dw_eh_frame.specs.Pointers.{encoding_of, format_of, number_at, pointer_at, range_at, sign_extended, wrapped};
+
+use dw_bytes::{AddressSize, Cursor, Fault, FaultKind, Target};
+
+/// How the number of an encoded pointer is written.
+#[derive(Clone, Copy, Debug, PartialEq, Eq)]
+pub enum PointerFormat {
+    Address,
+    Uleb,
+    U16,
+    U32,
+    U64,
+    Sleb,
+    I16,
+    I32,
+    I64,
+}
+
+/// What the number of an encoded pointer is relative to: nothing, or the address of the pointer.
+#[derive(Clone, Copy, Debug, PartialEq, Eq)]
+pub enum PointerBase {
+    Absolute,
+    Place,
+}
+
+/// An encoding of pointers.
+#[derive(Clone, Copy, Debug, PartialEq, Eq)]
+pub struct PointerEncoding {
+    pub format: PointerFormat,
+    pub base: PointerBase,
+}
+
+fn format_by(code: u8) -> Option<PointerFormat>
+    ensures { result ≡ format_of code }
+{
+    match code {
+        0x00 => Some(PointerFormat::Address),
+        0x01 => Some(PointerFormat::Uleb),
+        0x02 => Some(PointerFormat::U16),
+        0x03 => Some(PointerFormat::U32),
+        0x04 => Some(PointerFormat::U64),
+        0x09 => Some(PointerFormat::Sleb),
+        0x0a => Some(PointerFormat::I16),
+        0x0b => Some(PointerFormat::I32),
+        0x0c => Some(PointerFormat::I64),
+        _ => None,
+    }
+}
+
+/// The encoding that a byte stands for, if it is one that an FDE's addresses may have.
+pub(crate) fn encoding_by(code: u8) -> Option<PointerEncoding>
+    ensures { result ≡ encoding_of code }
+{
+    if code < 0x10 {
+        match format_by(code) {
+            Some(format) => Some(PointerEncoding {
+                format,
+                base: PointerBase::Absolute,
+            }),
+            None => None,
+        }
+    } else if code < 0x20 {
+        match format_by(code - 0x10) {
+            Some(format) => Some(PointerEncoding {
+                format,
+                base: PointerBase::Place,
+            }),
+            None => None,
+        }
+    } else {
+        None
+    }
+}
+
+fn extended_u16(number: u16) -> u64
+    ensures { result ≡ sign_extended 2 number }
+{
+    if number < 0x8000 {
+        u64::from(number)
+    } else {
+        u64::from(number) + 0xffff_ffff_ffff_0000
+    }
+}
+
+fn extended_u32(number: u32) -> u64
+    ensures { result ≡ sign_extended 4 number }
+{
+    if number < 0x8000_0000 {
+        u64::from(number)
+    } else {
+        u64::from(number) + 0xffff_ffff_0000_0000
+    }
+}
+
+/// The number that a pointer holds, as a number of 64 bits.
+fn read_number(cursor: &mut Cursor<'_>, format: PointerFormat) -> Result<u64, Fault>
+    ensures exact { ParsesBy (λ number. number) (number_at format) cursor.old result cursor.new }
+    ensures within { IsRefusedWithin cursor.old result }
+    ensures goes_on { MovesForward cursor.old cursor.new }
+{
+    match format {
+        PointerFormat::Address => cursor.address(),
+        PointerFormat::Uleb => cursor.uleb(),
+        PointerFormat::U16 => Ok(u64::from(cursor.u16()?)),
+        PointerFormat::U32 => Ok(u64::from(cursor.u32()?)),
+        PointerFormat::U64 => cursor.u64(),
+        PointerFormat::Sleb => Ok(cursor.sleb()?.cast_unsigned()),
+        PointerFormat::I16 => Ok(extended_u16(cursor.u16()?)),
+        PointerFormat::I32 => Ok(extended_u32(cursor.u32()?)),
+        PointerFormat::I64 => cursor.u64(),
+    }
+}
+
+/// A sum of two numbers of 64 bits, as an address.
+fn wrapped_sum(target: Target, base: u64, number: u64) -> u64
+    ensures value { result ≡ wrapped target (base + number) }
+    ensures small { result ≤ max_address target.address_size }
+{
+    let sum = base.wrapping_add(number);
+    match target.address_size {
+        AddressSize::Four => sum % 0x1_0000_0000,
+        AddressSize::Eight => sum,
+    }
+}
+
+/// An encoded address. `address` is the address of the section.
+#[tactic(auto, unfolding(crate::specs::Pointers::pointer_at))]
+pub(crate) fn read_pointer(
+    cursor: &mut Cursor<'_>,
+    address: u64,
+    encoding: PointerEncoding,
+) -> Result<u64, Fault>
+    ensures exact { ParsesBy (λ number. number) (pointer_at address encoding) cursor.old result cursor.new }
+    ensures small { IfOk result (λ number. number ≤ max_address cursor.old.target.address_size) }
+    ensures within { IsRefusedWithin cursor.old result }
+    ensures goes_on { MovesForward cursor.old cursor.new }
+{
+    let target = cursor.target();
+    let at = cursor.position();
+    let number = read_number(cursor, encoding.format)?;
+    let base = match encoding.base {
+        PointerBase::Absolute => 0,
+        PointerBase::Place => address.wrapping_add(u64::from(at)),
+    };
+    Ok(wrapped_sum(target, base, number))
+}
+
+/// The number of addresses of an FDE whose first address is `initial`.
+#[tactic(auto, unfolding(crate::specs::Pointers::range_at))]
+pub(crate) fn read_range(
+    cursor: &mut Cursor<'_>,
+    format: PointerFormat,
+    initial: u64,
+) -> Result<u64, Fault>
+    ensures exact { ParsesBy (λ number. number) (range_at format initial) cursor.old result cursor.new }
+    ensures small { IfOk result (λ number. initial + number ≤ max_address cursor.old.target.address_size) }
+    ensures within { IsRefusedWithin cursor.old result }
+    ensures goes_on { MovesForward cursor.old cursor.new }
+{
+    let top = cursor.target().address_size.max_address();
+    let at = cursor.position();
+    let number = read_number(cursor, format)?;
+    match initial.checked_add(number) {
+        Some(end) if end <= top && number < 0x8000_0000_0000_0000 => Ok(number),
+        _ => Err(Fault {
+            kind: FaultKind::RangePastTop,
+            at,
+        }),
+    }
+}

@@ -1,0 +1,165 @@
+//! Rewrites an `.eh_frame` section as a `.debug_frame` section.
+
+ghost use Rattle.std.specs.Prelude.{◌≡◌, ◌+◌, ◌^◌, ◌<◌, ◌≤◌, IfOk, IfErr, IfSome, OnOk, length, [], ◌∷◌, ◌++◌};
+ghost use Rattle.std.specs.Prelude.{Contains};
+ghost use Rattle.dw_eh_frame.specs.Progress.{IsUnderWay, WritesCie, WritesPointing};
+ghost use Rattle.dw_eh_frame.specs.Rewriting.{IsRewritten};
+ghost use Rattle.dw_eh_frame.specs.Refused.{IsRefused, IsUnwritten, IsUnwrittenFde};
+ghost use Rattle.dw_eh_frame.specs.Views.{IsRead, IsReadCie, IsReadFde, eh_cie_of, eh_fde_of, eh_record_of};
+ghost use Rattle.dw_eh_frame.specs.Records.{eh_record_at};
+ghost use Rattle.dw_bytes.specs.Reading.{section_from};
+
+use crate::dialect::dialect_by;
+use crate::record::{EhCie, EhFde, EhRecord, eh_record};
+use crate::write::{push_cie, push_fde};
+use dw_bytes::{Fault, FaultKind, OUT_OF_MEMORY, Target};
+use std::alloc::Global;
+
+/// Where a CIE begins in `.eh_frame`, and where the CIE begins that was written for it.
+#[derive(Clone, Copy)]
+pub struct CiePlace {
+    pub source: u32,
+    pub made: u32,
+}
+
+/// The rewriting's result or state: the bytes that were written, and the places of the CIEs.
+#[derive(Drop)]
+struct Made {
+    bytes: Vec<u8>,
+    cies: Vec<CiePlace>,
+}
+
+const TOO_LONG: Fault = Fault {
+    kind: FaultKind::SectionTooLong,
+    at: 0,
+};
+
+/// More bytes than the fields of a record's header take.
+const HEADER: usize = 32;
+
+/// The most bytes that are written.
+const MOST: usize = 0xffff_ff00;
+
+/// The place of the CIE that begins at the offset `source`, found by binary search.
+fn place_of(cies: &[CiePlace], source: u32) -> Option<CiePlace>
+    ensures among { IfSome result (λ q. Contains cies.now q) }
+    ensures source { IfSome result (λ q. q.source ≡ source) }
+{
+    let index = cies
+        .binary_search_by_key(&source, |place| place.source)
+        .ok()?;
+    let place = cies[index];
+    if place.source == source {
+        Some(place)
+    } else {
+        None
+    }
+}
+
+/// Writes a CIE.
+#[tactic(auto, using(crate::proofs::Written::writes_laws))]
+fn write_cie(
+    made: &mut Made,
+    target: Target,
+    cie: &EhCie<'_>,
+    is_aarch64: bool,
+) -> Result<(), Fault>
+    requires { IsReadCie target cie.now }
+    ensures wrote { OnOk result (WritesCie is_aarch64 target (eh_cie_of cie.now) made.old.bytes.items made.new.bytes.items) }
+    ensures refused { IfErr result IsUnwritten }
+    ensures place { OnOk result (made.new.cies.items ≡ made.old.cies.items
+        ++ record { source = cie.now.offset; made = length made.old.bytes.items } ∷ []) }
+{
+    let at = made.bytes.len();
+    let numbers = cie.head.numbers;
+    let program = cie.program.bytes;
+    if numbers.len() > MOST || program.len() > MOST || at > MOST {
+        return Err(TOO_LONG);
+    }
+    if at + numbers.len() + program.len() + HEADER > MOST {
+        return Err(TOO_LONG);
+    }
+    push_cie(
+        &mut made.bytes,
+        target,
+        cie.head.factors.version,
+        numbers,
+        program,
+        dialect_by(is_aarch64, cie.head.augmentation),
+    )?;
+    made.cies.push(CiePlace {
+        source: cie.offset,
+        made: at as u32,
+    })?;
+    Ok(())
+}
+
+/// Writes an FDE.
+#[tactic(auto, using(crate::proofs::Written::writes_laws))]
+fn write_fde(
+    made: &mut Made,
+    target: Target,
+    fde: &EhFde<'_>,
+    is_aarch64: bool,
+) -> Result<(), Fault>
+    requires { IsReadFde target fde.now }
+    ensures wrote { OnOk result (WritesPointing is_aarch64 target (eh_fde_of fde.now) made.old.cies.items
+        made.old.bytes.items made.new.bytes.items) }
+    ensures refused { IfErr result (IsUnwrittenFde (eh_fde_of fde.now)) }
+    ensures place { OnOk result (made.new.cies.items ≡ made.old.cies.items) }
+{
+    let at = made.bytes.len();
+    let program = fde.program.bytes;
+    let Some(place) = place_of(&made.cies, fde.cie.offset) else {
+        return Err(Fault {
+            kind: FaultKind::NoSuchCie,
+            at: fde.cie_pointer_offset,
+        });
+    };
+    if program.len() > MOST || at > MOST || place.made as usize > MOST {
+        return Err(TOO_LONG);
+    }
+    if at + program.len() + HEADER > MOST {
+        return Err(TOO_LONG);
+    }
+    push_fde(
+        &mut made.bytes,
+        target,
+        place.made,
+        fde.initial_location,
+        fde.address_range,
+        program,
+        dialect_by(is_aarch64, fde.cie.head.augmentation),
+    )?;
+    Ok(())
+}
+
+/// Rewrites a section of fewer than 2^32 bytes, which has this address.
+#[tactic(auto, using(crate::proofs::Steps::steps, crate::proofs::Refusing::refusals))]
+pub fn rewrite(
+    alloc: Global,
+    section: &[u8],
+    target: Target,
+    address: u64,
+    is_aarch64: bool,
+) -> Result<Vec<u8>, Fault>
+    requires { length section.now < 2 ^ 32 }
+    ensures refused { IfErr result (IsRefused address target section.now) }
+    ensures rewritten { IfOk result (λ made. IsRewritten is_aarch64 address target section.now made.items) }
+{
+    let mut made = Made {
+        bytes: Vec::with_capacity(alloc, section.len())?,
+        cies: Vec::new(alloc),
+    };
+    let mut at = 0u32;
+    while (at as usize) < section.len() {
+        let (found, next) = eh_record(section, target, address, at)?;
+        match found {
+            EhRecord::Cie(cie) => write_cie(&mut made, target, &cie, is_aarch64)?,
+            EhRecord::Fde(fde) => write_fde(&mut made, target, &fde, is_aarch64)?,
+            EhRecord::Nothing(_) => {}
+        }
+        at = next;
+    }
+    Ok(made.bytes)
+}
