@@ -1,0 +1,71 @@
+-- A rewritten section keeps the rows of each FDE.
+use Rattle.std.proofs.Common.{◌≡◌, ℕ, ◌+◌, Bool, List, [], refl, sym, ap, ◌∙◌}
+use Rattle.std.specs.Prelude.{reverse, Contains}
+use Rattle.dw_bytes.specs.declared.target.Target.{Target}
+use Rattle.dw_frame.specs.Records.{Cie, Fde, cie_record, fde_record}
+use Rattle.dw_frame.specs.Codes.{instructions_of}
+use Rattle.dw_rows.specs.Effects.{Effect, effects_by, effects_of}
+use Rattle.dw_rows.specs.InForce.{Start, start_behind, rule_at, cfa_at, cie_start}
+use Rattle.dw_rows.specs.Good.{IsGoodFdeProgram}
+use Rattle.dw_rows.specs.UnwindRows.{rows_after, rows_of}
+use Rattle.dw_rows.proofs.Programs.{effects-good, good-read-fde, start-same}
+use Rattle.dw_eh_frame.specs.Records.{EhFde, EhRecord, eh_cie, eh_fde}
+use Rattle.dw_eh_frame.specs.Rewriting.{IsRewriting}
+use Rattle.dw_eh_frame.proofs.ReadBack.{programs-read-back}
+use Rattle.dw_eh_rows.specs.Meaning.{as_fde, dialect_in, eh_effects_by, eh_rows_by}
+use Rattle.dw_eh_rows.specs.Unplaced.{unplaced_rows}
+use Rattle.dw_eh_rows.specs.Kept.{KeepsRows}
+use Rattle.dw_eh_rows.proofs.Rows.{rows-same}
+
+good-rows : (c : Cie) (f : Fde) (g : IsGoodFdeProgram c f)
+    → rows_of c f ≡ rows_after (start_behind (reverse (effects_by c g.first.items)) f) [] (effects_by c g.items)
+unfolding rows_of
+good-rows c f g =
+    ap (λ (s : Start). rows_after s [] (effects_of c (instructions_of f.program))) (start-same c f g.first)
+    ∙ ap (rows_after (start_behind (reverse (effects_by c g.first.items)) f) []) (effects-good c g.items (instructions_of f.program) (good-read-fde c f g))
+
+abbrev start-at : List Effect → ℕ → ℕ → Start
+start-at left initial range = record {
+  rules = rule_at cie_start left 0;
+  cfa = cfa_at cie_start left 0;
+  location = initial;
+  end = initial + range;
+}
+
+start-of : (e : EhFde) (f : Fde) (left : List Effect) → f.initial_location ≡ e.initial_location → f.address_range ≡ e.address_range
+    → start_behind left (as_fde e) ≡ start_behind left f
+start-of e f left initial range =
+    ap (λ n. start-at left n e.address_range) (sym initial) ∙ ap (start-at left f.initial_location) (sym range)
+
+pub rows-kept : (a : Bool) (target : Target) (records : List EhRecord) (made : List ℕ) (rewriting : IsRewriting a target records made)
+    (e : EhFde) (f : Fde) → Contains rewriting.pairs (eh_fde e, fde_record f) → KeepsRows a rewriting.pairs e f
+rows-kept a target records made rewriting e f among =
+    let says = rewriting.same (eh_fde e, fde_record f) among in
+    let c : Cie = says.1.cie in
+    let of_cie = rewriting.same (eh_cie e.cie, cie_record c) says.1.among in
+    record {
+      initial_location = says.0.initial_location;
+      address_range = says.0.address_range;
+      cie = c;
+      among = says.1.among;
+      offset = says.1.offset;
+      rows = λ (g : IsGoodFdeProgram c f).
+          let first = programs-read-back (dialect_in a e) e.cie.program c.program g.first.items of_cie.program g.first.encoded in
+          let items = programs-read-back (dialect_in a e) e.program f.program g.items says.0.program g.encoded in
+          record {
+            rows = eh_rows_by c e first.0 items.0;
+            are = record {
+              cie = c;
+              numbers = of_cie.numbers;
+              first = first.0;
+              first_are = first.1;
+              items = items.0;
+              items_are = items.1;
+              rows_are = refl;
+            };
+            same = ap (λ (s : Start). unplaced_rows (rows_after s [] (eh_effects_by c items.0)))
+                (start-of e f (reverse (eh_effects_by c first.0)) says.0.initial_location says.0.address_range)
+                ∙ (rows-same c f first.0 items.0 g.first.items g.items first.2 items.2
+                ∙ ap unplaced_rows (sym (good-rows c f g)));
+          };
+    }

@@ -1,0 +1,95 @@
+-- Which rows an `.eh_frame` section gives. They are those of DWARF 5, section 6.4.1, for the
+-- instructions of the section's own programs. The instructions of vendors change no row.
+use Rattle.std.specs.Prelude.{◌≡◌, ℕ, ◌+◌, ◌<◌, ◌≤◌, Bool, not, List, [], ◌∷◌, map, reverse, Contains, Option, Some, None}
+use Rattle.std.specs.List.{filter_map}
+use Rattle.dw_frame.specs.Records.{Cie, Fde}
+use Rattle.dw_frame.specs.Sections.{Header, cie_header}
+use Rattle.dw_rows.specs.Rules.{PlacedRow}
+use Rattle.dw_rows.specs.Effects.{Effect, stays, effect_of}
+use Rattle.dw_rows.specs.InForce.{start_behind}
+use Rattle.dw_rows.specs.UnwindRows.{rows_after}
+use Rattle.dw_eh_frame.specs.Records.{EhFde, EhRecord, eh_cie, eh_fde, eh_nothing}
+use Rattle.dw_eh_frame.specs.declared.dialect.Dialect.{Dialect}
+use Rattle.dw_eh_frame.specs.Instructions.{EhInstruction, plain, args_size, negate_ra_state, dialect_of, AreEhInstructions}
+
+-- the header of a CIE of `.debug_frame`
+abbrev pub numbers_of : Cie → Header
+numbers_of c = cie_header (record {
+  version = c.version;
+  code_alignment_factor = c.code_alignment_factor;
+  data_alignment_factor = c.data_alignment_factor;
+  return_address_register = c.return_address_register;
+})
+
+-- the FDE as DWARF has it, with its program where it stands in `.eh_frame`
+abbrev pub as_fde : EhFde → Fde
+as_fde e = record {
+  offset = e.offset;
+  format = e.format;
+  cie_pointer = e.cie.offset;
+  cie_pointer_offset = e.cie_pointer_offset;
+  initial_location = e.initial_location;
+  address_range = e.address_range;
+  program = e.program;
+}
+
+-- the effect of an instruction: an instruction of a vendor does nothing to the rules
+abbrev pub eh_effect_of : Cie → EhInstruction → Effect
+eh_effect_of cie (plain i) = effect_of cie i
+eh_effect_of cie (args_size n) = stays
+eh_effect_of cie (negate_ra_state with_pc) = stays
+
+abbrev pub eh_effects_by : Cie → List (ℕ × EhInstruction) → List Effect
+eh_effects_by cie items = map (λ item. eh_effect_of cie item.1) items
+
+-- The rows of an FDE whose CIE's program and whose own program have these instructions.
+abbrev pub eh_rows_by : Cie → EhFde → List (ℕ × EhInstruction) → List (ℕ × EhInstruction) → List PlacedRow
+eh_rows_by cie e first items = rows_after (start_behind (reverse (eh_effects_by cie first)) (as_fde e)) [] (eh_effects_by cie items)
+
+-- how the instructions of an FDE and of its CIE are read
+abbrev pub dialect_in : Bool → EhFde → Dialect
+dialect_in is_aarch64 e = dialect_of is_aarch64 e.cie.head.augmentation
+
+-- `rows` are the rows of an FDE: its CIE's program and its own program are the encodings of
+-- instructions, one after another, and these are the rows that the instructions give with the
+-- alignment factors of its CIE. Of the CIE `cie` only these count.
+pub record AreEhRows (is_aarch64 : Bool) (e : EhFde) (rows : List PlacedRow) : Type 0 where
+  pub cie : Cie
+  pub numbers : numbers_of cie ≡ e.cie.head.numbers
+  pub first : List (ℕ × EhInstruction)
+  pub first_are : AreEhInstructions (dialect_in is_aarch64 e) e.cie.program.target e.cie.program.position e.cie.program.rest first
+  pub items : List (ℕ × EhInstruction)
+  pub items_are : AreEhInstructions (dialect_in is_aarch64 e) e.program.target e.program.position e.program.rest items
+  pub rows_are : rows ≡ eh_rows_by cie e first items
+
+-- ---- the FDE of an address
+
+abbrev pub fde_in : EhRecord → Option EhFde
+fde_in (eh_fde e) = Some e
+fde_in (eh_cie e) = None
+fde_in (eh_nothing at) = None
+
+abbrev pub eh_fdes : List EhRecord → List EhFde
+eh_fdes records = filter_map fde_in records
+
+abbrev pub EhCovers : EhFde → ℕ → Type 0
+EhCovers e a = (e.initial_location ≤ a) × (a < e.initial_location + e.address_range)
+
+-- the only FDE that covers the address a, or none if no FDE covers it
+abbrev pub IsEhCoverOf : List EhFde → ℕ → Option EhFde → Type 0
+IsEhCoverOf fdes a None = (e : EhFde) → Contains fdes e → ¬ EhCovers e a
+IsEhCoverOf fdes a (Some e) = Contains fdes e × EhCovers e a × ((g : EhFde) → Contains fdes g → EhCovers g a → g ≡ e)
+
+-- The caller of a frame of this FDE was interrupted, and made no call: it is looked up at its own
+-- address, and not at the byte before.
+abbrev pub is_signal_frame : EhFde → Bool
+is_signal_frame e = e.cie.head.augmentation.is_signal
+
+-- Whether the return address is signed after these instructions: a negate_ra_state turns it round.
+abbrev pub turned : EhInstruction → Bool → Bool
+turned (negate_ra_state with_pc) signed = not signed
+turned _ signed = signed
+
+abbrev pub is_signed_after : List (ℕ × EhInstruction) → Bool → Bool
+is_signed_after [] signed = signed
+is_signed_after (item ∷ items) signed = is_signed_after items (turned item.1 signed)

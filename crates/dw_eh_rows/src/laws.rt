@@ -1,0 +1,44 @@
+//! Laws about the rows of `.eh_frame`. The functions do nothing, except that one calls a law of
+//! `dw_rows`: the contract of each is a law.
+
+ghost use Rattle.std.specs.Prelude.{◌≡◌, ℕ, Bool, List, Contains, None};
+ghost use Rattle.dw_bytes.specs.declared.target.Target.{Target};
+ghost use Rattle.dw_frame.specs.Records.{Fde, fde_record};
+ghost use Rattle.dw_rows.specs.Rules.{PlacedRow};
+ghost use Rattle.dw_rows.specs.Section.{FrameSection, IsChecked, row_of};
+ghost use Rattle.dw_eh_frame.specs.Records.{EhFde, EhRecord, eh_fde};
+ghost use Rattle.dw_eh_frame.specs.Rewriting.{IsRewriting, IsRewritten};
+ghost use Rattle.dw_eh_rows.specs.Kept.{KeepsRows};
+ghost use Rattle.dw_eh_rows.specs.Meaning.{AreEhRows, EhCovers, eh_fdes};
+ghost use Rattle.dw_eh_rows.specs.OneRow.{HasOneEhRow};
+
+/// An FDE of `.eh_frame` has only one list of rows.
+pub fn rows_are_unambiguous()
+    ensures { (is_aarch64 : Bool) (e : EhFde) (rows others : List PlacedRow) → AreEhRows is_aarch64 e rows
+        → AreEhRows is_aarch64 e others → rows ≡ others }
+{}
+
+/// The FDE that was written for an FDE of `.eh_frame` has the same addresses, and the same rows,
+/// except for where their expressions lie.
+pub fn rewriting_keeps_rows()
+    ensures { (is_aarch64 : Bool) (target : Target) (records : List EhRecord) (made : List ℕ)
+        → (rewriting : IsRewriting is_aarch64 target records made) → (e : EhFde) (f : Fde)
+        → Contains rewriting.pairs (eh_fde e, fde_record f)
+        → KeepsRows is_aarch64 rewriting.pairs e f }
+{}
+
+/// If the section that was written for an `.eh_frame` section is accepted, each address that an FDE
+/// of `.eh_frame` covers has exactly one row, and a look-up finds it (`HasOneEhRow`, OneRow.antt). An
+/// address that no FDE covers has none.
+pub fn exact_eh_rows()
+    ensures covered { (is_aarch64 : Bool) (address : ℕ) (section : List ℕ) (s : FrameSection)
+        → (written : IsRewritten is_aarch64 address s.target section s.section) → IsChecked s
+        → (e : EhFde) → Contains (eh_fdes written.records) e → (a : ℕ) → EhCovers e a
+        → HasOneEhRow is_aarch64 written.records s a }
+    ensures others { (is_aarch64 : Bool) (address : ℕ) (section : List ℕ) (s : FrameSection)
+        → (written : IsRewritten is_aarch64 address s.target section s.section) → IsChecked s
+        → (a : ℕ) → ((e : EhFde) → Contains (eh_fdes written.records) e → ¬ EhCovers e a)
+        → row_of s a ≡ None }
+{
+    dw_rows::laws::exact_rows();
+}
