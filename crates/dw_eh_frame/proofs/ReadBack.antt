@@ -17,7 +17,7 @@ use Rattle.dw_bytes.specs.declared.target.Order.{Order}
 use Rattle.dw_bytes.specs.Operands.{Line, AreOperands}
 use Rattle.dw_eh_frame.proofs.Written.{one-byte}
 use Rattle.dw_eh_frame.proofs.OneProgram.{behind-front, one-list}
-use Rattle.dw_frame.proofs.Exact.{instruction-exact, some-bytes as instruction-some}
+use Rattle.dw_frame.proofs.Exact.{instruction-exact}
 use Rattle.dw_eh_frame.specs.declared.dialect.Dialect.{Dialect}
 use Rattle.dw_eh_frame.specs.Instructions.{EhInstruction, plain, is_unread, eh_line_of, eh_instruction_at, is_foreign, EncodesEhInstruction, AreEhInstructions}
 use Rattle.dw_eh_frame.specs.Silencing.{past_instruction, piece, unread, silenced_up_to, silenced_then, silenced}

@@ -13,15 +13,14 @@ use Rattle.dw_bytes.specs.declared.target.Order.TheVariants.{Little, Big}
 use Rattle.dw_bytes.specs.declared.target.AddressSize.{AddressSize}
 use Rattle.dw_bytes.specs.declared.target.AddressSize.TheVariants.{Four, Eight}
 use Rattle.dw_bytes.specs.declared.target.Format.TheVariants.{Dwarf32}
-use Rattle.dw_bytes.specs.declared.fault.FaultKind.TheVariants.{Version, AddressSize as AddressSizeFault, SegmentSize, RangePastTop}
+use Rattle.dw_bytes.specs.declared.fault.FaultKind.TheVariants.{Version, RangePastTop}
 use Rattle.dw_bytes.specs.Encoding.{Fixed, bytes_of_address, max_address}
-use Rattle.dw_bytes.specs.Fields.{Encodes, byte, unless}
+use Rattle.dw_bytes.specs.Fields.{Encodes, unless}
 use Rattle.dw_frame.specs.Records.{is_version}
-use Rattle.dw_frame.specs.Sections.{Header, fde_header, cie_id, factors, ends_by, top_of}
+use Rattle.dw_frame.specs.Sections.{Header, fde_header, cie_id, ends_by, top_of}
 use Rattle.dw_frame.specs.Sections.{IsHeader, IsRecord, record_from, cie_fields, fde_fields}
 use Rattle.dw_eh_frame.specs.declared.record.EhCie.{EhCie}
 use Rattle.dw_eh_frame.specs.declared.record.EhFde.{EhFde}
-use Rattle.dw_eh_frame.specs.Records.{is_eh_version}
 use Rattle.dw_eh_frame.specs.Views.{IsReadCie, IsReadFde, eh_cie_of, eh_fde_of, factors_of}
 use Rattle.dw_eh_frame.specs.Progress.{WritesCie, WritesFde}
 use Rattle.dw_bytes.specs.Reading.{ReadPosition}
@@ -58,17 +57,10 @@ fixed-address target x small = by-size target.address_size small
     by-size Four small = fixed-bytes target.order 4 x (omega arith)
     by-size Eight small = fixed-bytes target.order 8 x (omega arith)
 
-without-sizes : (target : Target) (version at : ℕ) (has_sizes : Bool) (bytes : List ℕ) (h : Header) → has_sizes ≡ false
-    → Encodes target (factors version) at bytes h
-    → Encodes target (cond has_sizes
-    (byte AddressSizeFault (bytes_of_address target.address_size) (byte SegmentSize 0 (factors version))) (factors version)) at bytes h
-without-sizes target version at true bytes h old e = absurd cc
-without-sizes target version at false bytes h old e = e
-
 -- the header of a CIE
-pub cie-header : (target : Target) (at version : ℕ) (numbers : List ℕ) (h : Header) → is_version version ≡ true → (version == 4) ≡ false
+pub cie-header : (target : Target) (at version : ℕ) (numbers : List ℕ) (h : Header) → is_version version ≡ true
     → EncodesNumbers target version numbers h → IsHeader target Dwarf32 at (cie_bytes target.order version numbers) h
-cie-header target at version numbers h known old e = (
+cie-header target at version numbers h known e = (
   0xffffffff,
   number_bytes target.order 4 0xffffffff,
   version ∷ 0 ∷ numbers,
@@ -82,7 +74,7 @@ cie-header target at version numbers h known old e = (
     refl,
     one-byte target.order version,
     ap (λ b. unless b Version) known,
-    (0, 0 ∷ [], numbers, refl, one-byte target.order 0, refl, without-sizes target version _ (version == 4) numbers h old (e.at_each _)),
+    (0, 0 ∷ [], numbers, refl, one-byte target.order 0, refl, e.at_each _),
   ),
 )
 
@@ -168,8 +160,7 @@ writes-cie a target e old new sound short appended =
     let dialect = dialect_of a e.head.augmentation in
     let program = silenced dialect source in
     let as_long : length program ≡ length e.program.bytes.now = silenced-long dialect source in
-    let header = cie-header target (length old + 4) version e.head.numbers.now (factors_of e.head.factors) (known-version version sound.known)
-    (never-four version sound.known) sound.numbers in
+    let header = cie-header target (length old + 4) version e.head.numbers.now (factors_of e.head.factors) sound.known sound.numbers in
     let id = fixed-bytes target.order 4 0xffffffff (omega arith) in
     let long : length (fields ++ program) < 0xfffffff0 = omega (
       arith,
@@ -199,12 +190,6 @@ writes-cie a target e old new sound short appended =
       };
       offset = refl;
     }
-  where
-    known-version : (n : ℕ) → is_eh_version n ≡ true → is_version n ≡ true
-    known-version n h = grind (arith, nat_tests)
-
-    never-four : (n : ℕ) → is_eh_version n ≡ true → (n == 4) ≡ false
-    never-four n h = grind (arith, nat_tests)
 
 -- what is written for an FDE that was read
 pub writes-fde : (a : Bool) (target : Target) (e : EhFde) (pointer : ℕ) (old new : List ℕ) → IsReadFde target e → pointer < 0xffffffff

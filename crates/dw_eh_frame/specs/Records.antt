@@ -1,5 +1,5 @@
 -- The records of an `.eh_frame` section, and how they are read (LSB Core, section 10.6.1).
-use Rattle.std.specs.Prelude.{ℕ, ◌-◌, ◌==◌, ◌||◌, nat_le, Bool, true, false, if◌then◌else◌, List, length, Result, Ok, Err}
+use Rattle.std.specs.Prelude.{ℕ, ◌-◌, ◌==◌, nat_le, Bool, true, false, if◌then◌else◌, List, length, Result, Ok, Err}
 use Rattle.dw_bytes.specs.declared.target.Target.{Target}
 use Rattle.dw_bytes.specs.declared.target.Format.{Format}
 use Rattle.dw_bytes.specs.declared.fault.Fault.{Fault}
@@ -9,7 +9,8 @@ use Rattle.dw_bytes.specs.Operands.{fixed, block_at}
 use Rattle.dw_bytes.specs.Fields.{unless, field_at, fields_at}
 use Rattle.dw_bytes.specs.Bodies.{framed_at}
 use Rattle.dw_bytes.specs.Sequence.{sequence_of}
-use Rattle.dw_frame.specs.Sections.{Header, factors}
+use Rattle.dw_frame.specs.Records.{is_version}
+use Rattle.dw_frame.specs.Sections.{Header, behind_augmentation}
 use Rattle.dw_eh_frame.specs.declared.augmentation.Augmentation.{Augmentation}
 use Rattle.dw_eh_frame.specs.Pointers.{pointer_at, range_at}
 use Rattle.dw_eh_frame.specs.Augmentations.{string_at, augmentation_at}
@@ -50,16 +51,14 @@ pub data EhRecord : Type 0 where
 
 -- ---- reading a CIE
 
-abbrev pub is_eh_version : ℕ → Bool
-is_eh_version version = version == 1 || version == 3
-
--- The fields of a CIE after its id: the version; the augmentation's string; the alignment factors and
--- the return address register, as in `.debug_frame`; the augmentation's data.
+-- The fields of a CIE after its id: the version; the augmentation's string; what follows it in
+-- `.debug_frame` too: in version 4 the two sizes, and in every version the alignment factors and the
+-- return address register; and the augmentation's data.
 unfoldable pub eh_cie_head_at : ReadPosition → Result (EhCieHead × ReadPosition) Fault
 eh_cie_head_at r = do
-  version ← field_at (fixed 1) (λ number. unless (is_eh_version number) Version) r
+  version ← field_at (fixed 1) (λ number. unless (is_version number) Version) r
   letters ← string_at version.1
-  numbers ← fields_at (factors version.0) letters.1
+  numbers ← fields_at (behind_augmentation r.target version.0) letters.1
   augmentation ← augmentation_at version.1.position letters.0 numbers.1
   Ok (record { version = version.0; numbers = numbers.0; augmentation = augmentation.0 }, augmentation.1)
 

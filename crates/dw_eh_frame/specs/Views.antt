@@ -2,6 +2,7 @@
 use Rattle.std.specs.Prelude.{◌≡◌, ◌≤◌, ◌+◌, ℕ, List, true, Ok}
 use Rattle.dw_bytes.specs.declared.target.Target.{Target}
 use Rattle.dw_bytes.specs.Reading.{ReadPosition}
+use Rattle.dw_frame.specs.Records.{is_version}
 use Rattle.dw_frame.specs.Sections.{Header, cie_header}
 use Rattle.dw_eh_frame.specs.declared.head.Factors.{Factors}
 use Rattle.dw_eh_frame.specs.declared.head.EhCieHead as declared
@@ -11,7 +12,7 @@ use Rattle.dw_eh_frame.specs.declared.record.EhFde as declared_fde
 use Rattle.dw_eh_frame.specs.declared.record.EhRecord as declared_record
 use Rattle.dw_eh_frame.specs.declared.record.EhRecord.TheVariants as records
 use Rattle.dw_bytes.specs.Encoding.{max_address}
-use Rattle.dw_eh_frame.specs.Records.{EhCieHead, EhCie, EhFde, EhRecord, eh_cie, eh_fde, eh_nothing, is_eh_version, eh_cie_at}
+use Rattle.dw_eh_frame.specs.Records.{EhCieHead, EhCie, EhFde, EhRecord, eh_cie, eh_fde, eh_nothing, eh_cie_at}
 use Rattle.dw_eh_frame.specs.Written.{EncodesNumbers}
 
 -- the alignment factors and the return address register, as in the header of a CIE of `.debug_frame`
@@ -52,7 +53,7 @@ eh_record_of (records.Nothing at) = eh_nothing at
 
 -- The CIE has a known version, the target of its section, and the bytes of its factors.
 pub record IsReadCie (target : Target) (c : declared_cie.EhCie) : Type 0 where
-  pub known : is_eh_version c.head.factors.version ≡ true
+  pub known : is_version c.head.factors.version ≡ true
   pub numbers : EncodesNumbers target c.head.factors.version c.head.numbers.now (factors_of c.head.factors)
   pub target_is : c.program.target ≡ target
 

@@ -1,7 +1,7 @@
 -- The bytes that are written for a record of a `.debug_frame` section.
 use Rattle.std.specs.Prelude.{ℕ, List, ◌∷◌, ◌++◌, length}
 use Rattle.dw_bytes.specs.Fields.{Encodes}
-use Rattle.dw_frame.specs.Sections.{Header, factors}
+use Rattle.dw_frame.specs.Sections.{Header, behind_augmentation}
 use Rattle.byteorder.specs.Endian.{big_bytes, little_bytes}
 use Rattle.dw_bytes.specs.declared.target.Target.{Target}
 use Rattle.dw_bytes.specs.declared.target.Order.{Order}
@@ -22,7 +22,7 @@ abbrev pub record_bytes : Order → List ℕ → List ℕ → List ℕ
 record_bytes order fields program = number_bytes order 4 (length (fields ++ program)) ++ (fields ++ program)
 
 -- the fields of a CIE: the CIE_id, the version, an empty augmentation, and `numbers`, the bytes of
--- the alignment factors and of the return address register
+-- what follows it, up to the return address register
 abbrev pub cie_bytes : Order → ℕ → List ℕ → List ℕ
 cie_bytes order version numbers = number_bytes order 4 0xffffffff ++ (version ∷ 0 ∷ numbers)
 
@@ -31,7 +31,7 @@ abbrev pub fde_bytes : Target → ℕ → ℕ → ℕ → List ℕ
 fde_bytes target pointer initial range =
     number_bytes target.order 4 pointer ++ (address_bytes target initial ++ address_bytes target range)
 
--- The bytes encode the alignment factors and the return address register of a CIE with this version,
--- at any offset.
+-- The bytes encode what follows the augmentation of a CIE with this version, up to the return address
+-- register, at any offset.
 pub record EncodesNumbers (target : Target) (version : ℕ) (numbers : List ℕ) (h : Header) : Type 0 where
-  pub at_each : (at : ℕ) → Encodes target (factors version) at numbers h
+  pub at_each : (at : ℕ) → Encodes target (behind_augmentation target version) at numbers h

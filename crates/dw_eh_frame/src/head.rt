@@ -6,14 +6,15 @@ ghost use Rattle.dw_bytes.specs.Operands.{fixed};
 ghost use Rattle.dw_bytes.specs.Reading.{MovesForward};
 ghost use Rattle.dw_bytes.specs.Readers.{IsRefusedWithin, ParsesBy};
 ghost use Rattle.dw_bytes.specs.Fields.{unless, field_at, fields_at};
-ghost use Rattle.dw_frame.specs.Sections.{factors};
+ghost use Rattle.dw_frame.specs.Sections.{behind_augmentation, factors};
 ghost use Rattle.dw_eh_frame.specs.Augmentations.{string_at};
-ghost use Rattle.dw_eh_frame.specs.Records.{eh_cie_head_at, is_eh_version};
+ghost use Rattle.dw_frame.specs.Records.{is_version};
+ghost use Rattle.dw_eh_frame.specs.Records.{eh_cie_head_at};
 ghost use Rattle.dw_eh_frame.specs.Views.{factors_of, head_of};
 ghost use Rattle.dw_eh_frame.specs.Written.{EncodesNumbers};
 
 use crate::augmentation::{Augmentation, letter_count, read_augmentation};
-use dw_bytes::{Cursor, Fault, FaultKind};
+use dw_bytes::{Cursor, Fault, FaultKind, Target};
 
 /// The alignment factors and the return address register of a CIE.
 #[derive(Clone, Copy, Debug)]
@@ -28,24 +29,24 @@ pub struct Factors {
 #[derive(Clone, Copy, Debug)]
 pub struct EhCieHead<'a> {
     pub factors: Factors,
-    /// The bytes that encode the factors and the register.
+    /// The bytes between the augmentation's string and its data.
     pub numbers: &'a [u8],
     pub augmentation: Augmentation,
 }
 
-/// Reads the version of a CIE, which must be 1 or 3.
+/// Reads the version of a CIE, which must be 1, 3 or 4.
 fn read_version(cursor: &mut Cursor<'_>) -> Result<u8, Fault>
     ensures exact { ParsesBy (λ version. version)
-        (field_at (fixed 1) (λ number. unless (is_eh_version number) Version))
+        (field_at (fixed 1) (λ number. unless (is_version number) Version))
         cursor.old result cursor.new }
-    ensures known { IfOk result (λ version. is_eh_version version ≡ true) }
+    ensures known { IfOk result (λ version. is_version version ≡ true) }
     ensures within { IsRefusedWithin cursor.old result }
     ensures goes_on { MovesForward cursor.old cursor.new }
 {
     let at = cursor.position();
     let version = cursor.u8()?;
     match version {
-        1 | 3 => Ok(version),
+        1 | 3 | 4 => Ok(version),
         _ => Err(Fault {
             kind: FaultKind::Version,
             at,
@@ -78,7 +79,7 @@ fn read_letters<'a>(cursor: &mut Cursor<'a>, end: u32) -> Result<&'a [u8], Fault
 }
 
 /// Reads the alignment factors and the return address register, which is one byte in version 1 and
-/// LEB128 in version 3.
+/// LEB128 in versions 3 and 4.
 fn read_factors(cursor: &mut Cursor<'_>, version: u8) -> Result<Factors, Fault>
     ensures exact { ParsesBy factors_of (fields_at (factors version)) cursor.old result cursor.new }
     ensures version { IfOk result (λ found. found.version ≡ version) }
@@ -107,22 +108,38 @@ fn read_factors(cursor: &mut Cursor<'_>, version: u8) -> Result<Factors, Fault>
     })
 }
 
+/// Reads what follows the augmentation's string: in version 4 the sizes of an address and of a segment
+/// selector, and then the alignment factors and the return address register.
+fn read_numbers(cursor: &mut Cursor<'_>, target: Target, version: u8) -> Result<Factors, Fault>
+    ensures exact { ParsesBy factors_of (fields_at (behind_augmentation target version)) cursor.old result cursor.new }
+    ensures version { IfOk result (λ found. found.version ≡ version) }
+    ensures within { IsRefusedWithin cursor.old result }
+    ensures goes_on { MovesForward cursor.old cursor.new }
+{
+    if version == 4 {
+        cursor.byte(target.address_size.bytes(), FaultKind::AddressSize)?;
+        cursor.byte(0, FaultKind::SegmentSize)?;
+    }
+    read_factors(cursor, version)
+}
+
 /// Reads what a CIE says, from its version on. `end` is the offset after the last byte of the CIE.
 #[tactic(auto, unfolding(crate::specs::Records::eh_cie_head_at))]
 pub(crate) fn read_head<'a>(cursor: &mut Cursor<'a>, end: u32) -> Result<EhCieHead<'a>, Fault>
     requires { cursor.old.position + length cursor.old.rest ≡ end }
     ensures exact { ParsesBy head_of eh_cie_head_at cursor.old result cursor.new }
-    ensures known { IfOk result (λ head. is_eh_version head.factors.version ≡ true) }
+    ensures known { IfOk result (λ head. is_version head.factors.version ≡ true) }
     ensures numbers { IfOk result (λ head. EncodesNumbers cursor.old.target head.factors.version
         head.numbers.now (factors_of head.factors)) }
     ensures within { IsRefusedWithin cursor.old result }
     ensures goes_on { MovesForward cursor.old cursor.new }
 {
+    let target = cursor.target();
     let version = read_version(cursor)?;
     let at = cursor.position();
     let letters = read_letters(cursor, end)?;
     let mut behind = cursor.copy();
-    let factors = read_factors(&mut behind, version)?;
+    let factors = read_numbers(&mut behind, target, version)?;
     let size = behind.position() - cursor.position();
     let Ok(numbers) = cursor.take(u64::from(size)) else {
         unreachable!()
