@@ -7,17 +7,17 @@ use Rattle.dw_bytes.specs.declared.target.Target.{Target}
 use Rattle.dw_bytes.specs.declared.fault.Fault.{Fault}
 use Rattle.dw_bytes.specs.declared.fault.FaultKind.TheVariants.{UnknownInstruction}
 use Rattle.dw_bytes.specs.Reading.{ReadPosition, Next}
-use Rattle.dw_bytes.proofs.Readers.{one-encoding, same-reading}
+use Rattle.dw_bytes.proofs.Readers.{same-reading}
 use Rattle.dw_bytes.proofs.Bodies.{not-err}
 use Rattle.dw_bytes.proofs.Codes.{coded-exact}
 use Rattle.dw_frame.specs.Instructions.{Instruction, nop}
-use Rattle.dw_frame.specs.Codes.{line_of, EncodesInstruction, AreInstructions, instruction_at}
+use Rattle.dw_frame.specs.Codes.{line_of, EncodesInstruction, AreInstructions}
 use Rattle.dw_bytes.specs.Encoding.{Fixed}
 use Rattle.dw_bytes.specs.declared.target.Order.{Order}
 use Rattle.dw_bytes.specs.Operands.{Line, AreOperands}
 use Rattle.dw_eh_frame.proofs.Written.{one-byte}
 use Rattle.dw_eh_frame.proofs.OneProgram.{behind-front, one-list}
-use Rattle.dw_frame.proofs.Exact.{instruction-exact}
+use Rattle.dw_frame.proofs.EachInstruction.{one-instruction}
 use Rattle.dw_eh_frame.specs.declared.dialect.Dialect.{Dialect}
 use Rattle.dw_eh_frame.specs.Instructions.{EhInstruction, plain, is_unread, eh_line_of, eh_instruction_at, is_foreign, EncodesEhInstruction, AreEhInstructions}
 use Rattle.dw_eh_frame.specs.Silencing.{past_instruction, piece, unread, silenced_up_to, silenced_then, silenced}
@@ -47,7 +47,7 @@ behind-one target at first tail bytes i [] some e split are =
     absurd (omega (arith, some, ap length split, ap length are, length-append first tail))
 behind-one target at first tail bytes i (x ∷ again) some e split (front, rest, parts, (place, one), others) =
     let seam : front ++ rest ≡ first ++ tail = sym parts ∙ split in
-    let same = one-encoding target instruction_at (EncodesInstruction target) (instruction-exact target) at front first rest tail x.1 i one e seam in
+    let same = one-instruction target at front first rest tail x.1 i one e seam in
     let left : rest ≡ tail = behind-front front first rest tail same.0 seam in
     record {
       items = again;

@@ -12,13 +12,20 @@ use Rattle.dw_bytes.proofs.Bodies.{framed-found}
 use Rattle.dw_bytes.proofs.Sequences.{Forward, goes-on, ends}
 use Rattle.dw_frame.specs.Records.{Record, cie_record, fde_record}
 use Rattle.dw_frame.specs.Sections.{IsRecord, AreRecords}
-use Rattle.dw_frame.proofs.EachRecord.{some-length}
+use Rattle.dw_bytes.specs.declared.target.Order.{Order}
+use Rattle.dw_bytes.specs.declared.target.Format.{Format}
+use Rattle.dw_bytes.specs.declared.target.Format.TheVariants.{Dwarf32, Dwarf64}
+use Rattle.dw_bytes.specs.Encoding.{Len}
 use Rattle.dw_eh_frame.specs.declared.rewriting.CiePlace.{CiePlace}
 use Rattle.dw_eh_frame.specs.Records.{EhCie, EhFde, EhRecord, eh_cie, eh_fde, eh_nothing, eh_cie_at, eh_body_at, eh_record_at, eh_entries_from, eh_entries_of}
 use Rattle.dw_eh_frame.specs.Rewriting.{Pair, SaysTheSame, LeadsTo, says_something, IsRewritten}
 use Rattle.dw_eh_frame.specs.Progress.{IsPlace, IsUnderWay, WritesCie, WritesPointing}
 
 -- ---- reading
+
+length-some : (order : Order) (bytes : List ℕ) (format : Format) (v : ℕ) → Len order bytes format v → 0 < length bytes
+length-some order bytes Dwarf32 v h = omega (arith, h.0.count)
+length-some order bytes Dwarf64 v (mark, rest, parts, first, second) = omega (arith, first.count, ap length parts, length-append mark rest)
 
 -- a record has at least one byte
 pub records-forward : (address : ℕ) (section : List ℕ) → Forward (eh_record_at address section)
@@ -28,7 +35,7 @@ records-forward address section r x after is =
     let b = bind-ok (eh_body_at address section r.position a.0.0.0 a.0.0.1) (λ found. Ok (found, a.0.1)) (x, after) a.2 in
     let same : (b.0, a.0.1) ≡ (x, after) = ok-is {A = EhRecord} (b.0, a.0.1) (x, after) b.2 in
     let frame = framed-found r a.0.0.0 a.0.0.1 a.0.1 a.1 in
-    let some = some-length r.target.order frame.front a.0.0.0 (length a.0.0.1.rest) frame.length_is in
+    let some = length-some r.target.order frame.front a.0.0.0 (length a.0.0.1.rest) frame.length_is in
     let left : length a.0.1.rest < length r.rest = omega (
       arith,
       some,

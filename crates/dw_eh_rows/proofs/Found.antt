@@ -8,15 +8,15 @@ use Rattle.dw_frame.specs.Records.{Cie, Fde, Record, cie_record, fde_record}
 use Rattle.dw_frame.specs.Bounds.{Ascends, offset_of}
 use Rattle.dw_frame.proofs.EachRecord.{sections-are-records}
 use Rattle.dw_frame.proofs.RecordBounds.{records-ascend}
+use Rattle.dw_stack.specs.Located.{LocatedExpression}
 use Rattle.dw_rows.specs.Rules.{PlacedRow, Row}
 use Rattle.dw_rows.specs.GivenRows.{given_row}
 use Rattle.dw_rows.specs.UnwindRows.{rows_of, has_address}
 use Rattle.dw_rows.specs.Good.{IsGoodFdeProgram}
 use Rattle.dw_rows.specs.ExactRows.{HasOneRow}
 use Rattle.dw_rows.specs.Section.{FrameSection, Covers, IsCoverOf, IsChecked, cies_among, fdes_among, cie_at, rows_in, rows_behind, row_of}
-use Rattle.dw_rows.proofs.CheckedSections.{checked-once, checked-cies-ascend}
+use Rattle.dw_rows.proofs.CheckedSections.{checked-cies-ascend}
 use Rattle.dw_rows.proofs.Covering.{cover-rows}
-use Rattle.dw_rows.proofs.GivenRows.{filter-with}
 use Rattle.dw_rows.proofs.Programs.{fde-from-good}
 use Rattle.dw_rows.proofs.RowsOf.{one-row}
 use Rattle.dw_eh_frame.specs.Records.{EhFde, EhRecord, eh_cie, eh_fde, eh_nothing}
@@ -82,15 +82,23 @@ cies-are a records s rewriting checked =
 
 -- ---- rows of an address
 
-filter-unplaced : (a : ℕ) (rows : List PlacedRow) → filter (has_address a) (unplaced_rows rows) ≡ unplaced_rows (filter (has_address a) rows)
-filter-unplaced a [] = refl
-filter-unplaced a (x ∷ rows) = go (filter-unplaced a rows) (has_address a x)
+filter-mapped : {X Y : Type 0} (p : Y → Bool) (q : X → Bool) (g : X → Y) → ((x : X) → p (g x) ≡ q x) → (xs : List X)
+    → filter p (map g xs) ≡ map g (filter q xs)
+filter-mapped p q g same [] = refl
+filter-mapped {X} {Y} p q g same (x ∷ xs) =
+    ap (λ b. cond b (g x ∷ filter p (map g xs)) (filter p (map g xs))) (same x) ∙ go (filter-mapped p q g same xs) (q x)
   where
-    go : filter (has_address a) (unplaced_rows rows) ≡ unplaced_rows (filter (has_address a) rows) → (b : Bool)
-        → cond b (unplaced_row x ∷ filter (has_address a) (unplaced_rows rows)) (filter (has_address a) (unplaced_rows rows))
-        ≡ unplaced_rows (cond b (x ∷ filter (has_address a) rows) (filter (has_address a) rows))
-    go others true = ap (λ (l : List PlacedRow). unplaced_row x ∷ l) others
+    go : filter p (map g xs) ≡ map g (filter q xs) → (b : Bool)
+        → cond b (g x ∷ filter p (map g xs)) (filter p (map g xs)) ≡ map g (cond b (x ∷ filter q xs) (filter q xs))
+    go others true = ap (λ (l : List Y). g x ∷ l) others
     go others false = others
+
+filter-unplaced : (a : ℕ) (rows : List PlacedRow) → filter (has_address a) (unplaced_rows rows) ≡ unplaced_rows (filter (has_address a) rows)
+filter-unplaced a rows = filter-mapped (has_address a) (has_address a) unplaced_row (λ row. refl) rows
+
+filter-given : (es : List LocatedExpression) (a : ℕ) (rows : List PlacedRow)
+    → filter (has_address a) (map (given_row es) rows) ≡ map (given_row es) (filter (has_address a) rows)
+filter-given es a rows = filter-mapped (has_address a) (has_address a) (given_row es) (λ row. refl) rows
 
 single : (xs : List PlacedRow) (y : PlacedRow) → unplaced_rows xs ≡ y ∷ [] → (x : PlacedRow) × (xs ≡ x ∷ []) × (unplaced_row x ≡ y)
 single [] y e = absurd cc
@@ -164,12 +172,12 @@ has-one-eh-row rows_law a address section s w checked e among x covers =
     let own = row-again x has.rows (rows_of c f) one.0 has.same one.1 in
     let rows : rows_in s f ≡ map (given_row s.expressions) (rows_of c f) = ap (λ o. map (given_row s.expressions) (rows_behind o f)) cie_found in
     let alone : filter (has_address x) (rows_in s f) ≡ given_row s.expressions one.0 ∷ [] =
-    ap (filter (has_address x)) rows ∙ (filter-with s.expressions x (rows_of c f) ∙ ap (map (given_row s.expressions)) one.1) in
+    ap (filter (has_address x)) rows ∙ (filter-given s.expressions x (rows_of c f) ∙ ap (map (given_row s.expressions)) one.1) in
     let again : filter (has_address x) (rows_in s f) ≡ law.row ∷ [] = ap (λ (g : Fde). filter (has_address x) (rows_in s g)) fde_is ∙ law.one in
     let row_is : law.row ≡ given_row s.expressions one.0 =
     head-is law.row (given_row s.expressions one.0) (filter (has_address x) (rows_in s f)) again alone in
     let up : Ascends offset_of (made-records pairs) = records-ascend s.target 0 s.section (made-records pairs) w.rewriting.encoded in
-    let only : IsCoverOf s.fdes x (Some f) = (f_among, here, λ g g_in g_covers. checked-once s checked x g f g_in f_among g_covers here) in
+    let only : IsCoverOf s.fdes x (Some f) = (f_among, here, λ g g_in g_covers. law.covers.2 g g_in g_covers ∙ sym fde_is) in
     record {
       fde = e;
       covers = (
@@ -181,7 +189,7 @@ has-one-eh-row rows_law a address section s w checked e among x covers =
             let there = covers-too g other.0 x kept.initial_location kept.address_range g_covers in
             let other_in : Contains s.fdes other.0 = subst (λ (l : List Fde). Contains l other.0) (sym (fdes-are a w.records s w.rewriting checked))
             (fde-among (made-records pairs) other.0 (mapped (λ (p : Pair). p.1) pairs (eh_fde g, fde_record other.0) other.1)) in
-            let same : other.0 ≡ f = checked-once s checked x other.0 f other_in f_among there here in
+            let same : other.0 ≡ f = law.covers.2 other.0 other_in there ∙ sym fde_is in
             let pair : (eh_fde g, fde_record other.0) ≡ (eh_fde e, fde_record f) =
             one-pair pairs (eh_fde g, fde_record other.0) (eh_fde e, fde_record f) up other.1 made.1 (ap fde_record same) in
             fde-is g e (ap (λ (p : Pair). p.0) pair),

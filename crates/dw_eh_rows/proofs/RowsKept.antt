@@ -1,14 +1,17 @@
 -- A rewritten section keeps the rows of each FDE.
-use Rattle.std.proofs.Common.{◌≡◌, ℕ, ◌+◌, Bool, List, [], refl, sym, ap, ◌∙◌}
+use Rattle.std.proofs.Common.{◌≡◌, ℕ, ◌+◌, Bool, List, [], ◌∷◌, map, Ok, refl, sym, ap, ◌∙◌}
 use Rattle.std.specs.Prelude.{reverse, Contains}
 use Rattle.dw_bytes.specs.declared.target.Target.{Target}
 use Rattle.dw_frame.specs.Records.{Cie, Fde, cie_record, fde_record}
-use Rattle.dw_frame.specs.Codes.{instructions_of}
+use Rattle.dw_bytes.specs.Answers.{values_in}
+use Rattle.dw_bytes.specs.Reading.{ReadPosition}
+use Rattle.dw_frame.specs.Instructions.{Instruction}
+use Rattle.dw_frame.specs.Codes.{AreInstructions, instructions_of}
 use Rattle.dw_rows.specs.Effects.{Effect, effects_by, effects_of}
 use Rattle.dw_rows.specs.InForce.{Start, start_behind, rule_at, cfa_at, cie_start}
 use Rattle.dw_rows.specs.Good.{IsGoodFdeProgram}
 use Rattle.dw_rows.specs.UnwindRows.{rows_after, rows_of}
-use Rattle.dw_rows.proofs.Programs.{effects-good, good-read-fde, start-same}
+use Rattle.dw_frame.proofs.EachInstruction.{programs-are-instructions}
 use Rattle.dw_eh_frame.specs.Records.{EhFde, EhRecord, eh_cie, eh_fde}
 use Rattle.dw_eh_frame.specs.Rewriting.{IsRewriting}
 use Rattle.dw_eh_frame.proofs.ReadBack.{programs-read-back}
@@ -17,12 +20,22 @@ use Rattle.dw_eh_rows.specs.Unplaced.{unplaced_rows}
 use Rattle.dw_eh_rows.specs.Kept.{KeepsRows}
 use Rattle.dw_eh_rows.proofs.Rows.{rows-same}
 
+values-read : (items : List (ℕ × Instruction)) → values_in {X = ℕ × Instruction} (map Ok items) ≡ items
+values-read [] = refl
+values-read (item ∷ items) = ap (λ (l : List (ℕ × Instruction)). item ∷ l) (values-read items)
+
+-- the effects of a program whose bytes encode these instructions
+effects-read : (c : Cie) (p : ReadPosition) (items : List (ℕ × Instruction)) → AreInstructions p.target p.position p.rest items
+    → effects_of c (instructions_of p) ≡ effects_by c items
+effects-read c p items are = ap (effects_of c) ((programs-are-instructions p items).1 are) ∙ ap (effects_by c) (values-read items)
+
 good-rows : (c : Cie) (f : Fde) (g : IsGoodFdeProgram c f)
     → rows_of c f ≡ rows_after (start_behind (reverse (effects_by c g.first.items)) f) [] (effects_by c g.items)
 unfolding rows_of
 good-rows c f g =
-    ap (λ (s : Start). rows_after s [] (effects_of c (instructions_of f.program))) (start-same c f g.first)
-    ∙ ap (rows_after (start_behind (reverse (effects_by c g.first.items)) f) []) (effects-good c g.items (instructions_of f.program) (good-read-fde c f g))
+    ap (λ (l : List Effect). rows_after (start_behind (reverse l) f) [] (effects_of c (instructions_of f.program)))
+    (effects-read c c.program g.first.items g.first.encoded)
+    ∙ ap (rows_after (start_behind (reverse (effects_by c g.first.items)) f) []) (effects-read c f.program g.items g.encoded)
 
 abbrev start-at : List Effect → ℕ → ℕ → Start
 start-at left initial range = record {
