@@ -1,0 +1,152 @@
+//! The rows of rewritten sections, beside those that readelf prints for the originals.
+
+use crate::sections::{ADDRESS, BIG, LITTLE, LITTLE_SHORT, section_of};
+use dw_bytes::{Fault, FaultKind, Target};
+use dw_eh_frame::rewrite;
+use dw_rows::{CfaRule, CheckedFrame, RegisterRule, check_frame};
+use std::alloc::{AllocError, Global};
+use std::process::Abort;
+
+/// A function with a personality routine and GNU_args_size (whose row readelf splits), a record of
+/// length 0, and a signal frame with expressions. GNU as and ld, x86-64.
+const X86: &str = "\
+1c00000000000000017a504c5200017810079bed0f00001b1b0c0708900100002400000024000000d8efffff09000000\
+04cf1f0000410e108602430d06412e10410a410c0708410b00000000\
+1400000000000000017a525300017810011b0c07089001001c0000001c0000009defffff03000000\
+000f0377080616030223084208030000";
+
+/// pacibsp and autibsp, by GNU as and ld, aarch64.
+const AARCH64: &str = "\
+1400000000000000017a52420004781e011b0c1f00000000200000001c000000e0efffff18000000\
+00412d410e109d029e0142dedd0e00412d000000";
+
+/// GNU as and ld, s390x.
+const S390X: &str = "\
+0000001400000000017a520001780e011b0c0fa001000000000000180000001cffffefe00000000c\
+00468e068f05440ec0020000";
+
+/// GNU as and ld, i386.
+const I386: &str = "\
+1400000000000000017a5200017c08011b0c040488010000140000001c000000e0efffff02000000\
+00410e0885020000";
+
+/// The rule of a register, as readelf prints it.
+fn push_rule(
+    alloc: Global,
+    text: &mut String,
+    number: u16,
+    rule: RegisterRule<'_>,
+) -> Result<(), AllocError> {
+    let rule = match rule {
+        RegisterRule::Offset(offset) => format!(in alloc; " {number}=c{offset}")?,
+        RegisterRule::SameValue => format!(in alloc; " {number}=s")?,
+        RegisterRule::ValExpression { .. } => format!(in alloc; " {number}=vexp")?,
+        _ => format!(in alloc; " {number}=other")?,
+    };
+    text.push_str(&rule)
+}
+
+/// The row of an address: where it ends, its CFA, and its rules.
+fn row_at(alloc: Global, frame: &CheckedFrame<'_>, address: u64) -> Result<String, AllocError> {
+    let Some(row) = frame.row_for_address(address) else {
+        return String::from_str(alloc, "none");
+    };
+    let mut text = match row.cfa() {
+        CfaRule::RegisterAndOffset { register, offset } => {
+            format!(in alloc; "{:x} {register}+{offset}", row.end_address())?
+        }
+        CfaRule::Expression { .. } => format!(in alloc; "{:x} exp", row.end_address())?,
+    };
+    for (number, rule) in row.rules() {
+        push_rule(alloc, &mut text, number, rule)?;
+    }
+    Ok(text)
+}
+
+/// Asserts that a section is accepted once it is rewritten, and has these rows and no others.
+fn has_rows(
+    rt: &(impl Abort + AllocGlobal),
+    digits: &str,
+    target: Target,
+    is_aarch64: bool,
+    rows: &[(u64, &str)],
+) -> Result<(), AllocError> {
+    let section = section_of(rt.alloc(), digits).expect(rt, "hex digits");
+    let made = match rewrite(rt.alloc(), &section, target, ADDRESS, is_aarch64) {
+        Ok(made) => made,
+        Err(fault) => panic!(rt; "{fault}"),
+    };
+    if made.len() >= 1 << 32 {
+        panic!(rt; "too long");
+    }
+    let frame = match check_frame(rt.alloc(), &made, target) {
+        Ok(frame) => frame,
+        Err(fault) => panic!(rt; "{fault}"),
+    };
+    assert_eq!(rt; frame.row_count(), rows.len() as u128);
+    for (address, wanted) in rows {
+        let found = row_at(rt.alloc(), &frame, *address)?;
+        assert_eq!(rt; found.as_str(), *wanted, "{address:#x}");
+    }
+    Ok(())
+}
+
+#[test]
+fn rows_are_readelfs(rt: HostRuntime) -> Result<(), AllocError> {
+    let x86 = [
+        (0x1000, "1001 7+8 16=c-8"),
+        (0x1001, "1004 7+16 6=c-16 16=c-8"),
+        (0x1004, "1005 6+16 6=c-16 16=c-8"),
+        (0x1005, "1006 6+16 6=c-16 16=c-8"),
+        (0x1006, "1007 6+16 6=c-16 16=c-8"),
+        (0x1007, "1008 7+8 6=c-16 16=c-8"),
+        (0x1008, "1009 6+16 6=c-16 16=c-8"),
+        (0x1009, "100b exp 3=vexp 16=c-8"),
+        (0x100b, "100c exp 3=s 16=c-8"),
+    ];
+    has_rows(&rt, X86, LITTLE, false, &x86)?;
+    let aarch64 = [
+        (0x1000, "1004 31+0"),
+        (0x1004, "1008 31+0"),
+        (0x1008, "1010 31+16 29=c-16 30=c-8"),
+        (0x1010, "1014 31+0"),
+        (0x1014, "1018 31+0"),
+    ];
+    has_rows(&rt, AARCH64, LITTLE, true, &aarch64)?;
+    let s390x = [
+        (0x1000, "1006 15+160"),
+        (0x1006, "100a 15+160 14=c-48 15=c-40"),
+        (0x100a, "100c 15+320 14=c-48 15=c-40"),
+    ];
+    has_rows(&rt, S390X, BIG, false, &s390x)?;
+    let i386 = [(0x1000, "1001 4+4 8=c-4"), (0x1001, "1002 4+8 5=c-8 8=c-4")];
+    has_rows(&rt, I386, LITTLE_SHORT, false, &i386)
+}
+
+/// A CIE whose addresses are plain, and an FDE whose program has set_loc 0x1240 and def_cfa_offset 16.
+const PLAIN_SET_LOC: &str = "\
+1400000000000000017a520001781001000c070890010000\
+200000001c00000034120000000000005600000000000000000140120000000000000e10";
+
+/// The same, with addresses of four bytes that are relative to their own place.
+const RELATIVE_SET_LOC: &str = "\
+1400000000000000017a5200017810011b0c070890010000\
+140000001c00000014f2ffff5600000000011bf2ffff0e10";
+
+#[test]
+fn set_loc_is_read_only_where_addresses_are_plain(rt: HostRuntime) -> Result<(), AllocError> {
+    let rows = [(0x1234, "1240 7+8 16=c-8"), (0x1240, "128a 7+16 16=c-8")];
+    has_rows(&rt, PLAIN_SET_LOC, LITTLE, false, &rows)?;
+    let section = section_of(rt.alloc(), RELATIVE_SET_LOC).expect(&rt, "hex digits");
+    let made = rewrite(rt.alloc(), &section, LITTLE, ADDRESS, false).expect(&rt, "a section");
+    if made.len() >= 1 << 32 {
+        panic!(&rt; "too long");
+    }
+    // The written CIE has 20 bytes, and the FDE 24 before its program.
+    let unknown = Fault {
+        kind: FaultKind::UnknownInstruction,
+        at: 44,
+    };
+    assert_eq!(&rt; check_frame(rt.alloc(), &made, LITTLE).err(), Some(unknown));
+    Ok(())
+}
