@@ -16,6 +16,7 @@ use Rattle.dw_bytes.specs.declared.target.Order.{Order}
 use Rattle.dw_bytes.specs.declared.target.Format.{Format}
 use Rattle.dw_bytes.specs.declared.target.Format.TheVariants.{Dwarf32, Dwarf64}
 use Rattle.dw_bytes.specs.Encoding.{Len}
+use Rattle.dw_eh_frame.specs.declared.pointer.Bases.{Bases}
 use Rattle.dw_eh_frame.specs.declared.rewriting.CiePlace.{CiePlace}
 use Rattle.dw_eh_frame.specs.Records.{EhCie, EhFde, EhRecord, eh_cie, eh_fde, eh_nothing, eh_cie_at, eh_body_at, eh_record_at, eh_entries_from, eh_entries_of}
 use Rattle.dw_eh_frame.specs.Rewriting.{Pair, SaysTheSame, LeadsTo, says_something, IsRewritten}
@@ -28,11 +29,11 @@ length-some order bytes Dwarf32 v h = omega (arith, h.0.count)
 length-some order bytes Dwarf64 v (mark, rest, parts, first, second) = omega (arith, first.count, ap length parts, length-append mark rest)
 
 -- a record has at least one byte
-pub records-forward : (address : ℕ) (section : List ℕ) → Forward (eh_record_at address section)
+pub records-forward : (bases : Bases) (section : List ℕ) → Forward (eh_record_at bases section)
 unfolding eh_record_at
-records-forward address section r x after is =
-    let a = bind-ok (framed_at r) (λ f. eh_body_at address section r.position f.0.0 f.0.1 >>= λ found. Ok (found, f.1)) (x, after) is in
-    let b = bind-ok (eh_body_at address section r.position a.0.0.0 a.0.0.1) (λ found. Ok (found, a.0.1)) (x, after) a.2 in
+records-forward bases section r x after is =
+    let a = bind-ok (framed_at r) (λ f. eh_body_at bases section r.position f.0.0 f.0.1 >>= λ found. Ok (found, f.1)) (x, after) is in
+    let b = bind-ok (eh_body_at bases section r.position a.0.0.0 a.0.0.1) (λ found. Ok (found, a.0.1)) (x, after) a.2 in
     let same : (b.0, a.0.1) ≡ (x, after) = ok-is {A = EhRecord} (b.0, a.0.1) (x, after) b.2 in
     let frame = framed-found r a.0.0.0 a.0.0.1 a.0.1 a.1 in
     let some = length-some r.target.order frame.front a.0.0.0 (length a.0.0.1.rest) frame.length_is in
@@ -45,17 +46,17 @@ records-forward address section r x after is =
     ) in
     subst (λ (p : EhRecord × ReadPosition). length p.1.rest < length r.rest) same left
 
-pub at-record : (address : ℕ) (target : Target) (section : List ℕ) (at next : ℕ) (x : EhRecord)
-    → eh_record_at address section (section_from target section at) ≡ Ok (x, section_from target section next)
-    → eh_entries_from address target section at ≡ Ok x ∷ eh_entries_from address target section next
+pub at-record : (bases : Bases) (target : Target) (section : List ℕ) (at next : ℕ) (x : EhRecord)
+    → eh_record_at bases section (section_from target section at) ≡ Ok (x, section_from target section next)
+    → eh_entries_from bases target section at ≡ Ok x ∷ eh_entries_from bases target section next
 unfolding eh_entries_from
-at-record address target section at next x is = goes-on (eh_record_at address section) (records-forward address section)
+at-record bases target section at next x is = goes-on (eh_record_at bases section) (records-forward bases section)
     (section_from target section at) x (section_from target section next) is
 
-pub at-end : (address : ℕ) (target : Target) (section : List ℕ) (at : ℕ) → length section ≤ at
-    → eh_entries_from address target section at ≡ []
+pub at-end : (bases : Bases) (target : Target) (section : List ℕ) (at : ℕ) → length section ≤ at
+    → eh_entries_from bases target section at ≡ []
 unfolding eh_entries_from
-at-end address target section at h = ends (eh_record_at address section) (section_from target section at) (omega (arith, length-drop at section))
+at-end bases target section at h = ends (eh_record_at bases section) (section_from target section at) (omega (arith, length-drop at section))
 
 -- ---- writing
 
@@ -113,15 +114,15 @@ place-still target section pairs p q h = record {
 }
 
 -- the records so far, after one more
-read-more : (address : ℕ) (target : Target) (section : List ℕ) (at next : ℕ) (records : List EhRecord) (x : EhRecord)
-    → eh_entries_of address target section ≡ map Ok records ++ eh_entries_from address target section at
-    → eh_record_at address section (section_from target section at) ≡ Ok (x, section_from target section next)
-    → eh_entries_of address target section ≡ map Ok (records ++ x ∷ []) ++ eh_entries_from address target section next
-read-more address target section at next records x read is =
+read-more : (bases : Bases) (target : Target) (section : List ℕ) (at next : ℕ) (records : List EhRecord) (x : EhRecord)
+    → eh_entries_of bases target section ≡ map Ok records ++ eh_entries_from bases target section at
+    → eh_record_at bases section (section_from target section at) ≡ Ok (x, section_from target section next)
+    → eh_entries_of bases target section ≡ map Ok (records ++ x ∷ []) ++ eh_entries_from bases target section next
+read-more bases target section at next records x read is =
     read
-    ∙ (ap (λ (items : List (Result EhRecord Fault)). map Ok records ++ items) (at-record address target section at next x is)
-    ∙ (sym (append_assoc (map Ok records) (Ok x ∷ []) (eh_entries_from address target section next))
-    ∙ ap (λ (items : List (Result EhRecord Fault)). items ++ eh_entries_from address target section next)
+    ∙ (ap (λ (items : List (Result EhRecord Fault)). map Ok records ++ items) (at-record bases target section at next x is)
+    ∙ (sym (append_assoc (map Ok records) (Ok x ∷ []) (eh_entries_from bases target section next))
+    ∙ ap (λ (items : List (Result EhRecord Fault)). items ++ eh_entries_from bases target section next)
     (sym (map-append Ok records (x ∷ [])))))
 
 -- the records that say something, after one more
@@ -145,8 +146,8 @@ from-zero target made bytes r h =
 
 -- ---- the steps
 
-pub under-way-first : (a : Bool) (address : ℕ) (target : Target) (section : List ℕ) → IsUnderWay a address target section 0 [] []
-under-way-first a address target section = record {
+pub under-way-first : (a : Bool) (bases : Bases) (target : Target) (section : List ℕ) → IsUnderWay a bases target section 0 [] []
+under-way-first a bases target section = record {
   inside = omega arith;
   records = [];
   read = refl;
@@ -157,14 +158,14 @@ under-way-first a address target section = record {
   places = λ q (k, inside, is). absurd (omega arith);
 }
 
-pub under-way-nothing : (a : Bool) (address : ℕ) (target : Target) (section : List ℕ) (at next n : ℕ) (made : List ℕ) (cies : List CiePlace)
-    → IsUnderWay a address target section at made cies
-    → eh_record_at address section (section_from target section at) ≡ Ok (eh_nothing n, section_from target section next)
-    → next ≤ length section → IsUnderWay a address target section next made cies
-under-way-nothing a address target section at next n made cies way is inside = record {
+pub under-way-nothing : (a : Bool) (bases : Bases) (target : Target) (section : List ℕ) (at next n : ℕ) (made : List ℕ) (cies : List CiePlace)
+    → IsUnderWay a bases target section at made cies
+    → eh_record_at bases section (section_from target section at) ≡ Ok (eh_nothing n, section_from target section next)
+    → next ≤ length section → IsUnderWay a bases target section next made cies
+under-way-nothing a bases target section at next n made cies way is inside = record {
   inside = inside;
   records = way.records ++ eh_nothing n ∷ [];
-  read = read-more address target section at next way.records (eh_nothing n) way.read is;
+  read = read-more bases target section at next way.records (eh_nothing n) way.read is;
   pairs = way.pairs;
   sources = way.sources ∙ (sym (append-nil (filter says_something way.records)) ∙ sym (filter-append says_something way.records (eh_nothing n ∷ [])));
   encoded = way.encoded;
@@ -172,12 +173,12 @@ under-way-nothing a address target section at next n made cies way is inside = r
   places = way.places;
 }
 
-pub under-way-cie : (a : Bool) (address : ℕ) (target : Target) (section : List ℕ) (at next source : ℕ) (e : EhCie) (made new : List ℕ)
-    (cies : List CiePlace) → IsUnderWay a address target section at made cies
-    → eh_record_at address section (section_from target section at) ≡ Ok (eh_cie e, section_from target section next)
+pub under-way-cie : (a : Bool) (bases : Bases) (target : Target) (section : List ℕ) (at next source : ℕ) (e : EhCie) (made new : List ℕ)
+    (cies : List CiePlace) → IsUnderWay a bases target section at made cies
+    → eh_record_at bases section (section_from target section at) ≡ Ok (eh_cie e, section_from target section next)
     → next ≤ length section → eh_cie_at target section source ≡ Ok e → WritesCie a target e made new
-    → IsUnderWay a address target section next new (cies ++ record { source = source; made = length made } ∷ [])
-under-way-cie a address target section at next source e made new cies way is inside found wrote =
+    → IsUnderWay a bases target section next new (cies ++ record { source = source; made = length made } ∷ [])
+under-way-cie a bases target section at next source e made new cies way is inside found wrote =
     let p : Pair = (eh_cie e, cie_record wrote.cie) in
     let q : CiePlace = record { source = source; made = length made } in
     let more : AreRecords target 0 (made ++ wrote.bytes) (map (λ (p : Pair). p.1) way.pairs ++ cie_record wrote.cie ∷ []) =
@@ -186,7 +187,7 @@ under-way-cie a address target section at next source e made new cies way is ins
     record {
       inside = inside;
       records = way.records ++ eh_cie e ∷ [];
-      read = read-more address target section at next way.records (eh_cie e) way.read is;
+      read = read-more bases target section at next way.records (eh_cie e) way.read is;
       pairs = way.pairs ++ p ∷ [];
       sources = sources-more way.pairs way.records p refl way.sources;
       encoded = subst (λ (b : List ℕ). AreRecords target 0 b (map (λ (p : Pair). p.1) (way.pairs ++ p ∷ []))) (sym wrote.appended)
@@ -210,12 +211,12 @@ ok-cie e = Ok e
 same-cie : (a b : EhCie) → ok-cie a ≡ ok-cie b → a ≡ b
 same-cie a b e = cc
 
-pub under-way-fde : (a : Bool) (address : ℕ) (target : Target) (section : List ℕ) (at next : ℕ) (e : EhFde) (made new : List ℕ)
-    (cies : List CiePlace) → IsUnderWay a address target section at made cies
-    → eh_record_at address section (section_from target section at) ≡ Ok (eh_fde e, section_from target section next)
+pub under-way-fde : (a : Bool) (bases : Bases) (target : Target) (section : List ℕ) (at next : ℕ) (e : EhFde) (made new : List ℕ)
+    (cies : List CiePlace) → IsUnderWay a bases target section at made cies
+    → eh_record_at bases section (section_from target section at) ≡ Ok (eh_fde e, section_from target section next)
     → next ≤ length section → eh_cie_at target section e.cie.offset ≡ Ok e.cie → WritesPointing a target e cies made new
-    → IsUnderWay a address target section next new cies
-under-way-fde a address target section at next e made new cies way is inside found pointing =
+    → IsUnderWay a bases target section next new cies
+under-way-fde a bases target section at next e made new cies way is inside found pointing =
     let wrote = pointing.wrote in
     let p : Pair = (eh_fde e, fde_record wrote.fde) in
     let place = way.places pointing.place pointing.among in
@@ -233,7 +234,7 @@ under-way-fde a address target section at next e made new cies way is inside fou
     record {
       inside = inside;
       records = way.records ++ eh_fde e ∷ [];
-      read = read-more address target section at next way.records (eh_fde e) way.read is;
+      read = read-more bases target section at next way.records (eh_fde e) way.read is;
       pairs = way.pairs ++ p ∷ [];
       sources = sources-more way.pairs way.records p refl way.sources;
       encoded = subst (λ (b : List ℕ). AreRecords target 0 b (map (λ (p : Pair). p.1) (way.pairs ++ p ∷ []))) (sym wrote.appended)
@@ -242,11 +243,11 @@ under-way-fde a address target section at next e made new cies way is inside fou
       places = λ q among. place-still target section way.pairs p q (way.places q among);
     }
 
-pub under-way-end : (a : Bool) (address : ℕ) (target : Target) (section : List ℕ) (at : ℕ) (made : List ℕ) (cies : List CiePlace)
-    → IsUnderWay a address target section at made cies → length section ≤ at → IsRewritten a address target section made
-under-way-end a address target section at made cies way end = record {
+pub under-way-end : (a : Bool) (bases : Bases) (target : Target) (section : List ℕ) (at : ℕ) (made : List ℕ) (cies : List CiePlace)
+    → IsUnderWay a bases target section at made cies → length section ≤ at → IsRewritten a bases target section made
+under-way-end a bases target section at made cies way end = record {
   records = way.records;
-  are = way.read ∙ (ap (λ (items : List (Result EhRecord Fault)). map Ok way.records ++ items) (at-end address target section at end)
+  are = way.read ∙ (ap (λ (items : List (Result EhRecord Fault)). map Ok way.records ++ items) (at-end bases target section at end)
       ∙ append-nil (map Ok way.records));
   rewriting = record { pairs = way.pairs; sources = way.sources; encoded = way.encoded; same = way.same };
 }

@@ -1,12 +1,12 @@
 -- Augmentations of CIEs (LSB Core, section 10.6.1.1.1): letters, and data that they describe.
-use Rattle.std.specs.Prelude.{ℕ, ◌+◌, ◌/◌, ◌%◌, ◌==◌, true, false, if◌then◌else◌, List, [], ◌∷◌, length, take, drop, nat_lt, position}
+use Rattle.std.specs.Prelude.{ℕ, ◌+◌, ◌/◌, ◌%◌, ◌==◌, ◌&&◌, Bool, true, false, if◌then◌else◌, List, [], ◌∷◌, length, take, drop, nat_lt, position}
 use Rattle.std.specs.Prelude.{Option, Some, None, option_map, option_and_then, Result, Ok, Err}
 use Rattle.dw_bytes.specs.declared.target.Target.{Target}
 use Rattle.dw_bytes.specs.declared.fault.Fault.{Fault}
 use Rattle.dw_bytes.specs.declared.fault.FaultKind.{FaultKind}
 use Rattle.dw_bytes.specs.declared.fault.FaultKind.TheVariants.{Augmentation as BadAugmentation}
 use Rattle.dw_bytes.specs.Encoding.{bytes_of_address}
-use Rattle.dw_bytes.specs.Reading.{ReadPosition, ◌>>=◌, past_field}
+use Rattle.dw_bytes.specs.Reading.{ReadPosition, ◌>>=◌, address_at, past_field}
 use Rattle.dw_bytes.specs.Operands.{block_at}
 use Rattle.dw_eh_frame.specs.declared.pointer.PointerFormat.TheVariants.{Address}
 use Rattle.dw_eh_frame.specs.declared.pointer.PointerBase.TheVariants.{Absolute}
@@ -82,16 +82,26 @@ say target (letter ∷ letters) area a = option_and_then (λ said. say target le
 
 -- ---- the whole augmentation
 
+-- the letters of GNU's first compilers, e (101) and h (104)
+abbrev pub is_old : List ℕ → Bool
+is_old (a ∷ b ∷ []) = a == 101 && b == 104
+is_old _ = false
+
+-- With them an address follows the string, which isn't read: that of a table about exceptions.
+unfoldable pub eh_data_at : List ℕ → ReadPosition → Result ReadPosition Fault
+eh_data_at letters r = if is_old letters then (address_at r >>= λ a. Ok a.1) else Ok r
+
 abbrev pub known_or : ℕ → Option Augmentation → ReadPosition → Result (Augmentation × ReadPosition) Fault
 known_or at None r = Err (record { kind = BadAugmentation; at = at })
 known_or at (Some a) r = Ok (a, r)
 
 -- Reading the augmentation data of a CIE whose string, at the offset `at`, has these letters. If the
--- first letter is z (122), a size and as many bytes of data follow. An augmentation that isn't known
+-- first letter is z (122), a size and as many bytes of data follow; else there are none. An augmentation that isn't known
 -- is reported at its string.
 unfoldable pub augmentation_at : ℕ → List ℕ → ReadPosition → Result (Augmentation × ReadPosition) Fault
 augmentation_at at [] r = Ok (no_letters, r)
 augmentation_at at (letter ∷ letters) r =
     if letter == 122 then (block_at r >>= λ area.
     known_or at (say r.target letters area.0.bytes (record no_letters { has_data = true })) area.1)
+    else if is_old (letter ∷ letters) then Ok (no_letters, r)
     else Err (record { kind = BadAugmentation; at = at })

@@ -3,6 +3,7 @@ use Rattle.std.specs.Prelude.{◌≡◌, ◌≤◌, ℕ, Bool, List, ◌++◌, m
 use Rattle.dw_bytes.specs.declared.target.Target.{Target}
 use Rattle.dw_frame.specs.Records.{Cie, Fde, cie_record, fde_record}
 use Rattle.dw_frame.specs.Sections.{AreRecords, IsRecord}
+use Rattle.dw_eh_frame.specs.declared.pointer.Bases.{Bases}
 use Rattle.dw_eh_frame.specs.declared.rewriting.CiePlace.{CiePlace}
 use Rattle.dw_eh_frame.specs.Records.{EhCie, EhFde, EhRecord, eh_cie, eh_cie_at, eh_entries_from, eh_entries_of}
 use Rattle.dw_eh_frame.specs.Rewriting.{Pair, SaysTheSame, says_something, IsSameCie, IsSameFde}
@@ -17,10 +18,10 @@ pub record IsPlace (target : Target) (section : List ℕ) (pairs : List Pair) (q
 
 -- The records before the offset `at` were read, and the bytes `made` were written for them. `cies`
 -- has the places of the CIEs.
-pub record IsUnderWay (is_aarch64 : Bool) (address : ℕ) (target : Target) (section : List ℕ) (at : ℕ) (made : List ℕ) (cies : List CiePlace) : Type 0 where
+pub record IsUnderWay (is_aarch64 : Bool) (bases : Bases) (target : Target) (section : List ℕ) (at : ℕ) (made : List ℕ) (cies : List CiePlace) : Type 0 where
   pub inside : at ≤ length section
   pub records : List EhRecord
-  pub read : eh_entries_of address target section ≡ map Ok records ++ eh_entries_from address target section at
+  pub read : eh_entries_of bases target section ≡ map Ok records ++ eh_entries_from bases target section at
   pub pairs : List Pair
   pub sources : map (λ (p : Pair). p.0) pairs ≡ filter says_something records
   pub encoded : AreRecords target 0 made (map (λ (p : Pair). p.1) pairs)

@@ -12,8 +12,9 @@ use Rattle.dw_bytes.specs.Sequence.{sequence_of}
 use Rattle.dw_frame.specs.Records.{is_version}
 use Rattle.dw_frame.specs.Sections.{Header, behind_augmentation}
 use Rattle.dw_eh_frame.specs.declared.augmentation.Augmentation.{Augmentation}
+use Rattle.dw_eh_frame.specs.declared.pointer.Bases.{Bases}
 use Rattle.dw_eh_frame.specs.Pointers.{pointer_at, range_at}
-use Rattle.dw_eh_frame.specs.Augmentations.{string_at, augmentation_at}
+use Rattle.dw_eh_frame.specs.Augmentations.{string_at, eh_data_at, augmentation_at}
 
 -- ---- the records
 
@@ -51,14 +52,15 @@ pub data EhRecord : Type 0 where
 
 -- ---- reading a CIE
 
--- The fields of a CIE after its id: the version; the augmentation's string; what follows it in
--- `.debug_frame` too: in version 4 the two sizes, and in every version the alignment factors and the
--- return address register; and the augmentation's data.
+-- The fields of a CIE after its id: the version; the augmentation's string, and with the letters eh an
+-- address; what follows the string in `.debug_frame` too: in version 4 the two sizes, and in every
+-- version the alignment factors and the return address register; and the augmentation's data.
 unfoldable pub eh_cie_head_at : ReadPosition → Result (EhCieHead × ReadPosition) Fault
 eh_cie_head_at r = do
   version ← field_at (fixed 1) (λ number. unless (is_version number) Version) r
   letters ← string_at version.1
-  numbers ← fields_at (behind_augmentation r.target version.0) letters.1
+  behind ← eh_data_at letters.0 letters.1
+  numbers ← fields_at (behind_augmentation r.target version.0) behind
   augmentation ← augmentation_at version.1.position letters.0 numbers.1
   Ok (record { version = version.0; numbers = numbers.0; augmentation = augmentation.0 }, augmentation.1)
 
@@ -94,11 +96,10 @@ abbrev pub eh_area_at : Bool → ReadPosition → Result ReadPosition Fault
 eh_area_at true r = block_at r >>= λ area. Ok area.1
 eh_area_at false r = Ok r
 
--- An FDE whose record begins at the offset `at`, read from the offset after its CIE pointer on. The
--- section has the address `address`.
-unfoldable pub eh_fde_from : ℕ → ℕ → Format → ℕ → EhCie → ReadPosition → Result EhFde Fault
-eh_fde_from address at format place cie r = do
-  initial ← pointer_at address cie.head.augmentation.addresses r
+-- An FDE whose record begins at the offset `at`, read from the offset after its CIE pointer on.
+unfoldable pub eh_fde_from : Bases → ℕ → Format → ℕ → EhCie → ReadPosition → Result EhFde Fault
+eh_fde_from bases at format place cie r = do
+  initial ← pointer_at bases cie.head.augmentation.addresses r
   range ← range_at cie.head.augmentation.addresses.format initial.0 initial.1
   program ← eh_area_at cie.head.augmentation.has_data range.1
   Ok (record {
@@ -115,27 +116,27 @@ eh_fde_from address at format place cie r = do
 
 -- The body of a record begins with four bytes, in the 64-bit format too: 0 in a CIE, and the CIE
 -- pointer in an FDE.
-unfoldable pub eh_full_at : ℕ → List ℕ → ℕ → Format → ReadPosition → ℕ × ReadPosition → Result EhRecord Fault
-eh_full_at address section at format body id =
+unfoldable pub eh_full_at : Bases → List ℕ → ℕ → Format → ReadPosition → ℕ × ReadPosition → Result EhRecord Fault
+eh_full_at bases section at format body id =
     if id.0 == 0 then (eh_cie_from at format id.1 >>= λ cie. Ok (eh_cie cie))
     else (eh_cie_before body.target section body.position id.0 >>= λ cie.
-    eh_fde_from address at format body.position cie id.1 >>= λ fde. Ok (eh_fde fde))
+    eh_fde_from bases at format body.position cie id.1 >>= λ fde. Ok (eh_fde fde))
 
 -- a body of no bytes is a record of length 0
-unfoldable pub eh_body_at : ℕ → List ℕ → ℕ → Format → ReadPosition → Result EhRecord Fault
-eh_body_at address section at format body =
-    if length body.rest == 0 then Ok (eh_nothing at) else (fixed_at 4 body >>= eh_full_at address section at format body)
+unfoldable pub eh_body_at : Bases → List ℕ → ℕ → Format → ReadPosition → Result EhRecord Fault
+eh_body_at bases section at format body =
+    if length body.rest == 0 then Ok (eh_nothing at) else (fixed_at 4 body >>= eh_full_at bases section at format body)
 
 -- a record: its length and its body
-unfoldable pub eh_record_at : ℕ → List ℕ → ReadPosition → Result (EhRecord × ReadPosition) Fault
-eh_record_at address section r = do
+unfoldable pub eh_record_at : Bases → List ℕ → ReadPosition → Result (EhRecord × ReadPosition) Fault
+eh_record_at bases section r = do
   framed ← framed_at r
-  found ← eh_body_at address section r.position framed.0.0 framed.0.1
+  found ← eh_body_at bases section r.position framed.0.0 framed.0.1
   Ok (found, framed.1)
 
--- the records of a section with this address, from an offset on, up to its end or the first fault
-unfoldable pub eh_entries_from : ℕ → Target → List ℕ → ℕ → List (Result EhRecord Fault)
-eh_entries_from address target section at = sequence_of (eh_record_at address section) (section_from target section at)
+-- the records of a section, from an offset on, up to its end or the first fault
+unfoldable pub eh_entries_from : Bases → Target → List ℕ → ℕ → List (Result EhRecord Fault)
+eh_entries_from bases target section at = sequence_of (eh_record_at bases section) (section_from target section at)
 
-abbrev pub eh_entries_of : ℕ → Target → List ℕ → List (Result EhRecord Fault)
-eh_entries_of address target section = eh_entries_from address target section 0
+abbrev pub eh_entries_of : Bases → Target → List ℕ → List (Result EhRecord Fault)
+eh_entries_of bases target section = eh_entries_from bases target section 0

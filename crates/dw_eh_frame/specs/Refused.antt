@@ -4,6 +4,7 @@ use Rattle.dw_bytes.specs.declared.target.Target.{Target}
 use Rattle.dw_bytes.specs.declared.fault.Fault.{Fault}
 use Rattle.dw_bytes.specs.declared.fault.FaultKind.TheVariants.{NoSuchCie, SectionTooLong}
 use Rattle.dw_bytes.specs.Answers.{memory, fault_in}
+use Rattle.dw_eh_frame.specs.declared.pointer.Bases.{Bases}
 use Rattle.dw_eh_frame.specs.Records.{EhFde, eh_fde, eh_entries_of}
 
 abbrev pub too_long : Fault
@@ -14,17 +15,17 @@ abbrev pub lost : EhFde → Fault
 lost e = record { kind = NoSuchCie; at = e.cie_pointer_offset }
 
 -- the fault is that of one of the section's FDEs
-pub record IsLost (address : ℕ) (target : Target) (section : List ℕ) (fault : Fault) : Type 0 where
+pub record IsLost (bases : Bases) (target : Target) (section : List ℕ) (fault : Fault) : Type 0 where
   pub fde : EhFde
-  pub among : Contains (eh_entries_of address target section) (Ok (eh_fde fde))
+  pub among : Contains (eh_entries_of bases target section) (Ok (eh_fde fde))
   pub fault_is : fault ≡ lost fde
 
 -- Memory ran out; or the rewritten section would be too long; or the fault is the first one in reading
 -- the records; or the CIE of an FDE isn't one of the records.
-abbrev pub IsRefused : ℕ → Target → List ℕ → Fault → Type 0
-IsRefused address target section fault =
-    (fault ≡ memory) ⊎ ((fault ≡ too_long) ⊎ ((fault_in (eh_entries_of address target section) ≡ Some fault)
-    ⊎ IsLost address target section fault))
+abbrev pub IsRefused : Bases → Target → List ℕ → Fault → Type 0
+IsRefused bases target section fault =
+    (fault ≡ memory) ⊎ ((fault ≡ too_long) ⊎ ((fault_in (eh_entries_of bases target section) ≡ Some fault)
+    ⊎ IsLost bases target section fault))
 
 -- the same of a single record
 abbrev pub IsUnwritten : Fault → Type 0

@@ -4,6 +4,7 @@ use Rattle.dw_bytes.specs.declared.target.Target.{Target}
 use Rattle.dw_bytes.specs.Reading.{ReadPosition}
 use Rattle.dw_frame.specs.Records.{Cie, Fde, Record, cie_record, fde_record}
 use Rattle.dw_frame.specs.Sections.{AreRecords, cie_header}
+use Rattle.dw_eh_frame.specs.declared.pointer.Bases.{Bases}
 use Rattle.dw_eh_frame.specs.declared.dialect.Dialect.{Dialect}
 use Rattle.dw_eh_frame.specs.Instructions.{dialect_of}
 use Rattle.dw_eh_frame.specs.Silencing.{silenced}
@@ -64,7 +65,7 @@ pub record IsRewriting (is_aarch64 : Bool) (target : Target) (records : List EhR
   pub same : (p : Pair) → Contains pairs p → SaysTheSame is_aarch64 pairs p
 
 -- The section is read without a fault, and `made` is a rewriting of its records.
-pub record IsRewritten (is_aarch64 : Bool) (address : ℕ) (target : Target) (section made : List ℕ) : Type 0 where
+pub record IsRewritten (is_aarch64 : Bool) (bases : Bases) (target : Target) (section made : List ℕ) : Type 0 where
   pub records : List EhRecord
-  pub are : eh_entries_of address target section ≡ map Ok records
+  pub are : eh_entries_of bases target section ≡ map Ok records
   pub rewriting : IsRewriting is_aarch64 target records made

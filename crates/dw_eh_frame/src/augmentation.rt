@@ -1,9 +1,9 @@
 //! Augmentations of CIEs (LSB Core, section 10.6.1.1.1).
 
-ghost use Rattle.std.specs.Prelude.{◌≡◌, ◌+◌, ◌^◌, ◌<◌, ◌≤◌, ◌==◌, IfOk, IfErr, IfSome, length, option_map, position, take, true};
+ghost use Rattle.std.specs.Prelude.{◌≡◌, ◌+◌, ◌^◌, ◌<◌, ◌≤◌, ◌==◌, IfOk, IfErr, IfSome, MatchResult, Ok, Err, length, option_map, position, take, true};
 ghost use Rattle.dw_bytes.specs.Reading.{MovesForward};
 ghost use Rattle.dw_bytes.specs.Readers.{IsRefusedWithin, ParsesBy};
-ghost use Rattle.dw_eh_frame.specs.Augmentations.{augmentation_at, fixed_size, no_letters, personality_size, say, says, without};
+ghost use Rattle.dw_eh_frame.specs.Augmentations.{augmentation_at, eh_data_at, fixed_size, is_old, no_letters, personality_size, say, says, without};
 
 use crate::pointer::{PointerBase, PointerEncoding, PointerFormat, encoding_by};
 use dw_bytes::operands::block;
@@ -30,6 +30,31 @@ pub(crate) fn letter_count(bytes: &[u8]) -> Option<usize>
 {
     let front = if bytes.len() < 9 { bytes } else { &bytes[..9] };
     front.iter().position(|b| *b == 0)
+}
+
+/// Whether the letters are `eh`.
+fn is_old_string(letters: &[u8]) -> bool
+    ensures { result ≡ is_old letters.now }
+{
+    match letters {
+        [first, second] => *first == b'e' && *second == b'h',
+        _ => false,
+    }
+}
+
+/// Moves past the address that follows the augmentation's string `eh`.
+#[tactic(auto, unfolding(crate::specs::Augmentations::eh_data_at))]
+pub(crate) fn skip_eh_data(cursor: &mut Cursor<'_>, letters: &[u8]) -> Result<(), Fault>
+    ensures exact { MatchResult result
+        (λ _. eh_data_at letters.now cursor.old ≡ Ok cursor.new)
+        (λ fault. eh_data_at letters.now cursor.old ≡ Err fault) }
+    ensures within { IsRefusedWithin cursor.old result }
+    ensures goes_on { MovesForward cursor.old cursor.new }
+{
+    if is_old_string(letters) {
+        cursor.address()?;
+    }
+    Ok(())
 }
 
 fn size_by(target: Target, code: u8) -> Option<u8>
@@ -173,6 +198,15 @@ pub(crate) fn read_augmentation(
                 None => Err(unknown),
             }
         }
+        _ if is_old_string(letters) => Ok(Augmentation {
+            has_data: false,
+            addresses: PointerEncoding {
+                format: PointerFormat::Address,
+                base: PointerBase::Absolute,
+            },
+            is_signal: false,
+            has_key_b: false,
+        }),
         _ => Err(unknown),
     }
 }

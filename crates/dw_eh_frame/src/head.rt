@@ -13,7 +13,7 @@ ghost use Rattle.dw_eh_frame.specs.Records.{eh_cie_head_at};
 ghost use Rattle.dw_eh_frame.specs.Views.{factors_of, head_of};
 ghost use Rattle.dw_eh_frame.specs.Written.{EncodesNumbers};
 
-use crate::augmentation::{Augmentation, letter_count, read_augmentation};
+use crate::augmentation::{Augmentation, letter_count, read_augmentation, skip_eh_data};
 use dw_bytes::{Cursor, Fault, FaultKind, Target};
 
 /// The alignment factors and the return address register of a CIE.
@@ -138,6 +138,7 @@ pub(crate) fn read_head<'a>(cursor: &mut Cursor<'a>, end: u32) -> Result<EhCieHe
     let version = read_version(cursor)?;
     let at = cursor.position();
     let letters = read_letters(cursor, end)?;
+    skip_eh_data(cursor, letters)?;
     let mut behind = cursor.copy();
     let factors = read_numbers(&mut behind, target, version)?;
     let size = behind.position() - cursor.position();

@@ -14,6 +14,6 @@ mod write;
 pub use augmentation::Augmentation;
 pub use dialect::Dialect;
 pub use head::{EhCieHead, Factors};
-pub use pointer::{PointerBase, PointerEncoding, PointerFormat};
+pub use pointer::{Bases, PointerBase, PointerEncoding, PointerFormat};
 pub use record::{EhCie, EhFde, EhProgram, EhRecord, eh_record};
 pub use rewriting::rewrite;

@@ -1,10 +1,10 @@
 //! Encoded pointers (LSB Core, section 10.5.1).
 
-ghost use Rattle.std.specs.Prelude.{◌≡◌, ◌+◌, ◌^◌, ◌<◌, ◌≤◌, IfOk, IfErr};
+ghost use Rattle.std.specs.Prelude.{◌≡◌, ◌+◌, ◌^◌, ◌<◌, ◌≤◌, IfOk, IfErr, None};
 ghost use Rattle.dw_bytes.specs.Reading.{MovesForward};
 ghost use Rattle.dw_bytes.specs.Readers.{IsRefusedWithin, ParsesBy};
 ghost use Rattle.dw_bytes.specs.Encoding.{max_address};
-ghost use Rattle.dw_eh_frame.specs.Pointers.{encoding_of, format_of, number_at, pointer_at, range_at, sign_extended, wrapped};
+ghost use Rattle.dw_eh_frame.specs.Pointers.{base_at, encoding_of, format_of, number_at, padding_at, pointer_at, range_at, sign_extended, with_base, wrapped};
 
 use dw_bytes::{AddressSize, Cursor, Fault, FaultKind, Target};
 
@@ -22,11 +22,43 @@ pub enum PointerFormat {
     I64,
 }
 
-/// What the number of an encoded pointer is relative to: nothing, or the address of the pointer.
+/// What the number of an encoded pointer is relative to.
 #[derive(Clone, Copy, Debug, PartialEq, Eq)]
 pub enum PointerBase {
+    /// Nothing: the number is the address.
     Absolute,
+    /// The address of the pointer.
     Place,
+    /// The address of text, `Bases::text_start`.
+    Text,
+    /// The address of data, `Bases::data_start`.
+    Data,
+    /// Nothing. The number is at the next address that is a multiple of an address's size.
+    Aligned,
+}
+
+/// The addresses that encoded pointers may be relative to.
+#[derive(Clone, Copy)]
+pub struct Bases {
+    /// The address of the `.eh_frame` section.
+    pub section: u64,
+    /// The address of the text section, if it is known.
+    pub text_start: Option<u64>,
+    /// What data is relative to, as the address of a global offset table, if it is known.
+    pub data_start: Option<u64>,
+}
+
+impl Bases {
+    /// Only the address of the `.eh_frame` section is known.
+    pub fn of_section(section: u64) -> Self
+        ensures { result ≡ record { section = section; text_start = None; data_start = None } }
+    {
+        Bases {
+            section,
+            text_start: None,
+            data_start: None,
+        }
+    }
 }
 
 /// An encoding of pointers.
@@ -53,28 +85,56 @@ fn format_by(code: u8) -> Option<PointerFormat>
     }
 }
 
+/// An encoding with this base, and the format that the low four bits of the byte stand for.
+fn based(base: PointerBase, code: u8) -> Option<PointerEncoding>
+    ensures { result ≡ with_base base (format_of code) }
+{
+    match format_by(code) {
+        Some(format) => Some(PointerEncoding { format, base }),
+        None => None,
+    }
+}
+
 /// The encoding that a byte stands for, if it is one that an FDE's addresses may have.
 pub(crate) fn encoding_by(code: u8) -> Option<PointerEncoding>
     ensures { result ≡ encoding_of code }
 {
-    if code < 0x10 {
-        match format_by(code) {
-            Some(format) => Some(PointerEncoding {
-                format,
-                base: PointerBase::Absolute,
-            }),
-            None => None,
+    match code {
+        0x00..=0x0f => based(PointerBase::Absolute, code),
+        0x10..=0x1f => based(PointerBase::Place, code - 0x10),
+        0x20..=0x2f => based(PointerBase::Text, code - 0x20),
+        0x30..=0x3f => based(PointerBase::Data, code - 0x30),
+        0x50 => Some(PointerEncoding {
+            format: PointerFormat::Address,
+            base: PointerBase::Aligned,
+        }),
+        _ => None,
+    }
+}
+
+/// What a pointer at an offset of the section is relative to, if it is known.
+fn base_of(bases: Bases, base: PointerBase, at: u32) -> Option<u64>
+    ensures value { result ≡ base_at bases base at }
+{
+    match base {
+        PointerBase::Absolute | PointerBase::Aligned => Some(0),
+        PointerBase::Place => Some(bases.section.wrapping_add(u64::from(at))),
+        PointerBase::Text => bases.text_start,
+        PointerBase::Data => bases.data_start,
+    }
+}
+
+/// The number of bytes between an offset of the section and the number of a pointer there.
+fn padding(bases: Bases, target: Target, base: PointerBase, at: u32) -> u64
+    ensures { result ≡ padding_at bases target base at }
+{
+    match base {
+        PointerBase::Aligned => {
+            let size = u64::from(target.address_size.bytes());
+            let behind = (bases.section % size + u64::from(at) % size) % size;
+            (size - behind) % size
         }
-    } else if code < 0x20 {
-        match format_by(code - 0x10) {
-            Some(format) => Some(PointerEncoding {
-                format,
-                base: PointerBase::Place,
-            }),
-            None => None,
-        }
-    } else {
-        None
+        _ => 0,
     }
 }
 
@@ -129,25 +189,28 @@ fn wrapped_sum(target: Target, base: u64, number: u64) -> u64
     }
 }
 
-/// An encoded address. `address` is the address of the section.
+/// An encoded address.
 #[tactic(auto, unfolding(crate::specs::Pointers::pointer_at))]
 pub(crate) fn read_pointer(
     cursor: &mut Cursor<'_>,
-    address: u64,
+    bases: Bases,
     encoding: PointerEncoding,
 ) -> Result<u64, Fault>
-    ensures exact { ParsesBy (λ number. number) (pointer_at address encoding) cursor.old result cursor.new }
+    ensures exact { ParsesBy (λ number. number) (pointer_at bases encoding) cursor.old result cursor.new }
     ensures small { IfOk result (λ number. number ≤ max_address cursor.old.target.address_size) }
     ensures within { IsRefusedWithin cursor.old result }
     ensures goes_on { MovesForward cursor.old cursor.new }
 {
     let target = cursor.target();
     let at = cursor.position();
-    let number = read_number(cursor, encoding.format)?;
-    let base = match encoding.base {
-        PointerBase::Absolute => 0,
-        PointerBase::Place => address.wrapping_add(u64::from(at)),
+    let Some(base) = base_of(bases, encoding.base, at) else {
+        return Err(Fault {
+            kind: FaultKind::Augmentation,
+            at,
+        });
     };
+    cursor.take(padding(bases, target, encoding.base, at))?;
+    let number = read_number(cursor, encoding.format)?;
     Ok(wrapped_sum(target, base, number))
 }
 

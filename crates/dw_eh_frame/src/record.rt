@@ -8,7 +8,7 @@ ghost use Rattle.dw_eh_frame.specs.Records.{eh_area_at, eh_body_at, eh_cie_at, e
 ghost use Rattle.dw_eh_frame.specs.Views.{IsRead, IsReadCie, IsReadFde, eh_cie_of, eh_fde_of, eh_record_of, program_of};
 
 use crate::head::{EhCieHead, read_head};
-use crate::pointer::{read_pointer, read_range};
+use crate::pointer::{Bases, read_pointer, read_range};
 use dw_bytes::operands::block;
 use dw_bytes::{Body, Cursor, Fault, FaultKind, Format, Target};
 
@@ -166,7 +166,7 @@ fn skip_area(cursor: &mut Cursor<'_>, has_data: bool) -> Result<(), Fault>
 #[tactic(auto, unfolding(crate::specs::Records::eh_fde_from))]
 fn read_fde<'a>(
     cursor: &mut Cursor<'a>,
-    address: u64,
+    bases: Bases,
     at: u32,
     format: Format,
     place: u32,
@@ -175,14 +175,14 @@ fn read_fde<'a>(
 ) -> Result<EhFde<'a>, Fault>
     requires { cursor.old.position + length cursor.old.rest ≡ end }
     ensures exact { MatchResult result
-        (λ fde. eh_fde_from address at format place (eh_cie_of cie.entry) cursor.old ≡ Ok (eh_fde_of fde))
-        (λ fault. eh_fde_from address at format place (eh_cie_of cie.entry) cursor.old ≡ Err fault) }
+        (λ fde. eh_fde_from bases at format place (eh_cie_of cie.entry) cursor.old ≡ Ok (eh_fde_of fde))
+        (λ fault. eh_fde_from bases at format place (eh_cie_of cie.entry) cursor.old ≡ Err fault) }
     ensures sound { IfOk result (IsReadFde cursor.old.target) }
     ensures cie { IfOk result (λ fde. eh_cie_of fde.cie ≡ eh_cie_of cie.entry) }
     ensures within { IsRefusedWithin cursor.old result }
 {
     let augmentation = cie.head.augmentation;
-    let initial_location = read_pointer(cursor, address, augmentation.addresses)?;
+    let initial_location = read_pointer(cursor, bases, augmentation.addresses)?;
     let address_range = read_range(cursor, augmentation.addresses.format, initial_location)?;
     skip_area(cursor, augmentation.has_data)?;
     let program = program_from(cursor, end);
@@ -203,7 +203,7 @@ fn read_fde<'a>(
 fn read_body<'a>(
     section: &'a [u8],
     target: Target,
-    address: u64,
+    bases: Bases,
     at: u32,
     body: Body,
 ) -> Result<EhRecord<'a>, Fault>
@@ -213,9 +213,9 @@ fn read_body<'a>(
     requires framed { framed_at (section_from target section.now at)
         ≡ Ok ((body.format, window target section.now body.start body.end), section_from target section.now body.end) }
     ensures exact { MatchResult result
-        (λ found. eh_body_at address section.now at body.format (window target section.now body.start body.end)
+        (λ found. eh_body_at bases section.now at body.format (window target section.now body.start body.end)
         ≡ Ok (eh_record_of found))
-        (λ fault. eh_body_at address section.now at body.format (window target section.now body.start body.end)
+        (λ fault. eh_body_at bases section.now at body.format (window target section.now body.start body.end)
         ≡ Err fault) }
     ensures sound { IfOk result (IsRead target section.now at) }
     ensures within { IfErr result (λ fault. fault.at ≤ length section.now) }
@@ -231,7 +231,7 @@ fn read_body<'a>(
         let cie = cie_before(section, target, body.start, id)?;
         Ok(EhRecord::Fde(read_fde(
             &mut cursor,
-            address,
+            bases,
             at,
             body.format,
             body.start,
@@ -241,23 +241,23 @@ fn read_body<'a>(
     }
 }
 
-/// The record at offset `at` of a section with this address, and the offset after the record.
+/// The record at offset `at` of a section, and the offset after the record.
 #[tactic(auto, unfolding(crate::specs::Records::eh_record_at))]
 pub fn eh_record<'a>(
     section: &'a [u8],
     target: Target,
-    address: u64,
+    bases: Bases,
     at: u32,
 ) -> Result<(EhRecord<'a>, u32), Fault>
     requires inside { at ≤ length section.now }
     requires short { length section.now < 2 ^ 32 }
-    ensures exact { ReadsFrom eh_record_of (eh_record_at address section.now)
+    ensures exact { ReadsFrom eh_record_of (eh_record_at bases section.now)
         (section_from target section.now) at result }
     ensures forward { IfOk result (λ e. at < e.1 × e.1 ≤ length section.now) }
     ensures sound { IfOk result (λ e. IsRead target section.now at e.0) }
     ensures within { IfErr result (λ fault. fault.at ≤ length section.now) }
 {
     let body = Body::read(section, target, at)?;
-    let found = read_body(section, target, address, at, body)?;
+    let found = read_body(section, target, bases, at, body)?;
     Ok((found, body.end))
 }

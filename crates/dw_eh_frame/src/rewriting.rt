@@ -10,6 +10,7 @@ ghost use Rattle.dw_eh_frame.specs.Records.{eh_record_at};
 ghost use Rattle.dw_bytes.specs.Reading.{section_from};
 
 use crate::dialect::dialect_by;
+use crate::pointer::Bases;
 use crate::record::{EhCie, EhFde, EhRecord, eh_record};
 use crate::write::{push_cie, push_fde};
 use dw_bytes::{Fault, FaultKind, OUT_OF_MEMORY, Target};
@@ -134,18 +135,18 @@ fn write_fde(
     Ok(())
 }
 
-/// Rewrites a section of fewer than 2^32 bytes, which has this address.
+/// Rewrites a section of fewer than 2^32 bytes.
 #[tactic(auto, using(crate::proofs::Steps::steps, crate::proofs::Refusing::refusals))]
 pub fn rewrite(
     alloc: Global,
     section: &[u8],
     target: Target,
-    address: u64,
+    bases: Bases,
     is_aarch64: bool,
 ) -> Result<Vec<u8>, Fault>
     requires { length section.now < 2 ^ 32 }
-    ensures refused { IfErr result (IsRefused address target section.now) }
-    ensures rewritten { IfOk result (λ made. IsRewritten is_aarch64 address target section.now made.items) }
+    ensures refused { IfErr result (IsRefused bases target section.now) }
+    ensures rewritten { IfOk result (λ made. IsRewritten is_aarch64 bases target section.now made.items) }
 {
     let mut made = Made {
         bytes: Vec::with_capacity(alloc, section.len())?,
@@ -153,7 +154,7 @@ pub fn rewrite(
     };
     let mut at = 0u32;
     while (at as usize) < section.len() {
-        let (found, next) = eh_record(section, target, address, at)?;
+        let (found, next) = eh_record(section, target, bases, at)?;
         match found {
             EhRecord::Cie(cie) => write_cie(&mut made, target, &cie, is_aarch64)?,
             EhRecord::Fde(fde) => write_fde(&mut made, target, &fde, is_aarch64)?,

@@ -19,6 +19,7 @@ use Rattle.dw_rows.proofs.CheckedSections.{checked-cies-ascend}
 use Rattle.dw_rows.proofs.Covering.{cover-rows}
 use Rattle.dw_rows.proofs.Programs.{fde-from-good}
 use Rattle.dw_rows.proofs.RowsOf.{one-row}
+use Rattle.dw_eh_frame.specs.declared.pointer.Bases.{Bases}
 use Rattle.dw_eh_frame.specs.Records.{EhFde, EhRecord, eh_cie, eh_fde, eh_nothing}
 use Rattle.dw_eh_frame.specs.Rewriting.{Pair, SaysTheSame, says_something, IsRewriting, IsRewritten}
 use Rattle.dw_eh_rows.specs.Meaning.{EhCovers, eh_fdes}
@@ -145,9 +146,9 @@ HaveNone = (s : FrameSection) (a : ℕ) → ((f : Fde) → Contains s.fdes f →
 head-is : (x y : Row) (rows : List Row) → rows ≡ x ∷ [] → rows ≡ y ∷ [] → x ≡ y
 head-is x y rows p q = cc
 
-pub has-one-eh-row : HaveRows → (a : Bool) (address : ℕ) (section : List ℕ) (s : FrameSection) (w : IsRewritten a address s.target section s.section)
+pub has-one-eh-row : HaveRows → (a : Bool) (bases : Bases) (section : List ℕ) (s : FrameSection) (w : IsRewritten a bases s.target section s.section)
     → IsChecked s → (e : EhFde) → Contains (eh_fdes w.records) e → (x : ℕ) → EhCovers e x → HasOneEhRow a w.records s x
-has-one-eh-row rows_law a address section s w checked e among x covers =
+has-one-eh-row rows_law a bases section s w checked e among x covers =
     let pairs = w.rewriting.pairs in
     let made = written-for a s.target w.records s.section w.rewriting e among in
     let f = made.0 in
@@ -206,9 +207,9 @@ has-one-eh-row rows_law a address section s w checked e among x covers =
       returns = (f, c, only, cie_found, refl);
     }
 
-pub has-no-row : HaveNone → (a : Bool) (address : ℕ) (section : List ℕ) (s : FrameSection) (w : IsRewritten a address s.target section s.section)
+pub has-no-row : HaveNone → (a : Bool) (bases : Bases) (section : List ℕ) (s : FrameSection) (w : IsRewritten a bases s.target section s.section)
     → IsChecked s → (x : ℕ) → ((e : EhFde) → Contains (eh_fdes w.records) e → ¬ EhCovers e x) → row_of s x ≡ None
-has-no-row none_law a address section s w checked x free = none_law s x (λ f f_in covers.
+has-no-row none_law a bases section s w checked x free = none_law s x (λ f f_in covers.
     let listed = record-of (made-records w.rewriting.pairs) f
     (subst (λ (l : List Fde). Contains l f) (fdes-are a w.records s w.rewriting checked) f_in) in
     let source = written-from a s.target w.records s.section w.rewriting f listed in

@@ -6,6 +6,7 @@ ghost use Rattle.dw_bytes.specs.declared.target.Target.{Target};
 ghost use Rattle.dw_frame.specs.Records.{Fde, fde_record};
 ghost use Rattle.dw_rows.specs.Rules.{PlacedRow};
 ghost use Rattle.dw_rows.specs.Section.{FrameSection, IsChecked, row_of};
+ghost use Rattle.dw_eh_frame.specs.declared.pointer.Bases.{Bases};
 ghost use Rattle.dw_eh_frame.specs.Records.{EhFde, EhRecord, eh_fde};
 ghost use Rattle.dw_eh_frame.specs.Rewriting.{IsRewriting, IsRewritten};
 ghost use Rattle.dw_eh_rows.specs.Kept.{KeepsRows};
@@ -31,12 +32,12 @@ pub fn rewriting_keeps_rows()
 /// of `.eh_frame` covers has exactly one row, and a look-up finds it (`HasOneEhRow`, OneRow.antt). An
 /// address that no FDE covers has none.
 pub fn exact_eh_rows()
-    ensures covered { (is_aarch64 : Bool) (address : ℕ) (section : List ℕ) (s : FrameSection)
-        → (written : IsRewritten is_aarch64 address s.target section s.section) → IsChecked s
+    ensures covered { (is_aarch64 : Bool) (bases : Bases) (section : List ℕ) (s : FrameSection)
+        → (written : IsRewritten is_aarch64 bases s.target section s.section) → IsChecked s
         → (e : EhFde) → Contains (eh_fdes written.records) e → (a : ℕ) → EhCovers e a
         → HasOneEhRow is_aarch64 written.records s a }
-    ensures others { (is_aarch64 : Bool) (address : ℕ) (section : List ℕ) (s : FrameSection)
-        → (written : IsRewritten is_aarch64 address s.target section s.section) → IsChecked s
+    ensures others { (is_aarch64 : Bool) (bases : Bases) (section : List ℕ) (s : FrameSection)
+        → (written : IsRewritten is_aarch64 bases s.target section s.section) → IsChecked s
         → (a : ℕ) → ((e : EhFde) → Contains (eh_fdes written.records) e → ¬ EhCovers e a)
         → row_of s a ≡ None }
 {

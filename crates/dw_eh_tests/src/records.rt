@@ -1,19 +1,21 @@
 //! Records that are read, and faults.
 
-use crate::sections::{ADDRESS, LITTLE, section_of};
+use crate::sections::{BASES, LITTLE, section_of};
 use dw_bytes::{Fault, FaultKind};
-use dw_eh_frame::{Augmentation, EhRecord, PointerBase, PointerEncoding, PointerFormat, eh_record};
+use dw_eh_frame::{
+    Augmentation, Bases, EhRecord, PointerBase, PointerEncoding, PointerFormat, eh_record,
+};
 use std::process::Abort;
 
 /// The record at an offset of a section.
-fn read_at(section: &[u8], at: u32) -> Result<EhRecord<'_>, Fault> {
+fn read_at(section: &[u8], bases: Bases, at: u32) -> Result<EhRecord<'_>, Fault> {
     if section.len() >= 1 << 32 || at as usize > section.len() {
         return Err(Fault {
             kind: FaultKind::SectionTooLong,
             at,
         });
     }
-    let (record, _) = eh_record(section, LITTLE, ADDRESS, at)?;
+    let (record, _) = eh_record(section, LITTLE, bases, at)?;
     Ok(record)
 }
 
@@ -42,7 +44,50 @@ const FORMATS: [&str; 14] = [
 fn addresses_are_read_in_each_format(rt: HostRuntime) {
     for digits in FORMATS {
         let section = section_of(rt.alloc(), digits).expect(&rt, "hex digits");
-        match read_at(&section, 24) {
+        match read_at(&section, BASES, 24) {
+            Ok(EhRecord::Fde(fde)) => {
+                let addresses = (fde.initial_location, fde.address_range);
+                assert_eq!(rt; addresses, (0x1234, 0x56), "{digits}");
+            }
+            _ => panic!(rt; "no FDE: {digits}"),
+        }
+    }
+}
+
+/// The same FDE with addresses of four bytes relative to text and to data, and with an aligned address of
+/// eight bytes, which lies four bytes behind the place where it is expected.
+const BASED: [(&str, Bases); 3] = [
+    (
+        "1400000000000000017a5200017810012b0c070890010000100000001c000000340200005600000000000000",
+        Bases {
+            section: 0,
+            text_start: Some(0x1000),
+            data_start: None,
+        },
+    ),
+    (
+        "1400000000000000017a5200017810013b0c070890010000100000001c00000034e2ffff5600000000000000",
+        Bases {
+            section: 0,
+            text_start: None,
+            data_start: Some(0x3000),
+        },
+    ),
+    (
+        "1400000000000000017a520001781001500c0708900100001c0000001c000000eeeeeeee3412000000000000560000000000000000000000",
+        Bases {
+            section: 0x2004,
+            text_start: None,
+            data_start: None,
+        },
+    ),
+];
+
+#[test]
+fn addresses_are_relative_to_their_bases(rt: HostRuntime) {
+    for (digits, bases) in &BASED {
+        let section = section_of(rt.alloc(), digits).expect(&rt, "hex digits");
+        match read_at(&section, *bases, 24) {
             Ok(EhRecord::Fde(fde)) => {
                 let addresses = (fde.initial_location, fde.address_range);
                 assert_eq!(rt; addresses, (0x1234, 0x56), "{digits}");
@@ -67,9 +112,13 @@ const RELATIVE: PointerEncoding = PointerEncoding {
     base: PointerBase::Place,
 };
 
-/// CIEs, and what their augmentations say: `""`, `zR`, `zRS`, `zPLR`, `zRB`, `zG`, `zP` without a
+/// CIEs, and what their augmentations say: `eh`, `""`, `zR`, `zRS`, `zPLR`, `zRB`, `zG`, `zP` without a
 /// personality routine, and `zR` in a CIE of version 4.
-const LETTERS: [(&str, Augmentation); 8] = [
+const LETTERS: [(&str, Augmentation); 9] = [
+    (
+        "180000000000000001656800aaaaaaaaaaaaaaaa0178100c07089001",
+        PLAIN,
+    ),
     ("0e0000000000000001000178100c07089001", PLAIN),
     (
         "1200000000000000017a5200017810011b0c07089001",
@@ -136,7 +185,7 @@ const LETTERS: [(&str, Augmentation); 8] = [
 fn letters_say_what_the_lsb_says(rt: HostRuntime) {
     for (digits, said) in &LETTERS {
         let section = section_of(rt.alloc(), digits).expect(&rt, "hex digits");
-        match read_at(&section, 0) {
+        match read_at(&section, BASES, 0) {
             Ok(EhRecord::Cie(cie)) => {
                 assert_eq!(rt; cie.head.augmentation, *said, "{digits}");
                 assert_eq!(rt; cie.head.factors.return_address_register, 16);
@@ -153,7 +202,8 @@ fn letters_say_what_the_lsb_says(rt: HostRuntime) {
 
 /// Records that are refused: where they begin, the fault, and its offset.
 const REFUSED: [(&str, u32, FaultKind, u32); 13] = [
-    // an unknown letter; addresses relative to text; a letter without its data; nine letters
+    // an unknown letter; addresses relative to a function, and to text that isn't known; a letter without
+    // its data; nine letters
     (
         "1100000000000000017a5800017810000c07089001",
         0,
@@ -161,7 +211,7 @@ const REFUSED: [(&str, u32, FaultKind, u32); 13] = [
         9,
     ),
     (
-        "1200000000000000017a5200017810012b0c07089001",
+        "1200000000000000017a5200017810014b0c07089001",
         0,
         FaultKind::Augmentation,
         9,
@@ -179,10 +229,10 @@ const REFUSED: [(&str, u32, FaultKind, u32); 13] = [
         9,
     ),
     (
-        "1000000000000000016568000178100c07089001",
-        0,
+        "1400000000000000017a5200017810012b0c070890010000100000001c000000340200005600000000000000",
+        24,
         FaultKind::Augmentation,
-        9,
+        32,
     ),
     // version 2; version 4 with addresses of four bytes
     (
@@ -245,6 +295,10 @@ fn faults_are_where_the_record_is_wrong(rt: HostRuntime) {
             kind: *kind,
             at: *place,
         };
-        assert_eq!(rt; read_at(&section, *at).err(), Some(fault), "{digits}");
+        assert_eq!(rt;
+            read_at(&section, BASES, *at).err(),
+            Some(fault),
+            "{digits}"
+        );
     }
 }

@@ -1,6 +1,6 @@
 //! The rows of rewritten sections, beside those that readelf prints for the originals.
 
-use crate::sections::{ADDRESS, BIG, LITTLE, LITTLE_SHORT, section_of};
+use crate::sections::{BASES, BIG, LITTLE, LITTLE_SHORT, section_of};
 use dw_bytes::{Fault, FaultKind, Target};
 use dw_eh_frame::rewrite;
 use dw_rows::{CfaRule, CheckedFrame, RegisterRule, check_frame};
@@ -72,7 +72,7 @@ fn has_rows(
     rows: &[(u64, &str)],
 ) -> Result<(), AllocError> {
     let section = section_of(rt.alloc(), digits).expect(rt, "hex digits");
-    let made = match rewrite(rt.alloc(), &section, target, ADDRESS, is_aarch64) {
+    let made = match rewrite(rt.alloc(), &section, target, BASES, is_aarch64) {
         Ok(made) => made,
         Err(fault) => panic!(rt; "{fault}"),
     };
@@ -138,7 +138,7 @@ fn set_loc_is_read_only_where_addresses_are_plain(rt: HostRuntime) -> Result<(),
     let rows = [(0x1234, "1240 7+8 16=c-8"), (0x1240, "128a 7+16 16=c-8")];
     has_rows(&rt, PLAIN_SET_LOC, LITTLE, false, &rows)?;
     let section = section_of(rt.alloc(), RELATIVE_SET_LOC).expect(&rt, "hex digits");
-    let made = rewrite(rt.alloc(), &section, LITTLE, ADDRESS, false).expect(&rt, "a section");
+    let made = rewrite(rt.alloc(), &section, LITTLE, BASES, false).expect(&rt, "a section");
     if made.len() >= 1 << 32 {
         panic!(&rt; "too long");
     }

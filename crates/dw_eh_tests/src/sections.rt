@@ -3,6 +3,7 @@
 ghost use Rattle.std.specs.Prelude.{◌<◌, ◌^◌, length, IfSome};
 
 use dw_bytes::{AddressSize, Order, Target};
+use dw_eh_frame::Bases;
 use std::alloc::Global;
 
 pub(crate) const LITTLE: Target = Target {
@@ -21,7 +22,11 @@ pub(crate) const BIG: Target = Target {
 };
 
 /// The address of each section.
-pub(crate) const ADDRESS: u64 = 0x2000;
+pub(crate) const BASES: Bases = Bases {
+    section: 0x2000,
+    text_start: None,
+    data_start: None,
+};
 
 /// The bytes of a section, written in hex.
 pub(crate) fn section_of(alloc: Global, digits: &str) -> Option<Vec<u8>>

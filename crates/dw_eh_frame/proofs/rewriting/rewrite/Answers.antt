@@ -16,23 +16,23 @@ loop-at-preserved-in_ok-write_fde-in-Fde c =
     let target = c.args.target in
     let next = c.in_ok-found.next in
     let fde = c.in-Fde.fde in
-    let is = subst (λ (x : declared.EhRecord). eh_record_at c.args.address section (section_from target section c.loop-at.at) ≡ Ok
+    let is = subst (λ (x : declared.EhRecord). eh_record_at c.args.bases section (section_from target section c.loop-at.at) ≡ Ok
     (eh_record_of x, section_from target section next)) c.in-Fde.is c.in_ok-found.ensures.exact in
     let sound = subst (λ (x : declared.EhRecord). IsRead target section c.loop-at.at x) c.in-Fde.is c.in_ok-found.ensures.sound in
-    subst (λ (cies : List CiePlace). IsUnderWay c.args.is_aarch64 c.args.address c.args.target section c.in_ok-found.next c.write_fde.new.made.bytes.items cies)
+    subst (λ (cies : List CiePlace). IsUnderWay c.args.is_aarch64 c.args.bases c.args.target section c.in_ok-found.next c.write_fde.new.made.bytes.items cies)
     (sym c.in_ok-write_fde-in-Fde.ensures.place)
-    (under-way-fde c.args.is_aarch64 c.args.address c.args.target section c.loop-at.at c.in_ok-found.next (eh_fde_of fde) c.loop-at.made.bytes.items
+    (under-way-fde c.args.is_aarch64 c.args.bases c.args.target section c.loop-at.at c.in_ok-found.next (eh_fde_of fde) c.loop-at.made.bytes.items
     c.write_fde.new.made.bytes.items c.loop-at.made.cies.items c.loop-at.invariant is c.in_ok-found.ensures.forward.1 sound.1 c.in_ok-write_fde-in-Fde.ensures.wrote)
 
 pub returns-clause-rewritten : goal.returns-clause-rewritten
 returns-clause-rewritten c =
-    under-way-end c.args.is_aarch64 c.args.address c.args.target c.args.section.now c.loop-at.at c.loop-at.made.bytes.items
+    under-way-end c.args.is_aarch64 c.args.bases c.args.target c.args.section.now c.loop-at.at c.loop-at.made.bytes.items
     c.loop-at.made.cies.items c.loop-at.invariant c.loop-at-test.false
 
 pub returns-in_err-found-clause-refused : goal.returns-in_err-found-clause-refused
 returns-in_err-found-clause-refused c =
     let p = err_from_is_err_and c.from_residual-in_err-found.result c.from_residual-in_err-found.ensures.1 in rw (p.1, p.2)
-    (refused-reading c.args.is_aarch64 c.args.address c.args.target c.args.section.now c.loop-at.at c.loop-at.made.bytes.items
+    (refused-reading c.args.is_aarch64 c.args.bases c.args.target c.args.section.now c.loop-at.at c.loop-at.made.bytes.items
     c.loop-at.made.cies.items _ c.loop-at.invariant c.loop-at-test.true c.in_err-found.ensures.exact)
 
 pub returns-in_err-write_fde-in-Fde-clause-refused : goal.returns-in_err-write_fde-in-Fde-clause-refused
@@ -40,9 +40,9 @@ returns-in_err-write_fde-in-Fde-clause-refused c =
     let section = c.args.section.now in
     let target = c.args.target in
     let next = c.in_ok-found.next in
-    let is = subst (λ (x : declared.EhRecord). eh_record_at c.args.address section (section_from target section c.loop-at.at) ≡ Ok
+    let is = subst (λ (x : declared.EhRecord). eh_record_at c.args.bases section (section_from target section c.loop-at.at) ≡ Ok
     (eh_record_of x, section_from target section next)) c.in-Fde.is c.in_ok-found.ensures.exact in
     let p = err_from_is_err_and c.from_residual-in_err-write_fde-in-Fde.result c.from_residual-in_err-write_fde-in-Fde.ensures.1 in
     rw (p.1, p.2)
-    (refused-fde c.args.is_aarch64 c.args.address target section c.loop-at.at next c.loop-at.made.bytes.items c.loop-at.made.cies.items
+    (refused-fde c.args.is_aarch64 c.args.bases target section c.loop-at.at next c.loop-at.made.bytes.items c.loop-at.made.cies.items
     (eh_fde_of c.in-Fde.fde) _ c.loop-at.invariant is c.in_err-write_fde-in-Fde.ensures.refused)
