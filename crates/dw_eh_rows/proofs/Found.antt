@@ -1,6 +1,6 @@
 -- Each address that an FDE of `.eh_frame` covers has one row, and a look-up in the written section
 -- finds it.
-use Rattle.std.proofs.Common.{◌≡◌, ℕ, ◌+◌, ◌<◌, ◌≤◌, Bool, true, false, cond, List, [], ◌∷◌, map, Option, Some, None, Contains, refl, sym, ap, subst, ◌∙◌}
+use Rattle.std.proofs.Common.{◌≡◌, ℕ, ◌+◌, ◌<◌, ◌≤◌, Bool, true, false, cond, List, [], ◌∷◌, ◌++◌, map, Option, Some, None, Contains, refl, sym, ap, subst, ◌∙◌}
 use Rattle.std.specs.Prelude.{filter}
 use Rattle.dw_bytes.specs.declared.target.Target.{Target}
 use Rattle.dw_bytes.specs.Answers.{values_in}
@@ -10,7 +10,7 @@ use Rattle.dw_frame.proofs.EachRecord.{sections-are-records}
 use Rattle.dw_frame.proofs.RecordBounds.{records-ascend}
 use Rattle.dw_stack.specs.Located.{LocatedExpression}
 use Rattle.dw_rows.specs.Rules.{PlacedRow, Row}
-use Rattle.dw_rows.specs.GivenRows.{given_row}
+use Rattle.dw_rows.specs.GivenRows.{given_row, located_at}
 use Rattle.dw_rows.specs.UnwindRows.{rows_of, has_address}
 use Rattle.dw_rows.specs.Good.{IsGoodFdeProgram}
 use Rattle.dw_rows.specs.ExactRows.{HasOneRow}
@@ -22,10 +22,11 @@ use Rattle.dw_rows.proofs.RowsOf.{one-row}
 use Rattle.dw_eh_frame.specs.declared.pointer.Bases.{Bases}
 use Rattle.dw_eh_frame.specs.Records.{EhFde, EhRecord, eh_cie, eh_fde, eh_nothing}
 use Rattle.dw_eh_frame.specs.Rewriting.{Pair, SaysTheSame, says_something, IsRewriting, IsRewritten}
-use Rattle.dw_eh_rows.specs.Meaning.{EhCovers, eh_fdes}
-use Rattle.dw_eh_rows.specs.Unplaced.{unplaced_row, unplaced_rows}
+use Rattle.dw_eh_rows.specs.Meaning.{EhCovers, eh_fdes, expression_number}
+use Rattle.dw_eh_rows.specs.Named.{content, row_with, rows_with}
 use Rattle.dw_eh_rows.specs.OneRow.{HasOneEhRow}
 use Rattle.dw_eh_rows.proofs.RowsKept.{rows-kept}
+use Rattle.dw_eh_rows.proofs.NamesFound.{names-of-cie, names-of-fde}
 use Rattle.dw_eh_rows.proofs.Listed.{mapped, mapped-back, filtered, filtered-back, values-read, eh-record-of, eh-fde-among, record-of}
 use Rattle.dw_eh_rows.proofs.Listed.{fde-among, cie-among, found-at, one-pair}
 
@@ -94,25 +95,27 @@ filter-mapped {X} {Y} p q g same (x ∷ xs) =
     go others true = ap (λ (l : List Y). g x ∷ l) others
     go others false = others
 
-filter-unplaced : (a : ℕ) (rows : List PlacedRow) → filter (has_address a) (unplaced_rows rows) ≡ unplaced_rows (filter (has_address a) rows)
-filter-unplaced a rows = filter-mapped (has_address a) (has_address a) unplaced_row (λ row. refl) rows
+filter-named : (u : ℕ → LocatedExpression) (a : ℕ) (rows : List PlacedRow)
+    → filter (has_address a) (rows_with u rows) ≡ rows_with u (filter (has_address a) rows)
+filter-named u a rows = filter-mapped (has_address a) (has_address a) (row_with u) (λ row. refl) rows
 
 filter-given : (es : List LocatedExpression) (a : ℕ) (rows : List PlacedRow)
     → filter (has_address a) (map (given_row es) rows) ≡ map (given_row es) (filter (has_address a) rows)
 filter-given es a rows = filter-mapped (has_address a) (has_address a) (given_row es) (λ row. refl) rows
 
-single : (xs : List PlacedRow) (y : PlacedRow) → unplaced_rows xs ≡ y ∷ [] → (x : PlacedRow) × (xs ≡ x ∷ []) × (unplaced_row x ≡ y)
-single [] y e = absurd cc
-single (x ∷ []) y e = let same : unplaced_row x ≡ y = cc in (x, refl, same)
-single (x ∷ z ∷ xs) y e = absurd cc
+single : (u : ℕ → LocatedExpression) (xs : List PlacedRow) (y : Row) → rows_with u xs ≡ y ∷ []
+    → (x : PlacedRow) × (xs ≡ x ∷ []) × (row_with u x ≡ y)
+single u [] y e = absurd cc
+single u (x ∷ []) y e = let same : row_with u x ≡ y = cc in (x, refl, same)
+single u (x ∷ z ∷ xs) y e = absurd cc
 
--- the row of an address in a list of rows, where rows with the same rules have one
-pub row-again : (a : ℕ) (rows others : List PlacedRow) (row : PlacedRow) → unplaced_rows rows ≡ unplaced_rows others
+-- the row of an address in a list of rows, where rows that say the same have one
+pub row-again : (u v : ℕ → LocatedExpression) (a : ℕ) (rows others : List PlacedRow) (row : PlacedRow) → rows_with u rows ≡ rows_with v others
     → filter (has_address a) others ≡ row ∷ []
-    → (x : PlacedRow) × (filter (has_address a) rows ≡ x ∷ []) × (unplaced_row x ≡ unplaced_row row)
-row-again a rows others row same one =
-    single (filter (has_address a) rows) (unplaced_row row)
-    (sym (filter-unplaced a rows) ∙ (ap (filter (has_address a)) same ∙ (filter-unplaced a others ∙ ap unplaced_rows one)))
+    → (x : PlacedRow) × (filter (has_address a) rows ≡ x ∷ []) × (row_with u x ≡ row_with v row)
+row-again u v a rows others row same one =
+    single u (filter (has_address a) rows) (row_with v row)
+    (sym (filter-named u a rows) ∙ (ap (filter (has_address a)) same ∙ (filter-named v a others ∙ ap (rows_with v) one)))
 
 -- ---- the law
 
@@ -140,15 +143,20 @@ some-is c d o p q = cc
 abbrev pub HaveRows : Type 0
 HaveRows = (s : FrameSection) (a : ℕ) → IsChecked s → (f : Fde) → Contains s.fdes f → Covers f a → HasOneRow s a
 
+-- what `checked_frame_sections` says of expressions
+abbrev pub AreApart : Type 0
+AreApart = (s : FrameSection) → IsChecked s → (d e : LocatedExpression) → Contains s.expressions d → Contains s.expressions e
+    → d.offset ≡ e.offset → d ≡ e
+
 abbrev pub HaveNone : Type 0
 HaveNone = (s : FrameSection) (a : ℕ) → ((f : Fde) → Contains s.fdes f → ¬ Covers f a) → row_of s a ≡ None
 
 head-is : (x y : Row) (rows : List Row) → rows ≡ x ∷ [] → rows ≡ y ∷ [] → x ≡ y
 head-is x y rows p q = cc
 
-pub has-one-eh-row : HaveRows → (a : Bool) (bases : Bases) (section : List ℕ) (s : FrameSection) (w : IsRewritten a bases s.target section s.section)
+pub has-one-eh-row : HaveRows → AreApart → (a : Bool) (bases : Bases) (section : List ℕ) (s : FrameSection) (w : IsRewritten a bases s.target section s.section)
     → IsChecked s → (e : EhFde) → Contains (eh_fdes w.records) e → (x : ℕ) → EhCovers e x → HasOneEhRow a w.records s x
-has-one-eh-row rows_law a bases section s w checked e among x covers =
+has-one-eh-row rows_law apart a bases section s w checked e among x covers =
     let pairs = w.rewriting.pairs in
     let made = written-for a s.target w.records s.section w.rewriting e among in
     let f = made.0 in
@@ -170,7 +178,11 @@ has-one-eh-row rows_law a bases section s w checked e among x covers =
     (subst (λ (d : Cie). IsGoodFdeProgram d law.fde) cie_is law.good) in
     let has = keeps.rows good in
     let one = one-row x f.initial_location (f.initial_location + f.address_range) (rows_of c f) (cover-rows c f (fde-from-good c f good)) here.0 here.1 in
-    let own = row-again x has.rows (rows_of c f) one.0 has.same one.1 in
+    let u : ℕ → LocatedExpression = λ n. content (expression_number (has.are.first ++ has.are.items) n) in
+    let v : ℕ → LocatedExpression = λ at. content (located_at s.expressions at) in
+    let same : rows_with u has.rows ≡ rows_with v (rows_of c f) = has.same (located_at s.expressions)
+    (names-of-cie s checked (apart s checked) c good.first c_among) (names-of-fde s checked (apart s checked) c f good f_among) in
+    let own = row-again u v x has.rows (rows_of c f) one.0 same one.1 in
     let rows : rows_in s f ≡ map (given_row s.expressions) (rows_of c f) = ap (λ o. map (given_row s.expressions) (rows_behind o f)) cie_found in
     let alone : filter (has_address x) (rows_in s f) ≡ given_row s.expressions one.0 ∷ [] =
     ap (filter (has_address x)) rows ∙ (filter-given s.expressions x (rows_of c f) ∙ ap (map (given_row s.expressions)) one.1) in
@@ -200,7 +212,7 @@ has-one-eh-row rows_law a bases section s w checked e among x covers =
       row = own.0;
       one = own.1;
       placed = one.0;
-      same = sym own.2;
+      same = own.2;
       found = law.found ∙ ap Some row_is;
       cie = c;
       numbers = (w.rewriting.same (eh_cie e.cie, cie_record c) keeps.among).numbers;

@@ -1,5 +1,7 @@
-pub mod Rows
+pub mod Alike
+pub mod Agreeing
 pub mod RowsKept
 pub mod OnlyRows
 pub mod Listed
+pub mod NamesFound
 pub mod Found

@@ -1,5 +1,5 @@
 -- An FDE of `.eh_frame` has only one list of rows.
-use Rattle.std.proofs.Common.{◌≡◌, ℕ, Bool, List, [], ◌∷◌, refl, sym, ap, ◌∙◌}
+use Rattle.std.proofs.Common.{◌≡◌, ℕ, ◌+◌, Bool, List, [], ◌∷◌, length, refl, sym, ap, ◌∙◌}
 use Rattle.std.specs.Prelude.{ℤ, pos, reverse}
 use Rattle.dw_bytes.specs.declared.target.Format.TheVariants.{Dwarf32}
 use Rattle.dw_bytes.specs.Reading.{ReadPosition}
@@ -13,7 +13,7 @@ use Rattle.dw_rows.specs.UnwindRows.{rows_after}
 use Rattle.dw_eh_frame.specs.Instructions.{EhInstruction, plain, args_size, negate_ra_state}
 use Rattle.dw_eh_frame.specs.Records.{EhFde}
 use Rattle.dw_eh_frame.proofs.OneProgram.{one-program}
-use Rattle.dw_eh_rows.specs.Meaning.{AreEhRows, numbers_of, as_fde, dialect_in, eh_effect_of, eh_effects_by, eh_rows_by}
+use Rattle.dw_eh_rows.specs.Meaning.{AreEhRows, numbers_of, as_fde, dialect_in, numbered, eh_effect_of, eh_effects_from, eh_rows_by}
 
 -- a CIE with these alignment factors
 abbrev with-factors : ReadPosition → ℕ → ℤ → Cie
@@ -57,21 +57,22 @@ by-factors p c (Instruction.val_offset r n) = refl
 by-factors p c (Instruction.val_offset_sf r n) = refl
 by-factors p c (Instruction.val_expression r e) = refl
 
-effect-same : (p : ReadPosition) (c d : Cie) (x : EhInstruction) → c.code_alignment_factor ≡ d.code_alignment_factor
-    → c.data_alignment_factor ≡ d.data_alignment_factor → eh_effect_of c x ≡ eh_effect_of d x
-effect-same p c d (plain i) code number =
-    by-factors p c i
-    ∙ (ap (λ n. effect_of (with-factors p n c.data_alignment_factor) i) code
-    ∙ (ap (λ n. effect_of (with-factors p d.code_alignment_factor n) i) number ∙ sym (by-factors p d i)))
-effect-same p c d (args_size n) code number = refl
-effect-same p c d (negate_ra_state w) code number = refl
+effect-same : (p : ReadPosition) (c d : Cie) (n : ℕ) (x : EhInstruction) → c.code_alignment_factor ≡ d.code_alignment_factor
+    → c.data_alignment_factor ≡ d.data_alignment_factor → eh_effect_of c n x ≡ eh_effect_of d n x
+effect-same p c d n (plain i) code number =
+    let j = numbered n i in
+    by-factors p c j
+    ∙ (ap (λ m. effect_of (with-factors p m c.data_alignment_factor) j) code
+    ∙ (ap (λ m. effect_of (with-factors p d.code_alignment_factor m) j) number ∙ sym (by-factors p d j)))
+effect-same p c d n (args_size k) code number = refl
+effect-same p c d n (negate_ra_state w) code number = refl
 
-effects-same : (p : ReadPosition) (c d : Cie) (items : List (ℕ × EhInstruction)) → c.code_alignment_factor ≡ d.code_alignment_factor
-    → c.data_alignment_factor ≡ d.data_alignment_factor → eh_effects_by c items ≡ eh_effects_by d items
-effects-same p c d [] code number = refl
-effects-same p c d (x ∷ items) code number =
-    ap (λ (e : Effect). e ∷ eh_effects_by c items) (effect-same p c d x.1 code number)
-    ∙ ap (λ (l : List Effect). eh_effect_of d x.1 ∷ l) (effects-same p c d items code number)
+effects-same : (p : ReadPosition) (c d : Cie) (n : ℕ) (items : List (ℕ × EhInstruction)) → c.code_alignment_factor ≡ d.code_alignment_factor
+    → c.data_alignment_factor ≡ d.data_alignment_factor → eh_effects_from c n items ≡ eh_effects_from d n items
+effects-same p c d n [] code number = refl
+effects-same p c d n (x ∷ items) code number =
+    ap (λ (e : Effect). e ∷ eh_effects_from c (n + 1) items) (effect-same p c d n x.1 code number)
+    ∙ ap (λ (l : List Effect). eh_effect_of d n x.1 ∷ l) (effects-same p c d (n + 1) items code number)
 
 abbrev code-in : Header → ℕ
 code-in (cie_header h) = h.code_alignment_factor
@@ -91,8 +92,8 @@ one-list-of-rows a e rows others x y =
     let items : x.items ≡ y.items =
     one-program (dialect_in a e) e.program.target e.program.position e.program.rest x.items y.items x.items_are y.items_are in
     let rows_same : eh_rows_by x.cie e x.first x.items ≡ eh_rows_by y.cie e x.first x.items =
-    ap (λ (l : List Effect). rows_after (start_behind (reverse l) (as_fde e)) [] (eh_effects_by x.cie x.items)) (effects-same p x.cie y.cie x.first code number)
-    ∙ ap (rows_after (start_behind (reverse (eh_effects_by y.cie x.first)) (as_fde e)) []) (effects-same p x.cie y.cie x.items code number) in
+    ap (λ (l : List Effect). rows_after (start_behind (reverse l) (as_fde e)) [] (eh_effects_from x.cie (length x.first) x.items)) (effects-same p x.cie y.cie 0 x.first code number)
+    ∙ ap (rows_after (start_behind (reverse (eh_effects_from y.cie 0 x.first)) (as_fde e)) []) (effects-same p x.cie y.cie (length x.first) x.items code number) in
     x.rows_are
     ∙ (rows_same
     ∙ (ap (λ (l : List (ℕ × EhInstruction)). eh_rows_by y.cie e l x.items) first

@@ -1,5 +1,5 @@
 -- A rewritten section keeps the rows of each FDE.
-use Rattle.std.proofs.Common.{◌≡◌, ℕ, ◌+◌, Bool, List, [], ◌∷◌, map, Ok, refl, sym, ap, ◌∙◌}
+use Rattle.std.proofs.Common.{◌≡◌, ℕ, ◌+◌, Bool, List, [], ◌∷◌, ◌++◌, length, map, Ok, refl, sym, ap, ◌∙◌}
 use Rattle.std.specs.Prelude.{reverse, Contains}
 use Rattle.dw_bytes.specs.declared.target.Target.{Target}
 use Rattle.dw_frame.specs.Records.{Cie, Fde, cie_record, fde_record}
@@ -15,12 +15,14 @@ use Rattle.dw_frame.proofs.EachInstruction.{programs-are-instructions}
 use Rattle.dw_eh_frame.specs.Records.{EhFde, EhRecord, eh_cie, eh_fde}
 use Rattle.dw_eh_frame.specs.Rewriting.{IsRewriting}
 use Rattle.dw_eh_frame.proofs.ReadBack.{programs-read-back}
-use Rattle.dw_eh_rows.specs.Meaning.{as_fde, dialect_in, eh_effects_by, eh_rows_by}
-use Rattle.dw_eh_rows.specs.Unplaced.{unplaced_rows}
+use Rattle.dw_eh_frame.specs.Instructions.{EhInstruction}
+use Rattle.dw_eh_rows.specs.Meaning.{as_fde, dialect_in, eh_effects_from, eh_rows_by, expression_number}
+use Rattle.dw_eh_rows.specs.Named.{content, rows_with}
 use Rattle.dw_eh_rows.specs.Kept.{KeepsRows}
-use Rattle.dw_eh_rows.proofs.Rows.{rows-same}
+use Rattle.dw_eh_rows.proofs.Alike.{Naming, lefts, rights, rows-alike}
+use Rattle.dw_eh_rows.proofs.Agreeing.{Agreeing, agreeing, made-named, own-named, own-named-first}
 
-values-read : (items : List (ℕ × Instruction)) → values_in {X = ℕ × Instruction} (map Ok items) ≡ items
+pub values-read : (items : List (ℕ × Instruction)) → values_in {X = ℕ × Instruction} (map Ok items) ≡ items
 values-read [] = refl
 values-read (item ∷ items) = ap (λ (l : List (ℕ × Instruction)). item ∷ l) (values-read items)
 
@@ -50,6 +52,23 @@ start-of : (e : EhFde) (f : Fde) (left : List Effect) → f.initial_location ≡
 start-of e f left initial range =
     ap (λ n. start-at left n e.address_range) (sym initial) ∙ ap (start-at left f.initial_location) (sym range)
 
+-- the rows of two FDEs whose programs say the same
+same-rows : (u v : Naming) (c : Cie) (e : EhFde) (f : Fde) (first items : List (ℕ × EhInstruction)) (g : IsGoodFdeProgram c f)
+    → f.initial_location ≡ e.initial_location → f.address_range ≡ e.address_range
+    → Agreeing u v (eh_effects_from c 0 first) (effects_by c g.first.items)
+    → Agreeing u v (eh_effects_from c (length first) items) (effects_by c g.items)
+    → rows_with u (eh_rows_by c e first items) ≡ rows_with v (rows_of c f)
+same-rows u v c e f first items g initial range a b =
+    let own : List Effect = eh_effects_from c 0 first in
+    let rest : List Effect = eh_effects_from c (length first) items in
+    ap (λ (s : Start). rows_with u (rows_after s [] rest)) (start-of e f (reverse own) initial range)
+    ∙ (ap (λ (l : List Effect). rows_with u (rows_after (start_behind (reverse l) f) [] rest)) a.left_is
+    ∙ (ap (λ (l : List Effect). rows_with u (rows_after (start_behind (reverse (lefts a.steps)) f) [] l)) b.left_is
+    ∙ (rows-alike u v f a.steps b.steps a.fit b.fit
+    ∙ (ap (λ (l : List Effect). rows_with v (rows_after (start_behind (reverse (rights a.steps)) f) [] l)) (sym b.right_is)
+    ∙ (ap (λ (l : List Effect). rows_with v (rows_after (start_behind (reverse l) f) [] (effects_by c g.items))) (sym a.right_is)
+    ∙ ap (rows_with v) (sym (good-rows c f g)))))))
+
 pub rows-kept : (a : Bool) (target : Target) (records : List EhRecord) (made : List ℕ) (rewriting : IsRewriting a target records made)
     (e : EhFde) (f : Fde) → Contains rewriting.pairs (eh_fde e, fde_record f) → KeepsRows a rewriting.pairs e f
 rows-kept a target records made rewriting e f among =
@@ -76,9 +95,11 @@ rows-kept a target records made rewriting e f among =
               items_are = items.1;
               rows_are = refl;
             };
-            same = ap (λ (s : Start). unplaced_rows (rows_after s [] (eh_effects_by c items.0)))
-                (start-of e f (reverse (eh_effects_by c first.0)) says.0.initial_location says.0.address_range)
-                ∙ (rows-same c f first.0 items.0 g.first.items g.items first.2 items.2
-                ∙ ap unplaced_rows (sym (good-rows c f g)));
+            same = λ named first_named own_named.
+                let u : Naming = λ n. content (expression_number (first.0 ++ items.0) n) in
+                let v : Naming = λ at. content (named at) in
+                same-rows u v c e f first.0 items.0 g says.0.initial_location says.0.address_range
+                (agreeing u v c 0 first.0 g.first.items first.2 (own-named-first first.0 items.0) (made-named named g.first.items first_named))
+                (agreeing u v c (length first.0) items.0 g.items items.2 (own-named first.0 items.0) (made-named named g.items own_named));
           };
     }

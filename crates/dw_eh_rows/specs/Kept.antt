@@ -1,20 +1,23 @@
 -- A rewritten section keeps the rows of each FDE.
-use Rattle.std.specs.Prelude.{◌≡◌, Bool, List, Contains}
+use Rattle.std.specs.Prelude.{◌≡◌, ℕ, Bool, List, ◌++◌, Contains}
 use Rattle.dw_frame.specs.Records.{Cie, Fde, cie_record}
+use Rattle.dw_stack.specs.Located.{LocatedExpression}
 use Rattle.dw_rows.specs.Rules.{PlacedRow}
 use Rattle.dw_rows.specs.Good.{IsGoodFdeProgram}
 use Rattle.dw_rows.specs.UnwindRows.{rows_of}
 use Rattle.dw_eh_frame.specs.Records.{EhFde, eh_cie}
 use Rattle.dw_eh_frame.specs.Rewriting.{Pair}
-use Rattle.dw_eh_rows.specs.Meaning.{AreEhRows}
-use Rattle.dw_eh_rows.specs.Unplaced.{unplaced_rows}
+use Rattle.dw_eh_rows.specs.Meaning.{AreEhRows, expression_number}
+use Rattle.dw_eh_rows.specs.Named.{Names, content, rows_with}
 
--- the FDE `e` of `.eh_frame` has rows, and they are the given rows, except for where their expressions
--- lie
-pub record HasRows (is_aarch64 : Bool) (e : EhFde) (given : List PlacedRow) : Type 0 where
+-- The FDE `e` of `.eh_frame` has rows, and they are the rows of the FDE `f`, whose CIE is `c`. The
+-- expressions in them are the same, except for where they lie.
+pub record HasRows (is_aarch64 : Bool) (e : EhFde) (c : Cie) (f : Fde) (good : IsGoodFdeProgram c f) : Type 0 where
   pub rows : List PlacedRow
   pub are : AreEhRows is_aarch64 e rows
-  pub same : unplaced_rows rows ≡ unplaced_rows given
+  pub same : (named : ℕ → LocatedExpression) → Names named good.first.items → Names named good.items
+      → rows_with (λ n. content (expression_number (are.first ++ are.items) n)) rows
+      ≡ rows_with (λ at. content (named at)) (rows_of c f)
 
 -- The FDE `f` was written for `e`. Its addresses are the same. Its CIE_pointer leads to the CIE that was
 -- written for the CIE of `e`. If the programs of the two are good, the rows of `f` are the rows of `e`.
@@ -24,4 +27,4 @@ pub record KeepsRows (is_aarch64 : Bool) (pairs : List Pair) (e : EhFde) (f : Fd
   pub cie : Cie
   pub among : Contains pairs (eh_cie e.cie, cie_record cie)
   pub offset : cie.offset ≡ f.cie_pointer
-  pub rows : IsGoodFdeProgram cie f → HasRows is_aarch64 e (rows_of cie f)
+  pub rows : (good : IsGoodFdeProgram cie f) → HasRows is_aarch64 e cie f good

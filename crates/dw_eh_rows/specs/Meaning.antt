@@ -1,9 +1,14 @@
 -- Which rows an `.eh_frame` section gives. They are those of DWARF 5, section 6.4.1, for the
 -- instructions of the section's own programs. The instructions of vendors change no row.
-use Rattle.std.specs.Prelude.{◌≡◌, ℕ, ◌+◌, ◌<◌, ◌≤◌, Bool, not, List, [], ◌∷◌, map, reverse, Contains, Option, Some, None}
+use Rattle.std.specs.Prelude.{◌≡◌, ℕ, zero, suc, ◌+◌, ◌<◌, ◌≤◌, Bool, not, List, [], ◌∷◌, length, reverse, Contains, Option, Some, None}
 use Rattle.std.specs.List.{filter_map}
+use Rattle.dw_bytes.specs.Operands.{Block}
+use Rattle.dw_frame.specs.Instructions.{Instruction}
 use Rattle.dw_frame.specs.Records.{Cie, Fde}
 use Rattle.dw_frame.specs.Sections.{Header, cie_header}
+use Rattle.dw_stack.specs.Located.{LocatedExpression}
+use Rattle.dw_rows.specs.Expressions.{expression_in}
+use Rattle.dw_rows.specs.GivenRows.{nowhere, or_nowhere}
 use Rattle.dw_rows.specs.Rules.{PlacedRow}
 use Rattle.dw_rows.specs.Effects.{Effect, stays, effect_of}
 use Rattle.dw_rows.specs.InForce.{start_behind}
@@ -33,18 +38,43 @@ as_fde e = record {
   program = e.program;
 }
 
--- the effect of an instruction: an instruction of a vendor does nothing to the rules
-abbrev pub eh_effect_of : Cie → EhInstruction → Effect
-eh_effect_of cie (plain i) = effect_of cie i
-eh_effect_of cie (args_size n) = stays
-eh_effect_of cie (negate_ra_state with_pc) = stays
+-- In the rules of `.eh_frame` an expression is named by the number of its instruction, and not by where
+-- it lies. The instruction with its number in that place:
+abbrev pub numbered_block : ℕ → Block → Block
+numbered_block n b = record { offset = n; target = b.target; bytes = b.bytes }
 
-abbrev pub eh_effects_by : Cie → List (ℕ × EhInstruction) → List Effect
-eh_effects_by cie items = map (λ item. eh_effect_of cie item.1) items
+abbrev pub numbered : ℕ → Instruction → Instruction
+numbered n (Instruction.def_cfa_expression b) = Instruction.def_cfa_expression (numbered_block n b)
+numbered n (Instruction.expression r b) = Instruction.expression r (numbered_block n b)
+numbered n (Instruction.val_expression r b) = Instruction.val_expression r (numbered_block n b)
+numbered n i = i
 
--- The rows of an FDE whose CIE's program and whose own program have these instructions.
+-- the effect of instruction number n: an instruction of a vendor does nothing to the rules
+abbrev pub eh_effect_of : Cie → ℕ → EhInstruction → Effect
+eh_effect_of cie n (plain i) = effect_of cie (numbered n i)
+eh_effect_of cie n (args_size k) = stays
+eh_effect_of cie n (negate_ra_state with_pc) = stays
+
+-- the effects of instructions, the first of which is number n
+abbrev pub eh_effects_from : Cie → ℕ → List (ℕ × EhInstruction) → List Effect
+eh_effects_from cie n [] = []
+eh_effects_from cie n (item ∷ items) = eh_effect_of cie n item.1 ∷ eh_effects_from cie (n + 1) items
+
+-- The rows of an FDE whose CIE's program and whose own program have these instructions. The numbers of
+-- the FDE's instructions follow those of the CIE's.
 abbrev pub eh_rows_by : Cie → EhFde → List (ℕ × EhInstruction) → List (ℕ × EhInstruction) → List PlacedRow
-eh_rows_by cie e first items = rows_after (start_behind (reverse (eh_effects_by cie first)) (as_fde e)) [] (eh_effects_by cie items)
+eh_rows_by cie e first items =
+    rows_after (start_behind (reverse (eh_effects_from cie 0 first)) (as_fde e)) [] (eh_effects_from cie (length first) items)
+
+-- the expression of instruction number n
+abbrev pub eh_expression_in : EhInstruction → Option LocatedExpression
+eh_expression_in (plain i) = expression_in i
+eh_expression_in _ = None
+
+abbrev pub expression_number : List (ℕ × EhInstruction) → ℕ → LocatedExpression
+expression_number [] n = nowhere
+expression_number (item ∷ items) zero = or_nowhere (eh_expression_in item.1)
+expression_number (item ∷ items) (suc n) = expression_number items n
 
 -- how the instructions of an FDE and of its CIE are read
 abbrev pub dialect_in : Bool → EhFde → Dialect

@@ -1,4 +1,4 @@
-//! Laws about the rows of `.eh_frame`. The functions do nothing, except that one calls a law of
+//! Laws about the rows of `.eh_frame`. The functions do nothing, except that one calls laws of
 //! `dw_rows`: the contract of each is a law.
 
 ghost use Rattle.std.specs.Prelude.{◌≡◌, ℕ, Bool, List, Contains, None};
@@ -19,8 +19,8 @@ pub fn rows_are_unambiguous()
         → AreEhRows is_aarch64 e others → rows ≡ others }
 {}
 
-/// The FDE that was written for an FDE of `.eh_frame` has the same addresses, and the same rows,
-/// except for where their expressions lie.
+/// The FDE that was written for an FDE of `.eh_frame` has the same addresses. If its programs are good, it
+/// has the same rows, with the same expressions, except for where these lie.
 pub fn rewriting_keeps_rows()
     ensures { (is_aarch64 : Bool) (target : Target) (records : List EhRecord) (made : List ℕ)
         → (rewriting : IsRewriting is_aarch64 target records made) → (e : EhFde) (f : Fde)
@@ -42,4 +42,5 @@ pub fn exact_eh_rows()
         → row_of s a ≡ None }
 {
     dw_rows::laws::exact_rows();
+    dw_rows::laws::checked_frame_sections();
 }
