@@ -1,5 +1,6 @@
 pub mod Written
 pub mod Numbers
+pub mod PlaceSearch
 pub mod Steps
 pub mod Refusing
 pub mod Nops

@@ -15,6 +15,8 @@ use Rattle.byteorder.specs.Numbers.{length-bytes_low_first, length-bytes_high_fi
 use Rattle.dw_bytes.specs.declared.target.Target.{Target}
 use Rattle.dw_bytes.specs.declared.target.Order.{Order}
 use Rattle.dw_bytes.specs.declared.target.Order.TheVariants.{Little, Big}
+use Rattle.dw_bytes.specs.declared.target.AddressSize.{AddressSize}
+use Rattle.dw_bytes.specs.declared.target.AddressSize.TheVariants.{Four, Eight}
 use Rattle.dw_bytes.specs.Encoding.{bytes_of_address}
 use Rattle.dw_eh_frame.specs.Written.{number_bytes, address_bytes, record_bytes, cie_bytes, fde_bytes}
 use Rattle.dw_eh_frame.specs.declared.dialect.Dialect.{Dialect}
@@ -166,3 +168,44 @@ fde-is target a n pointer initial range r old mid new long first second =
     record-is target.order a n r (fde_bytes target pointer initial range) old mid new
     (omega (arith, number-long target.order 4 pointer, number-long target.order w initial, number-long target.order w range, all, both, long))
     first second
+
+record-long : (order : Order) (fields program : List ℕ) → length (record_bytes order fields program) ≡ 4 + length fields + length program
+record-long order fields program =
+    let size = number-long order 4 (length (fields ++ program)) in
+    omega (arith, size, length-append (number_bytes order 4 (length (fields ++ program))) (fields ++ program), length-append fields program)
+
+pub cie-grows : (order : Order) (a : Dialect) (version : ℕ) (r : ReadPosition) (numbers old new : List ℕ)
+    → new ≡ old ++ record_bytes order (cie_bytes order version numbers) (silenced a r)
+    → length new ≤ length old + length numbers + length r.rest + 24
+cie-grows order a version r numbers old new is =
+    let fields : List ℕ = cie_bytes order version numbers in
+    let all = length-append old (record_bytes order fields (silenced a r)) in
+    let head = length-append (number_bytes order 4 0xffffffff) (version ∷ 0 ∷ numbers) in
+    omega (arith, ap length is, all, record-long order fields (silenced a r), silenced-long a r, head, number-long order 4 0xffffffff)
+
+at-most-eight : (size : AddressSize) → bytes_of_address size ≤ 8
+at-most-eight Four = omega arith
+at-most-eight Eight = omega arith
+
+pub fde-grows : (target : Target) (a : Dialect) (pointer initial range : ℕ) (r : ReadPosition) (old new : List ℕ)
+    → new ≡ old ++ record_bytes target.order (fde_bytes target pointer initial range) (silenced a r)
+    → length new ≤ length old + length r.rest + 24
+fde-grows target a pointer initial range r old new is =
+    let w = bytes_of_address target.address_size in
+    let fields : List ℕ = fde_bytes target pointer initial range in
+    let whole = length-append old (record_bytes target.order fields (silenced a r)) in
+    let all = length-append (number_bytes target.order 4 pointer) (address_bytes target initial ++ address_bytes target range) in
+    let both = length-append (address_bytes target initial) (address_bytes target range) in
+    omega (
+      arith,
+      ap length is,
+      whole,
+      record-long target.order fields (silenced a r),
+      silenced-long a r,
+      all,
+      both,
+      number-long target.order 4 pointer,
+      number-long target.order w initial,
+      number-long target.order w range,
+      at-most-eight target.address_size,
+    )

@@ -1,8 +1,7 @@
 -- Why a section isn't rewritten.
-use Rattle.std.proofs.Common.{◌≡◌, ℕ, ◌<◌, Bool, List, [], ◌∷◌, ◌++◌, length, Some, Result, Ok, Err, refl, sym, ap, subst, ◌∙◌, arith, inl, inr}
-use Rattle.std.specs.Prelude.{map, Contains}
+use Rattle.std.proofs.Common.{◌≡◌, ℕ, ◌+◌, ◌<◌, ◌≤◌, Bool, List, [], ◌∷◌, ◌++◌, length, Some, Result, Ok, Err, refl, ap, ◌∙◌, arith, inl, inr}
+use Rattle.std.specs.Prelude.{map}
 use Rattle.std.proofs.lemmas.List.{length-drop}
-use Rattle.std.proofs.lemmas.List.Elements.{Contains-append_right}
 use Rattle.dw_bytes.specs.declared.target.Target.{Target}
 use Rattle.dw_bytes.specs.declared.fault.Fault.{Fault}
 use Rattle.dw_bytes.specs.Answers.{fault_in}
@@ -10,7 +9,7 @@ use Rattle.dw_bytes.specs.Reading.{section_from}
 use Rattle.dw_bytes.proofs.Sequences.{stops}
 use Rattle.dw_eh_frame.specs.declared.pointer.Bases.{Bases}
 use Rattle.dw_eh_frame.specs.declared.rewriting.CiePlace.{CiePlace}
-use Rattle.dw_eh_frame.specs.Records.{EhFde, EhRecord, eh_fde, eh_record_at, eh_entries_from, eh_entries_of}
+use Rattle.dw_eh_frame.specs.Records.{EhFde, EhRecord, eh_fde, eh_record_at, eh_entries_from}
 use Rattle.dw_eh_frame.specs.Progress.{IsUnderWay}
 use Rattle.dw_eh_frame.specs.Refused.{IsRefused, IsUnwritten, IsUnwrittenFde}
 use Rattle.dw_eh_frame.proofs.Steps.{at-record}
@@ -32,27 +31,27 @@ refused-reading a bases target section at made cies fault way some is =
     inr (inr (inl (ap fault_in (way.read ∙ ap (λ (xs : List (Result EhRecord Fault)). map Ok way.records ++ xs)
     (at-fault bases target section at fault some is)) ∙ behind-good way.records fault)))
 
-pub refused-record : (bases : Bases) (target : Target) (section : List ℕ) (fault : Fault) → IsUnwritten fault
-    → IsRefused bases target section fault
-refused-record bases target section fault (inl h) = inl h
-refused-record bases target section fault (inr h) = inr (inl h)
+-- a record of so many bytes wasn't written
+pub refused-record : (a : Bool) (bases : Bases) (target : Target) (section : List ℕ) (at next room : ℕ) (made : List ℕ)
+    (cies : List CiePlace) (fault : Fault) → IsUnderWay a bases target section at made cies → at + room < next → next ≤ length section
+    → IsUnwritten (length made + room + 32) fault → IsRefused bases target section fault
+refused-record a bases target section at next room made cies fault way some inside (inl h) = inl h
+refused-record a bases target section at next room made cies fault way some inside (inr (h, long)) =
+    inr (inl (h, omega (arith, way.small, some, inside, long)))
 
-head-of : (x : Result EhRecord Fault) (xs : List (Result EhRecord Fault)) → Contains (x ∷ xs) x
-head-of x xs = (0, omega arith, refl)
-
-pub refused-fde : (a : Bool) (bases : Bases) (target : Target) (section : List ℕ) (at next : ℕ) (made : List ℕ) (cies : List CiePlace)
-    (e : EhFde) (fault : Fault) → IsUnderWay a bases target section at made cies
+pub refused-fde : (a : Bool) (bases : Bases) (target : Target) (section : List ℕ) (at next room : ℕ) (made : List ℕ) (cies : List CiePlace)
+    (e : EhFde) (fault : Fault) → IsUnderWay a bases target section at made cies → at + room < next → next ≤ length section
     → eh_record_at bases section (section_from target section at) ≡ Ok (eh_fde e, section_from target section next)
-    → IsUnwrittenFde e fault → IsRefused bases target section fault
-refused-fde a bases target section at next made cies e fault way is (inl h) = refused-record bases target section fault h
-refused-fde a bases target section at next made cies e fault way is (inr h) =
-    let all : eh_entries_of bases target section ≡ map Ok way.records ++ (Ok (eh_fde e) ∷ eh_entries_from bases target section next) =
-    way.read ∙ ap (λ (xs : List (Result EhRecord Fault)). map Ok way.records ++ xs) (at-record bases target section at next (eh_fde e) is) in
+    → IsUnwrittenFde (length made + room + 32) cies e fault → IsRefused bases target section fault
+refused-fde a bases target section at next room made cies e fault way some inside is (inl h) =
+    refused-record a bases target section at next room made cies fault way some inside h
+refused-fde a bases target section at next room made cies e fault way some inside is (inr (h, alone)) =
     inr (inr (inr (record {
+      front = way.records;
       fde = e;
-      among = subst (λ (xs : List (Result EhRecord Fault)). Contains xs (Ok (eh_fde e))) (sym all)
-          (Contains-append_right (map Ok way.records) (Ok (eh_fde e) ∷ eh_entries_from bases target section next) (Ok (eh_fde e))
-          (head-of (Ok (eh_fde e)) (eh_entries_from bases target section next)));
+      others = eh_entries_from bases target section next;
+      parts = way.read ∙ ap (λ (xs : List (Result EhRecord Fault)). map Ok way.records ++ xs) (at-record bases target section at next (eh_fde e) is);
+      alone = λ c among same. let place = way.complete c among in alone place.0 place.1 (place.2 ∙ same);
       fault_is = h;
     })))
 

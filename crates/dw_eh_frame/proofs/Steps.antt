@@ -1,5 +1,5 @@
 -- One record of a rewriting after another.
-use Rattle.std.proofs.Common.{◌≡◌, ℕ, ◌+◌, ◌<◌, ◌≤◌, Bool, List, [], ◌∷◌, ◌++◌, length, Result, Ok, refl, sym, ap, subst, ◌∙◌, arith, append_assoc, inl, inr}
+use Rattle.std.proofs.Common.{◌≡◌, ℕ, ◌+◌, ◌*◌, ◌<◌, ◌≤◌, Bool, List, [], ◌∷◌, ◌++◌, length, Result, Ok, refl, sym, ap, subst, ◌∙◌, arith, append_assoc, inl, inr}
 use Rattle.std.specs.Prelude.{true, map, filter, Contains}
 use Rattle.std.proofs.lemmas.List.{length-append, length-drop, map-append, append-nil}
 use Rattle.std.proofs.lemmas.List.Elements.{filter-append, Contains-append_left, Contains-push, Contains-push_cases}
@@ -20,6 +20,7 @@ use Rattle.dw_eh_frame.specs.declared.pointer.Bases.{Bases}
 use Rattle.dw_eh_frame.specs.declared.rewriting.CiePlace.{CiePlace}
 use Rattle.dw_eh_frame.specs.Records.{EhCie, EhFde, EhRecord, eh_cie, eh_fde, eh_nothing, eh_cie_at, eh_body_at, eh_record_at, eh_entries_from, eh_entries_of}
 use Rattle.dw_eh_frame.specs.Rewriting.{Pair, SaysTheSame, LeadsTo, says_something, IsRewritten}
+use Rattle.dw_eh_frame.proofs.PlaceSearch.{ascends-more}
 use Rattle.dw_eh_frame.specs.Progress.{IsPlace, IsUnderWay, WritesCie, WritesPointing}
 
 -- ---- reading
@@ -156,13 +157,30 @@ under-way-first a bases target section = record {
   encoded = refl;
   same = λ p (k, inside, is). absurd (omega arith);
   places = λ q (k, inside, is). absurd (omega arith);
+  complete = λ c (k, inside, is). absurd (omega arith);
+  ascend = tt;
+  below = λ q (k, inside, is). absurd (omega arith);
+  written = λ q (k, inside, is). absurd (omega arith);
+  small = omega arith;
 }
+
+-- a record that is no CIE leaves the places complete
+still-complete : (records : List EhRecord) (x : EhRecord) (cies : List CiePlace) → ((c : EhCie) → x ≡ eh_cie c → ⊥)
+    → ((c : EhCie) → Contains records (eh_cie c) → (q : CiePlace) × Contains cies q × (q.source ≡ c.offset))
+    → (c : EhCie) → Contains (records ++ x ∷ []) (eh_cie c) → (q : CiePlace) × Contains cies q × (q.source ≡ c.offset)
+still-complete records x cies other complete c among = elim (Contains-push_cases records x (eh_cie c) among) [
+  | inl h ↦ complete c h
+  | inr is ↦ absurd (other c is)
+]
+
+cie-is : (c d : EhCie) → eh_cie c ≡ eh_cie d → c ≡ d
+cie-is c d same = cc
 
 pub under-way-nothing : (a : Bool) (bases : Bases) (target : Target) (section : List ℕ) (at next n : ℕ) (made : List ℕ) (cies : List CiePlace)
     → IsUnderWay a bases target section at made cies
     → eh_record_at bases section (section_from target section at) ≡ Ok (eh_nothing n, section_from target section next)
-    → next ≤ length section → IsUnderWay a bases target section next made cies
-under-way-nothing a bases target section at next n made cies way is inside = record {
+    → at < next → next ≤ length section → IsUnderWay a bases target section next made cies
+under-way-nothing a bases target section at next n made cies way is forward inside = record {
   inside = inside;
   records = way.records ++ eh_nothing n ∷ [];
   read = read-more bases target section at next way.records (eh_nothing n) way.read is;
@@ -171,14 +189,20 @@ under-way-nothing a bases target section at next n made cies way is inside = rec
   encoded = way.encoded;
   same = way.same;
   places = way.places;
+  complete = still-complete way.records (eh_nothing n) cies (λ c same. cc) way.complete;
+  ascend = way.ascend;
+  below = λ q among. omega (arith, way.below q among, forward);
+  written = way.written;
+  small = omega (arith, way.small, forward);
 }
 
 pub under-way-cie : (a : Bool) (bases : Bases) (target : Target) (section : List ℕ) (at next source : ℕ) (e : EhCie) (made new : List ℕ)
     (cies : List CiePlace) → IsUnderWay a bases target section at made cies
     → eh_record_at bases section (section_from target section at) ≡ Ok (eh_cie e, section_from target section next)
-    → next ≤ length section → eh_cie_at target section source ≡ Ok e → WritesCie a target e made new
+    → at < next → next ≤ length section → eh_cie_at target section source ≡ Ok e → source ≡ at → e.offset ≡ at
+    → length new ≤ 5 * next → WritesCie a target e made new
     → IsUnderWay a bases target section next new (cies ++ record { source = source; made = length made } ∷ [])
-under-way-cie a bases target section at next source e made new cies way is inside found wrote =
+under-way-cie a bases target section at next source e made new cies way is forward inside found source_is offset_is small wrote =
     let p : Pair = (eh_cie e, cie_record wrote.cie) in
     let q : CiePlace = record { source = source; made = length made } in
     let more : AreRecords target 0 (made ++ wrote.bytes) (map (λ (p : Pair). p.1) way.pairs ++ cie_record wrote.cie ∷ []) =
@@ -203,6 +227,21 @@ under-way-cie a bases target section at next source e made new cies way is insid
           offset = wrote.offset;
         })
       ];
+      complete = λ c among. elim (Contains-push_cases way.records (eh_cie e) (eh_cie c) among) [
+        | inl h ↦ let old = way.complete c h in (old.0, Contains-append_left cies (q ∷ []) old.0 old.1, old.2)
+        | inr same ↦ (q, Contains-push cies q, source_is ∙ (sym offset_is ∙ ap (λ (d : EhCie). d.offset) (cie-is e c same)))
+      ];
+      ascend = ascends-more cies q way.ascend (λ place among. omega (arith, way.below place among, source_is));
+      below = λ place among. elim (Contains-push_cases cies q place among) [
+        | inl h ↦ omega (arith, way.below place h, forward)
+        | inr same ↦ subst (λ (p : CiePlace). p.source < next) same (omega (arith, source_is, forward))
+      ];
+      written = λ place among. elim (Contains-push_cases cies q place among) [
+        | inl h ↦ omega (arith, way.written place h, ap length wrote.appended, length-append made wrote.bytes)
+        | inr same ↦ subst (λ (p : CiePlace). p.made ≤ length new) same
+            (omega (arith, ap length wrote.appended, length-append made wrote.bytes))
+      ];
+      small = small;
     }
 
 abbrev ok-cie : EhCie → Result EhCie Fault
@@ -214,9 +253,10 @@ same-cie a b e = cc
 pub under-way-fde : (a : Bool) (bases : Bases) (target : Target) (section : List ℕ) (at next : ℕ) (e : EhFde) (made new : List ℕ)
     (cies : List CiePlace) → IsUnderWay a bases target section at made cies
     → eh_record_at bases section (section_from target section at) ≡ Ok (eh_fde e, section_from target section next)
-    → next ≤ length section → eh_cie_at target section e.cie.offset ≡ Ok e.cie → WritesPointing a target e cies made new
+    → at < next → next ≤ length section → eh_cie_at target section e.cie.offset ≡ Ok e.cie → length new ≤ 5 * next
+    → WritesPointing a target e cies made new
     → IsUnderWay a bases target section next new cies
-under-way-fde a bases target section at next e made new cies way is inside found pointing =
+under-way-fde a bases target section at next e made new cies way is forward inside found small pointing =
     let wrote = pointing.wrote in
     let p : Pair = (eh_fde e, fde_record wrote.fde) in
     let place = way.places pointing.place pointing.among in
@@ -241,6 +281,11 @@ under-way-fde a bases target section at next e made new cies way is inside found
           (subst (AreRecords target 0 (made ++ wrote.bytes)) (sym (map-append (λ (p : Pair). p.1) way.pairs (p ∷ []))) more);
       same = all-say a way.pairs p way.same (wrote.same, leads);
       places = λ q among. place-still target section way.pairs p q (way.places q among);
+      complete = still-complete way.records (eh_fde e) cies (λ c same. cc) way.complete;
+      ascend = way.ascend;
+      below = λ q among. omega (arith, way.below q among, forward);
+      written = λ q among. omega (arith, way.written q among, ap length wrote.appended, length-append made wrote.bytes);
+      small = small;
     }
 
 pub under-way-end : (a : Bool) (bases : Bases) (target : Target) (section : List ℕ) (at : ℕ) (made : List ℕ) (cies : List CiePlace)

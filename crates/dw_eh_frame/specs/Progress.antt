@@ -1,7 +1,8 @@
 -- The state of a rewriting: what is known after some records.
-use Rattle.std.specs.Prelude.{◌≡◌, ◌≤◌, ℕ, Bool, List, ◌++◌, map, filter, length, Contains, Ok}
+use Rattle.std.specs.Prelude.{◌≡◌, ◌<◌, ◌≤◌, ◌*◌, ℕ, Bool, List, ◌++◌, map, filter, length, Contains, Ok}
 use Rattle.dw_bytes.specs.declared.target.Target.{Target}
 use Rattle.dw_frame.specs.Records.{Cie, Fde, cie_record, fde_record}
+use Rattle.dw_frame.specs.Bounds.{Ascends}
 use Rattle.dw_frame.specs.Sections.{AreRecords, IsRecord}
 use Rattle.dw_eh_frame.specs.declared.pointer.Bases.{Bases}
 use Rattle.dw_eh_frame.specs.declared.rewriting.CiePlace.{CiePlace}
@@ -16,6 +17,9 @@ pub record IsPlace (target : Target) (section : List ℕ) (pairs : List Pair) (q
   pub among : Contains pairs (eh_cie cie, cie_record written)
   pub offset : written.offset ≡ q.made
 
+abbrev pub place_source : CiePlace → ℕ
+place_source q = q.source
+
 -- The records before the offset `at` were read, and the bytes `made` were written for them. `cies`
 -- has the places of the CIEs.
 pub record IsUnderWay (is_aarch64 : Bool) (bases : Bases) (target : Target) (section : List ℕ) (at : ℕ) (made : List ℕ) (cies : List CiePlace) : Type 0 where
@@ -27,6 +31,13 @@ pub record IsUnderWay (is_aarch64 : Bool) (bases : Bases) (target : Target) (sec
   pub encoded : AreRecords target 0 made (map (λ (p : Pair). p.1) pairs)
   pub same : (p : Pair) → Contains pairs p → SaysTheSame is_aarch64 pairs p
   pub places : (q : CiePlace) → Contains cies q → IsPlace target section pairs q
+  -- each CIE so far has its place, and the places ascend
+  pub complete : (c : EhCie) → Contains records (eh_cie c) → (q : CiePlace) × Contains cies q × (q.source ≡ c.offset)
+  pub ascend : Ascends place_source cies
+  pub below : (q : CiePlace) → Contains cies q → q.source < at
+  pub written : (q : CiePlace) → Contains cies q → q.made ≤ length made
+  -- records grow by less than a factor of five
+  pub small : length made ≤ 5 * at
 
 -- A CIE that says what `e` says was written after the bytes `old`.
 pub record WritesCie (is_aarch64 : Bool) (target : Target) (e : EhCie) (old new : List ℕ) : Type 0 where

@@ -1,5 +1,5 @@
 -- What values of the code's types stand for in the specifications.
-use Rattle.std.specs.Prelude.{◌≡◌, ◌≤◌, ◌+◌, ℕ, List, true, Ok}
+use Rattle.std.specs.Prelude.{◌≡◌, ◌≤◌, ◌+◌, ℕ, List, length, true, Ok}
 use Rattle.dw_bytes.specs.declared.target.Target.{Target}
 use Rattle.dw_bytes.specs.Reading.{ReadPosition}
 use Rattle.dw_frame.specs.Records.{is_version}
@@ -48,6 +48,20 @@ abbrev pub eh_record_of : declared_record.EhRecord → EhRecord
 eh_record_of (records.Cie c) = eh_cie (eh_cie_of c)
 eh_record_of (records.Fde f) = eh_fde (eh_fde_of f)
 eh_record_of (records.Nothing at) = eh_nothing at
+
+-- ---- how many bytes of a record the code writes as they are
+
+abbrev pub cie_room : declared_cie.EhCie → ℕ
+cie_room c = length c.head.numbers.now + length c.program.bytes.now
+
+abbrev pub fde_room : declared_fde.EhFde → ℕ
+fde_room f = length f.program.bytes.now
+
+-- with the four bytes of an id
+abbrev pub record_room : declared_record.EhRecord → ℕ
+record_room (records.Cie c) = 4 + cie_room c
+record_room (records.Fde f) = 4 + fde_room f
+record_room (records.Nothing at) = 0
 
 -- ---- what holds of the values that are read
 

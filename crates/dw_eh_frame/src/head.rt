@@ -131,6 +131,7 @@ pub(crate) fn read_head<'a>(cursor: &mut Cursor<'a>, end: u32) -> Result<EhCieHe
     ensures known { IfOk result (λ head. is_version head.factors.version ≡ true) }
     ensures numbers { IfOk result (λ head. EncodesNumbers cursor.old.target head.factors.version
         head.numbers.now (factors_of head.factors)) }
+    ensures room { IfOk result (λ head. length head.numbers.now + length cursor.new.rest ≤ length cursor.old.rest) }
     ensures within { IsRefusedWithin cursor.old result }
     ensures goes_on { MovesForward cursor.old cursor.new }
 {

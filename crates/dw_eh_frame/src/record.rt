@@ -5,7 +5,7 @@ ghost use Rattle.dw_bytes.specs.Reading.{MovesForward, section_from};
 ghost use Rattle.dw_bytes.specs.Readers.{IsRefusedWithin, ReadsFrom};
 ghost use Rattle.dw_bytes.specs.Bodies.{framed_at, window};
 ghost use Rattle.dw_eh_frame.specs.Records.{eh_area_at, eh_body_at, eh_cie_at, eh_cie_before, eh_cie_from, eh_fde_from, eh_record_at};
-ghost use Rattle.dw_eh_frame.specs.Views.{IsRead, IsReadCie, IsReadFde, eh_cie_of, eh_fde_of, eh_record_of, program_of};
+ghost use Rattle.dw_eh_frame.specs.Views.{IsRead, IsReadCie, IsReadFde, cie_room, eh_cie_of, eh_fde_of, eh_record_of, fde_room, program_of, record_room};
 
 use crate::head::{EhCieHead, read_head};
 use crate::pointer::{Bases, read_pointer, read_range};
@@ -55,7 +55,8 @@ pub enum EhRecord<'a> {
 /// All that is left, up to the offset `end`, as a program.
 fn program_from<'a>(cursor: &Cursor<'a>, end: u32) -> EhProgram<'a>
     requires { cursor.now.position + length cursor.now.rest ≡ end }
-    ensures { program_of result ≡ cursor.now }
+    ensures is { program_of result ≡ cursor.now }
+    ensures long { length result.bytes.now ≡ length cursor.now.rest }
 {
     let start = cursor.position();
     let Ok(bytes) = cursor.copy().take(u64::from(end - start)) else {
@@ -83,6 +84,7 @@ fn read_cie<'a>(
         (λ fault. eh_cie_from at format cursor.old ≡ Err fault) }
     ensures offset { IfOk result (λ cie. cie.offset ≡ at) }
     ensures sound { IfOk result (IsReadCie cursor.old.target) }
+    ensures room { IfOk result (λ cie. cie_room cie ≤ length cursor.old.rest) }
     ensures within { IsRefusedWithin cursor.old result }
 {
     let head = read_head(cursor, end)?;
@@ -179,6 +181,7 @@ fn read_fde<'a>(
         (λ fault. eh_fde_from bases at format place (eh_cie_of cie.entry) cursor.old ≡ Err fault) }
     ensures sound { IfOk result (IsReadFde cursor.old.target) }
     ensures cie { IfOk result (λ fde. eh_cie_of fde.cie ≡ eh_cie_of cie.entry) }
+    ensures room { IfOk result (λ fde. fde_room fde ≤ length cursor.old.rest) }
     ensures within { IsRefusedWithin cursor.old result }
 {
     let augmentation = cie.head.augmentation;
@@ -218,6 +221,7 @@ fn read_body<'a>(
         (λ fault. eh_body_at bases section.now at body.format (window target section.now body.start body.end)
         ≡ Err fault) }
     ensures sound { IfOk result (IsRead target section.now at) }
+    ensures room { IfOk result (λ found. body.start + record_room found ≤ body.end) }
     ensures within { IfErr result (λ fault. fault.at ≤ length section.now) }
 {
     if body.start == body.end {
@@ -255,6 +259,7 @@ pub fn eh_record<'a>(
         (section_from target section.now) at result }
     ensures forward { IfOk result (λ e. at < e.1 × e.1 ≤ length section.now) }
     ensures sound { IfOk result (λ e. IsRead target section.now at e.0) }
+    ensures room { IfOk result (λ e. at + record_room e.0 < e.1) }
     ensures within { IfErr result (λ fault. fault.at ≤ length section.now) }
 {
     let body = Body::read(section, target, at)?;

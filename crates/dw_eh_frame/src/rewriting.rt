@@ -1,13 +1,15 @@
 //! Rewrites an `.eh_frame` section as a `.debug_frame` section.
 
-ghost use Rattle.std.specs.Prelude.{◌≡◌, ◌+◌, ◌^◌, ◌<◌, ◌≤◌, IfOk, IfErr, IfSome, OnOk, length, [], ◌∷◌, ◌++◌};
+ghost use Rattle.std.specs.Prelude.{◌≡◌, ◌+◌, ◌^◌, ◌<◌, ◌≤◌, ◌≢◌, IfOk, IfErr, MatchOption, OnOk, length, [], ◌∷◌, ◌++◌};
 ghost use Rattle.std.specs.Prelude.{Contains};
-ghost use Rattle.dw_eh_frame.specs.Progress.{IsUnderWay, WritesCie, WritesPointing};
+ghost use Rattle.dw_eh_frame.specs.Progress.{IsUnderWay, WritesCie, WritesPointing, place_source};
 ghost use Rattle.dw_eh_frame.specs.Rewriting.{IsRewritten};
 ghost use Rattle.dw_eh_frame.specs.Refused.{IsRefused, IsUnwritten, IsUnwrittenFde};
-ghost use Rattle.dw_eh_frame.specs.Views.{IsRead, IsReadCie, IsReadFde, eh_cie_of, eh_fde_of, eh_record_of};
+ghost use Rattle.dw_eh_frame.specs.Views.{IsRead, IsReadCie, IsReadFde, cie_room, eh_cie_of, eh_fde_of, eh_record_of, fde_room};
 ghost use Rattle.dw_eh_frame.specs.Records.{eh_record_at};
 ghost use Rattle.dw_bytes.specs.Reading.{section_from};
+ghost use Rattle.dw_frame.specs.Bounds.{Ascends};
+ghost use Rattle.dw_eh_frame.specs.declared.rewriting.CiePlace.{CiePlace};
 
 use crate::dialect::dialect_by;
 use crate::pointer::Bases;
@@ -41,19 +43,17 @@ const HEADER: usize = 32;
 /// The most bytes that are written.
 const MOST: usize = 0xffff_ff00;
 
-/// The place of the CIE that begins at the offset `source`, found by binary search.
+/// The place of the CIE that begins at the offset `source`, found by binary search. The places must be
+/// in order of offset.
 fn place_of(cies: &[CiePlace], source: u32) -> Option<CiePlace>
-    ensures among { IfSome result (λ q. Contains cies.now q) }
-    ensures source { IfSome result (λ q. q.source ≡ source) }
+    requires { Ascends place_source cies.now }
+    ensures { MatchOption result
+        ((q : CiePlace) → Contains cies.now q → q.source ≢ source)
+        (λ q. Contains cies.now q × (q.source ≡ source)) }
 {
-    let index = cies
-        .binary_search_by_key(&source, |place| place.source)
-        .ok()?;
-    let place = cies[index];
-    if place.source == source {
-        Some(place)
-    } else {
-        None
+    match cies.binary_search_by_key(&source, |place| place.source) {
+        Ok(index) => Some(cies[index]),
+        Err(_) => None,
     }
 }
 
@@ -67,7 +67,8 @@ fn write_cie(
 ) -> Result<(), Fault>
     requires { IsReadCie target cie.now }
     ensures wrote { OnOk result (WritesCie is_aarch64 target (eh_cie_of cie.now) made.old.bytes.items made.new.bytes.items) }
-    ensures refused { IfErr result IsUnwritten }
+    ensures refused { IfErr result (IsUnwritten (length made.old.bytes.items + cie_room cie.now + 32)) }
+    ensures grows { OnOk result (length made.new.bytes.items ≤ length made.old.bytes.items + cie_room cie.now + 24) }
     ensures place { OnOk result (made.new.cies.items ≡ made.old.cies.items
         ++ record { source = cie.now.offset; made = length made.old.bytes.items } ∷ []) }
 {
@@ -103,10 +104,14 @@ fn write_fde(
     fde: &EhFde<'_>,
     is_aarch64: bool,
 ) -> Result<(), Fault>
-    requires { IsReadFde target fde.now }
+    requires sound { IsReadFde target fde.now }
+    requires ascend { Ascends place_source made.old.cies.items }
+    requires written { (q : CiePlace) → Contains made.old.cies.items q → q.made ≤ length made.old.bytes.items }
     ensures wrote { OnOk result (WritesPointing is_aarch64 target (eh_fde_of fde.now) made.old.cies.items
         made.old.bytes.items made.new.bytes.items) }
-    ensures refused { IfErr result (IsUnwrittenFde (eh_fde_of fde.now)) }
+    ensures refused { IfErr result (IsUnwrittenFde (length made.old.bytes.items + fde_room fde.now + 32)
+        made.old.cies.items (eh_fde_of fde.now)) }
+    ensures grows { OnOk result (length made.new.bytes.items ≤ length made.old.bytes.items + fde_room fde.now + 24) }
     ensures place { OnOk result (made.new.cies.items ≡ made.old.cies.items) }
 {
     let at = made.bytes.len();
@@ -117,7 +122,10 @@ fn write_fde(
             at: fde.cie_pointer_offset,
         });
     };
-    if program.len() > MOST || at > MOST || place.made as usize > MOST {
+    if place.made as usize > MOST {
+        return Err(TOO_LONG);
+    }
+    if program.len() > MOST || at > MOST {
         return Err(TOO_LONG);
     }
     if at + program.len() + HEADER > MOST {

@@ -98,7 +98,9 @@ pub(crate) fn push_cie(
     dialect: Dialect,
 ) -> Result<(), AllocError>
     requires { length numbers.now + length program.now + 6 < 2 ^ 32 }
-    ensures { OnOk result (out.new.items ≡ out.old.items
+    ensures grows { OnOk result (length out.new.items
+        ≤ length out.old.items + length numbers.now + length program.now + 24) }
+    ensures wrote { OnOk result (out.new.items ≡ out.old.items
         ++ record_bytes target.order (cie_bytes target.order version numbers.now)
         (silenced dialect (record { target = target; position = 0; rest = program.now }))) }
 {
@@ -121,7 +123,8 @@ pub(crate) fn push_fde(
     requires short { length program.now + 20 < 2 ^ 32 }
     requires initial { initial ≤ max_address target.address_size }
     requires range { range ≤ max_address target.address_size }
-    ensures { OnOk result (out.new.items ≡ out.old.items
+    ensures grows { OnOk result (length out.new.items ≤ length out.old.items + length program.now + 24) }
+    ensures wrote { OnOk result (out.new.items ≡ out.old.items
         ++ record_bytes target.order (fde_bytes target pointer initial range)
         (silenced dialect (record { target = target; position = 0; rest = program.now }))) }
 {

@@ -1,11 +1,11 @@
-use Rattle.std.proofs.Common.{◌≡◌, List, sym, subst, Ok}
+use Rattle.std.proofs.Common.{◌≡◌, ◌+◌, ◌<◌, List, sym, subst, Ok, arith}
 use Rattle.std.proofs.lemmas.Result.{err_from_is_err_and}
 use Rattle.dw_bytes.specs.Reading.{section_from}
 use Rattle.dw_eh_frame.specs.declared.rewriting.CiePlace.{CiePlace}
 use Rattle.dw_eh_frame.specs.declared.record.EhRecord as declared
 use Rattle.dw_eh_frame.specs.Records.{eh_record_at}
 use Rattle.dw_eh_frame.specs.Progress.{IsUnderWay}
-use Rattle.dw_eh_frame.specs.Views.{IsRead, eh_fde_of, eh_record_of}
+use Rattle.dw_eh_frame.specs.Views.{IsRead, eh_fde_of, eh_record_of, fde_room, record_room}
 use Rattle.dw_eh_frame.proofs.Refusing.{refused-reading, refused-fde}
 use Rattle.dw_eh_frame.proofs.Steps.{under-way-fde, under-way-end}
 use Rattle.dw_eh_frame.proofs.rewriting.rewrite.Goals as goal
@@ -19,10 +19,15 @@ loop-at-preserved-in_ok-write_fde-in-Fde c =
     let is = subst (λ (x : declared.EhRecord). eh_record_at c.args.bases section (section_from target section c.loop-at.at) ≡ Ok
     (eh_record_of x, section_from target section next)) c.in-Fde.is c.in_ok-found.ensures.exact in
     let sound = subst (λ (x : declared.EhRecord). IsRead target section c.loop-at.at x) c.in-Fde.is c.in_ok-found.ensures.sound in
+    let room : c.loop-at.at + (4 + fde_room fde) < next =
+    subst (λ (x : declared.EhRecord). c.loop-at.at + record_room x < next) c.in-Fde.is c.in_ok-found.ensures.room in
     subst (λ (cies : List CiePlace). IsUnderWay c.args.is_aarch64 c.args.bases c.args.target section c.in_ok-found.next c.write_fde.new.made.bytes.items cies)
     (sym c.in_ok-write_fde-in-Fde.ensures.place)
     (under-way-fde c.args.is_aarch64 c.args.bases c.args.target section c.loop-at.at c.in_ok-found.next (eh_fde_of fde) c.loop-at.made.bytes.items
-    c.write_fde.new.made.bytes.items c.loop-at.made.cies.items c.loop-at.invariant is c.in_ok-found.ensures.forward.1 sound.1 c.in_ok-write_fde-in-Fde.ensures.wrote)
+    c.write_fde.new.made.bytes.items c.loop-at.made.cies.items c.loop-at.invariant is c.in_ok-found.ensures.forward.0
+    c.in_ok-found.ensures.forward.1 sound.1
+    (omega (arith, c.in_ok-write_fde-in-Fde.ensures.grows, c.loop-at.invariant.small, room, c.in_ok-found.ensures.forward.0))
+    c.in_ok-write_fde-in-Fde.ensures.wrote)
 
 pub returns-clause-rewritten : goal.returns-clause-rewritten
 returns-clause-rewritten c =
@@ -43,6 +48,9 @@ returns-in_err-write_fde-in-Fde-clause-refused c =
     let is = subst (λ (x : declared.EhRecord). eh_record_at c.args.bases section (section_from target section c.loop-at.at) ≡ Ok
     (eh_record_of x, section_from target section next)) c.in-Fde.is c.in_ok-found.ensures.exact in
     let p = err_from_is_err_and c.from_residual-in_err-write_fde-in-Fde.result c.from_residual-in_err-write_fde-in-Fde.ensures.1 in
+    let room : c.loop-at.at + (4 + fde_room c.in-Fde.fde) < next =
+    subst (λ (x : declared.EhRecord). c.loop-at.at + record_room x < next) c.in-Fde.is c.in_ok-found.ensures.room in
     rw (p.1, p.2)
-    (refused-fde c.args.is_aarch64 c.args.bases target section c.loop-at.at next c.loop-at.made.bytes.items c.loop-at.made.cies.items
-    (eh_fde_of c.in-Fde.fde) _ c.loop-at.invariant is c.in_err-write_fde-in-Fde.ensures.refused)
+    (refused-fde c.args.is_aarch64 c.args.bases target section c.loop-at.at next (fde_room c.in-Fde.fde) c.loop-at.made.bytes.items
+    c.loop-at.made.cies.items (eh_fde_of c.in-Fde.fde) _ c.loop-at.invariant (omega (arith, room)) c.in_ok-found.ensures.forward.1 is
+    c.in_err-write_fde-in-Fde.ensures.refused)
