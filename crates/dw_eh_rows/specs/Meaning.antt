@@ -1,6 +1,6 @@
 -- Which rows an `.eh_frame` section gives. They are those of DWARF 5, section 6.4.1, for the
 -- instructions of the section's own programs. The instructions of vendors change no row.
-use Rattle.std.specs.Prelude.{◌≡◌, ℕ, zero, suc, ◌+◌, ◌<◌, ◌≤◌, Bool, not, List, [], ◌∷◌, length, reverse, Contains, Option, Some, None}
+use Rattle.std.specs.Prelude.{◌≡◌, ℕ, zero, suc, ◌+◌, ◌<◌, ◌≤◌, Bool, List, [], ◌∷◌, length, reverse, Contains, Option, Some, None}
 use Rattle.std.specs.List.{filter_map}
 use Rattle.dw_bytes.specs.Operands.{Block}
 use Rattle.dw_frame.specs.Instructions.{Instruction}
@@ -109,17 +109,3 @@ EhCovers e a = (e.initial_location ≤ a) × (a < e.initial_location + e.address
 abbrev pub IsEhCoverOf : List EhFde → ℕ → Option EhFde → Type 0
 IsEhCoverOf fdes a None = (e : EhFde) → Contains fdes e → ¬ EhCovers e a
 IsEhCoverOf fdes a (Some e) = Contains fdes e × EhCovers e a × ((g : EhFde) → Contains fdes g → EhCovers g a → g ≡ e)
-
--- The caller of a frame of this FDE was interrupted, and made no call: it is looked up at its own
--- address, and not at the byte before.
-abbrev pub is_signal_frame : EhFde → Bool
-is_signal_frame e = e.cie.head.augmentation.is_signal
-
--- Whether the return address is signed after these instructions: a negate_ra_state turns it round.
-abbrev pub turned : EhInstruction → Bool → Bool
-turned (negate_ra_state with_pc) signed = not signed
-turned _ signed = signed
-
-abbrev pub is_signed_after : List (ℕ × EhInstruction) → Bool → Bool
-is_signed_after [] signed = signed
-is_signed_after (item ∷ items) signed = is_signed_after items (turned item.1 signed)
