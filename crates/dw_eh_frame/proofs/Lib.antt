@@ -9,3 +9,4 @@ pub mod Moved
 pub mod SaidAgain
 pub mod OneProgram
 pub mod ReadBack
+pub mod FaultPlaces

@@ -169,19 +169,22 @@ fde-is target a n pointer initial range r old mid new long first second =
     (omega (arith, number-long target.order 4 pointer, number-long target.order w initial, number-long target.order w range, all, both, long))
     first second
 
-record-long : (order : Order) (fields program : List ℕ) → length (record_bytes order fields program) ≡ 4 + length fields + length program
+pub record-long : (order : Order) (fields program : List ℕ) → length (record_bytes order fields program) ≡ 4 + length fields + length program
 record-long order fields program =
     let size = number-long order 4 (length (fields ++ program)) in
     omega (arith, size, length-append (number_bytes order 4 (length (fields ++ program))) (fields ++ program), length-append fields program)
 
 pub cie-grows : (order : Order) (a : Dialect) (version : ℕ) (r : ReadPosition) (numbers old new : List ℕ)
     → new ≡ old ++ record_bytes order (cie_bytes order version numbers) (silenced a r)
-    → length new ≤ length old + length numbers + length r.rest + 24
+    → (length new ≤ length old + length numbers + length r.rest + 24) × (length r.rest ≤ length new)
 cie-grows order a version r numbers old new is =
     let fields : List ℕ = cie_bytes order version numbers in
     let all = length-append old (record_bytes order fields (silenced a r)) in
     let head = length-append (number_bytes order 4 0xffffffff) (version ∷ 0 ∷ numbers) in
-    omega (arith, ap length is, all, record-long order fields (silenced a r), silenced-long a r, head, number-long order 4 0xffffffff)
+    let long = record-long order fields (silenced a r) in
+    let size : length new ≡ length old + (4 + length fields + length (silenced a r)) = omega (arith, ap length is, all, long) in
+    let same = silenced-long a r in
+    (omega (arith, size, same, head, number-long order 4 0xffffffff), omega (arith, size, same))
 
 at-most-eight : (size : AddressSize) → bytes_of_address size ≤ 8
 at-most-eight Four = omega arith
@@ -189,23 +192,26 @@ at-most-eight Eight = omega arith
 
 pub fde-grows : (target : Target) (a : Dialect) (pointer initial range : ℕ) (r : ReadPosition) (old new : List ℕ)
     → new ≡ old ++ record_bytes target.order (fde_bytes target pointer initial range) (silenced a r)
-    → length new ≤ length old + length r.rest + 24
+    → (length new ≤ length old + length r.rest + 24) × (length r.rest ≤ length new)
 fde-grows target a pointer initial range r old new is =
     let w = bytes_of_address target.address_size in
     let fields : List ℕ = fde_bytes target pointer initial range in
     let whole = length-append old (record_bytes target.order fields (silenced a r)) in
     let all = length-append (number_bytes target.order 4 pointer) (address_bytes target initial ++ address_bytes target range) in
     let both = length-append (address_bytes target initial) (address_bytes target range) in
-    omega (
-      arith,
-      ap length is,
-      whole,
-      record-long target.order fields (silenced a r),
-      silenced-long a r,
-      all,
-      both,
-      number-long target.order 4 pointer,
-      number-long target.order w initial,
-      number-long target.order w range,
-      at-most-eight target.address_size,
+    let long = record-long target.order fields (silenced a r) in
+    let size : length new ≡ length old + (4 + length fields + length (silenced a r)) = omega (arith, ap length is, whole, long) in
+    let same = silenced-long a r in (
+      omega (
+        arith,
+        size,
+        same,
+        all,
+        both,
+        number-long target.order 4 pointer,
+        number-long target.order w initial,
+        number-long target.order w range,
+        at-most-eight target.address_size,
+      ),
+      omega (arith, size, same),
     )

@@ -9,6 +9,7 @@ use Rattle.dw_bytes.specs.Reading.{section_from}
 use Rattle.dw_bytes.proofs.Sequences.{stops}
 use Rattle.dw_eh_frame.specs.declared.pointer.Bases.{Bases}
 use Rattle.dw_eh_frame.specs.declared.rewriting.CiePlace.{CiePlace}
+use Rattle.dw_eh_frame.specs.declared.places.RecordPlace.{RecordPlace}
 use Rattle.dw_eh_frame.specs.Records.{EhFde, EhRecord, eh_fde, eh_record_at, eh_entries_from}
 use Rattle.dw_eh_frame.specs.Progress.{IsUnderWay}
 use Rattle.dw_eh_frame.specs.Refused.{IsRefused, IsUnwritten, IsUnwrittenFde}
@@ -24,28 +25,28 @@ behind-good : (records : List EhRecord) (fault : Fault) → fault_in (map Ok rec
 behind-good [] fault = refl
 behind-good (x ∷ records) fault = behind-good records fault
 
-pub refused-reading : (a : Bool) (bases : Bases) (target : Target) (section : List ℕ) (at : ℕ) (made : List ℕ) (cies : List CiePlace)
-    (fault : Fault) → IsUnderWay a bases target section at made cies → at < length section
+pub refused-reading : (a : Bool) (bases : Bases) (target : Target) (section : List ℕ) (at : ℕ) (made : List ℕ) (cies : List CiePlace) (list : List RecordPlace)
+    (fault : Fault) → IsUnderWay a bases target section at made cies list → at < length section
     → eh_record_at bases section (section_from target section at) ≡ Err fault → IsRefused bases target section fault
-refused-reading a bases target section at made cies fault way some is =
+refused-reading a bases target section at made cies list fault way some is =
     inr (inr (inl (ap fault_in (way.read ∙ ap (λ (xs : List (Result EhRecord Fault)). map Ok way.records ++ xs)
     (at-fault bases target section at fault some is)) ∙ behind-good way.records fault)))
 
 -- a record of so many bytes wasn't written
 pub refused-record : (a : Bool) (bases : Bases) (target : Target) (section : List ℕ) (at next room : ℕ) (made : List ℕ)
-    (cies : List CiePlace) (fault : Fault) → IsUnderWay a bases target section at made cies → at + room < next → next ≤ length section
+    (cies : List CiePlace) (list : List RecordPlace) (fault : Fault) → IsUnderWay a bases target section at made cies list → at + room < next → next ≤ length section
     → IsUnwritten (length made + room + 32) fault → IsRefused bases target section fault
-refused-record a bases target section at next room made cies fault way some inside (inl h) = inl h
-refused-record a bases target section at next room made cies fault way some inside (inr (h, long)) =
+refused-record a bases target section at next room made cies list fault way some inside (inl h) = inl h
+refused-record a bases target section at next room made cies list fault way some inside (inr (h, long)) =
     inr (inl (h, omega (arith, way.small, some, inside, long)))
 
-pub refused-fde : (a : Bool) (bases : Bases) (target : Target) (section : List ℕ) (at next room : ℕ) (made : List ℕ) (cies : List CiePlace)
-    (e : EhFde) (fault : Fault) → IsUnderWay a bases target section at made cies → at + room < next → next ≤ length section
+pub refused-fde : (a : Bool) (bases : Bases) (target : Target) (section : List ℕ) (at next room : ℕ) (made : List ℕ) (cies : List CiePlace) (list : List RecordPlace)
+    (e : EhFde) (fault : Fault) → IsUnderWay a bases target section at made cies list → at + room < next → next ≤ length section
     → eh_record_at bases section (section_from target section at) ≡ Ok (eh_fde e, section_from target section next)
     → IsUnwrittenFde (length made + room + 32) cies e fault → IsRefused bases target section fault
-refused-fde a bases target section at next room made cies e fault way some inside is (inl h) =
-    refused-record a bases target section at next room made cies fault way some inside h
-refused-fde a bases target section at next room made cies e fault way some inside is (inr (h, alone)) =
+refused-fde a bases target section at next room made cies list e fault way some inside is (inl h) =
+    refused-record a bases target section at next room made cies list fault way some inside h
+refused-fde a bases target section at next room made cies list e fault way some inside is (inr (h, alone)) =
     inr (inr (inr (record {
       front = way.records;
       fde = e;

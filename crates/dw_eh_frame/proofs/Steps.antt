@@ -1,8 +1,9 @@
 -- One record of a rewriting after another.
-use Rattle.std.proofs.Common.{◌≡◌, ℕ, ◌+◌, ◌*◌, ◌<◌, ◌≤◌, Bool, List, [], ◌∷◌, ◌++◌, length, Result, Ok, refl, sym, ap, subst, ◌∙◌, arith, append_assoc, inl, inr}
+use Rattle.std.proofs.Common.{◌≡◌, ℕ, ◌+◌, ◌*◌, ◌^◌, ◌<◌, ◌≤◌, Bool, List, [], ◌∷◌, ◌++◌, length, Result, Ok, refl, sym, ap, subst, ◌∙◌, arith, append_assoc, inl, inr}
 use Rattle.std.specs.Prelude.{true, map, filter, Contains}
 use Rattle.std.proofs.lemmas.List.{length-append, length-drop, map-append, append-nil}
-use Rattle.std.proofs.lemmas.List.Elements.{filter-append, Contains-append_left, Contains-push, Contains-push_cases}
+use Rattle.std.specs.List.{AllByRecursion}
+use Rattle.std.proofs.lemmas.List.Elements.{All-from_recursion, filter-append, Contains-append_left, Contains-push, Contains-push_cases}
 use Rattle.dw_bytes.specs.declared.target.Target.{Target}
 use Rattle.dw_bytes.specs.declared.fault.Fault.{Fault}
 use Rattle.dw_bytes.specs.Reading.{ReadPosition, ◌>>=◌, section_from}
@@ -19,13 +20,18 @@ use Rattle.dw_bytes.specs.Encoding.{Len}
 use Rattle.dw_eh_frame.specs.declared.pointer.Bases.{Bases}
 use Rattle.dw_eh_frame.specs.declared.rewriting.CiePlace.{CiePlace}
 use Rattle.dw_eh_frame.specs.Records.{EhCie, EhFde, EhRecord, eh_cie, eh_fde, eh_nothing, eh_cie_at, eh_body_at, eh_record_at, eh_entries_from, eh_entries_of}
-use Rattle.dw_eh_frame.specs.Rewriting.{Pair, SaysTheSame, LeadsTo, says_something, IsRewritten}
+use Rattle.dw_eh_frame.specs.declared.dialect.Dialect.{Dialect}
+use Rattle.dw_eh_frame.specs.declared.places.RecordPlace.{RecordPlace}
+use Rattle.dw_eh_frame.specs.Instructions.{dialect_of}
+use Rattle.dw_eh_frame.specs.Places.{Fits, FitsPair, ArePlaces, IsInside, IsRewrittenAt, place_for}
+use Rattle.dw_eh_frame.proofs.PastInstructions.{silenced-long}
+use Rattle.dw_eh_frame.specs.Rewriting.{Pair, SaysTheSame, LeadsTo, says_something, IsSameProgram}
 use Rattle.dw_eh_frame.proofs.PlaceSearch.{ascends-more}
 use Rattle.dw_eh_frame.specs.Progress.{IsPlace, IsUnderWay, WritesCie, WritesPointing}
 
 -- ---- reading
 
-length-some : (order : Order) (bytes : List ℕ) (format : Format) (v : ℕ) → Len order bytes format v → 0 < length bytes
+pub length-some : (order : Order) (bytes : List ℕ) (format : Format) (v : ℕ) → Len order bytes format v → 0 < length bytes
 length-some order bytes Dwarf32 v h = omega (arith, h.0.count)
 length-some order bytes Dwarf64 v (mark, rest, parts, first, second) = omega (arith, first.count, ap length parts, length-append mark rest)
 
@@ -147,7 +153,7 @@ from-zero target made bytes r h =
 
 -- ---- the steps
 
-pub under-way-first : (a : Bool) (bases : Bases) (target : Target) (section : List ℕ) → IsUnderWay a bases target section 0 [] []
+pub under-way-first : (a : Bool) (bases : Bases) (target : Target) (section : List ℕ) → IsUnderWay a bases target section 0 [] [] []
 under-way-first a bases target section = record {
   inside = omega arith;
   records = [];
@@ -162,7 +168,38 @@ under-way-first a bases target section = record {
   below = λ q (k, inside, is). absurd (omega arith);
   written = λ q (k, inside, is). absurd (omega arith);
   small = omega arith;
+  listed = tt;
 }
+
+-- ---- places
+
+places-more : (pairs : List Pair) (list : List RecordPlace) (p : Pair) (q : RecordPlace) → ArePlaces pairs list → FitsPair p q
+    → ArePlaces (pairs ++ p ∷ []) (list ++ q ∷ [])
+places-more [] [] p q are fits = (fits, tt)
+places-more [] (r ∷ list) p q are fits = absurd are
+places-more (x ∷ pairs) [] p q are fits = absurd are
+places-more (x ∷ pairs) (r ∷ list) p q are fits = (are.0, places-more pairs list p q are.1 fits)
+
+fits-inside : (p : Pair) (q : RecordPlace) → FitsPair p q → IsInside q
+fits-inside (eh_cie e, cie_record c) q fits = fits.inside
+fits-inside (eh_cie e, fde_record f) q fits = absurd fits
+fits-inside (eh_fde e, cie_record c) q fits = absurd fits
+fits-inside (eh_fde e, fde_record f) q fits = fits.inside
+fits-inside (eh_nothing n, cie_record c) q fits = absurd fits
+fits-inside (eh_nothing n, fde_record f) q fits = absurd fits
+
+all-inside : (pairs : List Pair) (list : List RecordPlace) → ArePlaces pairs list → AllByRecursion IsInside list
+all-inside [] [] are = tt
+all-inside [] (q ∷ list) are = absurd are
+all-inside (p ∷ pairs) [] are = absurd are
+all-inside (p ∷ pairs) (q ∷ list) are = (fits-inside p q are.0, all-inside pairs list are.1)
+
+fits-place : (a : Dialect) (source made at new : ℕ) (old program : ReadPosition) → IsSameProgram a old program → at ≡ made
+    → program.position + length program.rest ≡ new → old.position + length old.rest < 2 ^ 32 → Fits source at old program (place_for source old made new)
+fits-place a source made at new old program same at_is ends inside =
+    let long : length program.rest ≡ length old.rest =
+    ap length same.bytes ∙ silenced-long a (record { target = old.target; position = 0; rest = old.rest }) in
+    record { source_is = refl; made_is = sym at_is; old_is = refl; new_is = omega (arith, ends, long); size_is = sym long; inside = inside }
 
 -- a record that is no CIE leaves the places complete
 still-complete : (records : List EhRecord) (x : EhRecord) (cies : List CiePlace) → ((c : EhCie) → x ≡ eh_cie c → ⊥)
@@ -176,11 +213,11 @@ still-complete records x cies other complete c among = elim (Contains-push_cases
 cie-is : (c d : EhCie) → eh_cie c ≡ eh_cie d → c ≡ d
 cie-is c d same = cc
 
-pub under-way-nothing : (a : Bool) (bases : Bases) (target : Target) (section : List ℕ) (at next n : ℕ) (made : List ℕ) (cies : List CiePlace)
-    → IsUnderWay a bases target section at made cies
+pub under-way-nothing : (a : Bool) (bases : Bases) (target : Target) (section : List ℕ) (at next n : ℕ) (made : List ℕ) (cies : List CiePlace) (list : List RecordPlace)
+    → IsUnderWay a bases target section at made cies list
     → eh_record_at bases section (section_from target section at) ≡ Ok (eh_nothing n, section_from target section next)
-    → at < next → next ≤ length section → IsUnderWay a bases target section next made cies
-under-way-nothing a bases target section at next n made cies way is forward inside = record {
+    → at < next → next ≤ length section → IsUnderWay a bases target section next made cies list
+under-way-nothing a bases target section at next n made cies list way is forward inside = record {
   inside = inside;
   records = way.records ++ eh_nothing n ∷ [];
   read = read-more bases target section at next way.records (eh_nothing n) way.read is;
@@ -194,15 +231,17 @@ under-way-nothing a bases target section at next n made cies way is forward insi
   below = λ q among. omega (arith, way.below q among, forward);
   written = way.written;
   small = omega (arith, way.small, forward);
+  listed = way.listed;
 }
 
 pub under-way-cie : (a : Bool) (bases : Bases) (target : Target) (section : List ℕ) (at next source : ℕ) (e : EhCie) (made new : List ℕ)
-    (cies : List CiePlace) → IsUnderWay a bases target section at made cies
+    (cies : List CiePlace) (list : List RecordPlace) → IsUnderWay a bases target section at made cies list
     → eh_record_at bases section (section_from target section at) ≡ Ok (eh_cie e, section_from target section next)
     → at < next → next ≤ length section → eh_cie_at target section source ≡ Ok e → source ≡ at → e.offset ≡ at
-    → length new ≤ 5 * next → WritesCie a target e made new
+    → length new ≤ 5 * next → e.program.position + length e.program.rest < 2 ^ 32 → WritesCie a target e made new
     → IsUnderWay a bases target section next new (cies ++ record { source = source; made = length made } ∷ [])
-under-way-cie a bases target section at next source e made new cies way is forward inside found source_is offset_is small wrote =
+    (list ++ place_for e.offset e.program (length made) (length new) ∷ [])
+under-way-cie a bases target section at next source e made new cies list way is forward inside found source_is offset_is small program_inside wrote =
     let p : Pair = (eh_cie e, cie_record wrote.cie) in
     let q : CiePlace = record { source = source; made = length made } in
     let more : AreRecords target 0 (made ++ wrote.bytes) (map (λ (p : Pair). p.1) way.pairs ++ cie_record wrote.cie ∷ []) =
@@ -242,6 +281,9 @@ under-way-cie a bases target section at next source e made new cies way is forwa
             (omega (arith, ap length wrote.appended, length-append made wrote.bytes))
       ];
       small = small;
+      listed = places-more way.pairs list p (place_for e.offset e.program (length made) (length new)) way.listed
+          (fits-place (dialect_of a e.head.augmentation) e.offset (length made) wrote.cie.offset (length new) e.program wrote.cie.program
+          wrote.same.program wrote.offset wrote.ends program_inside);
     }
 
 abbrev ok-cie : EhCie → Result EhCie Fault
@@ -251,12 +293,13 @@ same-cie : (a b : EhCie) → ok-cie a ≡ ok-cie b → a ≡ b
 same-cie a b e = cc
 
 pub under-way-fde : (a : Bool) (bases : Bases) (target : Target) (section : List ℕ) (at next : ℕ) (e : EhFde) (made new : List ℕ)
-    (cies : List CiePlace) → IsUnderWay a bases target section at made cies
+    (cies : List CiePlace) (list : List RecordPlace) → IsUnderWay a bases target section at made cies list
     → eh_record_at bases section (section_from target section at) ≡ Ok (eh_fde e, section_from target section next)
     → at < next → next ≤ length section → eh_cie_at target section e.cie.offset ≡ Ok e.cie → length new ≤ 5 * next
-    → WritesPointing a target e cies made new
+    → e.program.position + length e.program.rest < 2 ^ 32 → WritesPointing a target e cies made new
     → IsUnderWay a bases target section next new cies
-under-way-fde a bases target section at next e made new cies way is forward inside found small pointing =
+    (list ++ place_for e.offset e.program (length made) (length new) ∷ [])
+under-way-fde a bases target section at next e made new cies list way is forward inside found small program_inside pointing =
     let wrote = pointing.wrote in
     let p : Pair = (eh_fde e, fde_record wrote.fde) in
     let place = way.places pointing.place pointing.among in
@@ -286,15 +329,22 @@ under-way-fde a bases target section at next e made new cies way is forward insi
       below = λ q among. omega (arith, way.below q among, forward);
       written = λ q among. omega (arith, way.written q among, ap length wrote.appended, length-append made wrote.bytes);
       small = small;
+      listed = places-more way.pairs list p (place_for e.offset e.program (length made) (length new)) way.listed
+          (fits-place (dialect_of a e.cie.head.augmentation) e.offset (length made) wrote.fde.offset (length new) e.program wrote.fde.program
+          wrote.same.program wrote.offset wrote.ends program_inside);
     }
 
-pub under-way-end : (a : Bool) (bases : Bases) (target : Target) (section : List ℕ) (at : ℕ) (made : List ℕ) (cies : List CiePlace)
-    → IsUnderWay a bases target section at made cies → length section ≤ at → IsRewritten a bases target section made
-under-way-end a bases target section at made cies way end = record {
-  records = way.records;
-  are = way.read ∙ (ap (λ (items : List (Result EhRecord Fault)). map Ok way.records ++ items) (at-end bases target section at end)
-      ∙ append-nil (map Ok way.records));
-  rewriting = record { pairs = way.pairs; sources = way.sources; encoded = way.encoded; same = way.same };
+pub under-way-end : (a : Bool) (bases : Bases) (target : Target) (section : List ℕ) (at : ℕ) (made : List ℕ) (cies : List CiePlace) (list : List RecordPlace)
+    → IsUnderWay a bases target section at made cies list → length section ≤ at → IsRewrittenAt a bases target section made list
+under-way-end a bases target section at made cies list way end = record {
+  rewritten = record {
+    records = way.records;
+    are = way.read ∙ (ap (λ (items : List (Result EhRecord Fault)). map Ok way.records ++ items) (at-end bases target section at end)
+        ∙ append-nil (map Ok way.records));
+    rewriting = record { pairs = way.pairs; sources = way.sources; encoded = way.encoded; same = way.same };
+  };
+  are = way.listed;
+  inside = All-from_recursion IsInside list (all-inside way.pairs list way.listed);
 }
 
 pub ruleset steps = (under-way-first, under-way-nothing, under-way-cie, under-way-fde, under-way-end)

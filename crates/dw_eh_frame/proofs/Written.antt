@@ -28,7 +28,7 @@ use Rattle.dw_eh_frame.specs.Rewriting.{IsSameProgram}
 use Rattle.dw_eh_frame.specs.declared.dialect.Dialect.{Dialect}
 use Rattle.dw_eh_frame.specs.Instructions.{dialect_of}
 use Rattle.dw_eh_frame.specs.Silencing.{silenced}
-use Rattle.dw_eh_frame.proofs.PastInstructions.{silenced-long}
+use Rattle.dw_eh_frame.proofs.PastInstructions.{record-long, silenced-long}
 use Rattle.dw_eh_frame.specs.Written.{number_bytes, address_bytes, record_bytes, cie_bytes, fde_bytes, EncodesNumbers}
 
 -- the bytes of a number encode it
@@ -189,6 +189,7 @@ writes-cie a target e old new sound short appended =
             (length old + 4 + length fields) sound.target_is;
       };
       offset = refl;
+      ends = omega (arith, ap length appended, length-append old (record_bytes target.order fields program), record-long target.order fields program);
     }
 
 -- what is written for an FDE that was read
@@ -241,6 +242,8 @@ writes-fde a target e pointer old new sound small short appended =
             e.program.bytes.now (length old + 4 + length fields) sound.target_is;
       };
       pointer_is = refl;
+      offset = refl;
+      ends = omega (arith, ap length appended, length-append old (record_bytes target.order fields program), record-long target.order fields program);
     }
   where
     at-most-eight : (size : AddressSize) → bytes_of_address size ≤ 8

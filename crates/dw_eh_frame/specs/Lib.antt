@@ -12,6 +12,8 @@ pub mod Instructions
 pub mod Same
 -- when a `.debug_frame` section says what an `.eh_frame` section says
 pub mod Rewriting
+-- where records were written, and where faults are
+pub mod Places
 -- why a section isn't rewritten
 pub mod Refused
 -- ---- How the code's types correspond to these definitions.

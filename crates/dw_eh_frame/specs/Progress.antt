@@ -1,5 +1,5 @@
 -- The state of a rewriting: what is known after some records.
-use Rattle.std.specs.Prelude.{◌≡◌, ◌<◌, ◌≤◌, ◌*◌, ℕ, Bool, List, ◌++◌, map, filter, length, Contains, Ok}
+use Rattle.std.specs.Prelude.{◌≡◌, ◌<◌, ◌≤◌, ◌+◌, ◌*◌, ℕ, Bool, List, ◌++◌, map, filter, length, Contains, Ok}
 use Rattle.dw_bytes.specs.declared.target.Target.{Target}
 use Rattle.dw_frame.specs.Records.{Cie, Fde, cie_record, fde_record}
 use Rattle.dw_frame.specs.Bounds.{Ascends}
@@ -7,6 +7,8 @@ use Rattle.dw_frame.specs.Sections.{AreRecords, IsRecord}
 use Rattle.dw_eh_frame.specs.declared.pointer.Bases.{Bases}
 use Rattle.dw_eh_frame.specs.declared.rewriting.CiePlace.{CiePlace}
 use Rattle.dw_eh_frame.specs.Records.{EhCie, EhFde, EhRecord, eh_cie, eh_cie_at, eh_entries_from, eh_entries_of}
+use Rattle.dw_eh_frame.specs.declared.places.RecordPlace.{RecordPlace}
+use Rattle.dw_eh_frame.specs.Places.{ArePlaces}
 use Rattle.dw_eh_frame.specs.Rewriting.{Pair, SaysTheSame, says_something, IsSameCie, IsSameFde}
 
 -- A CIE was written: it begins at `source` in `.eh_frame`, and at `made` in `.debug_frame`.
@@ -21,8 +23,8 @@ abbrev pub place_source : CiePlace → ℕ
 place_source q = q.source
 
 -- The records before the offset `at` were read, and the bytes `made` were written for them. `cies`
--- has the places of the CIEs.
-pub record IsUnderWay (is_aarch64 : Bool) (bases : Bases) (target : Target) (section : List ℕ) (at : ℕ) (made : List ℕ) (cies : List CiePlace) : Type 0 where
+-- has the places of the CIEs, and `list` those of all records.
+pub record IsUnderWay (is_aarch64 : Bool) (bases : Bases) (target : Target) (section : List ℕ) (at : ℕ) (made : List ℕ) (cies : List CiePlace) (list : List RecordPlace) : Type 0 where
   pub inside : at ≤ length section
   pub records : List EhRecord
   pub read : eh_entries_of bases target section ≡ map Ok records ++ eh_entries_from bases target section at
@@ -38,6 +40,7 @@ pub record IsUnderWay (is_aarch64 : Bool) (bases : Bases) (target : Target) (sec
   pub written : (q : CiePlace) → Contains cies q → q.made ≤ length made
   -- records grow by less than a factor of five
   pub small : length made ≤ 5 * at
+  pub listed : ArePlaces pairs list
 
 -- A CIE that says what `e` says was written after the bytes `old`.
 pub record WritesCie (is_aarch64 : Bool) (target : Target) (e : EhCie) (old new : List ℕ) : Type 0 where
@@ -47,6 +50,7 @@ pub record WritesCie (is_aarch64 : Bool) (target : Target) (e : EhCie) (old new 
   pub encoded : IsRecord target (length old) bytes (cie_record cie)
   pub same : IsSameCie is_aarch64 e cie
   pub offset : cie.offset ≡ length old
+  pub ends : cie.program.position + length cie.program.rest ≡ length new
 
 -- An FDE that says what `e` says, with this CIE pointer, was written after the bytes `old`.
 pub record WritesFde (is_aarch64 : Bool) (target : Target) (e : EhFde) (pointer : ℕ) (old new : List ℕ) : Type 0 where
@@ -56,6 +60,8 @@ pub record WritesFde (is_aarch64 : Bool) (target : Target) (e : EhFde) (pointer 
   pub encoded : IsRecord target (length old) bytes (fde_record fde)
   pub same : IsSameFde is_aarch64 e fde
   pub pointer_is : fde.cie_pointer ≡ pointer
+  pub offset : fde.offset ≡ length old
+  pub ends : fde.program.position + length fde.program.rest ≡ length new
 
 -- An FDE that says what `e` says was written after the bytes `old`. Its CIE pointer leads to the place
 -- of its CIE.

@@ -1,12 +1,12 @@
 -- What values of the code's types stand for in the specifications.
-use Rattle.std.specs.Prelude.{◌≡◌, ◌≤◌, ◌+◌, ℕ, List, length, true, Ok}
+use Rattle.std.specs.Prelude.{◌≡◌, ◌<◌, ◌≤◌, ◌+◌, ◌^◌, ℕ, List, length, true, Ok}
 use Rattle.dw_bytes.specs.declared.target.Target.{Target}
 use Rattle.dw_bytes.specs.Reading.{ReadPosition}
 use Rattle.dw_frame.specs.Records.{is_version}
 use Rattle.dw_frame.specs.Sections.{Header, cie_header}
 use Rattle.dw_eh_frame.specs.declared.head.Factors.{Factors}
 use Rattle.dw_eh_frame.specs.declared.head.EhCieHead as declared
-use Rattle.dw_eh_frame.specs.declared.record.EhProgram.{EhProgram}
+use Rattle.dw_eh_frame.specs.declared.program.EhProgram.{EhProgram}
 use Rattle.dw_eh_frame.specs.declared.record.EhCie as declared_cie
 use Rattle.dw_eh_frame.specs.declared.record.EhFde as declared_fde
 use Rattle.dw_eh_frame.specs.declared.record.EhRecord as declared_record
@@ -70,12 +70,14 @@ pub record IsReadCie (target : Target) (c : declared_cie.EhCie) : Type 0 where
   pub known : is_version c.head.factors.version ≡ true
   pub numbers : EncodesNumbers target c.head.factors.version c.head.numbers.now (factors_of c.head.factors)
   pub target_is : c.program.target ≡ target
+  pub inside : c.program.start + length c.program.bytes.now < 2 ^ 32
 
 -- The FDE's addresses are addresses of the target.
 pub record IsReadFde (target : Target) (f : declared_fde.EhFde) : Type 0 where
   pub initial : f.initial_location ≤ max_address target.address_size
   pub range : f.initial_location + f.address_range ≤ max_address target.address_size
   pub target_is : f.program.target ≡ target
+  pub inside : f.program.start + length f.program.bytes.now < 2 ^ 32
 
 -- A record that was read at the offset `at`. The CIE of an FDE is the one that begins at its offset.
 abbrev pub IsRead : Target → List ℕ → ℕ → declared_record.EhRecord → Type 0

@@ -1,13 +1,17 @@
 //! Laws about the records of `.eh_frame` and about rewritten sections. The functions do nothing: the
 //! contract of each is a law.
 
-ghost use Rattle.std.specs.Prelude.{◌≡◌, ℕ, Bool, List, map, Ok};
+ghost use Rattle.std.specs.Prelude.{◌≡◌, ℕ, ◌+◌, ◌-◌, Bool, true, false, List, map, Contains, Ok};
+ghost use Rattle.dw_bytes.specs.declared.fault.Fault.{Fault};
+ghost use Rattle.dw_frame.specs.Bounds.{offset_of};
+ghost use Rattle.dw_eh_frame.specs.declared.places.RecordPlace.{RecordPlace};
+ghost use Rattle.dw_eh_frame.specs.Places.{ArePlaces, IsOn, is_overlap, original_of, source_program_start, source_start, written_program};
 ghost use Rattle.dw_bytes.specs.declared.target.Target.{Target};
 ghost use Rattle.dw_bytes.specs.Reading.{ReadPosition};
 ghost use Rattle.dw_frame.specs.Records.{Record};
 ghost use Rattle.dw_frame.specs.Instructions.{Instruction};
 ghost use Rattle.dw_frame.specs.Codes.{AreInstructions};
-ghost use Rattle.dw_frame.specs.Sections.{entries_of};
+ghost use Rattle.dw_frame.specs.Sections.{AreRecords, entries_of};
 ghost use Rattle.dw_eh_frame.specs.Instructions.{EhInstruction, AreEhInstructions};
 ghost use Rattle.dw_eh_frame.specs.declared.dialect.Dialect.{Dialect};
 ghost use Rattle.dw_eh_frame.specs.Records.{EhRecord};
@@ -40,4 +44,22 @@ pub fn rewritten_sections_are_read()
     ensures { (is_aarch64 : Bool) (target : Target) (records : List EhRecord) (made : List ℕ)
         → (rewriting : IsRewriting is_aarch64 target records made)
         → entries_of target made ≡ map Ok (map (λ (p : Pair). p.1) rewriting.pairs) }
+{}
+
+/// A fault that is in the program of a written record, or at its end, is at the same place of the
+/// program that it was written for. An Overlap that is at a written record is at the record that it was
+/// written for.
+pub fn faults_keep_their_places()
+    ensures program { (target : Target) (made : List ℕ) (pairs : List Pair) (places : List RecordPlace)
+        (fault : Fault) (p : Pair) → AreRecords target 0 made (map (λ (p : Pair). p.1) pairs)
+        → ArePlaces pairs places → Contains pairs p → is_overlap fault.kind ≡ false
+        → IsOn (written_program p.1) fault.at → original_of places fault ≡ record {
+          kind = fault.kind;
+          at = source_program_start p.0 + (fault.at - (written_program p.1).position);
+        } }
+    ensures overlap { (target : Target) (made : List ℕ) (pairs : List Pair) (places : List RecordPlace)
+        (fault : Fault) (p : Pair) → AreRecords target 0 made (map (λ (p : Pair). p.1) pairs)
+        → ArePlaces pairs places → Contains pairs p → is_overlap fault.kind ≡ true
+        → fault.at ≡ offset_of p.1
+        → original_of places fault ≡ record { kind = fault.kind; at = source_start p.0 } }
 {}

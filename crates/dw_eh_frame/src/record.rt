@@ -9,16 +9,9 @@ ghost use Rattle.dw_eh_frame.specs.Views.{IsRead, IsReadCie, IsReadFde, cie_room
 
 use crate::head::{EhCieHead, read_head};
 use crate::pointer::{Bases, read_pointer, read_range};
+use crate::program::EhProgram;
 use dw_bytes::operands::block;
 use dw_bytes::{Body, Cursor, Fault, FaultKind, Format, Target};
-
-/// The program of a CIE or an FDE: where it begins in the section, and its bytes.
-#[derive(Clone, Copy, Debug)]
-pub struct EhProgram<'a> {
-    pub start: u32,
-    pub target: Target,
-    pub bytes: &'a [u8],
-}
 
 /// A CIE of an `.eh_frame` section.
 #[derive(Clone, Copy, Debug)]

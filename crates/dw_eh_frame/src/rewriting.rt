@@ -3,15 +3,16 @@
 ghost use Rattle.std.specs.Prelude.{◌≡◌, ◌+◌, ◌^◌, ◌<◌, ◌≤◌, ◌≢◌, IfOk, IfErr, MatchOption, OnOk, length, [], ◌∷◌, ◌++◌};
 ghost use Rattle.std.specs.Prelude.{Contains};
 ghost use Rattle.dw_eh_frame.specs.Progress.{IsUnderWay, WritesCie, WritesPointing, place_source};
-ghost use Rattle.dw_eh_frame.specs.Rewriting.{IsRewritten};
+ghost use Rattle.dw_eh_frame.specs.Places.{IsRewrittenAt, place_for};
 ghost use Rattle.dw_eh_frame.specs.Refused.{IsRefused, IsUnwritten, IsUnwrittenFde};
-ghost use Rattle.dw_eh_frame.specs.Views.{IsRead, IsReadCie, IsReadFde, cie_room, eh_cie_of, eh_fde_of, eh_record_of, fde_room};
+ghost use Rattle.dw_eh_frame.specs.Views.{IsRead, IsReadCie, IsReadFde, cie_room, eh_cie_of, eh_fde_of, eh_record_of, fde_room, program_of};
 ghost use Rattle.dw_eh_frame.specs.Records.{eh_record_at};
 ghost use Rattle.dw_bytes.specs.Reading.{section_from};
 ghost use Rattle.dw_frame.specs.Bounds.{Ascends};
 ghost use Rattle.dw_eh_frame.specs.declared.rewriting.CiePlace.{CiePlace};
 
 use crate::dialect::dialect_by;
+use crate::places::RecordPlace;
 use crate::pointer::Bases;
 use crate::record::{EhCie, EhFde, EhRecord, eh_record};
 use crate::write::{push_cie, push_fde};
@@ -25,11 +26,21 @@ pub struct CiePlace {
     pub made: u32,
 }
 
-/// The rewriting's result or state: the bytes that were written, and the places of the CIEs.
+/// The state of a rewriting: the bytes that were written, and the places of the CIEs and of all records.
 #[derive(Drop)]
 struct Made {
     bytes: Vec<u8>,
     cies: Vec<CiePlace>,
+    places: Vec<RecordPlace>,
+}
+
+/// A rewritten section.
+#[derive(Drop)]
+pub struct Rewritten {
+    /// The `.debug_frame` section.
+    pub bytes: Vec<u8>,
+    /// The place of each CIE and each FDE, in their order.
+    pub places: Vec<RecordPlace>,
 }
 
 const TOO_LONG: Fault = Fault {
@@ -71,6 +82,8 @@ fn write_cie(
     ensures grows { OnOk result (length made.new.bytes.items ≤ length made.old.bytes.items + cie_room cie.now + 24) }
     ensures place { OnOk result (made.new.cies.items ≡ made.old.cies.items
         ++ record { source = cie.now.offset; made = length made.old.bytes.items } ∷ []) }
+    ensures listed { OnOk result (made.new.places.items ≡ made.old.places.items
+        ++ place_for cie.now.offset (program_of cie.now.program) (length made.old.bytes.items) (length made.new.bytes.items) ∷ []) }
 {
     let at = made.bytes.len();
     let numbers = cie.head.numbers;
@@ -93,6 +106,13 @@ fn write_cie(
         source: cie.offset,
         made: at as u32,
     })?;
+    made.places.push(RecordPlace {
+        source: cie.offset,
+        made: at as u32,
+        source_program: cie.program.start,
+        made_program: (made.bytes.len() - program.len()) as u32,
+        size: program.len() as u32,
+    })?;
     Ok(())
 }
 
@@ -113,6 +133,8 @@ fn write_fde(
         made.old.cies.items (eh_fde_of fde.now)) }
     ensures grows { OnOk result (length made.new.bytes.items ≤ length made.old.bytes.items + fde_room fde.now + 24) }
     ensures place { OnOk result (made.new.cies.items ≡ made.old.cies.items) }
+    ensures listed { OnOk result (made.new.places.items ≡ made.old.places.items
+        ++ place_for fde.now.offset (program_of fde.now.program) (length made.old.bytes.items) (length made.new.bytes.items) ∷ []) }
 {
     let at = made.bytes.len();
     let program = fde.program.bytes;
@@ -140,6 +162,13 @@ fn write_fde(
         program,
         dialect_by(is_aarch64, fde.cie.head.augmentation),
     )?;
+    made.places.push(RecordPlace {
+        source: fde.offset,
+        made: at as u32,
+        source_program: fde.program.start,
+        made_program: (made.bytes.len() - program.len()) as u32,
+        size: program.len() as u32,
+    })?;
     Ok(())
 }
 
@@ -151,14 +180,16 @@ pub fn rewrite(
     target: Target,
     bases: Bases,
     is_aarch64: bool,
-) -> Result<Vec<u8>, Fault>
+) -> Result<Rewritten, Fault>
     requires { length section.now < 2 ^ 32 }
     ensures refused { IfErr result (IsRefused bases target section.now) }
-    ensures rewritten { IfOk result (λ made. IsRewritten is_aarch64 bases target section.now made.items) }
+    ensures rewritten { IfOk result (λ made. IsRewrittenAt is_aarch64 bases target section.now
+        made.bytes.items made.places.items) }
 {
     let mut made = Made {
         bytes: Vec::with_capacity(alloc, section.len())?,
         cies: Vec::new(alloc),
+        places: Vec::new(alloc),
     };
     let mut at = 0u32;
     while (at as usize) < section.len() {
@@ -170,5 +201,8 @@ pub fn rewrite(
         }
         at = next;
     }
-    Ok(made.bytes)
+    Ok(Rewritten {
+        bytes: made.bytes,
+        places: made.places,
+    })
 }

@@ -100,6 +100,7 @@ pub(crate) fn push_cie(
     requires { length numbers.now + length program.now + 6 < 2 ^ 32 }
     ensures grows { OnOk result (length out.new.items
         ≤ length out.old.items + length numbers.now + length program.now + 24) }
+    ensures holds { OnOk result (length program.now ≤ length out.new.items) }
     ensures wrote { OnOk result (out.new.items ≡ out.old.items
         ++ record_bytes target.order (cie_bytes target.order version numbers.now)
         (silenced dialect (record { target = target; position = 0; rest = program.now }))) }
@@ -124,6 +125,7 @@ pub(crate) fn push_fde(
     requires initial { initial ≤ max_address target.address_size }
     requires range { range ≤ max_address target.address_size }
     ensures grows { OnOk result (length out.new.items ≤ length out.old.items + length program.now + 24) }
+    ensures holds { OnOk result (length program.now ≤ length out.new.items) }
     ensures wrote { OnOk result (out.new.items ≡ out.old.items
         ++ record_bytes target.order (fde_bytes target pointer initial range)
         (silenced dialect (record { target = target; position = 0; rest = program.now }))) }

@@ -1,8 +1,8 @@
 //! The rows of rewritten sections, beside those that readelf prints for the originals.
 
 use crate::sections::{BASES, BIG, LITTLE, LITTLE_SHORT, section_of};
-use dw_bytes::{Fault, FaultKind, Target};
-use dw_eh_frame::rewrite;
+use dw_bytes::{FaultKind, Target};
+use dw_eh_frame::{original_fault, rewrite};
 use dw_rows::{CfaRule, CheckedFrame, RegisterRule, check_frame};
 use std::alloc::{AllocError, Global};
 use std::process::Abort;
@@ -76,10 +76,10 @@ fn has_rows(
         Ok(made) => made,
         Err(fault) => panic!(rt; "{fault}"),
     };
-    if made.len() >= 1 << 32 {
+    if made.bytes.len() >= 1 << 32 {
         panic!(rt; "too long");
     }
-    let frame = match check_frame(rt.alloc(), &made, target) {
+    let frame = match check_frame(rt.alloc(), &made.bytes, target) {
         Ok(frame) => frame,
         Err(fault) => panic!(rt; "{fault}"),
     };
@@ -134,19 +134,23 @@ const RELATIVE_SET_LOC: &str = "\
 140000001c00000014f2ffff5600000000011bf2ffff0e10";
 
 #[test]
-fn set_loc_is_read_only_where_addresses_are_plain(rt: HostRuntime) -> Result<(), AllocError> {
+fn set_loc_is_refused_where_addresses_are_not_plain(rt: HostRuntime) -> Result<(), AllocError> {
     let rows = [(0x1234, "1240 7+8 16=c-8"), (0x1240, "128a 7+16 16=c-8")];
     has_rows(&rt, PLAIN_SET_LOC, LITTLE, false, &rows)?;
     let section = section_of(rt.alloc(), RELATIVE_SET_LOC).expect(&rt, "hex digits");
-    let made = rewrite(rt.alloc(), &section, LITTLE, BASES, false).expect(&rt, "a section");
-    if made.len() >= 1 << 32 {
+    let made = match rewrite(rt.alloc(), &section, LITTLE, BASES, false) {
+        Ok(made) => made,
+        Err(fault) => panic!(&rt; "{fault}"),
+    };
+    if made.bytes.len() >= 1 << 32 {
         panic!(&rt; "too long");
     }
-    // The written CIE has 20 bytes, and the FDE 24 before its program.
-    let unknown = Fault {
-        kind: FaultKind::UnknownInstruction,
-        at: 44,
+    // The written CIE has 20 bytes, and the FDE 24 before its program. In the section itself the CIE has
+    // 24, and the FDE 17.
+    let Err(fault) = check_frame(rt.alloc(), &made.bytes, LITTLE) else {
+        panic!(&rt; "accepted")
     };
-    assert_eq!(&rt; check_frame(rt.alloc(), &made, LITTLE).err(), Some(unknown));
+    assert_eq!(&rt; (fault.kind, fault.at), (FaultKind::UnknownInstruction, 44));
+    assert_eq!(&rt; original_fault(&made.places, fault).at, 41);
     Ok(())
 }

@@ -1,13 +1,15 @@
-use Rattle.std.proofs.Common.{◌≡◌, ◌+◌, ◌<◌, List, sym, subst, Ok, arith}
+use Rattle.std.proofs.Common.{◌≡◌, ◌+◌, ◌<◌, List, [], ◌∷◌, ◌++◌, length, sym, ap, subst, ◌∙◌, Ok, arith}
 use Rattle.std.proofs.lemmas.Result.{err_from_is_err_and}
 use Rattle.dw_bytes.specs.Reading.{section_from}
 use Rattle.dw_eh_frame.specs.declared.rewriting.CiePlace.{CiePlace}
+use Rattle.dw_eh_frame.specs.declared.places.RecordPlace.{RecordPlace}
+use Rattle.dw_eh_frame.specs.Places.{place_for}
 use Rattle.dw_eh_frame.specs.declared.record.EhRecord as declared
-use Rattle.dw_eh_frame.specs.Records.{eh_record_at}
+use Rattle.dw_eh_frame.specs.Records.{eh_cie_at, eh_record_at}
 use Rattle.dw_eh_frame.specs.Progress.{IsUnderWay}
-use Rattle.dw_eh_frame.specs.Views.{IsRead, eh_fde_of, eh_record_of, fde_room, record_room}
+use Rattle.dw_eh_frame.specs.Views.{IsRead, cie_room, eh_cie_of, eh_fde_of, eh_record_of, fde_room, program_of, record_room}
 use Rattle.dw_eh_frame.proofs.Refusing.{refused-reading, refused-fde}
-use Rattle.dw_eh_frame.proofs.Steps.{under-way-fde, under-way-end}
+use Rattle.dw_eh_frame.proofs.Steps.{under-way-cie, under-way-fde, under-way-end}
 use Rattle.dw_eh_frame.proofs.rewriting.rewrite.Goals as goal
 
 pub loop-at-preserved-in_ok-write_fde-in-Fde : goal.loop-at-preserved-in_ok-write_fde-in-Fde
@@ -21,24 +23,50 @@ loop-at-preserved-in_ok-write_fde-in-Fde c =
     let sound = subst (λ (x : declared.EhRecord). IsRead target section c.loop-at.at x) c.in-Fde.is c.in_ok-found.ensures.sound in
     let room : c.loop-at.at + (4 + fde_room fde) < next =
     subst (λ (x : declared.EhRecord). c.loop-at.at + record_room x < next) c.in-Fde.is c.in_ok-found.ensures.room in
-    subst (λ (cies : List CiePlace). IsUnderWay c.args.is_aarch64 c.args.bases c.args.target section c.in_ok-found.next c.write_fde.new.made.bytes.items cies)
-    (sym c.in_ok-write_fde-in-Fde.ensures.place)
+    subst (λ (list : List RecordPlace). IsUnderWay c.args.is_aarch64 c.args.bases c.args.target section c.in_ok-found.next c.write_fde.new.made.bytes.items
+    c.write_fde.new.made.cies.items list) (sym c.in_ok-write_fde-in-Fde.ensures.listed)
+    (subst (λ (cies : List CiePlace). IsUnderWay c.args.is_aarch64 c.args.bases c.args.target section c.in_ok-found.next c.write_fde.new.made.bytes.items
+    cies (c.loop-at.made.places.items ++ place_for fde.offset (program_of fde.program) (length c.loop-at.made.bytes.items)
+    (length c.write_fde.new.made.bytes.items) ∷ [])) (sym c.in_ok-write_fde-in-Fde.ensures.place)
     (under-way-fde c.args.is_aarch64 c.args.bases c.args.target section c.loop-at.at c.in_ok-found.next (eh_fde_of fde) c.loop-at.made.bytes.items
-    c.write_fde.new.made.bytes.items c.loop-at.made.cies.items c.loop-at.invariant is c.in_ok-found.ensures.forward.0
+    c.write_fde.new.made.bytes.items c.loop-at.made.cies.items c.loop-at.made.places.items c.loop-at.invariant is c.in_ok-found.ensures.forward.0
     c.in_ok-found.ensures.forward.1 sound.1
-    (omega (arith, c.in_ok-write_fde-in-Fde.ensures.grows, c.loop-at.invariant.small, room, c.in_ok-found.ensures.forward.0))
-    c.in_ok-write_fde-in-Fde.ensures.wrote)
+    (omega (arith, c.in_ok-write_fde-in-Fde.ensures.grows, c.loop-at.invariant.small, room, c.in_ok-found.ensures.forward.0)) sound.0.inside
+    c.in_ok-write_fde-in-Fde.ensures.wrote))
+
+pub loop-at-preserved-in_ok-write_cie-in-Cie : goal.loop-at-preserved-in_ok-write_cie-in-Cie
+loop-at-preserved-in_ok-write_cie-in-Cie c =
+    let section = c.args.section.now in
+    let target = c.args.target in
+    let next = c.in_ok-found.next in
+    let cie = c.in-Cie.cie in
+    let is = subst (λ (x : declared.EhRecord). eh_record_at c.args.bases section (section_from target section c.loop-at.at) ≡ Ok
+    (eh_record_of x, section_from target section next)) c.in-Cie.is c.in_ok-found.ensures.exact in
+    let sound = subst (λ (x : declared.EhRecord). IsRead target section c.loop-at.at x) c.in-Cie.is c.in_ok-found.ensures.sound in
+    let room : c.loop-at.at + (4 + cie_room cie) < next =
+    subst (λ (x : declared.EhRecord). c.loop-at.at + record_room x < next) c.in-Cie.is c.in_ok-found.ensures.room in
+    let here : eh_cie_at target section cie.offset ≡ Ok (eh_cie_of cie) = ap (eh_cie_at target section) sound.1 ∙ sound.2 in
+    subst (λ (list : List RecordPlace). IsUnderWay c.args.is_aarch64 c.args.bases c.args.target section c.in_ok-found.next c.write_cie.new.made.bytes.items
+    c.write_cie.new.made.cies.items list) (sym c.in_ok-write_cie-in-Cie.ensures.listed)
+    (subst (λ (cies : List CiePlace). IsUnderWay c.args.is_aarch64 c.args.bases c.args.target section c.in_ok-found.next c.write_cie.new.made.bytes.items
+    cies (c.loop-at.made.places.items ++ place_for cie.offset (program_of cie.program) (length c.loop-at.made.bytes.items)
+    (length c.write_cie.new.made.bytes.items) ∷ [])) (sym c.in_ok-write_cie-in-Cie.ensures.place)
+    (under-way-cie c.args.is_aarch64 c.args.bases c.args.target section c.loop-at.at c.in_ok-found.next cie.offset (eh_cie_of cie) c.loop-at.made.bytes.items
+    c.write_cie.new.made.bytes.items c.loop-at.made.cies.items c.loop-at.made.places.items c.loop-at.invariant is c.in_ok-found.ensures.forward.0
+    c.in_ok-found.ensures.forward.1 here sound.1 sound.1
+    (omega (arith, c.in_ok-write_cie-in-Cie.ensures.grows, c.loop-at.invariant.small, room, c.in_ok-found.ensures.forward.0)) sound.0.inside
+    c.in_ok-write_cie-in-Cie.ensures.wrote))
 
 pub returns-clause-rewritten : goal.returns-clause-rewritten
 returns-clause-rewritten c =
     under-way-end c.args.is_aarch64 c.args.bases c.args.target c.args.section.now c.loop-at.at c.loop-at.made.bytes.items
-    c.loop-at.made.cies.items c.loop-at.invariant c.loop-at-test.false
+    c.loop-at.made.cies.items c.loop-at.made.places.items c.loop-at.invariant c.loop-at-test.false
 
 pub returns-in_err-found-clause-refused : goal.returns-in_err-found-clause-refused
 returns-in_err-found-clause-refused c =
     let p = err_from_is_err_and c.from_residual-in_err-found.result c.from_residual-in_err-found.ensures.1 in rw (p.1, p.2)
     (refused-reading c.args.is_aarch64 c.args.bases c.args.target c.args.section.now c.loop-at.at c.loop-at.made.bytes.items
-    c.loop-at.made.cies.items _ c.loop-at.invariant c.loop-at-test.true c.in_err-found.ensures.exact)
+    c.loop-at.made.cies.items c.loop-at.made.places.items _ c.loop-at.invariant c.loop-at-test.true c.in_err-found.ensures.exact)
 
 pub returns-in_err-write_fde-in-Fde-clause-refused : goal.returns-in_err-write_fde-in-Fde-clause-refused
 returns-in_err-write_fde-in-Fde-clause-refused c =
@@ -52,5 +80,5 @@ returns-in_err-write_fde-in-Fde-clause-refused c =
     subst (λ (x : declared.EhRecord). c.loop-at.at + record_room x < next) c.in-Fde.is c.in_ok-found.ensures.room in
     rw (p.1, p.2)
     (refused-fde c.args.is_aarch64 c.args.bases target section c.loop-at.at next (fde_room c.in-Fde.fde) c.loop-at.made.bytes.items
-    c.loop-at.made.cies.items (eh_fde_of c.in-Fde.fde) _ c.loop-at.invariant (omega (arith, room)) c.in_ok-found.ensures.forward.1 is
+    c.loop-at.made.cies.items c.loop-at.made.places.items (eh_fde_of c.in-Fde.fde) _ c.loop-at.invariant (omega (arith, room)) c.in_ok-found.ensures.forward.1 is
     c.in_err-write_fde-in-Fde.ensures.refused)

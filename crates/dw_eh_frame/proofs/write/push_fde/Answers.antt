@@ -10,6 +10,11 @@ returns-clause-wrote c =
     c.in_ok-push_fde_fields.ensures c.in_ok-push_program.ensures
 
 pub returns-clause-grows : goal.returns-clause-grows
-returns-clause-grows c = fde-grows c.args.target c.args.dialect c.args.pointer c.args.initial c.args.range
+returns-clause-grows c = (fde-grows c.args.target c.args.dialect c.args.pointer c.args.initial c.args.range
     (record { target = c.args.target; position = 0; rest = c.args.program.now }) c.args.out.now.items c.push_program.new.out.items
-    (returns-clause-wrote c)
+    (returns-clause-wrote c)).0
+
+pub returns-clause-holds : goal.returns-clause-holds
+returns-clause-holds c = (fde-grows c.args.target c.args.dialect c.args.pointer c.args.initial c.args.range
+    (record { target = c.args.target; position = 0; rest = c.args.program.now }) c.args.out.now.items c.push_program.new.out.items
+    (returns-clause-wrote c)).1
