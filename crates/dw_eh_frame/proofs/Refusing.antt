@@ -32,7 +32,7 @@ refused-reading a bases target section at made cies list fault way some is =
     inr (inr (inl (ap fault_in (way.read ∙ ap (λ (xs : List (Result EhRecord Fault)). map Ok way.records ++ xs)
     (at-fault bases target section at fault some is)) ∙ behind-good way.records fault)))
 
--- a record of so many bytes wasn't written
+-- a record wasn't written
 pub refused-record : (a : Bool) (bases : Bases) (target : Target) (section : List ℕ) (at next room : ℕ) (made : List ℕ)
     (cies : List CiePlace) (list : List RecordPlace) (fault : Fault) → IsUnderWay a bases target section at made cies list → at + room < next → next ≤ length section
     → IsUnwritten (length made + room + 32) fault → IsRefused bases target section fault

@@ -8,6 +8,11 @@ pub mod Augmentations
 pub mod Records
 -- the call frame instructions (10.5.2)
 pub mod Instructions
+-- ---- What is written for a section, and why it may be refused. Which rows a section gives doesn't
+-- depend on this.
+
+-- programs with nops in place of some instructions
+pub mod Silencing
 -- programs with the same instructions, except for nops
 pub mod Same
 -- when a `.debug_frame` section says what an `.eh_frame` section says
@@ -21,8 +26,6 @@ pub mod Refused
 pub mod Views
 -- ---- Internal.
 
--- programs with nops in place of some instructions
-pub mod Silencing
 -- the state of a rewriting
 pub mod Progress
 -- the bytes that are written for a record of `.debug_frame`

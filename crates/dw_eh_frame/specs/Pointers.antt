@@ -50,7 +50,7 @@ encoding_of code =
 
 -- ---- the number that a pointer holds
 
--- the number n of so many bytes, read as two's complement, as a number of 64 bits
+-- the number n, which the given number of bytes hold as two's complement, as a number of 64 bits
 abbrev pub sign_extended : ℕ → ℕ → ℕ
 sign_extended bytes n = if nat_lt n (2 ^ (8 * bytes - 1)) then n else n + (2 ^ 64 - 2 ^ (8 * bytes))
 

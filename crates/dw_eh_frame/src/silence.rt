@@ -124,7 +124,7 @@ fn skip_instruction(cursor: &mut Cursor<'_>, dialect: Dialect) -> Result<bool, F
     }
 }
 
-/// Appends so many bytes 0, which are nops.
+/// Appends `count` bytes 0, which are nops.
 #[tactic(auto, using(crate::proofs::Nops::silence_laws))]
 fn push_nops(out: &mut Vec<u8>, count: u32) -> Result<(), AllocError>
     ensures { OnOk result (out.new.items ≡ out.old.items ++ replicate count 0) }
@@ -135,7 +135,7 @@ fn push_nops(out: &mut Vec<u8>, count: u32) -> Result<(), AllocError>
     Ok(())
 }
 
-/// Appends an instruction of so many bytes, or as many nops.
+/// Appends an instruction of `size` bytes, or as many nops.
 fn push_piece(
     out: &mut Vec<u8>,
     cursor: &Cursor<'_>,

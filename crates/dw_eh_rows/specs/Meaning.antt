@@ -26,7 +26,7 @@ numbers_of c = cie_header (record {
   return_address_register = c.return_address_register;
 })
 
--- the FDE as DWARF has it, with its program where it stands in `.eh_frame`
+-- the FDE as DWARF has it, with its program where it is in `.eh_frame`
 abbrev pub as_fde : EhFde → Fde
 as_fde e = record {
   offset = e.offset;

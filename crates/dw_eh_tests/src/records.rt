@@ -55,7 +55,7 @@ fn addresses_are_read_in_each_format(rt: HostRuntime) {
 }
 
 /// The same FDE with addresses of four bytes relative to text and to data, and with an aligned address of
-/// eight bytes, which lies four bytes behind the place where it is expected.
+/// eight bytes, which follows four bytes of padding.
 const BASED: [(&str, Bases); 3] = [
     (
         "1400000000000000017a5200017810012b0c070890010000100000001c000000340200005600000000000000",
