@@ -105,7 +105,7 @@ enum {
 
 /* Why an input is refused. `number` says what is wrong (docs/PROFILE.md lists the numbers),
    `offset` says where, and `within` says what the offset counts. */
-typedef struct { uint32_t number, offset, within, reserved; } dwcheck_fault;
+typedef struct dwcheck_fault { uint32_t number, offset, within, reserved; } dwcheck_fault;
 
 /* Writes the name of a fault, such as "NoSuchCie", to `text`, without a NUL at the end and as much
    as fits. Writes the length of the whole name, at most 22, to `size`. Returns DONE; or NONE if no
@@ -128,7 +128,7 @@ uint32_t dwcheck_check(const uint8_t *frame, size_t frame_length, const uint8_t 
 /* A process: its modules, each a compiled .debug_frame section with a load address. The fields
    are private. A process whose bytes are all 0 is closed: it has no module, and every call
    accepts it. */
-typedef struct { void *opaque; uint64_t opaque_open; } dwcheck_process;
+typedef struct dwcheck_process { void *opaque; uint64_t opaque_open; } dwcheck_process;
 #define DWCHECK_CLOSED {0, 0}
 
 /* A module to be added: the executable or a library of the process.
@@ -153,7 +153,7 @@ typedef struct { void *opaque; uint64_t opaque_open; } dwcheck_process;
      much, the call never returns NO_ROOM. If `room` is less, the call may return NO_ROOM although
      the table would fit thanks to sharing. `room` doesn't bound the memory that the call uses while
      it checks and compiles. */
-typedef struct {
+typedef struct dwcheck_module {
     const uint8_t *frame;
     size_t frame_length;
     uint64_t load_address, first, last, cookie;
@@ -193,7 +193,7 @@ void dwcheck_process_close(dwcheck_process *process);
 
 /* A module of a process: its id, its cookie, its load address, and the first and the last address,
    as loaded, that it answers for. */
-typedef struct { uint64_t id, cookie, load_address, first, last; } dwcheck_loaded;
+typedef struct dwcheck_loaded { uint64_t id, cookie, load_address, first, last; } dwcheck_loaded;
 
 /* Writes the module that answers for `address`, an address as loaded. Returns DONE; or NONE if no
    module does, and then nothing is written. The call takes O(log n) time among n modules. It
@@ -214,7 +214,7 @@ enum {
     DWCHECK_RULE_EXPRESSION = 6,    /* saved in memory at the address that the expression gives */
     DWCHECK_RULE_VAL_EXPRESSION = 7 /* the value that the expression gives */
 };
-typedef struct { int64_t offset; uint64_t length; uint16_t reg, source; uint32_t kind; } dwcheck_rule;
+typedef struct dwcheck_rule { int64_t offset; uint64_t length; uint16_t reg, source; uint32_t kind; } dwcheck_rule;
 
 #define DWCHECK_MAX_RULES 128
 
@@ -222,7 +222,7 @@ typedef struct { int64_t offset; uint64_t length; uint16_t reg, source; uint32_t
    from `start` up to, but not including, `end`. If cfa.kind is DWCHECK_RULE_VAL_OFFSET, the CFA is the
    value of register cfa.reg plus cfa.offset. If it is DWCHECK_RULE_VAL_EXPRESSION, the CFA is the
    value that an expression gives. */
-typedef struct {
+typedef struct dwcheck_row {
     uint64_t id, cookie, load_address, start, end;
     dwcheck_rule cfa;
     uint32_t return_reg; /* the register of the return address */
@@ -239,7 +239,7 @@ uint32_t dwcheck_row_at(const dwcheck_process *process, uint64_t address, dwchec
 /* ---- callers and walks --------------------------------------------------------------------------------------------- */
 
 /* A block of memory that starts at address `base`. `bytes` must not be NULL, even if `length` is 0. */
-typedef struct { uint64_t base; const uint8_t *bytes; size_t length; } dwcheck_block;
+typedef struct dwcheck_block { uint64_t base; const uint8_t *bytes; size_t length; } dwcheck_block;
 
 /* The state of a stopped thread. The value of register n is contents[n] if contents[n] and
    known[n / 8] exist and bit n % 8 of known[n / 8] is set (bit 0 is the least significant);
@@ -248,7 +248,7 @@ typedef struct { uint64_t base; const uint8_t *bytes; size_t length; } dwcheck_b
    and, if has_stack_pointer isn't 0, stack_pointer. The ABI applies to registers to which the row
    gives no rule: in the caller, a register in `kept` has the value that it has now, the stack
    pointer is the CFA, and any other register is undefined. The ABI names no register twice. */
-typedef struct {
+typedef struct dwcheck_state {
     const uint64_t *contents;
     size_t contents_length;
     const uint8_t *known;
@@ -270,13 +270,13 @@ enum {
                                     the highest address, 2^w - 1 */
     DWCHECK_DIVISION_BY_ZERO = 4 /* its expression divides by zero */
 };
-typedef struct { uint64_t value; uint32_t kind, reserved; } dwcheck_answer;
-typedef struct { uint64_t value; uint32_t kind, number; } dwcheck_register;
+typedef struct dwcheck_answer { uint64_t value; uint32_t kind, reserved; } dwcheck_answer;
+typedef struct dwcheck_register { uint64_t value; uint32_t kind, number; } dwcheck_register;
 
 /* A caller. `cfa` is the canonical frame address of the frame that was called. `return_address` is
    where the caller continues, just after the call. `count` is the number of registers that have a
    rule from the row or the ABI, at most DWCHECK_MAX_REGISTERS. */
-typedef struct { dwcheck_answer cfa, return_address; uint64_t count; } dwcheck_caller;
+typedef struct dwcheck_caller { dwcheck_answer cfa, return_address; uint64_t count; } dwcheck_caller;
 
 #define DWCHECK_MAX_REGISTERS 256
 
@@ -290,7 +290,7 @@ uint32_t dwcheck_unwind(const dwcheck_process *process, uint64_t address, const 
                         dwcheck_register *registers, size_t registers_length, dwcheck_fault *fault);
 
 /* A frame: its address as loaded, and its canonical frame address (CFA). */
-typedef struct { uint64_t address; dwcheck_answer cfa; } dwcheck_frame;
+typedef struct dwcheck_frame { uint64_t address; dwcheck_answer cfa; } dwcheck_frame;
 
 /* Why a walk ends. */
 enum {
@@ -328,7 +328,7 @@ enum {
    plain data of the caller's. It may be read, copied, changed and dropped at any time, and a walk may
    be taken up again from a copy. Any bytes are a cursor. If the frame was interrupted by a signal,
    so that its address isn't a return address, set `stage` to DWCHECK_CURSOR_EXACT before the step. */
-typedef struct {
+typedef struct dwcheck_cursor {
     uint64_t contents[96];
     uint8_t known[96];
     uint64_t address; /* as loaded */
@@ -363,7 +363,7 @@ enum { DWCHECK_FRAME_CFA = 0, DWCHECK_FRAME_REGISTER = 1, DWCHECK_LOCATION = 2 }
 /* Values that an expression may need and that depend on where the program stopped: the CFA, the
    frame base (for DW_OP_fbreg) and the address of the object (for DW_OP_push_object_address). Each
    is known only if its flag, such as has_cfa, isn't 0. */
-typedef struct {
+typedef struct dwcheck_context {
     uint64_t cfa, frame_base, object;
     uint32_t has_cfa, has_frame_base, has_object, reserved;
 } dwcheck_context;
@@ -386,11 +386,11 @@ enum {
                                              (dwcheck_evaluate says where they go) */
     DWCHECK_LOCATION_PIECES = 8           /* `count` pieces, 32 at most */
 };
-typedef struct { uint64_t value; uint32_t kind, offset, steps, count; } dwcheck_value;
+typedef struct dwcheck_value { uint64_t value; uint32_t kind, offset, steps, count; } dwcheck_value;
 
 /* A piece: where it is (`kind` and `value`, as in dwcheck_value), and its size. The size is in
    bytes; but if is_bits isn't 0, it is in bits, and the piece begins at bit bit_offset. */
-typedef struct { uint64_t value; uint32_t kind, size, bit_offset, is_bits; } dwcheck_piece;
+typedef struct dwcheck_piece { uint64_t value; uint32_t kind, size, bit_offset, is_bits; } dwcheck_piece;
 
 #define DWCHECK_MAX_PIECES 32
 
@@ -410,10 +410,10 @@ uint32_t dwcheck_evaluate(const uint8_t *expression, size_t expression_length, u
 
 /* What to look up: `address`, an address as linked, in the list whose first byte is at offset
    `list` of the section. `base` is the base address of the unit to which the list belongs. */
-typedef struct { uint64_t base, address; uint32_t list, reserved; } dwcheck_lookup;
+typedef struct dwcheck_lookup { uint64_t base, address; uint32_t list, reserved; } dwcheck_lookup;
 
 /* An expression: the offset in the section where it begins, and its length in bytes. */
-typedef struct { uint64_t offset, length; } dwcheck_location;
+typedef struct dwcheck_location { uint64_t offset, length; } dwcheck_location;
 
 /* Checks a .debug_loclists section, and writes the expressions of a list that apply at an address
    into `locations`, in the order of the list, as many as fit. `count` becomes the number written;

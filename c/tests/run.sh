@@ -2,8 +2,8 @@
 # Builds the tests with the static library build/libdwcheck.a, or the one that LIBRARY names, and runs
 # them: those of readers.c, frozen.c and cursor.c; those of wrapper.cc, as C++17 and as C++20; and those
 # of cases.c while allocations fail in turn, with sanitizers, and under valgrind. Before that, the
-# header is compiled as C11 and as C++17; in both, passing a pointer of a wrong type must be an error. Prints a line `ok NAME` or `FAILED NAME` for
-# each, and ends with status 1 if one failed.
+# header is compiled as C11, C17 and C++17; passing a pointer of a wrong type must be an error. Prints
+# a line `ok NAME` or `FAILED NAME` for each, and ends with status 1 if one failed.
 set -u
 top=$(dirname "$(dirname "$(dirname "$(realpath "$0")")")")
 library=${LIBRARY:-$top/build/libdwcheck.a}
@@ -50,6 +50,7 @@ cases_under_valgrind() {
 }
 
 test_of "the header as C11" header cc c11 c
+test_of "the header as C17" header cc c17 c
 test_of "the header as C++17" header c++ c++17 c++
 test_of "pointers of wrong types in C" refuses_wrong_pointers c
 test_of "pointers of wrong types in C++" refuses_wrong_pointers c++
