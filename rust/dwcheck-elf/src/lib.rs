@@ -27,6 +27,7 @@ pub mod expression;
 pub mod fault;
 pub mod frames;
 pub mod functions;
+pub mod image;
 pub mod inspect;
 mod layout;
 pub mod lint;

@@ -6,7 +6,8 @@
 use crate::bridge::{EhFrame, Options};
 use crate::frames::{room, Frames, Name};
 use crate::functions::Functions;
-use crate::program::{Kind, Program};
+use crate::image::{Image, Part};
+use crate::program::Program;
 use crate::stack::accepted;
 use crate::target::AddressSize;
 use dwcheck::{CfaRule, Process, Span};
@@ -22,9 +23,10 @@ use std::fmt;
 type Bytes<'a> = EndianSlice<'a, RunTimeEndian>;
 type Header<'a> = gimli::FrameDescriptionEntry<Bytes<'a>>;
 
-/// The frame sections of a program, checked, with all their rows.
+/// The frame sections of a program, checked, with all their rows, and its code.
 pub struct Sections<'data> {
     all: Vec<(Frames<'data>, Process)>,
+    image: Image<'data>,
     /// What of them isn't used, and why.
     pub unused: Vec<String>,
 }
@@ -34,15 +36,13 @@ pub struct Sections<'data> {
 pub enum LintError {
     /// The code of the machine with this number (`e_machine`) isn't read.
     Machine(u16),
-    /// It isn't linked, so its code has no addresses.
-    Unlinked,
 }
 
 impl<'data> Sections<'data> {
-    /// Reads the frame sections of a program, `.eh_frame` first. CIEs and FDEs that `dwcheck` refuses
-    /// are left out.
+    /// Reads the frame sections of a program, `.eh_frame` first, and its code. CIEs and FDEs that
+    /// `dwcheck` refuses are left out.
     pub fn read(program: &Program<'data>) -> Self {
-        let mut sections = Sections { all: Vec::new(), unused: Vec::new() };
+        let mut sections = Sections { all: Vec::new(), image: program.image(), unused: Vec::new() };
         for frames in Frames::all(program, Options::default()) {
             match frames {
                 Ok(frames) => {
@@ -57,20 +57,21 @@ impl<'data> Sections<'data> {
         sections
     }
 
-    /// The module that is linted. `data` are the bytes of the program's file.
-    pub fn module<'a>(
-        &'a self,
-        program: &Program<'a>,
-        data: &'a [u8],
-        functions: &Functions<'_>,
-    ) -> Result<Module<'a>, LintError> {
+    /// The module that is linted.
+    pub fn module<'a>(&'a self, program: &Program<'a>, functions: &Functions<'_>) -> Result<Module<'a>, LintError> {
         let machine = LintError::of(program)?;
-        let segments = segments(program, data);
+        let parts = &self.image.parts;
+        let segment = |part: &'a Part<'_>| {
+            let (address, bytes, is_executable) = (part.address, &*part.bytes, part.is_executable);
+            Segment { address, bytes, is_executable }
+        };
+        let section = |part: &'a Part<'_>| Some((part.address, part.section.as_deref()?));
         let mut module = Module {
             machine,
-            segments,
+            segments: parts.iter().map(segment).collect(),
+            sections: parts.iter().filter_map(section).collect(),
             fdes: Vec::new(),
-            imports: program.imports().into_iter().collect(),
+            imports: self.image.imports.iter().copied().collect(),
             convention: convention(program, functions),
             rows: Box::new(SectionRows::of(self)),
         };
@@ -83,7 +84,8 @@ impl<'data> Sections<'data> {
     fn fdes(&self, module: &Module<'_>) -> Vec<Fde> {
         let mut fdes: Vec<Fde> = self.all.iter().flat_map(|(frames, _)| fdes(frames, module)).collect();
         // Linkers leave FDEs of functions that they drop at address 0.
-        fdes.retain(|fde| fde.begin != 0 && fde.begin < fde.end);
+        let is_linked = module.sections.is_empty();
+        fdes.retain(|fde| (fde.begin != 0 || !is_linked) && fde.begin < fde.end);
         fdes.sort_by_key(|fde| fde.begin);
         let mut end = 0;
         fdes.retain(|fde| {
@@ -103,19 +105,6 @@ fn add_accepted(process: &mut Process, frames: &Frames<'_>) -> Result<(), String
     let added = process.add(&bytes, whole.room(room(&bytes)));
     added.map_err(|error| format!("{}: {}", frames.name(), error))?;
     left_out.map_or(Ok(()), Err)
-}
-
-/// The parts of the file that are loaded, ascending.
-fn segments<'a>(program: &Program<'_>, data: &'a [u8]) -> Vec<Segment<'a>> {
-    let loaded = program.segments().into_iter().filter_map(|segment| {
-        let begin = usize::try_from(segment.offset).ok()?;
-        let end = begin.checked_add(usize::try_from(segment.file_size).ok()?)?;
-        let (address, is_executable) = (segment.address, segment.is_executable);
-        Some(Segment { address, bytes: data.get(begin..end)?, is_executable })
-    });
-    let mut loaded: Vec<_> = loaded.collect();
-    loaded.sort_by_key(|segment| segment.address);
-    loaded
 }
 
 /// What the functions of a program do with registers: those of Go and OCaml keep none.
@@ -254,11 +243,7 @@ impl LintError {
     pub fn of(program: &Program<'_>) -> Result<&'static Machine, LintError> {
         let is_wide = program.target().address_size == AddressSize::Eight;
         let machine = Machine::numbered(program.machine()).filter(|_| is_wide);
-        match (machine, program.kind()) {
-            (None, _) => Err(LintError::Machine(program.machine())),
-            (_, Kind::Relocatable) => Err(LintError::Unlinked),
-            (Some(machine), _) => Ok(machine),
-        }
+        machine.ok_or_else(|| LintError::Machine(program.machine()))
     }
 }
 
@@ -266,7 +251,6 @@ impl fmt::Display for LintError {
     fn fmt(&self, f: &mut fmt::Formatter<'_>) -> fmt::Result {
         match self {
             LintError::Machine(number) => write!(f, "the code of machine {} isn't read, only that of x86-64", number),
-            LintError::Unlinked => f.write_str("the code of unlinked objects isn't read"),
         }
     }
 }

@@ -4,13 +4,12 @@ mod by_segment;
 
 use crate::bridge::EhFrame;
 use crate::functions::Functions;
+use crate::image::Image;
 use crate::layout::{is_loaded, Layout};
 use crate::relocate::{self, RelocationError};
 use crate::target::{AddressSize, Order, Target};
 use object::elf;
-use object::read::{
-    CompressionFormat, Object, ObjectSection, ObjectSegment, ObjectSymbol, ObjectSymbolTable, RelocationTarget,
-};
+use object::read::{CompressionFormat, Object, ObjectSection, ObjectSegment};
 use object::{SectionFlags, SegmentFlags};
 use std::borrow::Cow;
 use std::fmt;
@@ -205,19 +204,14 @@ impl<'data> Program<'data> {
         self.file.section_by_name(name).is_some()
     }
 
-    /// The names of functions and data of other modules, with the addresses of the pointers to them
-    /// that the dynamic linker sets.
-    pub fn imports(&self) -> Vec<(u64, &'data str)> {
-        let symbols = self.file.dynamic_symbol_table();
-        let relocations = self.file.dynamic_relocations().into_iter().flatten();
-        let named = relocations.filter_map(|(address, relocation)| match relocation.target() {
-            RelocationTarget::Symbol(index) => {
-                let symbol = symbols.as_ref()?.symbol_by_index(index).ok()?;
-                Some((address, symbol.name().ok()?))
-            }
-            _ => None,
-        });
-        named.collect()
+    /// The code and data as they are in memory. In an unlinked object, each section has the address that
+    /// its functions have, and its relocations are applied as far as they are known.
+    pub fn image(&self) -> Image<'data> {
+        let (file, layout, machine, target) = (&self.file, &self.layout, self.machine, self.target);
+        match self.kind {
+            Kind::Relocatable => Image::of_object(relocate::Object { file, layout, machine, target }),
+            _ => Image::of_linked(file),
+        }
     }
 
     /// The parts of the file that are loaded into memory.

@@ -1,5 +1,6 @@
 //! Applies the relocations of an unlinked object to one of its sections.
 
+use crate::image::Outside;
 use crate::layout::Layout;
 use crate::target::Target;
 use object::elf;
@@ -80,6 +81,39 @@ impl Object<'_, '_> {
         Ok(unresolved)
     }
 
+    /// Applies the relocations of a section of code or data, as far as they are known: all others leave
+    /// their fields unchanged. What the object doesn't define is at addresses of `outside`.
+    pub fn relocate_all(&self, section: &object::Section<'_, '_>, bytes: &mut [u8], outside: Outside) {
+        let start = self.layout.address(section.index());
+        for (offset, relocation) in section.relocations() {
+            let (step, symbol) = match self.code_step(&relocation, outside) {
+                Some(found) => found,
+                None => continue,
+            };
+            if let Some(field) = field(bytes, offset, step.bits) {
+                self.apply(field, start.wrapping_add(offset), symbol, step, &relocation);
+            }
+        }
+    }
+
+    /// What a relocation of code or data does, and the address of its symbol or of the pointer to that.
+    fn code_step(&self, relocation: &Relocation, outside: Outside) -> Option<(Step, u64)> {
+        if self.machine == elf::EM_X86_64 && is_x86_64_pointer(relocation.kind()) {
+            let step = Step { action: Action::Relative, bits: 32 };
+            return match relocation.target() {
+                RelocationTarget::Symbol(index) => Some((step, outside.pointer(index))),
+                _ => None,
+            };
+        }
+        let step = step_of(self.machine, relocation).ok()?;
+        let symbol = match (self.symbol(relocation).ok()?, relocation.target()) {
+            (Some(symbol), _) => symbol,
+            (None, RelocationTarget::Symbol(index)) => outside.symbol(index),
+            _ => return None,
+        };
+        Some((step, symbol))
+    }
+
     /// The address of the symbol that a relocation names. `None` if the object doesn't define the
     /// symbol. An error if the file has no such symbol.
     fn symbol(&self, relocation: &Relocation) -> Result<Option<u64>, RelocationError> {
@@ -142,6 +176,13 @@ fn step_of(machine: u16, relocation: &Relocation) -> Result<Step, RelocationErro
         }
         kind => Err(RelocationError::Type(format!("{:?}", kind))),
     }
+}
+
+/// Whether a relocation of x86-64 stands for the pointer to a symbol in the global offset table, relative
+/// to the field.
+fn is_x86_64_pointer(kind: RelocationKind) -> bool {
+    let relaxed = [elf::R_X86_64_GOTPCRELX, elf::R_X86_64_REX_GOTPCRELX];
+    kind == RelocationKind::GotRelative || matches!(kind, RelocationKind::Elf(code) if relaxed.contains(&code))
 }
 
 /// The type `R_MIPS_PC32`, for which the crate `object` has no name.

@@ -101,12 +101,90 @@ fn folders_and_files_of_other_kinds() {
     let folder = folder("lint-folder");
     let ran = dwcheck_elf(&folder, "lint --jobs 1 all");
     assert_eq!((ran.status, ran.error.as_str()), (1, ""), "{}", ran.out);
-    assert!(ran.out.contains("\nfiles 2 others 1 unread 0 findings 1 backtrace-broken 1 "), "{}", ran.out);
-    let named = dwcheck_elf(&folder, "lint all/a.o all/text nowhere");
+    assert!(ran.out.contains("\nfiles 3 others 0 unread 0 findings 2 backtrace-broken 2 "), "{}", ran.out);
+    let named = dwcheck_elf(&folder, "lint all/text nowhere");
     assert_eq!(named.status, 3);
-    assert!(named.error.contains("all/a.o: the code of unlinked objects isn't read\n"), "{}", named.error);
     assert!(named.error.contains("cannot read all/text: not an ELF file\n"), "{}", named.error);
     assert!(named.error.contains("cannot read nowhere: "), "{}", named.error);
+}
+
+/// An object with a wrong row in a section of its own, and with a call of a function elsewhere that doesn't
+/// return: if it did, the stack pointer wouldn't be known after it.
+const OBJECT: &str = ".text
+right: .cfi_startproc
+ push %rbp
+ .cfi_adjust_cfa_offset 8
+ .cfi_offset rbp, -16
+ mov %rsp, %rbp
+ .cfi_def_cfa_register rbp
+ test %edi, %edi
+ jne 1f
+ mov (%rsi), %rsp
+ CALL
+1: mov %edi, %eax
+ .cfi_def_cfa rsp, 16
+ pop %rbp
+ .cfi_restore rbp
+ .cfi_adjust_cfa_offset -8
+ ret
+ .cfi_endproc
+.section .text.wrong, \"axG\", @progbits, wrong, comdat
+.globl wrong
+.type wrong, @function
+wrong: .cfi_startproc
+ push %rax
+ mov %rdi, %rax
+ pop %rcx
+ ret
+ .cfi_endproc
+";
+
+#[test]
+fn sections_of_unlinked_objects_have_addresses_of_their_own() {
+    let folder = Folder::new("lint-object");
+    for call in ["call abort@PLT", "call *abort@GOTPCREL(%rip)"] {
+        folder.write("a.s", OBJECT.replace("CALL", call));
+        folder.run("gcc -c a.s");
+        let ran = dwcheck_elf(&folder, "lint a.o");
+        let lines = ran.lines();
+        let expected = "a.o: push without row at wrong+0x1 (.text.wrong+0x1): backtrace broken: \
+                        the row's CFA is off by -8, 2 addresses";
+        assert_eq!((ran.status, lines[0]), (1, expected), "{}", ran.out);
+        assert_eq!(lines[1..3], ["    after .text.wrong+0x0: push %rax", "    at .text.wrong+0x1: mov %rdi, %rax"]);
+        assert_eq!(lines[5..], ["a.o: fdes 2 instructions 13 judged 13"]);
+        folder.write("known", &ran.out);
+        assert_eq!(dwcheck_elf(&folder, "lint --known known a.o").status, 0);
+    }
+    let json = dwcheck_elf(&folder, "lint --json a.o");
+    assert!(json.out.contains("\"section\":\".text.wrong\",\"offset\":1,\"function\":\"wrong+0x1\""), "{}", json.out);
+}
+
+#[test]
+fn debug_frame_of_unlinked_objects() {
+    let folder = Folder::new("lint-debug-frame");
+    folder.write("a.s", format!(".cfi_sections .debug_frame\n{}", OBJECT.replace("CALL", "call abort")));
+    folder.run("gcc -c a.s");
+    let ran = dwcheck_elf(&folder, "lint a.o");
+    assert_eq!((ran.status, ran.lines().len()), (1, 6), "{}", ran.out);
+    assert!(ran.out.contains("push without row at wrong+0x1 (.text.wrong+0x1)"), "{}", ran.out);
+}
+
+/// Tables of jumps, landing pads and cold parts are found by their relocations.
+#[test]
+fn nothing_is_found_in_right_objects() {
+    let folder = Folder::new("lint-objects");
+    folder.write("a.c", C);
+    folder.write("b.cc", CXX);
+    for options in ["-O2", "-O2 -ffunction-sections -fPIC", "-O0 -fno-pie"] {
+        folder.run(&format!("gcc -w {0} -c a.c && g++ -w {0} -c b.cc && gcc -w {0} a.c -o a", options));
+        let (unlinked, linked) = (dwcheck_elf(&folder, "lint a.o b.o"), dwcheck_elf(&folder, "lint a"));
+        assert_eq!((unlinked.status, linked.status), (0, 0), "{}{}", unlinked.out, linked.out);
+        for line in unlinked.lines() {
+            let after =
+                |word: &str| line.split(word).nth(1).and_then(|rest| rest.split(' ').nth(1)).map(str::to_string);
+            assert_eq!(after(" instructions"), after(" judged"), "{}", line);
+        }
+    }
 }
 
 #[test]
@@ -159,7 +237,7 @@ fn changed_programs() {
         }
         if let Ok(program) = Program::read(&changed) {
             let (sections, functions) = (Sections::read(&program), program.functions());
-            let module = sections.module(&program, &changed, &functions);
+            let module = sections.module(&program, &functions);
             module.iter().for_each(|module| drop(lint(module)));
         }
     }

@@ -92,8 +92,10 @@ impl Callees {
 
     fn target_never_returns(&mut self, module: &Module<'_>, target: Target, depth: usize) -> bool {
         match target {
+            Target::Code(address) | Target::Pointer(address) if module.imports.contains_key(&address) => {
+                module.imports.get(&address).map_or(false, |name| is_ending(name))
+            }
             Target::Code(address) => self.code_never_returns(module, address, depth),
-            Target::Pointer(pointer) => module.imports.get(&pointer).map_or(false, |name| is_ending(name)),
             _ => false,
         }
     }

@@ -3,7 +3,7 @@
 use crate::flow::Flow;
 use crate::judge::{Facts, Verdict};
 use crate::lint::Lint;
-use crate::report::{RowText, Sum};
+use crate::report::{Place, RowText, Sum};
 use crate::state::State;
 use crate::truth::{Location, Truth};
 use crate::walk::{Edge, Exit, Visitor};
@@ -13,6 +13,8 @@ use crate::walk::{Edge, Exit, Visitor};
 pub struct Line {
     /// The address of the instruction.
     pub address: u64,
+    /// The address as it is shown.
+    pub place: String,
     /// The instruction.
     pub instruction: String,
     /// The row there.
@@ -48,7 +50,8 @@ impl<'m> Visitor<'m> for Listing {
             None => ("no row".to_string(), String::new(), Verdict::default()),
         };
         let code = if state.is_assumed { format!("{} (assumed)", code) } else { code };
-        self.0.push(Line { address, instruction, row, code, is_wrong: verdict.wrong != Facts::NONE });
+        let place = Place(flow.module, address).to_string();
+        self.0.push(Line { address, place, instruction, row, code, is_wrong: verdict.wrong != Facts::NONE });
     }
 
     fn edge(&mut self, _: &mut Flow<'m, '_>, _: Edge, _: &State) {}

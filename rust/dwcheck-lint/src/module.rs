@@ -34,9 +34,13 @@ pub struct Module<'a> {
     pub machine: &'static Machine,
     /// What is loaded, ascending by address.
     pub segments: Vec<Segment<'a>>,
+    /// In an unlinked object, the first address and the name of each section, ascending. Otherwise
+    /// empty: the addresses are those that the file says.
+    pub sections: Vec<(u64, &'a str)>,
     /// The FDEs, ascending by their first address, without two that share an address.
     pub fdes: Vec<Fde>,
-    /// The names of functions of other modules, by the addresses of the pointers to them.
+    /// The names of functions of other modules, by the addresses of the pointers to them, and in an
+    /// unlinked object by the addresses that stand for them.
     pub imports: HashMap<u64, &'a str>,
     /// What its functions do with registers.
     pub convention: Convention,
@@ -51,6 +55,13 @@ impl<'a> Module<'a> {
         let found = count.checked_sub(1).and_then(|last| self.segments.get(last));
         let bytes = found.and_then(|segment| segment.bytes.get(usize::try_from(address - segment.address).ok()?..));
         bytes.unwrap_or(&[])
+    }
+
+    /// The name of a section, and how far an address is from its beginning. `None` in a linked file.
+    pub fn section_of(&self, address: u64) -> Option<(&'a str, u64)> {
+        let count = self.sections.partition_point(|(begin, _)| *begin <= address);
+        let (begin, name) = *self.sections.get(count.checked_sub(1)?)?;
+        Some((name, address - begin))
     }
 
     /// The instruction at an address.

@@ -23,6 +23,10 @@ pub struct Text<'a, 'm>(pub &'a Module<'m>, pub &'a Finding<'m>, pub &'a Names<'
 /// A finding as an object of JSON.
 pub struct Json<'a, 'm>(pub &'a Module<'m>, pub &'a Finding<'m>, pub &'a Names<'a>);
 
+/// An address as it is shown: `0x1234`, or in an unlinked object `.text.f+0x12`, where the names of its
+/// sections stand for their addresses.
+pub struct Place<'a, 'm>(pub &'a Module<'m>, pub u64);
+
 /// A string of JSON, with its quotes.
 pub struct Quoted<'a>(pub &'a str);
 
@@ -32,6 +36,15 @@ pub struct Sum<'a>(pub &'a Machine, pub Register, pub i64);
 impl fmt::Display for Sum<'_> {
     fn fmt(&self, f: &mut fmt::Formatter<'_>) -> fmt::Result {
         write!(f, "{}{:+}", self.0.name(self.1), self.2)
+    }
+}
+
+impl fmt::Display for Place<'_, '_> {
+    fn fmt(&self, f: &mut fmt::Formatter<'_>) -> fmt::Result {
+        match self.0.section_of(self.1) {
+            Some((name, offset)) => write!(f, "{}+{:#x}", name, offset),
+            None => write!(f, "{:#x}", self.1),
+        }
     }
 }
 
@@ -111,7 +124,9 @@ impl fmt::Display for Text<'_, '_> {
         let (machine, mark) = (module.machine, &finding.mark);
         let address = mark.address;
         let name = names(address).unwrap_or_else(|| "a function without a name".to_string());
-        write!(f, "{} at {} ({:#x}): {}: {}", finding.kind, name, address, finding.severity, finding.what(machine))?;
+        let place = |address| Place(module, address);
+        write!(f, "{} at {} ({}): {}: ", finding.kind, name, place(address), finding.severity)?;
+        f.write_str(&finding.what(machine))?;
         let count = |count, one, many| if count == 1 { one } else { many };
         write!(f, ", {} {}", finding.addresses, count(finding.addresses, "address", "addresses"))?;
         if finding.places > 1 {
@@ -120,9 +135,9 @@ impl fmt::Display for Text<'_, '_> {
         let text = |address| (machine.text)(module.bytes_at(address), address);
         if let Some((before, _)) = mark.before {
             let word = if mark.way == Way::Here { "after" } else { "from" };
-            write!(f, "\n    {} {:#x}: {}", word, before, text(before))?;
+            write!(f, "\n    {} {}: {}", word, place(before), text(before))?;
         }
-        write!(f, "\n    at {:#x}: {}", address, text(address))?;
+        write!(f, "\n    at {}: {}", place(address), text(address))?;
         write!(f, "\n    row: {}", RowText(machine, &mark.row))?;
         write!(f, "\n    code: {}", finding.truth(machine))?;
         if let Some(directive) = finding.directive() {
@@ -143,6 +158,9 @@ impl fmt::Display for Json<'_, '_> {
         write!(f, "{{\"kind\":{}", Quoted(&finding.kind.to_string()))?;
         write!(f, ",\"severity\":{}", Quoted(&finding.severity.to_string()))?;
         write!(f, ",\"fde\":{},\"address\":{}", finding.fde, mark.address)?;
+        if let Some((section, offset)) = module.section_of(mark.address) {
+            write!(f, ",\"section\":{},\"offset\":{}", Quoted(section), offset)?;
+        }
         if let Some(name) = names(mark.address) {
             write!(f, ",\"function\":{}", Quoted(&name))?;
         }

@@ -184,6 +184,7 @@ pub fn module(data: &[u8]) -> Module<'_> {
     Module {
         machine: Machine::numbered(62).unwrap(),
         segments,
+        sections: Vec::new(),
         fdes,
         imports: imports(&file),
         convention: Convention::KeepsRegisters,

@@ -2,6 +2,7 @@
 
 use crate::end::Failure;
 use crate::opened::read;
+use dwcheck_lint::finding::Severity;
 use dwcheck_lint::kinds::KINDS;
 use std::collections::HashMap;
 use std::path::Path;
@@ -50,20 +51,23 @@ impl Remaining {
     }
 }
 
-/// The file's name and the key in the first line of a finding: `FILE: KIND at FUNCTION+0x4 (0x1234): ..`.
+/// The file's name and the key in the first line of a finding:
+/// `FILE: KIND at FUNCTION+0x4 (0x1234): SEVERITY: ..`. In an unlinked object a section and an offset are
+/// in parentheses.
 fn parsed(line: &str) -> Option<(String, Key)> {
     let found = KINDS.iter().find_map(|(_, kind)| Some((*kind, line.split_once(&format!(": {} at ", kind))?)));
     let (kind, (path, rest)) = found?;
-    let (name, rest) = rest.split_once(" (0x")?;
-    let address = rest.split_once(')')?.0;
+    let severities = [Severity::BacktraceBroken, Severity::RegisterLost, Severity::Private];
+    let until = severities.iter().find_map(|severity| Some(rest.split_once(&format!("): {}: ", severity))?.0))?;
+    let (name, place) = until.rsplit_once(" (")?;
     let file = Path::new(path).file_name()?.to_string_lossy().into_owned();
-    Some((file, Key { kind: kind.to_string(), function: function(name, address) }))
+    Some((file, Key { kind: kind.to_string(), function: function(name, place) }))
 }
 
-/// The name without its offset, or the address if there is no name.
-fn function(name: &str, address: &str) -> String {
+/// The name without its offset, or the place if there is no name.
+fn function(name: &str, place: &str) -> String {
     match name {
-        super::linted::NAMELESS => format!("0x{}", address),
+        super::linted::NAMELESS => place.to_string(),
         name => name.rsplit_once("+0x").map_or(name, |(name, _)| name).to_string(),
     }
 }

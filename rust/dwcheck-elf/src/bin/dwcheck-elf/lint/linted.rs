@@ -75,7 +75,7 @@ fn judged(path: &Path, data: &[u8], shown: &Shown) -> Outcome {
     }
     let sections = Sections::read(&program);
     let functions = program.functions();
-    let module = match sections.module(&program, data, &functions) {
+    let module = match sections.module(&program, &functions) {
         Ok(module) => module,
         Err(error) => return Outcome::Other(error),
     };
@@ -154,9 +154,9 @@ fn explained(lines: &[Line]) -> String {
         if std::mem::take(&mut has_gap) {
             text.push_str("\n    ..");
         }
-        let Line { address, instruction, row, code, is_wrong } = line;
+        let Line { place, instruction, row, code, is_wrong, .. } = line;
         let mark = if *is_wrong { '!' } else { ' ' };
-        text.push_str(&format!("\n  {} {:#x}: {:<36}  row: {}  code: {}", mark, address, instruction, row, code));
+        text.push_str(&format!("\n  {} {}: {:<36}  row: {}  code: {}", mark, place, instruction, row, code));
     }
     text
 }
