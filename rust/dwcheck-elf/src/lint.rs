@@ -14,7 +14,6 @@ use dwcheck::{CfaRule, Process, Span};
 use dwcheck_lint::landings::landings;
 use dwcheck_lint::machine::Machine;
 use dwcheck_lint::module::{Convention, Module, Segment};
-use dwcheck_lint::register::Register;
 use dwcheck_lint::table::{Cfa, Fde, Row, Rows, Rule};
 use gimli::{CallFrameInstruction, CieOrFde, EndianSlice, Pointer, RunTimeEndian, UnwindSection};
 use std::cell::RefCell;
@@ -73,7 +72,7 @@ impl<'data> Sections<'data> {
             fdes: Vec::new(),
             imports: self.image.imports.iter().copied().collect(),
             convention: convention(program, functions),
-            rows: Box::new(SectionRows::of(self)),
+            rows: Box::new(SectionRows::of(self, machine)),
         };
         module.fdes = self.fdes(&module);
         Ok(module)
@@ -177,17 +176,21 @@ fn argument_bytes<'a>(
 }
 
 /// `dwcheck`'s rows of all sections, of which those of `.eh_frame` are taken first.
-struct SectionRows<'a>(Vec<(&'a Frames<'a>, RefCell<dwcheck::Rows<'a>>)>);
+struct SectionRows<'a> {
+    machine: &'static Machine,
+    all: Vec<(&'a Frames<'a>, RefCell<dwcheck::Rows<'a>>)>,
+}
 
 impl<'a> SectionRows<'a> {
-    fn of(sections: &'a Sections<'a>) -> Self {
-        SectionRows(sections.all.iter().map(|(frames, process)| (frames, RefCell::new(process.rows()))).collect())
+    fn of(sections: &'a Sections<'a>, machine: &'static Machine) -> Self {
+        let all = sections.all.iter().map(|(frames, process)| (frames, RefCell::new(process.rows())));
+        SectionRows { machine, all: all.collect() }
     }
 
     fn row(&self, address: u64) -> Option<Row<'a>> {
-        let found = self.0.iter().find_map(|(frames, rows)| {
+        let found = self.all.iter().find_map(|(frames, rows)| {
             let mut rows = rows.borrow_mut();
-            rows.row(address).map(|row| row_of(row, frames.bytes()))
+            rows.row(address).map(|row| row_of(self.machine, row, frames.bytes()))
         });
         found.flatten()
     }
@@ -210,13 +213,9 @@ impl Rows for SectionRows<'_> {
     }
 }
 
-/// A register. Those that the lint doesn't follow may all have the same number.
-fn register(number: u16) -> Register {
-    Register(u8::try_from(number).unwrap_or(u8::MAX))
-}
-
 /// A row of `dwcheck`'s. `None` if its rules aren't known.
-fn row_of<'a>(row: &dwcheck::Row, bytes: &'a [u8]) -> Option<Row<'a>> {
+fn row_of<'a>(machine: &Machine, row: &dwcheck::Row, bytes: &'a [u8]) -> Option<Row<'a>> {
+    let register = machine.register;
     let expression = |span: Span| span.of(bytes);
     let cfa = match row.cfa {
         CfaRule::RegisterAndOffset { register: number, offset } => Cfa::Offset(register(number), offset),
@@ -250,7 +249,9 @@ impl LintError {
 impl fmt::Display for LintError {
     fn fmt(&self, f: &mut fmt::Formatter<'_>) -> fmt::Result {
         match self {
-            LintError::Machine(number) => write!(f, "the code of machine {} isn't read, only that of x86-64", number),
+            LintError::Machine(number) => {
+                write!(f, "the code of machine {} isn't read, only that of x86-64 and aarch64", number)
+            }
         }
     }
 }

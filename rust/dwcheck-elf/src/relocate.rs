@@ -1,5 +1,7 @@
 //! Applies the relocations of an unlinked object to one of its sections.
 
+mod aarch64;
+
 use crate::image::Outside;
 use crate::layout::Layout;
 use crate::target::Target;
@@ -86,6 +88,13 @@ impl Object<'_, '_> {
     pub fn relocate_all(&self, section: &object::Section<'_, '_>, bytes: &mut [u8], outside: Outside) {
         let start = self.layout.address(section.index());
         for (offset, relocation) in section.relocations() {
+            if let Some(code) = aarch64::code(self.machine, relocation.kind()) {
+                if let (Some(field), Some(symbol)) = (field(bytes, offset, 32), self.known(&relocation, outside)) {
+                    let symbol = symbol.wrapping_add(relocation.addend() as u64);
+                    aarch64::apply(field, code, symbol, start.wrapping_add(offset));
+                }
+                continue;
+            }
             let (step, symbol) = match self.code_step(&relocation, outside) {
                 Some(found) => found,
                 None => continue,
@@ -105,13 +114,16 @@ impl Object<'_, '_> {
                 _ => None,
             };
         }
-        let step = step_of(self.machine, relocation).ok()?;
-        let symbol = match (self.symbol(relocation).ok()?, relocation.target()) {
-            (Some(symbol), _) => symbol,
-            (None, RelocationTarget::Symbol(index)) => outside.symbol(index),
-            _ => return None,
-        };
-        Some((step, symbol))
+        Some((step_of(self.machine, relocation).ok()?, self.known(relocation, outside)?))
+    }
+
+    /// The address of the symbol that a relocation names, or the one that stands for it.
+    fn known(&self, relocation: &Relocation, outside: Outside) -> Option<u64> {
+        match (self.symbol(relocation).ok()?, relocation.target()) {
+            (Some(symbol), _) => Some(symbol),
+            (None, RelocationTarget::Symbol(index)) => Some(outside.symbol(index)),
+            _ => None,
+        }
     }
 
     /// The address of the symbol that a relocation names. `None` if the object doesn't define the

@@ -175,7 +175,7 @@ fn nothing_is_found_in_right_objects() {
     let folder = Folder::new("lint-objects");
     folder.write("a.c", C);
     folder.write("b.cc", CXX);
-    for options in ["-O2", "-O2 -ffunction-sections -fPIC", "-O0 -fno-pie"] {
+    for options in ["-O2", "-O2 -ffunction-sections -fPIC", "-O0 -fPIE"] {
         folder.run(&format!("gcc -w {0} -c a.c && g++ -w {0} -c b.cc && gcc -w {0} a.c -o a", options));
         let (unlinked, linked) = (dwcheck_elf(&folder, "lint a.o b.o"), dwcheck_elf(&folder, "lint a"));
         assert_eq!((unlinked.status, linked.status), (0, 0), "{}{}", unlinked.out, linked.out);
@@ -187,16 +187,84 @@ fn nothing_is_found_in_right_objects() {
     }
 }
 
+/// A function for aarch64 that loses its stack pointer before it calls a function elsewhere that doesn't
+/// return, one with a table of jumps, and one with a wrong row.
+const AARCH64: &str = ".text
+right: .cfi_startproc
+ stp x29, x30, [sp, #-16]!
+ .cfi_def_cfa_offset 16
+ .cfi_offset x29, -16
+ .cfi_offset x30, -8
+ mov x29, sp
+ .cfi_def_cfa_register x29
+ cbnz x0, 1f
+ mov sp, x1
+ bl abort
+1: mov x0, #1
+ .cfi_def_cfa_register sp
+ ldp x29, x30, [sp], #16
+ .cfi_restore x29
+ .cfi_restore x30
+ .cfi_def_cfa_offset 0
+ ret
+ .cfi_endproc
+chosen: .cfi_startproc
+ cmp w0, #1
+ b.hi 3f
+ adrp x1, table
+ add x1, x1, :lo12:table
+ ldrb w1, [x1, w0, uxtw]
+ adr x0, 2f
+ add x1, x0, w1, sxtb #2
+ br x1
+2: mov x0, #1
+ ret
+3: mov x0, #2
+ ret
+ .cfi_endproc
+.section .text.wrong, \"ax\"
+wrong: .cfi_startproc
+ str x30, [sp, #-16]!
+ mov x0, #1
+ ldr x30, [sp], #16
+ ret
+ .cfi_endproc
+.section .rodata
+table: .byte (2b-2b)/4, (3b-2b)/4
+";
+
+#[test]
+fn code_for_aarch64() {
+    if !has("aarch64-linux-gnu-gcc") {
+        return;
+    }
+    let folder = Folder::new("lint-aarch64");
+    folder.write("a.s", AARCH64);
+    folder.run("aarch64-linux-gnu-gcc -c a.s && aarch64-linux-gnu-gcc -nostdlib -shared a.s -o a.so");
+    let unlinked = dwcheck_elf(&folder, "lint a.o");
+    let lines = unlinked.lines();
+    assert!(lines[0].starts_with("a.o: push without row at wrong+0x4 (.text.wrong+0x4): "), "{}", unlinked.out);
+    assert_eq!(
+        lines[1..3],
+        ["    after .text.wrong+0x0: str x30, [sp, #-16]!", "    at .text.wrong+0x4: mov x0, #0x1"]
+    );
+    assert!(lines[5..].concat().ends_with(": fdes 3 instructions 24 judged 24"), "{}", unlinked.out);
+    let linked = dwcheck_elf(&folder, "lint a.so");
+    assert!(linked.out.contains(": push without row at wrong+0x4 (0x"), "{}", linked.out);
+    assert!(linked.out.ends_with("a.so: fdes 3 instructions 24 judged 24\n"), "{}", linked.out);
+    assert_eq!((unlinked.status, linked.status), (1, 1));
+}
+
 #[test]
 fn code_of_other_machines_is_not_read() {
-    if !has("aarch64-linux-gnu-gcc") {
+    if !has("arm-linux-gnueabihf-gcc") {
         return;
     }
     let folder = Folder::new("lint-machine");
     folder.write("a.c", "int twice(int x) { return x + x; }");
-    folder.run("aarch64-linux-gnu-gcc -shared -nostdlib a.c -o a.so");
+    folder.run("arm-linux-gnueabihf-gcc -shared -nostdlib a.c -o a.so");
     let ran = dwcheck_elf(&folder, "lint a.so");
-    let expected = "dwcheck-elf: a.so: the code of machine 183 isn't read, only that of x86-64\n";
+    let expected = "dwcheck-elf: a.so: the code of machine 40 isn't read, only that of x86-64 and aarch64\n";
     assert_eq!((ran.status, ran.error.as_str()), (3, expected));
 }
 
@@ -210,7 +278,7 @@ fn findings_as_json() {
          one.get('directive'), one.get('registers'), one.get('totals', {}).get('findings'))\n",
     );
     let shown = folder.run("python3 show.py < lines | sort | uniq");
-    let expected = "None None None None 2\nNone None None None None\nprivate keeper+0x2 None ['rbx'] None\n\
+    let expected = "None None None None 4\nNone None None None None\nprivate keeper+0x2 None ['rbx'] None\n\
                     push without row wrong+0x1 .cfi_def_cfa_offset 16 [] None\n";
     assert_eq!(shown, expected);
 }

@@ -11,12 +11,15 @@ use crate::value::{Base, Value};
 /// The state at the entry of a function that is called.
 pub fn entered(machine: &Machine, row: &Row<'_>) -> State {
     let mut state = State::unknown(false);
-    for register in (0..).map(Register).take_while(|register| machine.is_followed(*register)) {
+    for register in machine.followed() {
         let is_kept = machine.kept.contains(&register);
         state.set(register, if is_kept { Value::Entry(register) } else { Value::Clobbered });
     }
     state.set(machine.stack_pointer, Value::from_cfa(-machine.entry_offset));
-    state.put(Base::CFA, machine.return_slot, Value::Entry(machine.return_address));
+    match machine.return_slot {
+        Some(slot) => state.put(Base::CFA, slot, Value::Entry(machine.return_address)),
+        None => state.set(machine.return_address, Value::Entry(machine.return_address)),
+    }
     // A function such as vfork begins with its return address in a register.
     if let Some(Rule::Register(register)) = row.rule(machine.return_address) {
         state.set(register, Value::Entry(machine.return_address));
@@ -87,7 +90,7 @@ impl Assumption<'_> {
             match row.rule(register) {
                 None | Some(Rule::Same) => {
                     let is_free = self.state.get(register) == Value::Unknown;
-                    if is_free && register != self.machine.return_address {
+                    if is_free && self.machine.is_followed(register) {
                         self.state.set(register, value);
                     }
                 }

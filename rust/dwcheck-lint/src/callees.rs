@@ -95,7 +95,10 @@ impl Callees {
             Target::Code(address) | Target::Pointer(address) if module.imports.contains_key(&address) => {
                 module.imports.get(&address).map_or(false, |name| is_ending(name))
             }
-            Target::Code(address) => self.code_never_returns(module, address, depth),
+            Target::Code(address) => match (module.machine.stub)(module.bytes_at(address), address) {
+                Some(pointer) => module.imports.get(&pointer).map_or(false, |name| is_ending(name)),
+                None => self.code_never_returns(module, address, depth),
+            },
             _ => false,
         }
     }
@@ -152,6 +155,7 @@ impl Callees {
                 Effect::Jump { target: Target::Code(target) } => Next::At(target),
                 Effect::JumpIf { target, .. } => Next::On(Some(target)),
                 Effect::Call { target: Target::Code(target) } => {
+                    written = written.with(module.machine.call_writes);
                     written = written.with(callees.written_at_depth(module, target, depth + 1));
                     Next::On(None)
                 }

@@ -17,16 +17,19 @@ pub enum Reason {
     JumpTarget,
     /// The function returns by `__builtin_eh_return`.
     ExceptionReturn,
+    /// The rows of the FDE are meant for calls only, and the instruction isn't a call.
+    CallsOnly,
 }
 
 /// All reasons, with their names.
-pub const REASONS: [(Reason, &str); 6] = [
+pub const REASONS: [(Reason, &str); 7] = [
     (Reason::StackPointer, "stack-pointer"),
     (Reason::Register, "register"),
     (Reason::Expression, "expression"),
     (Reason::Outermost, "outermost"),
     (Reason::JumpTarget, "jump-target"),
     (Reason::ExceptionReturn, "exception-return"),
+    (Reason::CallsOnly, "calls-only"),
 ];
 
 /// Counts of what was judged.

@@ -4,10 +4,10 @@ use crate::assume::{assumed, entered};
 use crate::callees::Callees;
 use crate::code::Code;
 use crate::instruction::Effect;
-use crate::judge::{unjudged, Judge, Verdict};
+use crate::judge::{unjudged, Judge, Said, Verdict};
 use crate::module::{Convention, Module};
 use crate::register::Registers;
-use crate::rules::is_only_padding;
+use crate::rules::{has_rows_for_calls, is_only_padding};
 use crate::state::State;
 use crate::stores::Stores;
 use crate::table::{row_at, Cfa, Fde, Row};
@@ -50,6 +50,10 @@ pub struct Flow<'m, 'c> {
     pub rows: Vec<Row<'m>>,
     /// Its code.
     pub code: Code<'m>,
+    /// What its rows speak of.
+    pub said: Said,
+    /// Whether its rows are meant for calls only.
+    pub is_for_calls: bool,
     /// What it stores.
     pub stores: Stores,
     /// The addresses of the tables of jumps that it uses, ascending.
@@ -93,6 +97,8 @@ impl<'m, 'c> Flow<'m, 'c> {
             module,
             callees,
             fde,
+            said: Said::of(module.machine, &rows),
+            is_for_calls: has_rows_for_calls(module, &rows),
             rows,
             stores: Stores::new(module.machine),
             tables: Vec::new(),
@@ -115,7 +121,9 @@ impl<'m, 'c> Flow<'m, 'c> {
         let in_rows = |row: &Row<'_>| matches!(row.cfa, Cfa::Offset(register, _) if changeable.contains(register));
         let sets_pointer = |effect: &Effect| match *effect {
             Effect::Move { to, from } | Effect::Add { to, from, .. } => to == pointer && changeable.contains(from),
-            Effect::SubtractRegister { to, by } => to == pointer && by.map_or(false, |by| changeable.contains(by)),
+            Effect::SubtractRegister { to, from, by } => {
+                to == pointer && (changeable.contains(from) || by.map_or(false, |by| changeable.contains(by)))
+            }
             _ => false,
         };
         self.rows.iter().any(in_rows) || self.code.instructions().iter().any(|found| sets_pointer(&found.effect))
@@ -268,7 +276,7 @@ impl<'m, 'c> Flow<'m, 'c> {
     /// Compares a row with a state.
     pub fn verdict(&self, row: &Row<'_>, state: &State, address: u64) -> Verdict {
         let (machine, convention) = (self.module.machine, self.module.convention);
-        Judge { machine, convention, state, stores: &self.stores }.verdict(row, address)
+        Judge { machine, convention, state, stores: &self.stores, said: self.said }.verdict(row, address)
     }
 
     /// What a row that is judged says wrongly of a state. Empty if the row isn't judged.

@@ -54,13 +54,45 @@ pub enum Condition {
     Other,
 }
 
-/// The size of the entries of a table of jumps.
+/// The entries of a table of jumps. One of 8 bytes is an address. A shorter one, shifted to the left, is
+/// the distance from an address in the code or from the table.
 #[derive(Clone, Copy, Debug, PartialEq, Eq)]
-pub enum EntrySize {
-    /// 4 bytes: a distance from the table.
-    Four,
-    /// 8 bytes: an address.
-    Eight,
+pub struct Entry {
+    /// How many bytes it has: 1, 2, 4 or 8.
+    pub bytes: u8,
+    /// Whether it is a signed number.
+    pub is_signed: bool,
+    /// How many bits it is shifted by.
+    pub shift: u8,
+}
+
+/// How a register is changed before it is added.
+#[derive(Clone, Copy, Debug, PartialEq, Eq)]
+pub struct Scale {
+    /// How many bits it is shifted to the left by.
+    pub shift: u8,
+    /// Whether its lowest bytes are taken as a signed number.
+    pub is_extended: bool,
+}
+
+/// A transfer of registers to or from memory, next to each other.
+#[derive(Clone, Copy, Debug, PartialEq, Eq)]
+pub struct Transfer {
+    /// Whether they are loaded; otherwise they are stored.
+    pub is_load: bool,
+    /// The registers. `None` is one that isn't followed, such as a register that is always zero.
+    pub registers: [Option<Register>; 4],
+    /// How many registers there are.
+    pub count: u8,
+    /// How many bytes each has in memory.
+    pub bytes: u8,
+    /// Whether the first 8 of these bytes are all that is followed of the register. Otherwise only a
+    /// part of it is transferred.
+    pub is_whole: bool,
+    /// Where the first one is.
+    pub place: Place,
+    /// What is added to the register of the place afterwards.
+    pub added: i64,
 }
 
 /// What an instruction does. `to` is what it writes, and `from` what it reads.
@@ -78,6 +110,11 @@ pub enum Effect {
         /// The place in memory, if it is a register plus an offset, and the number of bytes.
         stored: Option<(Place, u8)>,
     },
+    /// Perhaps writes values that aren't followed to registers.
+    MayWrite {
+        /// The registers.
+        registers: Registers,
+    },
     /// Calls the system, by the number in the machine's register for it.
     System {
         /// The registers that the call overwrites.
@@ -93,19 +130,24 @@ pub enum Effect {
     Set { to: Register, number: i64 },
     /// Sets a register to another one plus a number.
     Add { to: Register, from: Register, number: i64 },
-    /// Adds a register to another one.
-    AddRegister { to: Register, by: Register },
-    /// Subtracts a register, or something that isn't followed, from a register.
-    SubtractRegister { to: Register, by: Option<Register> },
+    /// Sets some bits of a register, those of `mask`, to those of a number.
+    Insert { to: Register, mask: i64, number: i64 },
+    /// Sets a register to the sum of two.
+    AddRegister { to: Register, from: Register, by: Register, scale: Scale },
+    /// Sets a register to another one minus a register or minus something that isn't followed.
+    SubtractRegister { to: Register, from: Register, by: Option<Register> },
     /// Sets a register to an address that is made of another one in a way that isn't followed.
     Derive { to: Register, from: Register },
-    /// Rounds a register down to a multiple of something.
-    Align { register: Register },
+    /// Sets a register to the bits of another one that are in a mask, which rounds it down if it is an
+    /// address. The mask is `None` if it isn't known.
+    Align { to: Register, from: Register, mask: Option<i64> },
     /// Loads a whole register.
     Load { to: Register, from: Place },
     /// Loads an entry of a table: at `offset` plus the base, if there is one, plus an index times the
     /// size.
-    LoadEntry { to: Register, base: Option<Register>, offset: i64, size: EntrySize },
+    LoadEntry { to: Register, base: Option<Register>, offset: i64, entry: Entry },
+    /// Loads or stores several registers, or one and changes the register of the place.
+    Transfer(Transfer),
     /// Stores a whole register. The place is `None` if it isn't a register plus an offset.
     Store { from: Register, to: Option<Place> },
     /// Pushes a register.
@@ -142,6 +184,39 @@ pub enum Effect {
     Invalid,
 }
 
+impl Entry {
+    /// An address of 8 bytes.
+    pub const ADDRESS: Entry = Entry { bytes: 8, is_signed: false, shift: 0 };
+    /// A signed distance of 4 bytes.
+    pub const DISTANCE: Entry = Entry { bytes: 4, is_signed: true, shift: 0 };
+}
+
+impl Scale {
+    /// A register as it is.
+    pub const ONE: Scale = Scale { shift: 0, is_extended: false };
+}
+
+impl Transfer {
+    /// The registers, each with its place.
+    pub fn each(&self) -> impl Iterator<Item = (Option<Register>, Place)> + '_ {
+        let Place { base, offset } = self.place;
+        let bytes = i64::from(self.bytes);
+        let places = (0..i64::from(self.count)).map(move |index| Place { base, offset: offset + index * bytes });
+        self.registers.iter().copied().zip(places)
+    }
+
+    fn written(&self) -> Registers {
+        let mut registers = Registers::NONE;
+        if self.is_load {
+            self.each().filter_map(|(register, _)| register).for_each(|register| registers.insert(register));
+        }
+        if self.added != 0 {
+            registers.insert(self.place.base);
+        }
+        registers
+    }
+}
+
 impl Effect {
     /// Whether the instruction after it isn't reached by going on from it.
     pub fn is_end(&self) -> bool {
@@ -164,7 +239,10 @@ impl Effect {
     /// The registers that it writes, other than by a call and the stack pointer by a push or a pop.
     pub fn written(&self) -> Registers {
         match *self {
-            Effect::Write { registers, .. } | Effect::System { registers } => registers,
+            Effect::Write { registers, .. } | Effect::System { registers } | Effect::MayWrite { registers } => {
+                registers
+            }
+            Effect::Transfer(transfer) => transfer.written(),
             Effect::Exchange { one, other } => Registers::of(&[one.0, other.0]),
             Effect::Move { to, .. }
             | Effect::MayMove { to, .. }
@@ -173,7 +251,8 @@ impl Effect {
             | Effect::AddRegister { to, .. }
             | Effect::SubtractRegister { to, .. }
             | Effect::Derive { to, .. }
-            | Effect::Align { register: to }
+            | Effect::Align { to, .. }
+            | Effect::Insert { to, .. }
             | Effect::Load { to, .. }
             | Effect::LoadEntry { to, .. }
             | Effect::Pop { to } => Registers::of(&[to.0]),

@@ -3,7 +3,7 @@
 use crate::expression::Context;
 use crate::machine::{Machine, MOST_KEPT};
 use crate::module::Convention;
-use crate::register::Register;
+use crate::register::{Register, Registers};
 use crate::state::State;
 use crate::stores::Stores;
 use crate::table::{Cfa, Row, Rule};
@@ -12,7 +12,7 @@ use crate::value::Value;
 /// What a row says: the CFA, the return address, and where each register is that a function has to
 /// give back. A set of these.
 #[derive(Clone, Copy, Debug, Default, PartialEq, Eq, Hash, PartialOrd, Ord)]
-pub struct Facts(u8);
+pub struct Facts(u32);
 
 impl Facts {
     /// Nothing.
@@ -21,7 +21,7 @@ impl Facts {
     pub const CFA: Facts = Facts(1);
     /// The return address.
     pub const RETURN_ADDRESS: Facts = Facts(2);
-    const FRAME: u8 = 3;
+    const FRAME: u32 = 3;
 
     /// A register, by its index in [`Machine::kept`].
     pub fn kept(index: usize) -> Facts {
@@ -113,7 +113,8 @@ pub struct Verdict {
 pub enum Unjudged {
     /// The frame is the outermost one: the row says that there is no return address.
     Outermost,
-    /// The row has a rule for the stack pointer: it describes where a jump such as `longjmp` goes to.
+    /// The row has a rule for the stack pointer, or finds the return address of a callee above the CFA:
+    /// it describes where a jump such as `longjmp` goes to.
     JumpTarget,
     /// The row has rules for the registers of exception data: the function replaces its own return
     /// address, by `__builtin_eh_return`.
@@ -123,7 +124,8 @@ pub enum Unjudged {
 /// Why a row isn't judged, if it isn't.
 pub fn unjudged(machine: &Machine, row: &Row<'_>) -> Option<Unjudged> {
     let mut data = machine.exception_data.iter();
-    if row.rule(machine.stack_pointer).is_some() {
+    let is_above = matches!(row.rule(machine.return_address), Some(Rule::Offset(offset)) if offset >= 0);
+    if row.rule(machine.stack_pointer).is_some() || is_above && machine.return_slot.is_none() {
         Some(Unjudged::JumpTarget)
     } else if data.all(|register| row.rule(register).is_some()) {
         Some(Unjudged::ExceptionReturn)
@@ -131,6 +133,26 @@ pub fn unjudged(machine: &Machine, row: &Row<'_>) -> Option<Unjudged> {
         Some(Unjudged::Outermost)
     } else {
         None
+    }
+}
+
+/// What the rows of an FDE speak of, together.
+#[derive(Clone, Copy, Debug, Default, PartialEq, Eq)]
+pub struct Said {
+    /// The registers that have a rule in a row.
+    pub registers: Registers,
+    /// Whether the function returns by `__builtin_eh_return`.
+    pub returns_to_handler: bool,
+}
+
+impl Said {
+    /// What these rows speak of.
+    pub fn of(machine: &Machine, rows: &[Row<'_>]) -> Said {
+        let mut said = Said::default();
+        let all = rows.iter().flat_map(|row| &row.rules).filter(|(register, _)| machine.is_followed(*register));
+        all.for_each(|(register, _)| said.registers.insert(*register));
+        said.returns_to_handler = rows.iter().any(|row| unjudged(machine, row) == Some(Unjudged::ExceptionReturn));
+        said
     }
 }
 
@@ -144,6 +166,8 @@ pub struct Judge<'a> {
     pub state: &'a State,
     /// What the function stores.
     pub stores: &'a Stores,
+    /// What the rows of the FDE speak of.
+    pub said: Said,
 }
 
 impl Judge<'_> {
@@ -185,6 +209,8 @@ impl Judge<'_> {
                 Some(WrongCfa::OffBy(offset))
             }
             Value::Address { base, .. } if base.is_assumed() || self.state.is_assumed => None,
+            // Rule "exception returns": at its end, the function sets the stack pointer of another frame.
+            Value::Address { .. } if self.said.returns_to_handler => None,
             Value::Address { .. } => Some(WrongCfa::Dynamic),
             // Rule "moved frame": code that copies its return address elsewhere has its frame there.
             Value::Clobbered if self.state.is_assumed || self.stores.moves_return_address => None,
@@ -202,9 +228,10 @@ impl Judge<'_> {
     fn judge_return_address(&self, row: &Row<'_>, context: &Context<'_>, verdict: &mut Verdict) {
         let register = self.machine.return_address;
         let known = match row.rule(register) {
-            None | Some(Rule::Undefined) => return,
-            Some(Rule::Same) => Ok(None),
-            Some(rule) => self.judge_rule(register, rule, context),
+            Some(Rule::Undefined) => return,
+            None if !self.machine.is_followed(register) => return,
+            Some(Rule::Same) if !self.machine.is_followed(register) => Ok(None),
+            rule => self.judge_rule(register, rule.unwrap_or(Rule::Same), context),
         };
         match known {
             Ok(Some(())) => {}
@@ -215,8 +242,11 @@ impl Judge<'_> {
 
     fn judge_registers(&self, row: &Row<'_>, context: &Context<'_>, verdict: &mut Verdict) {
         for (index, register) in self.machine.kept.iter().enumerate() {
+            let is_silent = self.machine.kept_if_said.without(self.said.registers).contains(*register);
             let known = match row.rule(*register) {
                 Some(Rule::Undefined) => continue,
+                // Rule "registers that rows speak of": most code for aarch64 leaves vector registers out.
+                None if is_silent => continue,
                 rule => self.judge_rule(*register, rule.unwrap_or(Rule::Same), context),
             };
             match known {

@@ -3,7 +3,7 @@
 use crate::coverage::{Coverage, Reason};
 use crate::crossing::Crossing;
 use crate::flow::{is_entry_row, Flow};
-use crate::instruction::Effect;
+use crate::instruction::{Effect, Transfer};
 use crate::judge::{unjudged, Facts, Unjudged, Verdict};
 use crate::register::{Register, Registers};
 use crate::rules::is_unreachable_end;
@@ -12,6 +12,7 @@ use crate::table::{row_at, Cfa, Row, Rule};
 use crate::truth::Truth;
 use crate::value::Value;
 use crate::walk::{Edge, EdgeKind, Exit, Visitor};
+use std::collections::HashSet;
 
 /// How many wrong rows of an FDE are kept at most.
 const MOST_MARKS: usize = 50_000;
@@ -74,13 +75,16 @@ pub struct Judging<'m, 'x> {
     /// How many returns there are at which the stack pointer isn't at the return address.
     pub odd_returns: u32,
     current: Current,
+    /// The landing pads whose rows are right for one call at least.
+    fitting_pads: HashSet<u64>,
 }
 
 impl<'m, 'x> Judging<'m, 'x> {
     /// Nothing has been judged yet.
     pub fn new(crossing: &'x mut Crossing) -> Self {
         let (coverage, current) = (Coverage { fdes: 1, ..Coverage::default() }, Current::default());
-        Judging { crossing, marks: Vec::new(), coverage, lost: Facts::NONE, odd_returns: 0, current }
+        let fitting_pads = HashSet::new();
+        Judging { crossing, marks: Vec::new(), coverage, lost: Facts::NONE, odd_returns: 0, current, fitting_pads }
     }
 
     /// Judges all blocks that were reached.
@@ -88,6 +92,10 @@ impl<'m, 'x> Judging<'m, 'x> {
         for leader in flow.reached_leaders() {
             flow.walk(leader, self);
         }
+        // Rule "calls that can't throw": a landing pad isn't entered by calls for which its row is wrong, if
+        // it is right for another one.
+        let is_landing = |mark: &Mark<'_>| mark.way == Way::Edge(EdgeKind::Landing);
+        self.marks.retain(|mark| !is_landing(mark) || !self.fitting_pads.contains(&mark.address));
         let kept = flow.module.machine.kept.iter().enumerate();
         let never_saved = kept.filter(|(_, register)| !flow.stores.saved.contains(**register));
         never_saved.for_each(|(index, _)| self.lost.add(Facts::kept(index)));
@@ -114,7 +122,10 @@ impl<'m, 'x> Judging<'m, 'x> {
             | Effect::MayMove { .. }
             | Effect::Add { .. }
             | Effect::Load { .. }
-            | Effect::LoadEntry { .. } => {
+            | Effect::LoadEntry { .. }
+            | Effect::MayWrite { .. }
+            | Effect::Insert { .. }
+            | Effect::Transfer(Transfer { is_load: true, .. }) => {
                 self.current.watched.map_or(true, |watched| !effect.written().both(watched).is_empty())
             }
             effect => !effect.changes_nothing(),
@@ -161,7 +172,7 @@ impl<'m, 'x> Judging<'m, 'x> {
             self.lost.add(verdict.wrong.registers());
             verdict.wrong = verdict.wrong.without(verdict.wrong.registers());
         }
-        if !verdict.wrong.is_empty() {
+        if !verdict.wrong.is_empty() && !flow.is_for_calls {
             let before = Some((flow.code.address(at), flow.code.effect(at)));
             let (way, is_assumed) = (Way::Leaving, state.is_assumed);
             let (address, next, effect) = (target, target, Effect::Invalid);
@@ -216,6 +227,11 @@ impl<'m> Visitor<'m> for Judging<'m, '_> {
             (_, Some(unjudged)) => return self.coverage.skip(unjudged.into()),
             (None, None) => return,
         };
+        let is_call = matches!(flow.code.effect(at), Effect::Call { .. });
+        if flow.is_for_calls && (!is_call || state.is_assumed) {
+            return self.coverage.skip(Reason::CallsOnly);
+        }
+        let is_other_row = is_other_row || flow.is_for_calls;
         if is_other_row || before.map_or(true, |before| self.matters(&flow.code.effect(before))) {
             self.current.verdict = flow.verdict(row, state, address);
         }
@@ -230,7 +246,7 @@ impl<'m> Visitor<'m> for Judging<'m, '_> {
     }
 
     fn edge(&mut self, flow: &mut Flow<'m, '_>, edge: Edge, state: &State) {
-        if matches!(edge.kind, EdgeKind::AfterCall | EdgeKind::Padding) {
+        if flow.is_for_calls || matches!(edge.kind, EdgeKind::AfterCall | EdgeKind::Padding) {
             return;
         }
         let address = flow.code.address(edge.to);
@@ -242,6 +258,9 @@ impl<'m> Visitor<'m> for Judging<'m, '_> {
         let row = flow.row(address).filter(|row| unjudged(flow.module.machine, row).is_none());
         let mut verdict = row.map_or(Verdict::default(), |row| flow.verdict(row, state, address));
         if verdict.wrong.is_empty() {
+            if edge.kind == EdgeKind::Landing {
+                self.fitting_pads.insert(address);
+            }
             return;
         }
         let of_merged = merged.zip(row).map_or(Facts::NONE, |(merged, row)| flow.verdict(row, merged, address).wrong);
@@ -269,7 +288,7 @@ impl<'m> Visitor<'m> for Judging<'m, '_> {
 
 fn is_at_return_address(flow: &Flow<'_, '_>, state: &State) -> bool {
     let machine = flow.module.machine;
-    state.get(machine.stack_pointer).cfa_offset() == Some(machine.return_slot)
+    state.get(machine.stack_pointer).cfa_offset() == Some(-machine.entry_offset)
 }
 
 /// The registers on which the verdict on a row depends. `None` if an expression may read any.
@@ -277,6 +296,7 @@ fn watched(flow: &Flow<'_, '_>, row: &Row<'_>) -> Option<Registers> {
     let machine = flow.module.machine;
     let mut watched = Registers::of(&[machine.stack_pointer.0]);
     machine.kept.iter().for_each(|register| watched.insert(*register));
+    watched.insert(machine.return_address);
     match row.cfa {
         Cfa::Offset(register, _) => watched.insert(register),
         Cfa::Expression(_) => return None,

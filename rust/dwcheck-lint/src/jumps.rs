@@ -1,7 +1,8 @@
 //! Tables of jumps: where they end, and where they lead.
 
+use crate::bytes::Reader;
 use crate::code::Code;
-use crate::instruction::{Effect, EntrySize};
+use crate::instruction::{Effect, Entry};
 use crate::module::Module;
 
 /// How far before a jump its comparison is looked for, in instructions.
@@ -15,8 +16,10 @@ const MOST_ENTRIES: u64 = 20_000;
 pub struct Table {
     /// Its address.
     pub address: u64,
-    /// The size of its entries.
-    pub size: EntrySize,
+    /// The address that is added to its entries.
+    pub anchor: u64,
+    /// Its entries.
+    pub entry: Entry,
     /// How many entries it has, if the code says so.
     pub bound: Option<u64>,
     /// How many entries are read at most.
@@ -47,9 +50,9 @@ impl Table {
     pub fn targets(&self, module: &Module<'_>, code: &Code<'_>, known: &[u64]) -> Vec<u32> {
         let mut targets = Vec::new();
         for index in 0..self.bound.unwrap_or(MOST_ENTRIES).min(self.limit) {
-            let place = self.address.wrapping_add(index.wrapping_mul(self.entry_bytes()));
+            let place = self.address.wrapping_add(index.wrapping_mul(u64::from(self.entry.bytes)));
             let is_other = index > 0 && known.binary_search(&place).is_ok();
-            let target = match self.entry(module, place) {
+            let target = match self.target(module, place) {
                 Some(target) if !is_other => target,
                 _ => break,
             };
@@ -64,22 +67,14 @@ impl Table {
         targets
     }
 
-    fn entry_bytes(&self) -> u64 {
-        match self.size {
-            EntrySize::Four => 4,
-            EntrySize::Eight => 8,
-        }
-    }
-
     /// Where the entry at an address leads.
-    fn entry(&self, module: &Module<'_>, place: u64) -> Option<u64> {
-        let bytes = module.bytes_at(place).get(..8)?;
-        match self.size {
-            EntrySize::Eight => Some(u64::from_le_bytes(bytes.try_into().ok()?)),
-            EntrySize::Four => {
-                let distance = i32::from_le_bytes(bytes[..4].try_into().ok()?);
-                Some(self.address.wrapping_add(i64::from(distance) as u64))
-            }
-        }
+    fn target(&self, module: &Module<'_>, place: u64) -> Option<u64> {
+        let Entry { bytes, is_signed, shift } = self.entry;
+        let mut reader = Reader::new(module.bytes_at(place));
+        let entry = match is_signed {
+            true => reader.fixed_signed(bytes.into())? as u64,
+            false => reader.fixed(bytes.into())?,
+        };
+        Some(self.anchor.wrapping_add(entry << shift))
     }
 }

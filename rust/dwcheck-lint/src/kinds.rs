@@ -2,7 +2,7 @@
 
 use crate::finding::Group;
 use crate::flow::is_entry_row;
-use crate::instruction::{Effect, Target};
+use crate::instruction::{Effect, Target, Transfer};
 use crate::judge::{Facts, WrongCfa, WrongRule};
 use crate::judging::Way;
 use crate::module::Module;
@@ -108,7 +108,11 @@ impl Kind {
     /// The kind by the instruction after which the CFA is wrong.
     fn of_instruction(module: &Module<'_>, group: &Group<'_>) -> Kind {
         let pointer = module.machine.stack_pointer;
+        let moved = |transfer: &Transfer| if transfer.place.base == pointer { transfer.added } else { 0 };
         match group.mark.before.map(|(_, effect)| effect) {
+            Some(Effect::Transfer(transfer)) if moved(&transfer) > 0 => Kind::PopWithoutRow,
+            Some(Effect::Transfer(transfer)) if moved(&transfer) < 0 && is_late(module, group) => Kind::LatePush,
+            Some(Effect::Transfer(transfer)) if moved(&transfer) < 0 => Kind::PushWithoutRow,
             Some(Effect::Push { .. } | Effect::PushMemory { .. } | Effect::PushOther | Effect::PushFlags) => {
                 if is_late(module, group) {
                     Kind::LatePush

@@ -5,8 +5,8 @@
 //! the stack and the registers at each instruction, and compares it with the row there. What isn't
 //! known isn't judged. docs/LINT.md says how it decides.
 //!
-//! - [`x86_64`] is a decoder. It makes an [`Effect`](instruction::Effect) of each instruction; nothing
-//!   else knows any instruction by its bytes, so another processor is another such file.
+//! - [`x86_64`] and [`aarch64`] are decoders. They make an [`Effect`](instruction::Effect) of each
+//!   instruction; nothing else knows any instruction by its bytes.
 //! - [`value`], [`state`], [`stores`] and [`step`] are what is known, and how instructions change it.
 //! - [`code`], [`walk`], [`flow`], [`jumps`], [`callees`], [`assume`] and [`crossing`] follow the flow.
 //! - [`landings`] reads where calls go on that throw.
@@ -17,6 +17,7 @@
 #![warn(missing_docs)]
 #![deny(unsafe_op_in_unsafe_fn)]
 
+pub mod aarch64;
 pub mod assume;
 mod bytes;
 pub mod callees;

@@ -1,8 +1,9 @@
-//! Registers, by their DWARF numbers, and sets of them.
+//! Registers, by numbers, and sets of them.
 
 use std::fmt;
 
-/// A register, by its DWARF number.
+/// A register, by the number that its [`Machine`](crate::machine::Machine) has for it. For a general
+/// register, that is its DWARF number.
 #[derive(Clone, Copy, Debug, PartialEq, Eq, PartialOrd, Ord, Hash)]
 pub struct Register(pub u8);
 

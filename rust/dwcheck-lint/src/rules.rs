@@ -5,8 +5,9 @@
 
 use crate::code::Code;
 use crate::flow::{is_entry_row, Flow};
-use crate::instruction::Effect;
+use crate::instruction::{Effect, Target};
 use crate::judge::{unjudged, Facts};
+use crate::module::Module;
 use crate::state::State;
 use crate::table::Row;
 use crate::value::Value;
@@ -89,13 +90,22 @@ pub fn is_default_of_switch(code: &Code<'_>, after: u32) -> bool {
     let mut at = after;
     for _ in 0..SWITCH {
         match code.effect(at) {
-            Effect::Jump { target: crate::instruction::Target::Code(_) } => return false,
+            Effect::Jump { target: Target::Code(_) } => return false,
             Effect::Jump { .. } => return true,
             Effect::JumpIf { .. } | Effect::Return | Effect::Stop | Effect::Invalid => return false,
             _ => at = code.next(at),
         }
     }
     false
+}
+
+/// Rule "rows for calls": whether the rows of an FDE are meant for calls only, where exceptions are thrown:
+/// the frame that they describe never ends, by no later row that says what the first one of a function does.
+/// LLVM up to 14 writes such for aarch64.
+pub fn has_rows_for_calls(module: &Module<'_>, rows: &[Row<'_>]) -> bool {
+    let mut is_entry = rows.iter().map(|row| is_entry_row(module, row));
+    let has_frame = is_entry.next() == Some(false) || rows.len() > 1;
+    module.machine.has_rows_for_calls && has_frame && !is_entry.any(|is_entry| is_entry)
 }
 
 /// Rule "unreachable end": whether a jump to the first address of an FDE leaves the function only

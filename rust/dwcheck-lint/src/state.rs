@@ -1,10 +1,8 @@
 //! What is known of the registers and the stack at a place in the code.
 
+use crate::machine::MOST_FOLLOWED;
 use crate::register::Register;
 use crate::value::{Base, Value};
-
-/// The most general registers that a machine has.
-pub const REGISTERS: usize = 16;
 
 /// The most slots of the stack that are followed.
 const MOST_SLOTS: usize = 28;
@@ -23,7 +21,7 @@ struct Slot {
 /// What is known at a place in the code.
 #[derive(Clone, Debug, PartialEq, Eq)]
 pub struct State {
-    registers: [Value; REGISTERS],
+    registers: [Value; MOST_FOLLOWED],
     slots: Vec<Slot>,
     /// Whether it comes of a row that was taken as an assumption, so that nothing is known of slots
     /// that aren't listed. Otherwise it was followed from the function's entry, and a slot to which
@@ -36,7 +34,7 @@ pub struct State {
 impl State {
     /// A state in which nothing is known of any register.
     pub fn unknown(is_assumed: bool) -> State {
-        State { registers: [Value::Unknown; REGISTERS], slots: Vec::new(), is_assumed, is_full: false }
+        State { registers: [Value::Unknown; MOST_FOLLOWED], slots: Vec::new(), is_assumed, is_full: false }
     }
 
     /// What a register holds.

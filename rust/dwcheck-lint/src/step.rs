@@ -1,6 +1,6 @@
 //! How an instruction changes what is known.
 
-use crate::instruction::{Effect, EntrySize, Place};
+use crate::instruction::{Effect, Entry, Place, Scale, Transfer};
 use crate::machine::Machine;
 use crate::register::{Register, Registers};
 use crate::state::State;
@@ -37,6 +37,10 @@ impl Step<'_> {
         match *effect {
             Effect::Write { registers, stored } => self.write(registers, stored),
             Effect::System { registers } => self.write(registers, None),
+            Effect::MayWrite { registers } => registers.iter().for_each(|register| {
+                let merged = self.state.get(register).merged(Value::Clobbered);
+                self.state.set(register, merged);
+            }),
             Effect::Move { to, from } => {
                 let value = self.state.get(from);
                 self.stores.note_copy(value);
@@ -49,16 +53,18 @@ impl Step<'_> {
             Effect::Exchange { one, other } => self.exchange(one, other),
             Effect::Set { to, number } => self.state.set(to, Value::Number(number)),
             Effect::Add { to, from, number } => self.state.set(to, self.state.get(from).plus(number)),
-            Effect::AddRegister { to, by } => self.add_register(to, by),
-            Effect::SubtractRegister { to, by } => self.subtract_register(to, by),
+            Effect::Insert { to, mask, number } => self.insert(to, mask, number),
+            Effect::AddRegister { to, from, by, scale } => self.add_register(to, from, by, scale),
+            Effect::SubtractRegister { to, from, by } => self.subtract_register(to, from, by),
             Effect::Derive { to, from } => self.derive(to, self.state.get(from)),
-            Effect::Align { register } => self.derive(register, self.state.get(register)),
+            Effect::Align { to, from, mask } => self.align(to, from, mask),
             Effect::Load { to, from } => {
                 let value = self.stores.load(self.state, from);
                 self.set_loaded(to, value);
             }
-            Effect::LoadEntry { to, base, offset, size } => self.load_entry(to, base, offset, size),
+            Effect::LoadEntry { to, base, offset, entry } => self.load_entry(to, base, offset, entry),
             Effect::Store { from, to } => self.store(to, self.state.get(from)),
+            Effect::Transfer(transfer) => self.transfer(&transfer),
             _ => self.apply_to_stack(effect),
         }
     }
@@ -98,6 +104,7 @@ impl Step<'_> {
     /// Changes what is known as a call does that returns.
     pub fn call(&mut self, called: Called) {
         called.changed.iter().for_each(|register| self.state.set(register, called.value));
+        self.machine.call_writes.iter().for_each(|register| self.state.set(register, Value::Clobbered));
         if let Value::Address { base, offset } = self.state.get(self.machine.stack_pointer) {
             self.state.overwrite_below(base, offset);
         }
@@ -141,18 +148,51 @@ impl Step<'_> {
         }
     }
 
-    fn add_register(&mut self, to: Register, by: Register) {
-        let (one, other) = (self.state.get(to), self.state.get(by));
+    /// Rounds an address down. The CFA is a multiple of what the processor demands of stack pointers.
+    fn align(&mut self, to: Register, from: Register, mask: Option<i64>) {
+        let is_multiple = |mask: i64| self.machine.stack_alignment & mask == self.machine.stack_alignment;
+        match (self.state.get(from).cfa_offset(), mask.filter(|mask| mask.leading_ones() + mask.trailing_zeros() == 64))
+        {
+            (Some(offset), Some(mask)) if is_multiple(mask) => self.state.set(to, Value::from_cfa(offset & mask)),
+            _ => self.derive(to, self.state.get(from)),
+        }
+    }
+
+    fn insert(&mut self, to: Register, mask: i64, number: i64) {
+        let value = match self.state.get(to) {
+            Value::Number(old) => Value::Number(old & !mask | number),
+            old => old.derived(),
+        };
+        self.state.set(to, value);
+    }
+
+    /// What a register holds, scaled.
+    fn scaled(&self, register: Register, scale: Scale) -> Value {
+        let Scale { shift, is_extended } = scale;
+        match self.state.get(register) {
+            value if scale == Scale::ONE => value,
+            Value::Number(number) if !is_extended => Value::Number(number << shift),
+            Value::TableEntry { table, entry } if entry.bytes < 8 => {
+                let is_signed = entry.is_signed || is_extended;
+                Value::TableEntry { table, entry: Entry { is_signed, shift, ..entry } }
+            }
+            value => value.derived(),
+        }
+    }
+
+    fn add_register(&mut self, to: Register, from: Register, by: Register, scale: Scale) {
+        let (one, other) = (self.state.get(from), self.scaled(by, scale));
         let sum = match (one, other) {
-            _ if to == by => Value::Clobbered,
+            _ if from == by => Value::Clobbered,
             (Value::Address { .. } | Value::Number(_), Value::Number(number)) => one.plus(number),
             (Value::Number(number), Value::Address { .. }) => other.plus(number),
-            // The entries of such a table are distances from it.
-            (Value::TableEntry { table, size: EntrySize::Four }, Value::Number(number))
-            | (Value::Number(number), Value::TableEntry { table, size: EntrySize::Four })
-                if table == number =>
+            // Such entries are distances from this address.
+            (Value::TableEntry { table, entry }, Value::Number(number))
+            | (Value::Number(number), Value::TableEntry { table, entry })
+                if entry.bytes < 8 =>
             {
-                Value::TableTarget { table, size: EntrySize::Four }
+                let anchor = i32::try_from(number.wrapping_sub(table));
+                anchor.map_or(Value::Clobbered, |anchor| Value::TableTarget { table, anchor, entry })
             }
             (Value::Address { .. }, _) | (_, Value::Address { .. }) => return self.make_base(to),
             _ if to == self.machine.stack_pointer => return self.make_base(to),
@@ -162,10 +202,10 @@ impl Step<'_> {
         self.state.set(to, sum);
     }
 
-    fn subtract_register(&mut self, to: Register, by: Option<Register>) {
-        let (one, other) = (self.state.get(to), by.map_or(Value::Unknown, |by| self.state.get(by)));
+    fn subtract_register(&mut self, to: Register, from: Register, by: Option<Register>) {
+        let (one, other) = (self.state.get(from), by.map_or(Value::Unknown, |by| self.state.get(by)));
         let difference = match (one, other) {
-            _ if by == Some(to) => Value::Number(0),
+            _ if by == Some(from) => Value::Number(0),
             (Value::Address { .. } | Value::Number(_), Value::Number(number)) => one.plus(number.wrapping_neg()),
             (Value::Address { .. }, _) => return self.make_base(to),
             _ if to == self.machine.stack_pointer => return self.make_base(to),
@@ -175,16 +215,41 @@ impl Step<'_> {
         self.state.set(to, difference);
     }
 
+    fn transfer(&mut self, transfer: &Transfer) {
+        let mut loaded = [Value::Clobbered; 4];
+        for ((register, place), loaded) in transfer.each().zip(&mut loaded) {
+            match register.filter(|_| transfer.is_whole) {
+                Some(_) if transfer.is_load => *loaded = self.stores.load(self.state, place),
+                _ if transfer.is_load => {}
+                from => {
+                    self.write(Registers::NONE, Some((place, transfer.bytes)));
+                    if let Some(from) = from {
+                        self.store(Some(place), self.state.get(from));
+                    }
+                }
+            }
+        }
+        if transfer.added != 0 {
+            let moved = self.state.get(transfer.place.base).plus(transfer.added);
+            self.state.set(transfer.place.base, moved);
+        }
+        if transfer.is_load {
+            let registers = transfer.each().zip(loaded).filter_map(|((register, _), value)| Some((register?, value)));
+            registers.for_each(|(register, value)| self.set_loaded(register, value));
+        }
+    }
+
     /// Sets a register to a value from memory. A stack pointer from memory may point anywhere.
     fn set_loaded(&mut self, to: Register, value: Value) {
         let is_lost = to == self.machine.stack_pointer && value == Value::Clobbered;
         self.state.set(to, if is_lost { Value::Unknown } else { value });
     }
 
-    fn load_entry(&mut self, to: Register, base: Option<Register>, offset: i64, size: EntrySize) {
+    fn load_entry(&mut self, to: Register, base: Option<Register>, offset: i64, entry: Entry) {
         let value = match base.map_or(Value::Number(0), |base| self.state.get(base)) {
-            Value::Number(address) => Value::TableEntry { table: address.wrapping_add(offset), size },
-            Value::Address { .. } if size == EntrySize::Eight => Value::Unknown,
+            Value::Number(address) => Value::TableEntry { table: address.wrapping_add(offset), entry },
+            _ if entry.bytes < 4 => Value::Clobbered,
+            Value::Address { .. } if entry.bytes == 8 => Value::Unknown,
             address => self.stores.load_elsewhere(self.state, address),
         };
         self.state.set(to, value);

@@ -33,9 +33,10 @@ pub struct Stores {
 }
 
 impl Stores {
-    /// Nothing is stored but the return address.
+    /// Nothing is stored but the return address, if a call does that.
     pub fn new(machine: &Machine) -> Stores {
-        Stores { slots: HashSet::from([(Base::CFA, machine.return_slot)]), ..Stores::default() }
+        let slot = machine.return_slot.map(|offset| (Base::CFA, offset));
+        Stores { slots: slot.into_iter().collect(), ..Stores::default() }
     }
 
     /// Whether an answer that was given before turned out to be wrong.

@@ -31,7 +31,7 @@ impl Truth {
             Cfa::Offset(register, _) => Some(register),
             Cfa::Expression(_) => None,
         };
-        let registers = || (0..).map(Register).take_while(|register| machine.is_followed(*register));
+        let registers = || machine.followed();
         let preferred = of_row.into_iter().chain([machine.stack_pointer, machine.frame_pointer]).chain(registers());
         let distance = |register| Some((register, state.get(register).cfa_offset()?.checked_neg()?));
         let mut kept = [None; MOST_KEPT];

@@ -1,6 +1,6 @@
 //! What is known of a value: the lattice of the data flow.
 
-use crate::instruction::EntrySize;
+use crate::instruction::Entry;
 use crate::register::Register;
 
 /// What an address is relative to.
@@ -27,9 +27,10 @@ pub enum Value {
     /// A number, or an address in the program.
     Number(i64),
     /// An entry of a table of jumps.
-    TableEntry { table: i64, size: EntrySize },
-    /// The address that an entry of a table of jumps stands for.
-    TableTarget { table: i64, size: EntrySize },
+    TableEntry { table: i64, entry: Entry },
+    /// The address that an entry of a table of jumps stands for. `anchor` is the distance from the table
+    /// of the address that is added to the entry.
+    TableTarget { table: i64, anchor: i32, entry: Entry },
 }
 
 impl Base {

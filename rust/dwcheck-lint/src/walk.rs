@@ -1,7 +1,7 @@
 //! Walks through a block, and finds the edges that lead out of it.
 
 use crate::flow::Flow;
-use crate::instruction::{Condition, Effect, EntrySize, Target};
+use crate::instruction::{Condition, Effect, Entry, Target};
 use crate::jumps::{bound, Table};
 use crate::register::Register;
 use crate::rules;
@@ -170,25 +170,30 @@ impl<'m, V: Visitor<'m>> Walk<'_, V> {
             Target::Code(address) => return self.go(flow, address, EdgeKind::Jump),
             Target::Register(register) => self.state.get(register),
             Target::Table { base, offset } => match base.map_or(Value::Number(0), |base| self.state.get(base)) {
-                Value::Number(base) => Value::TableEntry { table: base.wrapping_add(offset), size: EntrySize::Eight },
+                Value::Number(base) => Value::TableEntry { table: base.wrapping_add(offset), entry: Entry::ADDRESS },
                 _ => Value::Unknown,
             },
             Target::Pointer(_) | Target::Elsewhere => Value::Unknown,
         };
         match value {
-            Value::TableEntry { table, size: size @ EntrySize::Eight } | Value::TableTarget { table, size } => {
-                self.jump_by_table(flow, table as u64, size);
+            Value::TableEntry { table, entry: Entry::ADDRESS } => {
+                self.jump_by_table(flow, table as u64, 0, Entry::ADDRESS);
+            }
+            Value::TableTarget { table, anchor, entry } => {
+                let anchor = table.wrapping_add(i64::from(anchor));
+                self.jump_by_table(flow, table as u64, anchor as u64, entry);
             }
             Value::Number(address) => self.go(flow, address as u64, EdgeKind::Jump),
             _ => self.visitor.exit(flow, self.at, Exit::Unknown, &self.state),
         }
     }
 
-    fn jump_by_table(&mut self, flow: &mut Flow<'m, '_>, address: u64, size: EntrySize) {
+    fn jump_by_table(&mut self, flow: &mut Flow<'m, '_>, address: u64, anchor: u64, entry: Entry) {
         if let Err(place) = flow.tables.binary_search(&address) {
             flow.tables.insert(place, address);
         }
-        let table = Table { address, size, bound: bound(&flow.code, self.at), limit: flow.entries_left };
+        let bound = bound(&flow.code, self.at);
+        let table = Table { address, anchor, entry, bound, limit: flow.entries_left };
         let targets = table.targets(flow.module, &flow.code, &flow.tables);
         flow.entries_left -= (targets.len() as u64).min(flow.entries_left);
         if targets.is_empty() {

@@ -1,6 +1,6 @@
 //! x86-64: its calling convention, and its decoder over Zydis.
 
-use crate::instruction::{Condition, Effect, EntrySize, Instruction, Place, Target};
+use crate::instruction::{Condition, Effect, Entry, Instruction, Place, Scale, Target};
 use crate::machine::Machine;
 use crate::register::{Register, Registers};
 use crate::zydis::{decoded, text, Decoded, Mnemonic, Operand, OperandKind, NO_REGISTER, RIP};
@@ -24,16 +24,23 @@ const RSP: Register = Register(7);
 pub static X86_64: Machine = Machine {
     number: 62,
     names: &NAMES,
+    followed: 16,
+    register: |number| Register(u8::try_from(number).unwrap_or(u8::MAX)),
     stack_pointer: RSP,
     frame_pointer: RBP,
     return_address: Register(16),
     kept: &[Register(3), RBP, Register(12), Register(13), Register(14), Register(15)],
+    kept_if_said: Registers::NONE,
+    stack_alignment: 1,
+    has_rows_for_calls: false,
     changeable: Registers::of(&[0, 1, 2, 4, 5, 8, 9, 10, 11]),
+    call_writes: Registers::NONE,
     entry_offset: 8,
-    return_slot: -8,
+    return_slot: Some(-8),
     exception_data: Registers::of(&[0, 1]),
     // exit, exit_group and rt_sigreturn.
     exits: (Register(0), &[60, 231, 15]),
+    stub: |_, _| None,
     decode,
     text: |bytes, address| text(bytes, address).unwrap_or_else(|| "(not an instruction)".to_string()),
 };
@@ -120,7 +127,7 @@ fn effect(found: &Decoded) -> Option<Effect> {
         Mnemonic::Mov => mov(first, second),
         Mnemonic::Movsxd => {
             let (base, offset) = second.entry(4).filter(|(base, _)| base.is_some())?;
-            Some(Effect::LoadEntry { to: first.whole_register()?, base, offset, size: EntrySize::Four })
+            Some(Effect::LoadEntry { to: first.whole_register()?, base, offset, entry: Entry::DISTANCE })
         }
         Mnemonic::Add => add(first, second),
         Mnemonic::Subtract => subtract(first, second),
@@ -128,7 +135,8 @@ fn effect(found: &Decoded) -> Option<Effect> {
         Mnemonic::Decrement => add_number(first, -1),
         Mnemonic::And => {
             let register = first.whole_register()?;
-            Some(Effect::Align { register }).filter(|_| second.immediate().is_some() || register == RSP)
+            let mask = second.immediate();
+            Some(Effect::Align { to: register, from: register, mask }).filter(|_| mask.is_some() || register == RSP)
         }
         Mnemonic::Xor => zero(first, second),
         Mnemonic::Exchange => Some(Effect::Exchange { one: first.whole_register()?, other: second.whole_register()? }),
@@ -218,7 +226,7 @@ fn load(to: Register, operand: &Operand) -> Option<Effect> {
         return Some(Effect::Load { to, from });
     }
     let (base, offset) = operand.entry(8)?;
-    Some(Effect::LoadEntry { to, base, offset, size: EntrySize::Eight })
+    Some(Effect::LoadEntry { to, base, offset, entry: Entry::ADDRESS })
 }
 
 fn add_number(operand: &Operand, number: i64) -> Option<Effect> {
@@ -229,7 +237,10 @@ fn add_number(operand: &Operand, number: i64) -> Option<Effect> {
 fn add(first: &Operand, second: &Operand) -> Option<Effect> {
     match second.immediate() {
         Some(number) => add_number(first, number),
-        None => Some(Effect::AddRegister { to: first.whole_register()?, by: second.whole_register()? }),
+        None => {
+            let (to, by) = (first.whole_register()?, second.whole_register()?);
+            Some(Effect::AddRegister { to, from: to, by, scale: Scale::ONE })
+        }
     }
 }
 
@@ -238,7 +249,7 @@ fn subtract(first: &Operand, second: &Operand) -> Option<Effect> {
         return add_number(first, number.wrapping_neg());
     }
     let (to, by) = (first.whole_register()?, second.whole_register());
-    Some(Effect::SubtractRegister { to, by }).filter(|_| by.is_some() || to == RSP)
+    Some(Effect::SubtractRegister { to, from: to, by }).filter(|_| by.is_some() || to == RSP)
 }
 
 fn compare(first: &Operand, second: &Operand) -> Option<Effect> {

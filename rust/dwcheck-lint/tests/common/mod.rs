@@ -1,12 +1,13 @@
 //! What the tests share: programs that are assembled or compiled, and rows that gimli reads.
 #![allow(dead_code)]
 
+pub mod programs;
+
 use dwcheck_lint::finding::Finding;
 use dwcheck_lint::landings::landings;
 use dwcheck_lint::lint::{lint, Report};
 use dwcheck_lint::machine::Machine;
 use dwcheck_lint::module::{Convention, Module, Segment};
-use dwcheck_lint::register::Register;
 use dwcheck_lint::table::{Cfa, Fde, Row, Rows, Rule};
 use gimli::{
     BaseAddresses, CallFrameInstruction, CfaRule, CieOrFde, EhFrame, EndianSlice, LittleEndian, Pointer, RegisterRule,
@@ -54,6 +55,7 @@ impl Drop for Folder {
 
 /// The rows of `.eh_frame`, as gimli reads them.
 struct GimliRows<'a> {
+    machine: &'static Machine,
     section: EhFrame<Bytes<'a>>,
     bases: BaseAddresses,
     headers: Vec<Header<'a>>,
@@ -72,16 +74,20 @@ impl<'a> GimliRows<'a> {
         let mut table = header.rows(&self.section, &self.bases, &mut context).map_err(failed)?;
         let mut rows = Vec::new();
         while let Some(row) = table.next_row().map_err(failed)? {
-            let mut rules: Vec<_> =
-                row.registers().map(|(register, rule)| (Register(register.0 as u8), rule_of(rule))).collect();
+            let numbered = |register: gimli::Register| (self.machine.register)(register.0);
+            let rule =
+                |(register, rule): &(gimli::Register, RegisterRule<Bytes<'a>>)| (numbered(*register), self.rule(rule));
+            let mut rules: Vec<_> = row.registers().map(rule).collect();
             // gimli leaves out rules that say that a register is undefined, such as the return address of
             // the outermost frame.
-            if rules.iter().all(|(register, _)| *register != Register(16)) {
-                rules.push((Register(16), Rule::Undefined));
+            let address = self.machine.return_address;
+            let has_rule = rules.iter().any(|(register, _)| *register == address);
+            if !has_rule && (self.machine.return_slot.is_some() || ends_the_stack(header, &self.section, &self.bases)) {
+                rules.push((address, Rule::Undefined));
             }
             rules.sort_by_key(|(register, _)| *register);
             let cfa = match row.cfa() {
-                CfaRule::RegisterAndOffset { register, offset } => Cfa::Offset(Register(register.0 as u8), *offset),
+                CfaRule::RegisterAndOffset { register, offset } => Cfa::Offset(numbered(*register), *offset),
                 CfaRule::Expression(expression) => Cfa::Expression(expression.0.slice()),
             };
             rows.push(Row { begin: row.start_address(), end: row.end_address(), cfa, rules });
@@ -89,17 +95,29 @@ impl<'a> GimliRows<'a> {
         rows.retain(|row| row.begin < row.end);
         Ok(rows)
     }
+
+    fn rule(&self, rule: &RegisterRule<Bytes<'a>>) -> Rule<'a> {
+        match rule {
+            RegisterRule::Undefined => Rule::Undefined,
+            RegisterRule::SameValue => Rule::Same,
+            RegisterRule::Offset(offset) => Rule::Offset(*offset),
+            RegisterRule::Register(register) => Rule::Register((self.machine.register)(register.0)),
+            RegisterRule::Expression(expression) => Rule::Expression(expression.0.slice()),
+            _ => Rule::Value,
+        }
+    }
 }
 
-fn rule_of<'a>(rule: &RegisterRule<Bytes<'a>>) -> Rule<'a> {
-    match rule {
-        RegisterRule::Undefined => Rule::Undefined,
-        RegisterRule::SameValue => Rule::Same,
-        RegisterRule::Offset(offset) => Rule::Offset(*offset),
-        RegisterRule::Register(register) => Rule::Register(Register(register.0 as u8)),
-        RegisterRule::Expression(expression) => Rule::Expression(expression.0.slice()),
-        _ => Rule::Value,
+/// Whether an FDE says that there is no return address.
+fn ends_the_stack<'a>(header: &Header<'a>, section: &EhFrame<Bytes<'a>>, bases: &BaseAddresses) -> bool {
+    let mut instructions = header.instructions(section, bases);
+    while let Ok(Some(instruction)) = instructions.next() {
+        let return_address = header.cie().return_address_register();
+        if matches!(instruction, CallFrameInstruction::Undefined { register } if register == return_address) {
+            return true;
+        }
     }
+    false
 }
 
 impl<'a> Rows for GimliRows<'a> {
@@ -119,7 +137,9 @@ fn argument_bytes<'a>(header: &Header<'a>, section: &EhFrame<Bytes<'a>>, bases: 
     let (mut instructions, mut address) = (header.instructions(section, bases), header.initial_address());
     while let Ok(Some(instruction)) = instructions.next() {
         match instruction {
-            CallFrameInstruction::AdvanceLoc { delta } => address += u64::from(delta),
+            CallFrameInstruction::AdvanceLoc { delta } => {
+                address += u64::from(delta) * header.cie().code_alignment_factor();
+            }
             CallFrameInstruction::ArgsSize { size } => found.push((address, size)),
             _ => {}
         }
@@ -180,9 +200,10 @@ pub fn module(data: &[u8]) -> Module<'_> {
         Fde { begin, end: begin + header.len(), is_signal: header.is_signal_trampoline(), landings, argument_bytes }
     };
     let fdes = headers.iter().map(fde).collect();
-    let rows = GimliRows { section: frames, bases, headers, context: RefCell::default() };
+    let machine = Machine::numbered(u16::from_le_bytes([data[18], data[19]])).unwrap();
+    let rows = GimliRows { machine, section: frames, bases, headers, context: RefCell::default() };
     Module {
-        machine: Machine::numbered(62).unwrap(),
+        machine,
         segments,
         sections: Vec::new(),
         fdes,
@@ -190,6 +211,13 @@ pub fn module(data: &[u8]) -> Module<'_> {
         convention: Convention::KeepsRegisters,
         rows: Box::new(rows),
     }
+}
+
+/// Whether a tool is installed.
+pub fn has(tool: &str) -> bool {
+    let found = Command::new(tool).arg("--version").output().is_ok();
+    assert!(found || std::env::var_os("DWCHECK_NO_SKIPS").is_none(), "{} isn't installed", tool);
+    found
 }
 
 /// The kinds of the findings, except private ones.
@@ -200,8 +228,13 @@ pub fn kinds(report: &Report<'_>) -> Vec<String> {
 
 /// Assembles a program, and lints it.
 pub fn kinds_of_assembly(folder: &Folder, text: &str) -> Vec<String> {
+    kinds_by(folder, "gcc", text)
+}
+
+/// Assembles a program by a compiler, and lints it.
+pub fn kinds_by(folder: &Folder, compiler: &str, text: &str) -> Vec<String> {
     folder.write("text.s", text);
-    folder.run("gcc -nostdlib -shared -o text.so text.s");
+    folder.run(&format!("{} -nostdlib -shared -o text.so text.s", compiler));
     let data = folder.bytes("text.so");
     let module = module(&data);
     kinds(&lint(&module))

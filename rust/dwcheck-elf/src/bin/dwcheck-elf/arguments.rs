@@ -45,7 +45,7 @@ pub enum Command {
     /// Check all ELF files in folders
     #[command(after_help = "Example: dwcheck-elf survey /usr/bin /usr/lib")]
     Survey(SurveyWords),
-    /// Compare the rows of unwind tables with the code that they describe (x86-64)
+    /// Compare the rows of unwind tables with the code that they describe (x86-64, aarch64)
     #[command(after_help = LINT_STATUS)]
     Lint(LintWords),
 }
@@ -231,7 +231,7 @@ pub struct SurveyWords {
 
 #[derive(Args, Debug)]
 pub struct LintWords {
-    /// Programs, libraries, and folders of them
+    /// Programs, libraries, unlinked objects, and folders of them
     #[arg(required = true)]
     pub paths: Vec<PathBuf>,
     /// Show functions, too, that never give a callee-saved register back

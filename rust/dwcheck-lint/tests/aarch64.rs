@@ -1,0 +1,357 @@
+//! Code for aarch64: planted defects, rules that only this machine needs, and programs by gcc and clang.
+
+mod common;
+
+use common::programs::{C, LEVELS};
+use common::{has, kinds, kinds_by, module, Folder};
+use dwcheck_lint::coverage::Reason;
+use dwcheck_lint::lint::lint;
+use dwcheck_lint::machine::Machine;
+
+const GCC: &str = "aarch64-linux-gnu-gcc";
+
+/// A function with its body.
+fn function(body: &str) -> String {
+    format!(
+        ".text\n.globl f\n.type f, @function\nf:\n.cfi_startproc\n{}\n.cfi_endproc\n\
+         .section .note.GNU-stack,\"\",@progbits\n",
+        body
+    )
+}
+
+/// The defect is found, by its kind and nothing else, and nothing is found without it. `WRONG text` is there
+/// only with the defect, and `RIGHT text` only without it.
+fn planted(name: &str, kind: &str, text: &str) {
+    if !has(GCC) {
+        return;
+    }
+    let folder = Folder::new(&format!("aarch64-{}", name));
+    let variant = |kept: &str, dropped: &str| {
+        let lines = text.lines().filter(|line| !line.trim_start().starts_with(dropped));
+        function(&lines.map(|line| line.replacen(kept, "", 1)).collect::<Vec<_>>().join("\n"))
+    };
+    assert_eq!(kinds_by(&folder, GCC, &variant("WRONG", "RIGHT")), [kind], "{}", text);
+    assert_eq!(kinds_by(&folder, GCC, &variant("RIGHT", "WRONG")), [""; 0], "{}", text);
+}
+
+/// Nothing is found in a function.
+fn quiet(name: &str, body: &str) {
+    if has(GCC) {
+        let folder = Folder::new(&format!("aarch64-{}", name));
+        assert_eq!(kinds_by(&folder, GCC, &function(body)), [""; 0], "{}", body);
+    }
+}
+
+#[test]
+fn a_push_of_a_pair_with_a_late_row() {
+    let text = "stp x29, x30, [sp, #-32]!
+        RIGHT .cfi_def_cfa_offset 32
+        RIGHT .cfi_offset x29, -32
+        RIGHT .cfi_offset x30, -24
+        mov x29, sp
+        WRONG .cfi_def_cfa_offset 32
+        WRONG .cfi_offset x29, -32
+        WRONG .cfi_offset x30, -24
+        blr x1
+        ldp x29, x30, [sp], #32
+        .cfi_restore x29
+        .cfi_restore x30
+        .cfi_def_cfa_offset 0
+        ret";
+    planted("late", "late push", text);
+}
+
+#[test]
+fn a_pop_of_a_pair_without_a_row() {
+    let text = "stp x29, x30, [sp, #-32]!
+        .cfi_def_cfa_offset 32
+        .cfi_offset x29, -32
+        .cfi_offset x30, -24
+        blr x1
+        ldp x29, x30, [sp], #32
+        RIGHT .cfi_restore x29
+        RIGHT .cfi_restore x30
+        RIGHT .cfi_def_cfa_offset 0
+        mov x0, #1
+        WRONG .cfi_restore x29
+        WRONG .cfi_restore x30
+        WRONG .cfi_def_cfa_offset 0
+        ret";
+    planted("pop", "pop without row", text);
+}
+
+#[test]
+fn registers_in_the_slots_of_others() {
+    let text = "stp x19, x20, [sp, #-16]!
+        .cfi_def_cfa_offset 16
+        RIGHT .cfi_offset x19, -16
+        RIGHT .cfi_offset x20, -8
+        WRONG .cfi_offset x19, -8
+        WRONG .cfi_offset x20, -16
+        mov x19, x0
+        mov x20, x1
+        ldp x19, x20, [sp], #16
+        .cfi_restore x19
+        .cfi_restore x20
+        .cfi_def_cfa_offset 0
+        ret";
+    planted("slot", "slot overwritten", text);
+}
+
+/// Registers that rows speak of: the halves of vectors that a function has to give back are judged where the
+/// FDE has a rule for them.
+#[test]
+fn vectors_that_rows_speak_of() {
+    let text = "stp d8, d9, [sp, #-16]!
+        .cfi_def_cfa_offset 16
+        .cfi_offset 72, -16
+        RIGHT .cfi_offset 73, -8
+        fmov d9, #1.0
+        mov x0, #1
+        WRONG .cfi_offset 73, -8
+        fmov d8, d9
+        ldp d8, d9, [sp], #16
+        .cfi_restore 72
+        .cfi_restore 73
+        .cfi_def_cfa_offset 0
+        ret";
+    planted("vector", "register overwritten", text);
+    let silent = text.lines().filter(|line| !line.contains(" 72") && !line.contains(" 73")).collect::<Vec<_>>();
+    quiet("silent", &silent.join("\n"));
+}
+
+/// The return address is in x30, until a call or a move overwrites it.
+#[test]
+fn the_return_address_is_in_its_register() {
+    let text = "mov x9, x30
+        RIGHT .cfi_register x30, x9
+        bl g
+        mov x30, x9
+        RIGHT .cfi_same_value x30
+        ret
+        .cfi_endproc
+        g: .cfi_startproc
+        mov x0, #1
+        ret";
+    planted("link", "return address", text);
+}
+
+#[test]
+fn large_frames_by_a_register() {
+    let text = "mov x12, #4112
+        movk x12, #1, lsl #16
+        sub sp, sp, x12
+        RIGHT .cfi_def_cfa_offset 69648
+        str x0, [sp]
+        WRONG .cfi_def_cfa_offset 69648
+        ldr x0, [sp]
+        add sp, sp, x12
+        .cfi_def_cfa_offset 0
+        ret";
+    // Such a subtraction has no name of its own.
+    planted("large", "wrong CFA", text);
+}
+
+/// Rows for calls: what LLVM 14 writes. Only calls are judged.
+#[test]
+fn rows_that_are_meant_for_calls() {
+    let text = "sub sp, sp, #32
+        stp x29, x30, [sp, #16]
+        add x29, sp, #16
+        .cfi_def_cfa x29, 16
+        WRONG .cfi_offset x30, -16
+        WRONG .cfi_offset x29, -8
+        RIGHT .cfi_offset x30, -8
+        RIGHT .cfi_offset x29, -16
+        blr x0
+        ldp x29, x30, [sp, #16]
+        add sp, sp, #32
+        ret";
+    planted("calls", "return address", text);
+}
+
+/// Alignment: the stack pointer is a multiple of 16, so rounding it down to one changes nothing.
+#[test]
+fn stack_pointers_that_are_aligned_already() {
+    let body = "sub sp, sp, #32
+        .cfi_def_cfa_offset 32
+        mov x9, sp
+        and x9, x9, #-16
+        mov sp, x9
+        add sp, sp, #32
+        .cfi_def_cfa_offset 0
+        ret";
+    quiet("aligned", body);
+}
+
+/// Jump targets: the rows describe the frame that `longjmp` goes to.
+#[test]
+fn rows_of_a_jump_to_another_frame() {
+    quiet("jump", ".cfi_def_cfa x0, 0\n.cfi_offset x19, 0\n.cfi_offset x30, 8\nldp x19, x30, [x0]\nldr x4, [x0, #16]\nmov sp, x4\nbr x30");
+}
+
+/// Exception returns: the stack pointer of another frame is set at the end.
+#[test]
+fn functions_that_return_to_a_handler() {
+    let body = "stp x0, x1, [sp, #-32]!
+        .cfi_def_cfa_offset 32
+        .cfi_offset x0, -32
+        .cfi_offset x1, -24
+        stp x2, x3, [sp, #16]
+        .cfi_offset x2, -16
+        .cfi_offset x3, -8
+        blr x5
+        mov x4, x0
+        ldp x2, x3, [sp, #16]
+        ldp x0, x1, [sp], #32
+        .cfi_restore x0
+        .cfi_restore x1
+        .cfi_restore x2
+        .cfi_restore x3
+        .cfi_def_cfa_offset 0
+        add sp, sp, x4
+        ret";
+    // The call overwrites x30, of which these rows don't speak.
+    quiet("handler", &body.replace("blr x5\n", ""));
+}
+
+/// Tables of jumps with entries of one and of two bytes, which count instructions.
+#[test]
+fn tables_of_short_entries() {
+    let body = "cmp w0, #2
+        b.hi 4f
+        adrp x1, table
+        add x1, x1, :lo12:table
+        LOAD
+        adr x0, 1f
+        ADD
+        br x1
+        1: mov x0, #1
+        ret
+        2: mov x0, #2
+        ret
+        3: mov x0, #3
+        ret
+        4: stp x29, x30, [sp, #-16]!
+        .cfi_def_cfa_offset 16
+        .cfi_offset x29, -16
+        .cfi_offset x30, -8
+        5: blr x2
+        ldp x29, x30, [sp], #16
+        .cfi_restore x29
+        .cfi_restore x30
+        .cfi_def_cfa_offset 0
+        ret
+        .section .rodata
+        table: .DATA (1b-1b)/4, (2b-1b)/4, (3b-1b)/4, (5b-1b)/4
+        .text";
+    let bytes = body.replace("LOAD", "ldrb w1, [x1, w0, uxtw]").replace("ADD", "add x1, x0, w1, sxtb #2");
+    let halves = body.replace("LOAD", "ldrh w1, [x1, w0, uxtw #1]").replace("ADD", "add x1, x0, w1, sxth #2");
+    for (name, body) in [("bytes", bytes.replace("DATA", "byte")), ("halves", halves.replace("DATA", "hword"))] {
+        if has(GCC) {
+            let folder = Folder::new(&format!("aarch64-table-{}", name));
+            folder.write("text.s", &function(&body));
+            folder.run(&format!("{} -nostdlib -shared -o text.so text.s", GCC));
+            let data = folder.bytes("text.so");
+            let module = module(&data);
+            let report = lint(&module);
+            assert_eq!((kinds(&report).len(), report.coverage.assumed), (0, 0), "{}", body);
+        }
+    }
+}
+
+#[test]
+fn c_by_gcc() {
+    if !has(GCC) {
+        return;
+    }
+    let folder = Folder::new("aarch64-c");
+    folder.write("a.c", C);
+    for level in LEVELS {
+        for option in
+            ["", "-fomit-frame-pointer", "-fstack-clash-protection", "-fno-shrink-wrap", "-mno-outline-atomics"]
+        {
+            folder.run(&format!("{} -w {} {} a.c -o out", GCC, level, option));
+            let data = folder.bytes("out");
+            let module = module(&data);
+            let report = lint(&module);
+            assert_eq!(kinds(&report), [""; 0], "{} {}", level, option);
+            let unjudged = report.coverage.instructions - report.coverage.judged;
+            let others = report.coverage.skipped(Reason::Outermost) + report.coverage.skipped(Reason::CallsOnly);
+            assert_eq!(unjudged, others, "{} {}: {}", level, option, report.coverage);
+        }
+    }
+}
+
+/// Frames of LLVM, whose rows are right at calls only.
+#[test]
+fn c_by_clang() {
+    if !has("clang") || !has("ld.lld") {
+        return;
+    }
+    let folder = Folder::new("aarch64-clang");
+    let text = "long g(void *p, long n);
+        long f(long n) { char grown[n]; _Alignas(64) long held[8]; return g(grown, n) + g(held, n); }
+        long h(long n) { long held[9000]; switch (n) { case 0: return g(held, 1); case 1: return g(0, 2) + 7;
+        case 2: return g(held, 3) * 5; case 3: return 9; case 4: return g(held, 4); default: __builtin_trap(); } }";
+    folder.write("a.c", text);
+    for level in LEVELS {
+        let line = "clang --target=aarch64-linux-gnu -fuse-ld=lld -nostdlib -shared -funwind-tables -o out a.c";
+        folder.run(&format!("{} -Wno-unused-command-line-argument {}", line, level));
+        let data = folder.bytes("out");
+        let module = module(&data);
+        let report = lint(&module);
+        assert_eq!(kinds(&report), [""; 0], "{}", level);
+        assert!(report.coverage.judged > 0 && report.coverage.skipped(Reason::CallsOnly) > 0, "{}", report.coverage);
+    }
+}
+
+/// The text of instructions that move the frame is that of objdump.
+#[test]
+fn text_is_what_objdump_writes() {
+    if !has(GCC) {
+        return;
+    }
+    let folder = Folder::new("aarch64-text");
+    let text = "stp x29, x30, [sp, #-32]!
+        ldp x19, x20, [sp, #16]
+        ldp d8, d9, [sp], #64
+        stp q8, q9, [x2, #32]
+        str x30, [sp, #-16]!
+        ldr x30, [sp], #16
+        str w3, [x4]
+        ldur x5, [x6, #-8]
+        sub sp, sp, #0x50
+        add sp, sp, #0x1, lsl #12
+        mov x29, sp
+        mov x0, x1
+        mov x2, #0x1234
+        movk x2, #0x5, lsl #16
+        sub sp, sp, x2
+        and sp, x9, #0xfffffffffffffff0
+        cmp x3, #0x5
+        cmp x3, x4
+        blr x1
+        br x2
+        paciasp
+        autiasp
+        nop
+        brk #0x1
+        svc #0x0
+        ret";
+    folder.write("text.s", text);
+    folder.run(&format!("{} -c text.s && aarch64-linux-gnu-objdump -d text.o > listing", GCC));
+    let machine = Machine::numbered(183).unwrap();
+    let listing = String::from_utf8(folder.bytes("listing")).unwrap();
+    let mut count = 0;
+    for line in listing.lines().filter(|line| line.starts_with("  ")) {
+        let mut fields = line.split('\t');
+        let word = u32::from_str_radix(fields.nth(1).unwrap().trim(), 16).unwrap();
+        let expected = fields.take_while(|field| !field.starts_with("//")).collect::<Vec<_>>().join(" ");
+        let shown = (machine.text)(&word.to_le_bytes(), 0);
+        // objdump leaves out the sign of `ldur` in the name, and shows its own numbers of immediates.
+        assert!(shown == expected.trim() || expected.starts_with("ldur"), "{} {}", shown, expected);
+        count += 1;
+    }
+    assert_eq!(count, text.lines().count());
+}
