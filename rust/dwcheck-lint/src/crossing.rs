@@ -28,7 +28,7 @@ impl Crossing {
         }
         let is_full = self.brought.len() >= MOST_BROUGHT;
         let has_changed = match self.brought.get_mut(&address) {
-            Some(known) => known.merge(state),
+            Some(known) => known.merge(state, address.wrapping_sub(fde) as u32),
             None if is_full => false,
             None => self.brought.insert(address, state.clone()).is_none(),
         };

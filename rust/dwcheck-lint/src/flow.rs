@@ -241,7 +241,7 @@ impl<'m, 'c> Flow<'m, 'c> {
             _ => {}
         }
         block.is_soft &= is_soft;
-        if block.state.merge(state) {
+        if block.state.merge(state, offset) {
             self.work.insert(offset);
         }
     }

@@ -208,7 +208,7 @@ impl Judge<'_> {
                 }
                 Some(WrongCfa::OffBy(offset))
             }
-            Value::Address { base, .. } if base.is_assumed() || self.state.is_assumed => None,
+            Value::Address { base, .. } if base.is_assumed() || base.is_joined() || self.state.is_assumed => None,
             // Rule "exception returns": at its end, the function sets the stack pointer of another frame.
             Value::Address { .. } if self.said.returns_to_handler => None,
             Value::Address { .. } => Some(WrongCfa::Dynamic),
@@ -279,7 +279,7 @@ impl Judge<'_> {
             Value::Unknown => Ok(None),
             Value::Address { base, offset } => match self.state.slot(base, offset) {
                 Some(value) => is_entry(value, register, WrongRule::Overwritten),
-                None if self.state.is_partial() || base.is_assumed() || self.stores.has(base, offset) => Ok(None),
+                None if self.state.is_partial(base) || base.is_assumed() || self.stores.has(base, offset) => Ok(None),
                 None => Err(WrongRule::NeverSaved),
             },
             _ => Err(WrongRule::Elsewhere),

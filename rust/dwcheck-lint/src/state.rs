@@ -49,9 +49,10 @@ impl State {
         }
     }
 
-    /// Whether nothing is known of a slot that isn't listed, other than by what the function stores.
-    pub fn is_partial(&self) -> bool {
-        self.is_assumed || self.is_full
+    /// Whether nothing is known of a slot that isn't listed, other than by what the function stores. Where
+    /// ways meet that bring different addresses, the slot has had other names.
+    pub fn is_partial(&self, base: Base) -> bool {
+        self.is_assumed || self.is_full || base.is_joined()
     }
 
     /// What a slot holds. `None` if it isn't listed.
@@ -93,21 +94,64 @@ impl State {
         self.slots.retain(|slot| slot.base != base && !is_of(&slot.value));
     }
 
-    /// Reduces this state to what is also known in the other. Returns whether it changed.
-    pub fn merge(&mut self, other: &State) -> bool {
+    /// Reduces this state to what is also known in the other, where two ways meet at an offset in the
+    /// function. Returns whether it changed.
+    pub fn merge(&mut self, other: &State, at: u32) -> bool {
         let mut has_changed = false;
-        for (one, other) in self.registers.iter_mut().zip(&other.registers) {
-            let merged = one.merged(*other);
+        let mut joins = Vec::new();
+        for (register, (one, other)) in (0..).map(Register).zip(self.registers.iter_mut().zip(&other.registers)) {
+            let base = Base::joined(at, register);
+            let merged = if one == other { *one } else { one.joined(*other, at, register) };
+            if merged == (Value::Address { base, offset: 0 }) {
+                joins.push(Join { base, one: *one, other: *other });
+            }
             has_changed |= merged != *one;
             *one = merged;
         }
-        let count = self.slots.len();
-        self.slots.retain(|slot| other.slot(slot.base, slot.offset) == Some(slot.value));
-        has_changed |= self.slots.len() < count;
+        has_changed |= self.merge_slots(other, at, &joins);
         has_changed |= other.is_full && !self.is_full || other.is_assumed && !self.is_assumed;
         self.is_full |= other.is_full;
         self.is_assumed |= other.is_assumed;
         has_changed
+    }
+
+    /// Keeps the slots that both states have. Where both have one at the same distance from a register that
+    /// gets a new base, the slot is known by that, too.
+    fn merge_slots(&mut self, other: &State, at: u32, joins: &[Join]) -> bool {
+        let mut found = Vec::new();
+        for join in joins {
+            let renamed = self.slots.iter().filter_map(|slot| join.renamed(slot, other));
+            found.extend(renamed);
+        }
+        let slots = std::mem::take(&mut self.slots);
+        let is_kept =
+            |slot: &Slot| !slot.base.is_joined_at(at) && other.slot(slot.base, slot.offset) == Some(slot.value);
+        self.slots.extend(slots.iter().filter(|slot| is_kept(slot)).copied());
+        found.truncate(MOST_SLOTS - self.slots.len().min(MOST_SLOTS));
+        self.slots.extend(found);
+        self.slots != slots
+    }
+}
+
+/// A register that gets a new base where two ways meet, and what it held on both.
+struct Join {
+    base: Base,
+    one: Value,
+    other: Value,
+}
+
+impl Join {
+    /// A slot of the first state by the new base, if the other state has the same value at the same distance
+    /// from the register.
+    fn renamed(&self, slot: &Slot, other: &State) -> Option<Slot> {
+        match (self.one, self.other) {
+            (Value::Address { base: one, offset: from }, Value::Address { base, offset: to }) if one == slot.base => {
+                let distance = slot.offset.wrapping_sub(from);
+                let is_same = other.slot(base, distance.wrapping_add(to)) == Some(slot.value);
+                Some(Slot { base: self.base, offset: distance, value: slot.value }).filter(|_| is_same)
+            }
+            _ => None,
+        }
     }
 }
 
@@ -129,7 +173,23 @@ mod tests {
     fn too_many_slots_are_noticed() {
         let mut state = State::unknown(false);
         (0..29).for_each(|count| state.put(Base::CFA, -8 * count, Value::Entry(Register(3))));
-        assert!(state.is_partial());
+        assert!(state.is_partial(Base::CFA));
+    }
+
+    #[test]
+    fn slots_are_known_by_a_new_base() {
+        let frame = |offset| {
+            let mut state = State::unknown(false);
+            state.set(Register(7), Value::from_cfa(offset));
+            state.put(Base::CFA, offset + 8, Value::Entry(Register(3)));
+            state
+        };
+        let mut one = frame(-16);
+        assert!(one.merge(&frame(-32), 4));
+        assert_eq!(one.slot(Base::joined(4, Register(7)), 8), Some(Value::Entry(Register(3))));
+        assert!(!one.merge(&frame(-48), 4));
+        assert!(one.merge(&State::unknown(false), 4));
+        assert_eq!(one.slot(Base::joined(4, Register(7)), 8), None);
     }
 
     #[test]
@@ -138,10 +198,16 @@ mod tests {
         one.put(Base::CFA, -16, Value::Entry(Register(6)));
         one.set(Register(7), Value::from_cfa(-16));
         let mut other = one.clone();
-        assert!(!one.merge(&other));
+        assert!(!one.merge(&other, 4));
         other.set(Register(7), Value::from_cfa(-24));
         other.put(Base::CFA, -16, Value::Entry(Register(3)));
-        assert!(one.merge(&other));
-        assert_eq!((one.get(Register(7)), one.slot(Base::CFA, -16)), (Value::Unknown, None));
+        other.set(Register(3), Value::Clobbered);
+        one.set(Register(3), Value::Entry(Register(3)));
+        assert!(one.merge(&other, 4));
+        let joined = Value::Address { base: Base::joined(4, Register(7)), offset: 0 };
+        assert_eq!(
+            (one.get(Register(3)), one.get(Register(7)), one.slot(Base::CFA, -16)),
+            (Value::Unknown, joined, None)
+        );
     }
 }

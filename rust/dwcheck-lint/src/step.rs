@@ -148,13 +148,12 @@ impl Step<'_> {
         }
     }
 
-    /// Rounds an address down. The CFA is a multiple of what the processor demands of stack pointers.
+    /// Rounds an address down.
     fn align(&mut self, to: Register, from: Register, mask: Option<i64>) {
-        let is_multiple = |mask: i64| self.machine.stack_alignment & mask == self.machine.stack_alignment;
-        match (self.state.get(from).cfa_offset(), mask.filter(|mask| mask.leading_ones() + mask.trailing_zeros() == 64))
-        {
-            (Some(offset), Some(mask)) if is_multiple(mask) => self.state.set(to, Value::from_cfa(offset & mask)),
-            _ => self.derive(to, self.state.get(from)),
+        let (value, alignment) = (self.state.get(from), self.machine.stack_alignment);
+        match mask.and_then(|mask| value.masked(mask, alignment)) {
+            Some(masked) => self.state.set(to, masked),
+            None => self.derive(to, value),
         }
     }
 

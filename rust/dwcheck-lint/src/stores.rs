@@ -74,7 +74,7 @@ impl Stores {
         match state.get(place.base).plus_of_place(place) {
             Value::Address { base, offset } => match state.slot(base, offset) {
                 Some(value) => value,
-                None if state.is_partial() || self.has(base, offset) => Value::Unknown,
+                None if state.is_partial(base) || self.has(base, offset) => Value::Unknown,
                 None => {
                     self.denied.insert((base, offset));
                     Value::Clobbered

@@ -224,9 +224,14 @@ impl<'m, V: Visitor<'m>> Walk<'_, V> {
     /// known of one is known of the other. Returns false if they can't be equal.
     fn refine(&mut self, are_equal: bool) -> bool {
         if let Some((one, other)) = self.compared.filter(|_| are_equal) {
-            match (self.state.get(one), self.state.get(other)) {
-                (Value::Unknown, value @ Value::Address { .. }) => self.state.set(one, value),
-                (value @ Value::Address { .. }, Value::Unknown) => self.state.set(other, value),
+            let (first, second) = (self.state.get(one), self.state.get(other));
+            match (first, second) {
+                (_, value @ Value::Address { .. }) if first.is_open() && !second.is_open() => {
+                    self.state.set(one, value)
+                }
+                (value @ Value::Address { .. }, _) if second.is_open() && !first.is_open() => {
+                    self.state.set(other, value);
+                }
                 (Value::Address { base, offset }, Value::Address { base: of, offset: by }) if base == of => {
                     return offset == by;
                 }

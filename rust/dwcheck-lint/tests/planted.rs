@@ -334,3 +334,28 @@ fn push_under_an_expression_over_the_stack_pointer() {
         ret";
     planted("flags", "CFA register overwritten", text);
 }
+
+/// A register in a frame that is rounded down from the CFA, as in glibc's libmvec: it is at
+/// ((CFA - 8) & -32) - 48.
+#[test]
+fn expressions_over_an_aligned_frame() {
+    let text = "push %rbp
+        .cfi_adjust_cfa_offset 8
+        .cfi_offset rbp, -16
+        mov %rsp, %rbp
+        .cfi_def_cfa_register rbp
+        and $-32, %rsp
+        sub $64, %rsp
+        mov %r12, 16(%rsp)
+        RIGHT .cfi_escape 0x10, 12, 14, 0x38, 0x1c, 0x0d, 0xe0, 0xff, 0xff, 0xff, 0x1a, 0x0d, 0xd0, 0xff, 0xff, 0xff, 0x22
+        WRONG .cfi_escape 0x10, 12, 14, 0x38, 0x1c, 0x0d, 0xe0, 0xff, 0xff, 0xff, 0x1a, 0x0d, 0xc8, 0xff, 0xff, 0xff, 0x22
+        mov %rdi, %r12
+        call *%rsi
+        mov 16(%rsp), %r12
+        .cfi_restore r12
+        leave
+        .cfi_restore rbp
+        .cfi_def_cfa rsp, 8
+        ret";
+    planted("expression", "register never saved", text);
+}

@@ -316,6 +316,34 @@ fn a_comparison_that_ends_a_loop() {
     judged("probe", body, "");
 }
 
+/// Two ways bring different stack pointers, as in the loops of OpenSSL that touch each page of a large frame.
+/// After that, the frame is found by what is stored in it.
+#[test]
+fn frames_after_ways_that_bring_different_stack_pointers() {
+    let body = "mov %rsp, %rax
+        .cfi_def_cfa_register rax
+        lea -64(%rsp,%rdi,8), %r10
+        and $-1024, %r10
+        mov %rsp, %r11
+        sub %r10, %r11
+        and $-4096, %r11
+        lea (%r10,%r11), %rsp
+        1: cmp %r10, %rsp
+        jbe 2f
+        lea -4096(%rsp), %rsp
+        mov (%rsp), %r11
+        jmp 1b
+        2: mov %rax, 40(%rsp)
+        .cfi_escape 0x0f, 5, 0x77, 40, 0x06, 0x23, 8
+        call *%rsi
+        mov 40(%rsp), %rsi
+        .cfi_def_cfa rsi, 8
+        lea (%rsi), %rsp
+        .cfi_def_cfa_register rsp
+        ret";
+    judged("joined", body, "");
+}
+
 /// A function with a call that throws to a landing pad, with an argument on the stack.
 fn throws(directive: &str) -> (String, String) {
     let body = "sub $8, %rsp
