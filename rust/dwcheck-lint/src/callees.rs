@@ -92,7 +92,8 @@ impl Callees {
 
     fn target_never_returns(&mut self, module: &Module<'_>, target: Target, depth: usize) -> bool {
         match target {
-            Target::Code(address) | Target::Pointer(address) if module.imports.contains_key(&address) => {
+            Target::Pointer(address) => module.imports.get(&address).map_or(false, |name| is_ending(name)),
+            Target::Code(address) if module.stands_for_import(address) => {
                 module.imports.get(&address).map_or(false, |name| is_ending(name))
             }
             Target::Code(address) => match (module.machine.stub)(module.bytes_at(address), address) {

@@ -64,6 +64,11 @@ impl<'a> Module<'a> {
         Some((name, address - begin))
     }
 
+    /// Whether an address stands for a function of another module, as in unlinked objects.
+    pub fn stands_for_import(&self, address: u64) -> bool {
+        !self.sections.is_empty() && self.imports.contains_key(&address)
+    }
+
     /// The instruction at an address.
     pub fn instruction_at(&self, address: u64) -> Instruction {
         (self.machine.decode)(self.bytes_at(address), address)

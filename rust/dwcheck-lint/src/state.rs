@@ -4,6 +4,9 @@ use crate::machine::MOST_FOLLOWED;
 use crate::register::Register;
 use crate::value::{Base, Value};
 
+/// How many registers are kept without allocating. x86-64 has no more.
+const FEW: usize = 16;
+
 /// The most slots of the stack that are followed.
 const MOST_SLOTS: usize = 28;
 
@@ -21,7 +24,9 @@ struct Slot {
 /// What is known at a place in the code.
 #[derive(Clone, Debug, PartialEq, Eq)]
 pub struct State {
-    registers: [Value; MOST_FOLLOWED],
+    registers: [Value; FEW],
+    /// Further registers. Those after the last one are unknown.
+    others: Vec<Value>,
     slots: Vec<Slot>,
     /// Whether it comes of a row that was taken as an assumption, so that nothing is known of slots
     /// that aren't listed. Otherwise it was followed from the function's entry, and a slot to which
@@ -34,19 +39,31 @@ pub struct State {
 impl State {
     /// A state in which nothing is known of any register.
     pub fn unknown(is_assumed: bool) -> State {
-        State { registers: [Value::Unknown; MOST_FOLLOWED], slots: Vec::new(), is_assumed, is_full: false }
+        let registers = [Value::Unknown; FEW];
+        State { registers, others: Vec::new(), slots: Vec::new(), is_assumed, is_full: false }
     }
 
     /// What a register holds.
     pub fn get(&self, register: Register) -> Value {
-        self.registers.get(register.index()).copied().unwrap_or(Value::Unknown)
+        let others = || self.others.get(register.index().wrapping_sub(FEW));
+        self.registers.get(register.index()).or_else(others).copied().unwrap_or(Value::Unknown)
     }
 
     /// Sets what a register holds.
     pub fn set(&mut self, register: Register, value: Value) {
         if let Some(place) = self.registers.get_mut(register.index()) {
             *place = value;
+        } else if register.index() < MOST_FOLLOWED {
+            if self.others.is_empty() {
+                self.others.resize(MOST_FOLLOWED - FEW, Value::Unknown);
+            }
+            self.others[register.index() - FEW] = value;
         }
+    }
+
+    /// What all registers hold.
+    fn registers_mut(&mut self) -> impl Iterator<Item = (Register, &mut Value)> {
+        (0..).map(Register).zip(self.registers.iter_mut().chain(&mut self.others))
     }
 
     /// Whether nothing is known of a slot that isn't listed, other than by what the function stores. Where
@@ -90,7 +107,8 @@ impl State {
     /// Forgets everything that is relative to a base, because the code that makes it runs again.
     pub fn forget(&mut self, base: Base) {
         let is_of = |value: &Value| matches!(value, Value::Address { base: other, .. } if *other == base);
-        self.registers.iter_mut().filter(|value| is_of(value)).for_each(|value| *value = Value::Unknown);
+        let held = self.registers_mut().map(|(_, value)| value).filter(|value| is_of(value));
+        held.for_each(|value| *value = Value::Unknown);
         self.slots.retain(|slot| slot.base != base && !is_of(&slot.value));
     }
 
@@ -99,11 +117,13 @@ impl State {
     pub fn merge(&mut self, other: &State, at: u32) -> bool {
         let mut has_changed = false;
         let mut joins = Vec::new();
-        for (register, (one, other)) in (0..).map(Register).zip(self.registers.iter_mut().zip(&other.registers)) {
-            let base = Base::joined(at, register);
-            let merged = if one == other { *one } else { one.joined(*other, at, register) };
-            if merged == (Value::Address { base, offset: 0 }) {
-                joins.push(Join { base, one: *one, other: *other });
+        for (register, one) in self.registers_mut() {
+            let other = other.get(register);
+            let merged = if *one == other { other } else { one.joined(other, at, register) };
+            if let Value::Address { base, offset: 0 } = merged {
+                if base == Base::joined(at, register) {
+                    joins.push(Join { base, one: *one, other });
+                }
             }
             has_changed |= merged != *one;
             *one = merged;
@@ -118,17 +138,17 @@ impl State {
     /// Keeps the slots that both states have. Where both have one at the same distance from a register that
     /// gets a new base, the slot is known by that, too.
     fn merge_slots(&mut self, other: &State, at: u32, joins: &[Join]) -> bool {
-        let mut found = Vec::new();
-        for join in joins {
-            let renamed = self.slots.iter().filter_map(|slot| join.renamed(slot, other));
-            found.extend(renamed);
-        }
-        let slots = std::mem::take(&mut self.slots);
         let is_kept =
             |slot: &Slot| !slot.base.is_joined_at(at) && other.slot(slot.base, slot.offset) == Some(slot.value);
-        self.slots.extend(slots.iter().filter(|slot| is_kept(slot)).copied());
-        found.truncate(MOST_SLOTS - self.slots.len().min(MOST_SLOTS));
-        self.slots.extend(found);
+        if joins.is_empty() {
+            let count = self.slots.len();
+            self.slots.retain(is_kept);
+            return self.slots.len() < count;
+        }
+        let renamed = |join: &Join| self.slots.iter().filter_map(|slot| join.renamed(slot, other)).collect::<Vec<_>>();
+        let renamed: Vec<_> = joins.iter().flat_map(renamed).collect();
+        let slots = std::mem::take(&mut self.slots);
+        self.slots.extend(slots.iter().filter(|slot| is_kept(slot)).copied().chain(renamed).take(MOST_SLOTS));
         self.slots != slots
     }
 }

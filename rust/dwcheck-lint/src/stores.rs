@@ -9,7 +9,7 @@ use crate::machine::Machine;
 use crate::register::{Register, Registers};
 use crate::state::State;
 use crate::value::{Base, Value};
-use std::collections::HashSet;
+use std::collections::BTreeSet;
 
 /// Addresses this far from the CFA are kept in slots, because rows may use them.
 const NEAR_CFA: std::ops::RangeInclusive<i64> = -160..=64;
@@ -17,9 +17,9 @@ const NEAR_CFA: std::ops::RangeInclusive<i64> = -160..=64;
 /// What a function stores.
 #[derive(Debug, Default)]
 pub struct Stores {
-    slots: HashSet<(Base, i64)>,
+    slots: BTreeSet<(Base, i64)>,
     /// The slots that were read as never stored to.
-    denied: HashSet<(Base, i64)>,
+    denied: BTreeSet<(Base, i64)>,
     /// Whether an entry value was stored at an address that isn't known.
     has_escaped: bool,
     /// Whether memory at an unknown address was read as if no entry value had been stored there.

@@ -108,7 +108,7 @@ impl<'m> Flow<'m, '_> {
     fn called(&mut self, target: Target) -> Called {
         match target {
             // Code of the same module may follow a convention of its own.
-            Target::Code(address) if !self.module.imports.contains_key(&address) => {
+            Target::Code(address) if !self.module.stands_for_import(address) => {
                 Called { changed: self.changed_by(address), value: Value::Unknown }
             }
             _ => Called { changed: self.module.machine.changeable, value: Value::Clobbered },
@@ -209,12 +209,12 @@ impl<'m, V: Visitor<'m>> Walk<'_, V> {
     fn jump_if(&mut self, flow: &mut Flow<'m, '_>, target: u64, condition: Condition) {
         let next = flow.code.next(self.at);
         let is_inside = flow.code.offset(target).is_some();
-        let state = self.state.clone();
+        let before = self.compared.map(|_| self.state.clone());
         let is_taken = is_inside || !rules::is_default_of_switch(&flow.code, next);
         if is_taken && self.refine(condition == Condition::Equal) {
             self.go(flow, target, EdgeKind::Jump);
         }
-        self.state = state;
+        before.into_iter().for_each(|state| self.state = state);
         if next < flow.code.length() && self.refine(condition == Condition::NotEqual) {
             self.edge(flow, self.at, next, EdgeKind::Fall);
         }

@@ -109,8 +109,11 @@ impl Operand {
 /// What an instruction writes, for one that isn't followed.
 fn write(found: &Decoded) -> Effect {
     let mut registers = Registers::NONE;
-    let written = (0..16).filter(|number| found.written >> number & 1 != 0);
-    written.filter_map(register).for_each(|register| registers.insert(register));
+    let mut written = found.written;
+    while written != 0 {
+        register(written.trailing_zeros() as u8).into_iter().for_each(|register| registers.insert(register));
+        written &= written - 1;
+    }
     let base = register(found.stored_base).filter(|_| found.stored_bytes > 0);
     let stored = base.map(|base| (Place { base, offset: found.stored_offset }, found.stored_bytes));
     if registers.is_empty() && stored.is_none() {

@@ -182,6 +182,12 @@ static int is_without_operands(const ZydisDecodedInstruction *in, uint8_t mnemon
     }
 }
 
+/* Whether the only operand that matters is an address in the code, or what points to one. */
+static int is_jump(uint8_t mnemonic)
+{
+    return mnemonic == CALL || (mnemonic >= JMP && mnemonic <= JCC);
+}
+
 /* Decodes the instruction at the first of `length` bytes, whose address is `address`. Returns 0 if
    there is none. */
 int dwcheck_lint_zydis_decode(const uint8_t *bytes, size_t length, uint64_t address, struct instruction *out)
@@ -199,6 +205,12 @@ int dwcheck_lint_zydis_decode(const uint8_t *bytes, size_t length, uint64_t addr
     out->operands[1] = out->operands[0];
     if (is_without_operands(&in, out->mnemonic))
         return 1;
+    if (is_jump(out->mnemonic) && in.raw.imm[0].is_relative) {
+        out->operand_count = 1;
+        out->operands[0].kind = TARGET;
+        out->operands[0].value = in.raw.imm[0].value.s + (int64_t)(address + in.length);
+        return 1;
+    }
     if (!ZYAN_SUCCESS(ZydisDecoderDecodeOperands(&decoder, &context, &in, operands, in.operand_count)))
         return 0;
     out->operand_count = in.operand_count_visible;
