@@ -30,6 +30,7 @@ pub mod functions;
 pub mod image;
 pub mod inspect;
 mod layout;
+pub mod lines;
 pub mod lint;
 pub mod live;
 pub mod loclists;

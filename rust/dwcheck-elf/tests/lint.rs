@@ -283,6 +283,28 @@ fn findings_as_json() {
     assert_eq!(shown, expected);
 }
 
+/// SARIF: each finding is at its line, by the line table of a program and of an object.
+#[test]
+fn findings_as_sarif() {
+    let folder = Folder::new("lint-sarif");
+    folder.write("a.s", TEXT);
+    folder.write(
+        "show.py",
+        "import json, sys\nrun, = json.load(sys.stdin)['runs']\nfor one in run['results']:\n\
+         \x20place = one['locations'][0]\n\
+         \x20print(one['ruleId'], one['level'], place['physicalLocation']['artifactLocation']['uri'],\n\
+         \x20 place['physicalLocation']['region']['startLine'], place['logicalLocations'][0]['fullyQualifiedName'])\n",
+    );
+    folder.run("gcc -g -nostdlib -shared a.s -o linked && gcc -g -c a.s -o object && gcc -c a.s -o plain");
+    for (file, expected) in [("linked", "a.s 6"), ("object", "a.s 6"), ("plain", "plain 1")] {
+        let ran = dwcheck_elf(&folder, &format!("lint --sarif {}", file));
+        folder.write("document", &ran.out);
+        let shown = folder.run("python3 show.py < document");
+        assert_eq!((ran.status, shown), (1, format!("push without row error {} wrong+0x1\n", expected)));
+    }
+    assert_eq!(dwcheck_elf(&folder, "lint --sarif --json linked").status, 2);
+}
+
 /// Programs of which bytes were changed: each is read to its end, or refused.
 #[test]
 fn changed_programs() {

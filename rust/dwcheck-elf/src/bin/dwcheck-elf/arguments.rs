@@ -243,7 +243,10 @@ pub struct LintWords {
     /// Write a line of JSON for each finding, for each file and for the totals
     #[arg(long)]
     pub json: bool,
-    /// Leave out the findings in FILE, the output of an earlier run without --json
+    /// Write all findings as a document of SARIF 2.1.0, at their source lines where the program has line tables
+    #[arg(long, conflicts_with_all = ["json", "explain"])]
+    pub sarif: bool,
+    /// Leave out the findings in FILE, the output of an earlier run without --json and --sarif
     #[arg(long, value_name = "FILE")]
     pub known: Option<PathBuf>,
     /// Show findings of this kind only, such as 'late push'. Can be given several times

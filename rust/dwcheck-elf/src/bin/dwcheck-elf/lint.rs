@@ -2,6 +2,7 @@
 
 mod known;
 mod linted;
+mod sarif;
 
 use crate::arguments::LintWords;
 use crate::end::{Done, Failure};
@@ -26,6 +27,8 @@ struct Totals {
     lost: usize,
     private: usize,
     coverage: Coverage,
+    /// The findings, if they are written as SARIF.
+    results: Vec<serde_json::Value>,
 }
 
 /// Lints all files, and writes what is found, as text or as JSON.
@@ -36,7 +39,8 @@ pub fn lint(words: &LintWords, out: &mut impl Write) -> Result<Done, Failure> {
     let pool = pool.build().map_err(|error| Failure::File(format!("no threads: {}", error)))?;
     let files = pool.install(|| Files::once_each(&words.paths));
     let bar = progress(files.paths.len() as u64);
-    let shown = Shown { private: words.private, explain: words.explain, json: words.json, kinds };
+    let (private, explain, json, sarif) = (words.private, words.explain, words.json, words.sarif);
+    let shown = Shown { private, explain, json, sarif, kinds };
     let all: Vec<_> = pool.install(|| {
         let each = files.paths.par_iter().with_max_len(1).map(|path| {
             let linted = linted(path, &shown);
@@ -94,7 +98,13 @@ impl Totals {
                         continue;
                     }
                     self.count(finding.severity);
-                    writeln!(out, "{}", finding.text)?;
+                    match finding.sarif {
+                        Some(result) => self.results.push(result),
+                        None => writeln!(out, "{}", finding.text)?,
+                    }
+                }
+                if words.sarif {
+                    return Ok(());
                 }
                 writeln!(out, "{}", text)
             }
@@ -127,8 +137,12 @@ impl Totals {
         self.broken + self.lost + self.private
     }
 
-    /// Writes the totals, unless there is only one file.
-    fn write_last(&self, out: &mut impl Write, words: &LintWords) -> io::Result<()> {
+    /// Writes the totals, unless there is only one file; or all findings as SARIF.
+    fn write_last(&mut self, out: &mut impl Write, words: &LintWords) -> io::Result<()> {
+        if words.sarif {
+            let document = sarif::document(std::mem::take(&mut self.results), &self.coverage);
+            return writeln!(out, "{:#}", document);
+        }
         let counts = [
             ("files", self.files),
             ("others", self.others),

@@ -1,8 +1,10 @@
 //! Lints one file.
 
 use super::known::Key;
+use super::sarif;
 use crate::survey::files::content;
 use dwcheck_elf::functions::Functions;
+use dwcheck_elf::lines::{DebugSections, Lines};
 use dwcheck_elf::lint::{LintError, Sections};
 use dwcheck_elf::names::Spot;
 use dwcheck_elf::program::Program;
@@ -29,6 +31,8 @@ pub struct Shown {
     pub explain: bool,
     /// Whether findings are written as JSON.
     pub json: bool,
+    /// Whether findings are written as SARIF.
+    pub sarif: bool,
     /// The kinds that are shown. Empty if all are.
     pub kinds: Vec<Kind>,
 }
@@ -44,6 +48,8 @@ pub struct Written {
     pub key: Key,
     pub severity: Severity,
     pub text: String,
+    /// The finding as a result of SARIF.
+    pub sarif: Option<serde_json::Value>,
 }
 
 /// The result for a file.
@@ -85,7 +91,9 @@ fn judged(path: &Path, data: &[u8], shown: &Shown) -> Outcome {
         let is_kind = shown.kinds.is_empty() || shown.kinds.contains(&finding.kind);
         is_kind && (shown.private || finding.severity != Severity::Private)
     };
-    let file = File { path, module: &module, functions: &functions };
+    let debug = shown.sarif.then(|| DebugSections::read(&program));
+    let lines = debug.as_ref().and_then(DebugSections::lines);
+    let file = File { path, module: &module, functions: &functions, lines };
     let findings = report.findings.iter().filter(is_shown).map(|finding| file.written(finding, &mut lint, shown));
     let findings = findings.collect();
     let text = file.coverage(&report.coverage, shown);
@@ -97,6 +105,7 @@ struct File<'a, 'm> {
     path: &'a Path,
     module: &'a Module<'m>,
     functions: &'a Functions<'a>,
+    lines: Option<Lines<'a>>,
 }
 
 impl<'m> File<'_, 'm> {
@@ -114,7 +123,16 @@ impl<'m> File<'_, 'm> {
         } else if shown.explain {
             text.push_str(&explained(&explain(lint, finding.fde).unwrap_or_default()));
         }
-        Written { key, severity: finding.severity, text }
+        let sarif = shown.sarif.then(|| self.result(finding, &text));
+        Written { key, severity: finding.severity, text, sarif }
+    }
+
+    /// A finding, whose text this is, as a result of SARIF.
+    fn result(&self, finding: &Finding<'m>, text: &str) -> serde_json::Value {
+        let address = finding.mark.address;
+        let line = self.lines.as_ref().and_then(|lines| lines.line(address));
+        let message = text.get(self.path.display().to_string().len() + 2..).unwrap_or(text);
+        sarif::result(self.path, self.module, finding, message, self.name(address), line)
     }
 
     /// How much of the file was judged.
