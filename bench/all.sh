@@ -45,6 +45,7 @@ run pages "$here/pages.py" "$program" ${elf:+--elf "$elf"}
 if [ -n "$elf" ]; then
     run elf-rows "$here/elf/rows.py" "$elf" 300000 /usr/bin
     run elf-damage "$here/elf/damage.py" "$elf" 1000 "$seed" --jobs 2
+    run lint-damage "$here/elf/damage_lint.py" "$elf" 1000 "$seed" --jobs 2
 fi
 if [ -n "${TESTS:-}" ]; then
     run memory "$here/stress/refused_memory.py" "$(realpath "$TESTS")" "$program"

@@ -6,9 +6,9 @@
 The FILEs, or if there are none, programs and objects that gcc makes for x86-64 (and for aarch64, if
 aarch64-linux-gnu-gcc is installed), are changed COUNT times: bytes anywhere, in headers, in code and in
 .eh_frame, single and in runs; some files are cut short. `lint` reads folders of 250 of them. Each run
-must end within 120 seconds, in 2 GB of memory, with a status that it documents, and without a panic, and
-must count each file. A case depends on the seed and its number alone. If a run fails, its files are read
-one at a time, and the first that fails is kept.
+must end within 120 seconds, in 2 GB of memory, with a status that it documents, and without a panic. A
+case depends on the seed and its number alone. If a run fails, its files are read one at a time, and the
+first that fails is kept.
 """
 import argparse
 import os
@@ -84,7 +84,7 @@ def changed(content, places, chance):
     return bytes(content[: chance.randrange(len(content))] if chance.randrange(40) == 0 else content)
 
 
-def failure(program, path, count):
+def failure(program, path):
     """What is wrong with how a run ended, or None."""
     limit = lambda: resource.setrlimit(resource.RLIMIT_AS, (MEMORY, MEMORY))
     try:
@@ -106,10 +106,10 @@ def batch(program, sources, seed, first, count, folder):
         name, content, places = chance.choice(sources)
         with open(os.path.join(path, f"{number}.{name}"), "wb") as file:
             file.write(changed(content, places, chance))
-    wrong = failure(program, path, count)
+    wrong = failure(program, path)
     if wrong:
         for name in sorted(os.listdir(path)):
-            alone = failure(program, os.path.join(path, name), 1)
+            alone = failure(program, os.path.join(path, name))
             if alone:
                 shutil.copy(os.path.join(path, name), name)
                 wrong = f"{name} (kept here): {alone}"
