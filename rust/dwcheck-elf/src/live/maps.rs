@@ -121,9 +121,9 @@ mod tests {
 
     #[test]
     fn lines_of_maps() {
-        let line = b"7f0000001000-7f0000002000 r-xp 00003000 08:01 1234                       /tmp/a b (deleted)";
+        let line = b"7f0000001000-7f0000002000 r-xp 00003000 08:01 1234                       /usr/lib/a b (deleted)";
         let (begin, end) = (0x7f00_0000_1000, 0x7f00_0000_2000);
-        let path = b"/tmp/a b (deleted)".to_vec();
+        let path = b"/usr/lib/a b (deleted)".to_vec();
         assert_eq!(map(line), Some(Map { begin, end, is_executable: true, offset: 0x3000, path }));
         let line = b"7f0000001000-7f0000002000 rw-p 00000000 00:00 0 ";
         assert_eq!(map(line), Some(Map { begin, end, is_executable: false, offset: 0, path: Vec::new() }));
