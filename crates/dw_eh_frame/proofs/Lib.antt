@@ -8,5 +8,8 @@ pub mod PastInstructions
 pub mod Moved
 pub mod SaidAgain
 pub mod OneProgram
+pub mod Unread
 pub mod ReadBack
 pub mod FaultPlaces
+pub mod Shifted
+pub mod ReadTwice

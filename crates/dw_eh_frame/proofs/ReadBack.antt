@@ -1,5 +1,5 @@
 -- If a program with nops in place of some instructions can be read, the program itself can be read.
-use Rattle.std.proofs.Common.{◌≡◌, ℕ, zero, suc, ◌+◌, ◌-◌, ◌<◌, ◌≤◌, Bool, true, false, cond, List, [], ◌∷◌, ◌++◌, length, take, Option, None, Result, Ok, Err, refl, sym, ap, subst, ◌∙◌, arith, append_assoc, inl, inr}
+use Rattle.std.proofs.Common.{◌≡◌, ℕ, zero, suc, ◌+◌, ◌-◌, ◌<◌, ◌≤◌, Bool, true, false, List, [], ◌∷◌, ◌++◌, length, take, Result, Ok, Err, refl, sym, ap, subst, ◌∙◌, arith, inl, inr}
 use Rattle.std.specs.Prelude.{replicate}
 use Rattle.std.proofs.lemmas.List.{length-append}
 use Rattle.std.proofs.Math.Seq.{take-append_seam}
@@ -11,19 +11,16 @@ use Rattle.dw_bytes.proofs.Readers.{same-reading}
 use Rattle.dw_bytes.proofs.Bodies.{not-err}
 use Rattle.dw_bytes.proofs.Codes.{coded-exact}
 use Rattle.dw_frame.specs.Instructions.{Instruction, nop}
-use Rattle.dw_frame.specs.Codes.{line_of, EncodesInstruction, AreInstructions}
-use Rattle.dw_bytes.specs.Encoding.{Fixed}
-use Rattle.dw_bytes.specs.declared.target.Order.{Order}
-use Rattle.dw_bytes.specs.Operands.{Line, AreOperands}
-use Rattle.dw_eh_frame.proofs.Written.{one-byte}
+use Rattle.dw_frame.specs.Codes.{line_of, EncodesInstruction, AreInstructions, instruction_at}
 use Rattle.dw_eh_frame.proofs.OneProgram.{behind-front, one-list}
-use Rattle.dw_frame.proofs.EachInstruction.{one-instruction}
+use Rattle.dw_frame.proofs.EachInstruction.{one-instruction, exact-instruction}
 use Rattle.dw_eh_frame.specs.declared.dialect.Dialect.{Dialect}
-use Rattle.dw_eh_frame.specs.Instructions.{EhInstruction, plain, is_unread, eh_line_of, eh_instruction_at, is_foreign, EncodesEhInstruction, AreEhInstructions}
+use Rattle.dw_eh_frame.specs.Instructions.{EhInstruction, plain, eh_line_of, eh_instruction_at, is_foreign, EncodesEhInstruction, AreEhInstructions}
 use Rattle.dw_eh_frame.specs.Silencing.{past_instruction, piece, unread, silenced_up_to, silenced_then, silenced}
 use Rattle.dw_eh_frame.proofs.PastInstructions.{past-reads}
 use Rattle.dw_eh_frame.proofs.Moved.{move-instruction}
-use Rattle.dw_eh_frame.proofs.SaidAgain.{EncodesPlain, as-dwarf, as-eh, past-next, encodes-nop, kind-of, some-bytes, foreign-anywhere, silenced-says}
+use Rattle.dw_eh_frame.proofs.Unread.{unread-refused}
+use Rattle.dw_eh_frame.proofs.SaidAgain.{as-dwarf, as-eh, encodes-nop, kind-of, some-bytes, foreign-anywhere, silenced-says}
 use Rattle.dw_eh_frame.specs.Same.{SayTheSame}
 use Rattle.dw_eh_frame.specs.Rewriting.{IsSameProgram}
 
@@ -74,62 +71,26 @@ found-one : (a : Dialect) (target : Target) (at : ℕ) (bytes : List ℕ) (x : E
 unfolding eh_instruction_at
 found-one a target at bytes x after is = (coded-exact target (eh_line_of a) UnknownInstruction (reading target at bytes) refl).found x after is
 
--- the code that a byte in front encodes is that byte
-code-is : (order : Order) (front t : List ℕ) (code b : ℕ) (bytes : List ℕ) → Fixed order 1 front code → b ∷ bytes ≡ front ++ t → code ≡ b
-code-is order [] t code b bytes f parts = absurd (omega (arith, f.count))
-code-is order (c ∷ []) t code b bytes f parts =
-    let same : c ≡ b = cc in
-    f.value ∙ (sym (one-byte order c).value ∙ same)
-code-is order (c ∷ d ∷ front) t code b bytes f parts = absurd (omega (arith, f.count))
-
-known-still : (target : Target) (at : ℕ) (bytes : List ℕ) (i : Instruction) (u : Bool) (l : Option (Line Instruction)) → u ≡ false
-    → AreOperands target l at bytes i → AreOperands target (cond u None l) at bytes i
-known-still target at bytes i true l never e = absurd cc
-known-still target at bytes i false l never e = e
-
--- an instruction of DWARF that is read: its first byte isn't an unread code
-as-plain : (a : Dialect) (target : Target) (to : ℕ) (b : ℕ) (bytes first rest : List ℕ) (i : Instruction) → is_unread a b ≡ false
-    → b ∷ bytes ≡ first ++ rest → EncodesInstruction target to first i → EncodesPlain a target to first i
-as-plain a target to b bytes first rest i known parts (code, front, operands, split, one, others) =
-    let seam : b ∷ bytes ≡ front ++ (operands ++ rest) =
-    parts ∙ (ap (λ (f : List ℕ). f ++ rest) split ∙ append_assoc front operands rest) in
-    let is = code-is target.order front (operands ++ rest) code b bytes one seam in (
-      code,
-      front,
-      operands,
-      split,
-      one,
-      known-still target (to + length front) operands i (is_unread a code) (line_of code) (ap (is_unread a) is ∙ known) others,
-    )
-
--- the code that is written for an unread one can't be read
-never-read : (target : Target) (to : ℕ) (bytes first rest : List ℕ) (i : Instruction) → 0x3f ∷ bytes ≡ first ++ rest
-    → EncodesInstruction target to first i → ⊥
-never-read target to bytes first rest i parts (code, front, operands, split, one, others) =
-    let seam : 0x3f ∷ bytes ≡ front ++ (operands ++ rest) =
-    parts ∙ (ap (λ (f : List ℕ). f ++ rest) split ∙ append_assoc front operands rest) in
-    let is : code ≡ 0x3f = code-is target.order front (operands ++ rest) code 0x3f bytes one seam in
-    subst (λ n. AreOperands target (line_of n) (to + length front) operands i) is others
+-- the dialect of `.debug_frame`
+abbrev dwarf : Dialect
+dwarf = record { is_aarch64 = false; has_plain_addresses = true }
 
 -- bytes that can't be moved past can't be read, and neither can what is written for them
-never-first : (a : Dialect) (target : Target) (at to b : ℕ) (bytes first rest : List ℕ) (i : Instruction) (fault : Fault) (u : Bool)
-    → past_instruction a (reading target at (b ∷ bytes)) ≡ Err fault → is_unread a b ≡ u → cond u 0x3f b ∷ bytes ≡ first ++ rest
-    → EncodesInstruction target to first i → ⊥
-never-first a target at to b bytes first rest i fault true is unread parts one = never-read target to bytes first rest i parts one
-never-first a target at to b bytes first rest i fault false is unread parts one =
-    let known = as-plain a target to b bytes first rest i unread parts one in
-    let near = move-instruction a target to at first i known in
-    let past = past-next a target at first rest (plain near.instruction) (as-eh a target at first near.instruction near.encoded) in
-    let same : past_instruction a (reading target at (b ∷ bytes)) ≡ past_instruction a (reading target at (first ++ rest)) =
-    ap (λ (b : List ℕ). past_instruction a (reading target at b)) parts in
-    not-err (sym past ∙ (sym same ∙ is))
+never-first : (a : Dialect) (target : Target) (at to : ℕ) (bytes first rest : List ℕ) (i : Instruction) (fault : Fault)
+    → past_instruction a (reading target at bytes) ≡ Err fault → unread a bytes ≡ first ++ rest → EncodesInstruction target to first i → ⊥
+never-first a target at to bytes first rest i fault is parts one =
+    let near = move-instruction dwarf target to at first i one in
+    let read = (exact-instruction (reading target at (first ++ rest))).only near.instruction (reading target (at + length first) rest)
+    (record { bytes = first; encoded = near.encoded; parts = refl; position = refl; target = refl }) in
+    let refused = unread-refused a target at bytes fault is in
+    not-err (sym read ∙ (ap (λ (b : List ℕ). instruction_at (reading target at b)) (sym parts) ∙ refused))
 
 stuck : (a : Dialect) (target : Target) (at to : ℕ) (bytes : List ℕ) (fault : Fault) (again : List (ℕ × Instruction))
     → past_instruction a (reading target at bytes) ≡ Err fault → AreInstructions target to (unread a bytes) again → bytes ≡ []
 stuck a target at to [] fault again is are = refl
 stuck a target at to (b ∷ bytes) fault [] is are = absurd cc
 stuck a target at to (b ∷ bytes) fault (x ∷ again) is (first, rest, parts, (place, one), others) =
-    absurd (never-first a target at to b bytes first rest x.1 fault (is_unread a b) is refl parts one)
+    absurd (never-first a target at to (b ∷ bytes) first rest x.1 fault is parts one)
 
 pub record Piece (a : Dialect) (target : Target) (at to : ℕ) (bytes : List ℕ) (v : Bool) (after : ReadPosition) (others : List ℕ) : Type 0 where
   pub first : List ℕ

@@ -1,8 +1,10 @@
 -- One record of a rewriting after another.
-use Rattle.std.proofs.Common.{◌≡◌, ℕ, ◌+◌, ◌*◌, ◌^◌, ◌<◌, ◌≤◌, Bool, List, [], ◌∷◌, ◌++◌, length, Result, Ok, refl, sym, ap, subst, ◌∙◌, arith, append_assoc, inl, inr}
-use Rattle.std.specs.Prelude.{true, map, filter, Contains}
+use Rattle.std.proofs.Common.{◌≡◌, ℕ, zero, suc, ◌+◌, ◌*◌, ◌^◌, ◌<◌, ◌≤◌, Bool, false, cond, List, [], ◌∷◌, ◌++◌, length, Some, None, Result, Ok, refl, sym, ap, subst, ◌∙◌, arith, append_assoc, inl, inr}
+use Rattle.std.specs.Prelude.{true, map, filter, Contains, ◌==◌, ◌||◌}
+use Rattle.std.specs.Option.{option_or}
+use Rattle.std.proofs.lemmas.Bool.Decides.{nat_tests}
 use Rattle.std.proofs.lemmas.List.{length-append, length-drop, map-append, append-nil}
-use Rattle.std.specs.List.{AllByRecursion}
+use Rattle.std.specs.List.{AllByRecursion, list_any}
 use Rattle.std.proofs.lemmas.List.Elements.{All-from_recursion, filter-append, Contains-append_left, Contains-push, Contains-push_cases}
 use Rattle.dw_bytes.specs.declared.target.Target.{Target}
 use Rattle.dw_bytes.specs.declared.fault.Fault.{Fault}
@@ -11,7 +13,7 @@ use Rattle.dw_bytes.specs.Bodies.{framed_at}
 use Rattle.dw_bytes.proofs.Readers.{bind-ok, ok-is}
 use Rattle.dw_bytes.proofs.Bodies.{framed-found}
 use Rattle.dw_bytes.proofs.Sequences.{Forward, goes-on, ends}
-use Rattle.dw_frame.specs.Records.{Record, cie_record, fde_record}
+use Rattle.dw_frame.specs.Records.{Cie, Record, cie_record, fde_record}
 use Rattle.dw_frame.specs.Sections.{IsRecord, AreRecords}
 use Rattle.dw_bytes.specs.declared.target.Order.{Order}
 use Rattle.dw_bytes.specs.declared.target.Format.{Format}
@@ -19,7 +21,7 @@ use Rattle.dw_bytes.specs.declared.target.Format.TheVariants.{Dwarf32, Dwarf64}
 use Rattle.dw_bytes.specs.Encoding.{Len}
 use Rattle.dw_eh_frame.specs.declared.pointer.Bases.{Bases}
 use Rattle.dw_eh_frame.specs.declared.rewriting.CiePlace.{CiePlace}
-use Rattle.dw_eh_frame.specs.Records.{EhCie, EhFde, EhRecord, eh_cie, eh_fde, eh_nothing, eh_cie_at, eh_body_at, eh_record_at, eh_entries_from, eh_entries_of}
+use Rattle.dw_eh_frame.specs.Records.{EhCie, EhFde, EhRecord, eh_cie, eh_fde, eh_nothing, eh_cie_at, eh_body_at, eh_record_at, eh_entries_from, eh_entries_of, begins_at, lost, reading_fault_after, eh_reading_fault}
 use Rattle.dw_eh_frame.specs.declared.dialect.Dialect.{Dialect}
 use Rattle.dw_eh_frame.specs.declared.places.RecordPlace.{RecordPlace}
 use Rattle.dw_eh_frame.specs.Instructions.{dialect_of}
@@ -154,10 +156,12 @@ from-zero target made bytes r h =
 -- ---- the steps
 
 pub under-way-first : (a : Bool) (bases : Bases) (target : Target) (section : List ℕ) → IsUnderWay a bases target section 0 [] [] []
+unfolding eh_reading_fault
 under-way-first a bases target section = record {
   inside = omega arith;
   records = [];
   read = refl;
+  first = refl;
   pairs = [];
   sources = refl;
   encoded = refl;
@@ -168,6 +172,7 @@ under-way-first a bases target section = record {
   below = λ q (k, inside, is). absurd (omega arith);
   written = λ q (k, inside, is). absurd (omega arith);
   small = omega arith;
+  short = omega arith;
   listed = tt;
 }
 
@@ -221,6 +226,7 @@ under-way-nothing a bases target section at next n made cies list way is forward
   inside = inside;
   records = way.records ++ eh_nothing n ∷ [];
   read = read-more bases target section at next way.records (eh_nothing n) way.read is;
+  first = way.first ∙ ap (reading_fault_after way.records) (at-record bases target section at next (eh_nothing n) is);
   pairs = way.pairs;
   sources = way.sources ∙ (sym (append-nil (filter says_something way.records)) ∙ sym (filter-append says_something way.records (eh_nothing n ∷ [])));
   encoded = way.encoded;
@@ -231,6 +237,7 @@ under-way-nothing a bases target section at next n made cies list way is forward
   below = λ q among. omega (arith, way.below q among, forward);
   written = way.written;
   small = omega (arith, way.small, forward);
+  short = way.short;
   listed = way.listed;
 }
 
@@ -238,10 +245,10 @@ pub under-way-cie : (a : Bool) (bases : Bases) (target : Target) (section : List
     (cies : List CiePlace) (list : List RecordPlace) → IsUnderWay a bases target section at made cies list
     → eh_record_at bases section (section_from target section at) ≡ Ok (eh_cie e, section_from target section next)
     → at < next → next ≤ length section → eh_cie_at target section source ≡ Ok e → source ≡ at → e.offset ≡ at
-    → length new ≤ 5 * next → e.program.position + length e.program.rest < 2 ^ 32 → WritesCie a target e made new
+    → length new ≤ 5 * next → length new < 2 ^ 32 → e.program.position + length e.program.rest < 2 ^ 32 → WritesCie a target e made new
     → IsUnderWay a bases target section next new (cies ++ record { source = source; made = length made } ∷ [])
     (list ++ place_for e.offset e.program (length made) (length new) ∷ [])
-under-way-cie a bases target section at next source e made new cies list way is forward inside found source_is offset_is small program_inside wrote =
+under-way-cie a bases target section at next source e made new cies list way is forward inside found source_is offset_is small short program_inside wrote =
     let p : Pair = (eh_cie e, cie_record wrote.cie) in
     let q : CiePlace = record { source = source; made = length made } in
     let more : AreRecords target 0 (made ++ wrote.bytes) (map (λ (p : Pair). p.1) way.pairs ++ cie_record wrote.cie ∷ []) =
@@ -251,6 +258,7 @@ under-way-cie a bases target section at next source e made new cies list way is 
       inside = inside;
       records = way.records ++ eh_cie e ∷ [];
       read = read-more bases target section at next way.records (eh_cie e) way.read is;
+      first = way.first ∙ ap (reading_fault_after way.records) (at-record bases target section at next (eh_cie e) is);
       pairs = way.pairs ++ p ∷ [];
       sources = sources-more way.pairs way.records p refl way.sources;
       encoded = subst (λ (b : List ℕ). AreRecords target 0 b (map (λ (p : Pair). p.1) (way.pairs ++ p ∷ []))) (sym wrote.appended)
@@ -281,10 +289,60 @@ under-way-cie a bases target section at next source e made new cies list way is 
             (omega (arith, ap length wrote.appended, length-append made wrote.bytes))
       ];
       small = small;
+      short = short;
       listed = places-more way.pairs list p (place_for e.offset e.program (length made) (length new)) way.listed
           (fits-place (dialect_of a e.head.augmentation) e.offset (length made) wrote.cie.offset (length new) e.program wrote.cie.program
           wrote.same.program wrote.offset wrote.ends program_inside);
     }
+
+-- ---- the CIE of an FDE is one of the records before it
+
+any-found : (p : EhRecord → Bool) (xs : List EhRecord) (x : EhRecord) → Contains xs x → p x ≡ true → list_any p xs ≡ true
+any-found p [] x (k, less, is) passes = absurd (omega arith)
+any-found p (y ∷ xs) x (zero, less, is) passes = let here : p y ≡ true = ap p is ∙ passes in rw here refl
+any-found p (y ∷ xs) x (suc k, less, is) passes = go (any-found p xs x (k, omega arith, is) passes) (p y)
+  where
+    go : list_any p xs ≡ true → (b : Bool) → (b || list_any p xs) ≡ true
+    go more true = refl
+    go more false = more
+
+same-number : (n : ℕ) → (n == n) ≡ true
+same-number n = grind (arith, nat_tests)
+
+among-sources : (pairs : List Pair) (x : EhRecord) (r : Record) → Contains pairs (x, r) → Contains (map (λ (p : Pair). p.0) pairs) x
+among-sources [] x r (k, less, is) = absurd (omega arith)
+among-sources (p ∷ pairs) x r (zero, less, is) = (zero, omega arith, ap (λ (q : Pair). q.0) is)
+among-sources (p ∷ pairs) x r (suc k, less, is) =
+    let found = among-sources pairs x r (k, omega arith, is) in
+    (suc found.0, omega (arith, found.1), found.2)
+
+unfiltered : (xs : List EhRecord) (x : EhRecord) → Contains (filter says_something xs) x → Contains xs x
+unfiltered [] x among = among
+unfiltered (eh_nothing n ∷ xs) x among = let found = unfiltered xs x among in (suc found.0, omega (arith, found.1), found.2)
+unfiltered (eh_cie c ∷ xs) x (zero, less, is) = (zero, omega arith, is)
+unfiltered (eh_cie c ∷ xs) x (suc k, less, is) =
+    let found = unfiltered xs x (k, omega arith, is) in
+    (suc found.0, omega (arith, found.1), found.2)
+unfiltered (eh_fde f ∷ xs) x (zero, less, is) = (zero, omega arith, is)
+unfiltered (eh_fde f ∷ xs) x (suc k, less, is) =
+    let found = unfiltered xs x (k, omega arith, is) in
+    (suc found.0, omega (arith, found.1), found.2)
+
+among-records : (pairs : List Pair) (records : List EhRecord) (c : EhCie) (d : Cie) → map (λ (p : Pair). p.0) pairs ≡ filter says_something records
+    → Contains pairs (eh_cie c, cie_record d) → Contains records (eh_cie c)
+among-records pairs records c d sources among =
+    unfiltered records (eh_cie c)
+    (subst (λ (xs : List EhRecord). Contains xs (eh_cie c)) sources (among-sources pairs (eh_cie c) (cie_record d) among))
+
+still-first : (bases : Bases) (target : Target) (section : List ℕ) (next : ℕ) (records : List EhRecord) (e : EhFde)
+    → Contains records (eh_cie e.cie)
+    → reading_fault_after records (Ok (eh_fde e) ∷ eh_entries_from bases target section next)
+    ≡ reading_fault_after (records ++ eh_fde e ∷ []) (eh_entries_from bases target section next)
+still-first bases target section next records e among =
+    let found : list_any (begins_at e.cie.offset) records ≡ true =
+    any-found (begins_at e.cie.offset) records (eh_cie e.cie) among (same-number e.cie.offset) in
+    ap (λ b. option_or (cond b None (Some (lost e))) (reading_fault_after (records ++ eh_fde e ∷ []) (eh_entries_from bases target section next)))
+    found
 
 abbrev ok-cie : EhCie → Result EhCie Fault
 ok-cie e = Ok e
@@ -295,11 +353,11 @@ same-cie a b e = cc
 pub under-way-fde : (a : Bool) (bases : Bases) (target : Target) (section : List ℕ) (at next : ℕ) (e : EhFde) (made new : List ℕ)
     (cies : List CiePlace) (list : List RecordPlace) → IsUnderWay a bases target section at made cies list
     → eh_record_at bases section (section_from target section at) ≡ Ok (eh_fde e, section_from target section next)
-    → at < next → next ≤ length section → eh_cie_at target section e.cie.offset ≡ Ok e.cie → length new ≤ 5 * next
+    → at < next → next ≤ length section → eh_cie_at target section e.cie.offset ≡ Ok e.cie → length new ≤ 5 * next → length new < 2 ^ 32
     → e.program.position + length e.program.rest < 2 ^ 32 → WritesPointing a target e cies made new
     → IsUnderWay a bases target section next new cies
     (list ++ place_for e.offset e.program (length made) (length new) ∷ [])
-under-way-fde a bases target section at next e made new cies list way is forward inside found small program_inside pointing =
+under-way-fde a bases target section at next e made new cies list way is forward inside found small short program_inside pointing =
     let wrote = pointing.wrote in
     let p : Pair = (eh_fde e, fde_record wrote.fde) in
     let place = way.places pointing.place pointing.among in
@@ -318,6 +376,10 @@ under-way-fde a bases target section at next e made new cies list way is forward
       inside = inside;
       records = way.records ++ eh_fde e ∷ [];
       read = read-more bases target section at next way.records (eh_fde e) way.read is;
+      first = way.first
+          ∙ (ap (reading_fault_after way.records) (at-record bases target section at next (eh_fde e) is)
+          ∙ still-first bases target section next way.records e (among-records way.pairs way.records e.cie place.written way.sources
+          (subst (λ (c : EhCie). Contains way.pairs (eh_cie c, cie_record place.written)) cie_is place.among)));
       pairs = way.pairs ++ p ∷ [];
       sources = sources-more way.pairs way.records p refl way.sources;
       encoded = subst (λ (b : List ℕ). AreRecords target 0 b (map (λ (p : Pair). p.1) (way.pairs ++ p ∷ []))) (sym wrote.appended)
@@ -329,6 +391,7 @@ under-way-fde a bases target section at next e made new cies list way is forward
       below = λ q among. omega (arith, way.below q among, forward);
       written = λ q among. omega (arith, way.written q among, ap length wrote.appended, length-append made wrote.bytes);
       small = small;
+      short = short;
       listed = places-more way.pairs list p (place_for e.offset e.program (length made) (length new)) way.listed
           (fits-place (dialect_of a e.cie.head.augmentation) e.offset (length made) wrote.fde.offset (length new) e.program wrote.fde.program
           wrote.same.program wrote.offset wrote.ends program_inside);
@@ -346,5 +409,12 @@ under-way-end a bases target section at made cies list way end = record {
   are = way.listed;
   inside = All-from_recursion IsInside list (all-inside way.pairs list way.listed);
 }
+
+-- the section was read without a fault
+pub under-way-faultless : (a : Bool) (bases : Bases) (target : Target) (section : List ℕ) (at : ℕ) (made : List ℕ) (cies : List CiePlace)
+    (list : List RecordPlace) → IsUnderWay a bases target section at made cies list → length section ≤ at
+    → eh_reading_fault bases target section ≡ None
+under-way-faultless a bases target section at made cies list way end =
+    way.first ∙ ap (reading_fault_after way.records) (at-end bases target section at end)
 
 pub ruleset steps = (under-way-first, under-way-nothing, under-way-cie, under-way-fde, under-way-end)

@@ -6,7 +6,7 @@ use Rattle.dw_bytes.specs.declared.fault.Fault.{Fault}
 use Rattle.dw_bytes.specs.declared.fault.FaultKind.TheVariants.{UnknownInstruction}
 use Rattle.dw_bytes.specs.Reading.{ReadPosition}
 use Rattle.dw_bytes.specs.Operands.{unsigned, Line, line, none, one, Coded, coded_at}
-use Rattle.dw_bytes.specs.Sequence.{Sequence, Located}
+use Rattle.dw_bytes.specs.Sequence.{Sequence, Located, located_read, sequence_of}
 use Rattle.dw_frame.specs.Instructions.{Instruction}
 use Rattle.dw_frame.specs.Codes.{line_of}
 use Rattle.dw_eh_frame.specs.declared.dialect.Dialect.{Dialect}
@@ -77,3 +77,8 @@ abbrev pub is_foreign : EhInstruction → Bool
 is_foreign (plain i) = false
 is_foreign (args_size n) = true
 is_foreign (negate_ra_state with_pc) = true
+
+-- reading the instructions of a program with their offsets, from left to right, up to the program's
+-- end or the first fault
+unfoldable pub eh_instructions_of : Dialect → ReadPosition → List (Result (ℕ × EhInstruction) Fault)
+eh_instructions_of dialect r = sequence_of (located_read (eh_instruction_at dialect)) r

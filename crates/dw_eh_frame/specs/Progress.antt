@@ -1,12 +1,12 @@
 -- The state of a rewriting: what is known after some records.
-use Rattle.std.specs.Prelude.{◌≡◌, ◌<◌, ◌≤◌, ◌+◌, ◌*◌, ℕ, Bool, List, ◌++◌, map, filter, length, Contains, Ok}
+use Rattle.std.specs.Prelude.{◌≡◌, ◌<◌, ◌≤◌, ◌+◌, ◌*◌, ◌^◌, ℕ, Bool, List, ◌++◌, map, filter, length, Contains, Ok}
 use Rattle.dw_bytes.specs.declared.target.Target.{Target}
 use Rattle.dw_frame.specs.Records.{Cie, Fde, cie_record, fde_record}
 use Rattle.dw_frame.specs.Bounds.{Ascends}
 use Rattle.dw_frame.specs.Sections.{AreRecords, IsRecord}
 use Rattle.dw_eh_frame.specs.declared.pointer.Bases.{Bases}
 use Rattle.dw_eh_frame.specs.declared.rewriting.CiePlace.{CiePlace}
-use Rattle.dw_eh_frame.specs.Records.{EhCie, EhFde, EhRecord, eh_cie, eh_cie_at, eh_entries_from, eh_entries_of}
+use Rattle.dw_eh_frame.specs.Records.{EhCie, EhFde, EhRecord, eh_cie, eh_cie_at, eh_entries_from, eh_entries_of, reading_fault_after, eh_reading_fault}
 use Rattle.dw_eh_frame.specs.declared.places.RecordPlace.{RecordPlace}
 use Rattle.dw_eh_frame.specs.Places.{ArePlaces}
 use Rattle.dw_eh_frame.specs.Rewriting.{Pair, SaysTheSame, says_something, IsSameCie, IsSameFde}
@@ -28,6 +28,7 @@ pub record IsUnderWay (is_aarch64 : Bool) (bases : Bases) (target : Target) (sec
   pub inside : at ≤ length section
   pub records : List EhRecord
   pub read : eh_entries_of bases target section ≡ map Ok records ++ eh_entries_from bases target section at
+  pub first : eh_reading_fault bases target section ≡ reading_fault_after records (eh_entries_from bases target section at)
   pub pairs : List Pair
   pub sources : map (λ (p : Pair). p.0) pairs ≡ filter says_something records
   pub encoded : AreRecords target 0 made (map (λ (p : Pair). p.1) pairs)
@@ -40,6 +41,7 @@ pub record IsUnderWay (is_aarch64 : Bool) (bases : Bases) (target : Target) (sec
   pub written : (q : CiePlace) → Contains cies q → q.made ≤ length made
   -- records grow by less than a factor of five
   pub small : length made ≤ 5 * at
+  pub short : length made < 2 ^ 32
   pub listed : ArePlaces pairs list
 
 -- A CIE that says what `e` says was written after the bytes `old`.

@@ -1,5 +1,7 @@
 -- The records of an `.eh_frame` section, and how they are read (LSB Core, section 10.6.1).
-use Rattle.std.specs.Prelude.{ℕ, ◌-◌, ◌==◌, nat_le, Bool, true, false, if◌then◌else◌, List, length, Result, Ok, Err}
+use Rattle.std.specs.Prelude.{ℕ, ◌-◌, ◌==◌, nat_le, Bool, true, false, if◌then◌else◌, List, [], ◌∷◌, ◌++◌, length, Option, Some, None, Result, Ok, Err}
+use Rattle.std.specs.List.{list_any}
+use Rattle.std.specs.Option.{option_or}
 use Rattle.dw_bytes.specs.declared.target.Target.{Target}
 use Rattle.dw_bytes.specs.declared.target.Format.{Format}
 use Rattle.dw_bytes.specs.declared.fault.Fault.{Fault}
@@ -140,3 +142,29 @@ eh_entries_from bases target section at = sequence_of (eh_record_at bases sectio
 
 abbrev pub eh_entries_of : Bases → Target → List ℕ → List (Result EhRecord Fault)
 eh_entries_of bases target section = eh_entries_from bases target section 0
+
+-- ---- the first fault in reading a section
+
+abbrev pub begins_at : ℕ → EhRecord → Bool
+begins_at at (eh_cie c) = c.offset == at
+begins_at at _ = false
+
+-- the fault of an FDE whose CIE isn't one of the records before it
+abbrev pub lost : EhFde → Fault
+lost e = record { kind = NoSuchCie; at = e.cie_pointer_offset }
+
+-- the fault of a record that was read after the records `before`
+abbrev pub pointer_fault : List EhRecord → EhRecord → Option Fault
+pointer_fault before (eh_fde e) = if list_any (begins_at e.cie.offset) before then None else Some (lost e)
+pointer_fault before _ = None
+
+-- the first fault of what is read after the records `before`
+abbrev pub reading_fault_after : List EhRecord → List (Result EhRecord Fault) → Option Fault
+reading_fault_after before [] = None
+reading_fault_after before (Err fault ∷ items) = Some fault
+reading_fault_after before (Ok x ∷ items) = option_or (pointer_fault before x) (reading_fault_after (before ++ x ∷ []) items)
+
+-- The first fault in reading a section: of the first record that can't be read, or that is an FDE whose
+-- CIE isn't one of the records before it.
+unfoldable pub eh_reading_fault : Bases → Target → List ℕ → Option Fault
+eh_reading_fault bases target section = reading_fault_after [] (eh_entries_of bases target section)

@@ -28,11 +28,15 @@ abbrev pub piece : Bool → ℕ → List ℕ → List ℕ
 piece true k bytes = replicate k 0
 piece false k bytes = take k bytes
 
--- The bytes from the first instruction on that can't be read. `.debug_frame` would read a set_loc that
--- isn't known, so it gets a code there that isn't known in `.debug_frame` either.
+-- The bytes from the first instruction on that can't be read. `.debug_frame` doesn't know the code of
+-- args_size, so it gets that of def_cfa_offset, whose operand is read in the same way. `.debug_frame`
+-- would read a set_loc that isn't known, so it gets a code that isn't known there either.
+abbrev pub unread_code : Dialect → ℕ → ℕ
+unread_code dialect code = if code == 0x2e then 0x0e else if is_unread dialect code then 0x3f else code
+
 abbrev pub unread : Dialect → List ℕ → List ℕ
 unread dialect [] = []
-unread dialect (code ∷ bytes) = (if is_unread dialect code then 0x3f else code) ∷ bytes
+unread dialect (code ∷ bytes) = unread_code dialect code ∷ bytes
 
 abbrev pub silenced_then : Dialect → (ReadPosition → List ℕ) → ReadPosition → Result (Bool × ReadPosition) Fault → List ℕ
 silenced_then dialect others r (Ok found) = piece found.0 (found.1.position - r.position) r.rest ++ others found.1

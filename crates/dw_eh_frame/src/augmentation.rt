@@ -1,6 +1,6 @@
 //! Augmentations of CIEs (LSB Core, section 10.6.1.1.1).
 
-ghost use Rattle.std.specs.Prelude.{◌≡◌, ◌+◌, ◌^◌, ◌<◌, ◌≤◌, ◌==◌, IfOk, IfErr, IfSome, MatchResult, Ok, Err, length, option_map, position, take, true};
+ghost use Rattle.std.specs.Prelude.{◌≡◌, ◌<◌, ◌≤◌, ◌==◌, IfSome, MatchResult, Ok, Err, length, option_map, position, take, true};
 ghost use Rattle.dw_bytes.specs.Reading.{MovesForward};
 ghost use Rattle.dw_bytes.specs.Readers.{IsRefusedWithin, ParsesBy};
 ghost use Rattle.dw_eh_frame.specs.Augmentations.{augmentation_at, eh_data_at, fixed_size, is_old, no_letters, personality_size, say, says, without};

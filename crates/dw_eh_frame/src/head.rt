@@ -1,6 +1,6 @@
 //! Reading what a CIE says before its program.
 
-ghost use Rattle.std.specs.Prelude.{◌≡◌, ◌+◌, ◌^◌, ◌<◌, ◌≤◌, IfOk, IfErr, length, true};
+ghost use Rattle.std.specs.Prelude.{◌≡◌, ◌+◌, ◌<◌, ◌≤◌, IfOk, length, true};
 ghost use Rattle.dw_bytes.specs.declared.fault.FaultKind.TheVariants.{Version};
 ghost use Rattle.dw_bytes.specs.Operands.{fixed};
 ghost use Rattle.dw_bytes.specs.Reading.{MovesForward};

@@ -8,7 +8,6 @@ ghost use Rattle.dw_eh_frame.specs.declared.places.RecordPlace.{RecordPlace};
 ghost use Rattle.dw_eh_frame.specs.Places.{ArePlaces, IsOn, is_overlap, original_of, source_program_start, source_start, written_program};
 ghost use Rattle.dw_bytes.specs.declared.target.Target.{Target};
 ghost use Rattle.dw_bytes.specs.Reading.{ReadPosition};
-ghost use Rattle.dw_frame.specs.Records.{Record};
 ghost use Rattle.dw_frame.specs.Instructions.{Instruction};
 ghost use Rattle.dw_frame.specs.Codes.{AreInstructions};
 ghost use Rattle.dw_frame.specs.Sections.{AreRecords, entries_of};

@@ -1,6 +1,6 @@
 //! Encoded pointers (LSB Core, section 10.5.1).
 
-ghost use Rattle.std.specs.Prelude.{◌≡◌, ◌+◌, ◌^◌, ◌<◌, ◌≤◌, IfOk, IfErr, None};
+ghost use Rattle.std.specs.Prelude.{◌≡◌, ◌+◌, ◌<◌, ◌≤◌, IfOk, None};
 ghost use Rattle.dw_bytes.specs.Reading.{MovesForward};
 ghost use Rattle.dw_bytes.specs.Readers.{IsRefusedWithin, ParsesBy};
 ghost use Rattle.dw_bytes.specs.Encoding.{max_address};

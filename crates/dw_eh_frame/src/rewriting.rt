@@ -2,12 +2,11 @@
 
 ghost use Rattle.std.specs.Prelude.{◌≡◌, ◌+◌, ◌^◌, ◌<◌, ◌≤◌, ◌≢◌, IfOk, IfErr, MatchOption, OnOk, length, [], ◌∷◌, ◌++◌};
 ghost use Rattle.std.specs.Prelude.{Contains};
-ghost use Rattle.dw_eh_frame.specs.Progress.{IsUnderWay, WritesCie, WritesPointing, place_source};
+ghost use Rattle.dw_eh_frame.specs.Progress.{WritesCie, WritesPointing, place_source};
 ghost use Rattle.dw_eh_frame.specs.Places.{IsRewrittenAt, place_for};
 ghost use Rattle.dw_eh_frame.specs.Refused.{IsRefused, IsUnwritten, IsUnwrittenFde};
-ghost use Rattle.dw_eh_frame.specs.Views.{IsRead, IsReadCie, IsReadFde, cie_room, eh_cie_of, eh_fde_of, eh_record_of, fde_room, program_of};
-ghost use Rattle.dw_eh_frame.specs.Records.{eh_record_at};
-ghost use Rattle.dw_bytes.specs.Reading.{section_from};
+ghost use Rattle.dw_eh_frame.specs.Views.{IsReadCie, IsReadFde, cie_room, eh_cie_of, eh_fde_of, fde_room, program_of};
+ghost use Rattle.dw_eh_frame.specs.Records.{eh_reading_fault};
 ghost use Rattle.dw_frame.specs.Bounds.{Ascends};
 ghost use Rattle.dw_eh_frame.specs.declared.rewriting.CiePlace.{CiePlace};
 
@@ -80,6 +79,7 @@ fn write_cie(
     ensures wrote { OnOk result (WritesCie is_aarch64 target (eh_cie_of cie.now) made.old.bytes.items made.new.bytes.items) }
     ensures refused { IfErr result (IsUnwritten (length made.old.bytes.items + cie_room cie.now + 32)) }
     ensures grows { OnOk result (length made.new.bytes.items ≤ length made.old.bytes.items + cie_room cie.now + 24) }
+    ensures short { OnOk result (length made.new.bytes.items < 2 ^ 32) }
     ensures place { OnOk result (made.new.cies.items ≡ made.old.cies.items
         ++ record { source = cie.now.offset; made = length made.old.bytes.items } ∷ []) }
     ensures listed { OnOk result (made.new.places.items ≡ made.old.places.items
@@ -132,6 +132,7 @@ fn write_fde(
     ensures refused { IfErr result (IsUnwrittenFde (length made.old.bytes.items + fde_room fde.now + 32)
         made.old.cies.items (eh_fde_of fde.now)) }
     ensures grows { OnOk result (length made.new.bytes.items ≤ length made.old.bytes.items + fde_room fde.now + 24) }
+    ensures short { OnOk result (length made.new.bytes.items < 2 ^ 32) }
     ensures place { OnOk result (made.new.cies.items ≡ made.old.cies.items) }
     ensures listed { OnOk result (made.new.places.items ≡ made.old.places.items
         ++ place_for fde.now.offset (program_of fde.now.program) (length made.old.bytes.items) (length made.new.bytes.items) ∷ []) }
@@ -183,6 +184,8 @@ pub fn rewrite(
 ) -> Result<Rewritten, Fault>
     requires { length section.now < 2 ^ 32 }
     ensures refused { IfErr result (IsRefused bases target section.now) }
+    ensures faultless { IfOk result (λ _. eh_reading_fault bases target section.now ≡ None) }
+    ensures short { IfOk result (λ made. length made.bytes.items < 2 ^ 32) }
     ensures rewritten { IfOk result (λ made. IsRewrittenAt is_aarch64 bases target section.now
         made.bytes.items made.places.items) }
 {

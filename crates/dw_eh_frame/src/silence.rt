@@ -1,11 +1,10 @@
 //! Programs with nops in place of the instructions that `.debug_frame` doesn't have.
 
-ghost use Rattle.std.specs.Prelude.{◌≡◌, ◌+◌, ◌^◌, ◌<◌, ◌≤◌, ◌++◌, false, replicate, IfOk, IfErr, OnOk, length};
+ghost use Rattle.std.specs.Prelude.{◌≡◌, ◌+◌, ◌^◌, ◌<◌, ◌≤◌, ◌++◌, false, replicate, IfOk, OnOk, length};
 ghost use Rattle.dw_bytes.specs.Reading.{MovesForward};
-ghost use Rattle.dw_bytes.specs.Readers.{IsRefusedWithin, ParsesBy};
+ghost use Rattle.dw_bytes.specs.Readers.{ParsesBy};
 ghost use Rattle.dw_frame.specs.Codes.{extended_line, line_of};
-ghost use Rattle.dw_eh_frame.specs.Silencing.{past_code, past_instruction, past_operands, piece, silenced, unread};
-ghost use Rattle.dw_eh_frame.specs.Views.{program_of};
+ghost use Rattle.dw_eh_frame.specs.Silencing.{past_instruction, past_operands, piece, silenced, unread};
 
 use crate::dialect::Dialect;
 use dw_bytes::{Cursor, Fault, FaultKind, Target, operands};
@@ -155,7 +154,8 @@ fn push_piece(
 }
 
 /// Appends all bytes that are left, up to the offset `end`. They begin with an instruction that can't
-/// be read. If it is a set_loc, it gets a code that `.debug_frame` doesn't know.
+/// be read. `.debug_frame` refuses what is written for the same reason: args_size becomes
+/// def_cfa_offset, which has the same operand, and a set_loc gets a code that isn't known.
 fn push_rest(
     out: &mut Vec<u8>,
     cursor: &Cursor<'_>,
@@ -169,6 +169,10 @@ fn push_rest(
         unreachable!()
     };
     match bytes {
+        [0x2e, operands @ ..] => {
+            out.push(0x0e)?;
+            out.extend_from_slice(operands)
+        }
         [0x01, operands @ ..] if !dialect.has_plain_addresses => {
             out.push(0x3f)?;
             out.extend_from_slice(operands)

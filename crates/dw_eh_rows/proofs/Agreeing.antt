@@ -20,7 +20,7 @@ use Rattle.dw_eh_rows.proofs.Alike.{Naming, rule_to, cfa_to, effect_to, Fits, St
 -- ---- one instruction
 
 -- the offset of an instruction's expression
-abbrev place-in : Option LocatedExpression → ℕ
+abbrev pub place-in : Option LocatedExpression → ℕ
 place-in None = 0
 place-in (Some x) = x.offset
 
@@ -171,7 +171,7 @@ twice k n remembers_state = refl
 twice k n restores_state = refl
 
 -- the effect of a moved instruction
-moved-effect : (cie : Cie) (n : ℕ) (i j : Instruction) → IsMoved i j
+pub moved-effect : (cie : Cie) (n : ℕ) (i j : Instruction) → IsMoved i j
     → effect_of cie j ≡ effect_to (place-in (expression_in j)) (effect_of cie (numbered n i))
 moved-effect cie n i j moved =
     let k = place-in (expression_in j) in

@@ -146,7 +146,7 @@ location-next u v s t b c k (restores q) h = h.location
 location-next u v s t b c k remembers_state h = h.location
 location-next u v s t b c k restores_state h = h.location
 
-alike-next : (u v : Naming) (s t : Start) (b c : List Effect) (k : ℕ) (x : Effect) → Alike u v s t b c → Fits u v k x
+pub alike-next : (u v : Naming) (s t : Start) (b c : List Effect) (k : ℕ) (x : Effect) → Alike u v s t b c → Fits u v k x
     → Alike u v s t (x ∷ b) (effect_to k x ∷ c)
 alike-next u v s t b c k x h f = record {
   end = h.end;
@@ -156,10 +156,10 @@ alike-next u v s t b c k x h f = record {
   cfa = cfa-next u v s t b c k x h f;
 }
 
-alike-left : (u v : Naming) (s t : Start) (b c : List Effect) → Alike u v s t b c → Alike u v s t (stays ∷ b) c
+pub alike-left : (u v : Naming) (s t : Start) (b c : List Effect) → Alike u v s t b c → Alike u v s t (stays ∷ b) c
 alike-left u v s t b c h = record { end = h.end; initial = h.initial; location = h.location; rule = h.rule; cfa = h.cfa }
 
-alike-right : (u v : Naming) (s t : Start) (b c : List Effect) → Alike u v s t b c → Alike u v s t b (stays ∷ c)
+pub alike-right : (u v : Naming) (s t : Start) (b c : List Effect) → Alike u v s t b c → Alike u v s t b (stays ∷ c)
 alike-right u v s t b c h = record { end = h.end; initial = h.initial; location = h.location; rule = h.rule; cfa = h.cfa }
 
 -- ---- rows
@@ -187,7 +187,7 @@ below-same (suc n) f g h =
     ap (λ (xs : List (ℕ × Rule)). xs ++ with_rule n (f n)) (below-same n f g h)
     ∙ ap (λ (x : Rule). rules_below n g ++ with_rule n x) (h n)
 
-list-alike : (u v : Naming) (f g : ℕ → PlacedRule) → ((r : ℕ) → rule_with u (f r) ≡ rule_with v (g r))
+pub list-alike : (u v : Naming) (f g : ℕ → PlacedRule) → ((r : ℕ) → rule_with u (f r) ≡ rule_with v (g r))
     → map (entry_with u) (rule_list f) ≡ map (entry_with v) (rule_list g)
 unfolding rule_list
 list-alike u v f g h =
@@ -295,10 +295,10 @@ run-agree u v s t b c (both k x ∷ steps) h f =
     (subst (λ (l : List Effect). Alike u v s t (reverse (lefts steps) ++ (x ∷ b)) l) (sym (reverse-next (effect_to k x) (rights steps) c))
     (run-agree u v s t (x ∷ b) (effect_to k x ∷ c) steps (alike-next u v s t b c k x h f.0) f.1))
 
-cie-alike : (u v : Naming) → Alike u v cie_start cie_start [] []
+pub cie-alike : (u v : Naming) → Alike u v cie_start cie_start [] []
 cie-alike u v = record { end = refl; initial = λ r. refl; location = refl; rule = λ d r. refl; cfa = λ d. refl }
 
-start-alike : (u v : Naming) (f : Fde) (steps : List Step) → AllFit u v steps
+pub start-alike : (u v : Naming) (f : Fde) (steps : List Step) → AllFit u v steps
     → Alike u v (start_behind (reverse (lefts steps)) f) (start_behind (reverse (rights steps)) f) [] []
 start-alike u v f steps fit =
     let run : Alike u v cie_start cie_start (reverse (lefts steps)) (reverse (rights steps)) =

@@ -5,3 +5,12 @@ pub mod OnlyRows
 pub mod Listed
 pub mod NamesFound
 pub mod Found
+pub mod FaultsAlike
+pub mod ProgramFaults
+pub mod NoOverlaps
+pub mod RecordOrder
+pub mod SectionFaults
+pub mod Answering
+pub mod ReadAgain
+pub mod GoodPrograms
+pub mod WellFormedSections

@@ -16,7 +16,7 @@ use Rattle.dw_eh_frame.proofs.OneProgram.{one-program}
 use Rattle.dw_eh_rows.specs.Meaning.{AreEhRows, numbers_of, as_fde, dialect_in, numbered, eh_effect_of, eh_effects_from, eh_rows_by}
 
 -- a CIE with these alignment factors
-abbrev with-factors : ReadPosition → ℕ → ℤ → Cie
+abbrev pub with-factors : ReadPosition → ℕ → ℤ → Cie
 with-factors program code number = record {
   offset = 0;
   format = Dwarf32;
@@ -28,7 +28,7 @@ with-factors program code number = record {
 }
 
 -- the effect of an instruction depends on nothing else of a CIE
-by-factors : (p : ReadPosition) (c : Cie) (i : Instruction)
+pub by-factors : (p : ReadPosition) (c : Cie) (i : Instruction)
     → effect_of c i ≡ effect_of (with-factors p c.code_alignment_factor c.data_alignment_factor) i
 by-factors p c (Instruction.advance_loc d) = refl
 by-factors p c (Instruction.offset r n) = refl
@@ -74,11 +74,11 @@ effects-same p c d n (x ∷ items) code number =
     ap (λ (e : Effect). e ∷ eh_effects_from c (n + 1) items) (effect-same p c d n x.1 code number)
     ∙ ap (λ (l : List Effect). eh_effect_of d n x.1 ∷ l) (effects-same p c d (n + 1) items code number)
 
-abbrev code-in : Header → ℕ
+abbrev pub code-in : Header → ℕ
 code-in (cie_header h) = h.code_alignment_factor
 code-in (fde_header h) = 0
 
-abbrev number-in : Header → ℤ
+abbrev pub number-in : Header → ℤ
 number-in (cie_header h) = h.data_alignment_factor
 number-in (fde_header h) = pos 0
 

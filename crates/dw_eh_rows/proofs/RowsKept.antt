@@ -39,7 +39,7 @@ good-rows c f g =
     (effects-read c c.program g.first.items g.first.encoded)
     ∙ ap (rows_after (start_behind (reverse (effects_by c g.first.items)) f) []) (effects-read c f.program g.items g.encoded)
 
-abbrev start-at : List Effect → ℕ → ℕ → Start
+abbrev pub start-at : List Effect → ℕ → ℕ → Start
 start-at left initial range = record {
   rules = rule_at cie_start left 0;
   cfa = cfa_at cie_start left 0;
@@ -47,7 +47,7 @@ start-at left initial range = record {
   end = initial + range;
 }
 
-start-of : (e : EhFde) (f : Fde) (left : List Effect) → f.initial_location ≡ e.initial_location → f.address_range ≡ e.address_range
+pub start-of : (e : EhFde) (f : Fde) (left : List Effect) → f.initial_location ≡ e.initial_location → f.address_range ≡ e.address_range
     → start_behind left (as_fde e) ≡ start_behind left f
 start-of e f left initial range =
     ap (λ n. start-at left n e.address_range) (sym initial) ∙ ap (start-at left f.initial_location) (sym range)

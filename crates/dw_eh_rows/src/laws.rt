@@ -1,17 +1,23 @@
 //! Laws about the rows of `.eh_frame`. The functions do nothing, except that one calls laws of
 //! `dw_rows`: the contract of each is a law.
 
-ghost use Rattle.std.specs.Prelude.{◌≡◌, ℕ, Bool, List, Contains, None};
+ghost use Rattle.std.specs.Prelude.{◌≡◌, ◌↔◌, ℕ, Bool, List, Contains, Some, None};
+ghost use Rattle.dw_bytes.specs.declared.fault.Fault.{Fault};
 ghost use Rattle.dw_bytes.specs.declared.target.Target.{Target};
 ghost use Rattle.dw_frame.specs.Records.{Fde, fde_record};
 ghost use Rattle.dw_rows.specs.Rules.{PlacedRow};
-ghost use Rattle.dw_rows.specs.Section.{FrameSection, IsChecked, row_of};
+ghost use Rattle.dw_rows.specs.Section.{FrameSection, IsChecked, row_of, section_fault};
 ghost use Rattle.dw_eh_frame.specs.declared.pointer.Bases.{Bases};
-ghost use Rattle.dw_eh_frame.specs.Records.{EhFde, EhRecord, eh_fde};
+ghost use Rattle.dw_eh_frame.specs.declared.places.RecordPlace.{RecordPlace};
+ghost use Rattle.dw_eh_frame.specs.Places.{IsRewrittenAt, original_of};
+ghost use Rattle.dw_eh_frame.specs.Records.{EhFde, EhRecord, eh_fde, eh_reading_fault};
+ghost use Rattle.dw_eh_rows.specs.Checked.{IsFaultOf};
+ghost use Rattle.dw_eh_rows.specs.Faults.{eh_section_fault};
 ghost use Rattle.dw_eh_frame.specs.Rewriting.{IsRewriting, IsRewritten};
 ghost use Rattle.dw_eh_rows.specs.Kept.{KeepsRows};
 ghost use Rattle.dw_eh_rows.specs.Meaning.{AreEhRows, EhCovers, eh_fdes};
 ghost use Rattle.dw_eh_rows.specs.OneRow.{HasOneEhRow};
+ghost use Rattle.dw_eh_rows.specs.WellFormed.{IsEhWellFormed};
 
 /// An FDE of `.eh_frame` has only one list of rows.
 pub fn rows_are_unambiguous()
@@ -26,6 +32,28 @@ pub fn rewriting_keeps_rows()
         → (rewriting : IsRewriting is_aarch64 target records made) → (e : EhFde) (f : Fde)
         → Contains rewriting.pairs (eh_fde e, fde_record f)
         → KeepsRows is_aarch64 rewriting.pairs e f }
+{}
+
+/// A section has no fault if and only if it is well formed: it is read as records up to its end, the CIE
+/// of each FDE is one of the records before it, all programs are good, and no address is covered by two
+/// FDEs.
+pub fn sections_without_fault_are_well_formed()
+    ensures { (is_aarch64 : Bool) (bases : Bases) (target : Target) (section : List ℕ)
+        → (eh_section_fault is_aarch64 bases target section ≡ None) ↔ IsEhWellFormed is_aarch64 bases target section }
+{}
+
+/// The check of the section that was written for an `.eh_frame` section finds what the section itself
+/// has: no fault exactly if it has none, and otherwise its first fault, at the place that `original_of`
+/// gives. Each fault is one that `faults_keep_their_places` is about.
+pub fn written_faults_are_the_sections()
+    ensures none { (is_aarch64 : Bool) (bases : Bases) (target : Target) (section made : List ℕ) (places : List RecordPlace)
+        → IsRewrittenAt is_aarch64 bases target section made places → eh_reading_fault bases target section ≡ None
+        → (section_fault target made ≡ None) ↔ (eh_section_fault is_aarch64 bases target section ≡ None) }
+    ensures first { (is_aarch64 : Bool) (bases : Bases) (target : Target) (section made : List ℕ) (places : List RecordPlace)
+        (fault : Fault) → (written : IsRewrittenAt is_aarch64 bases target section made places)
+        → eh_reading_fault bases target section ≡ None → section_fault target made ≡ Some fault
+        → (eh_section_fault is_aarch64 bases target section ≡ Some (original_of places fault))
+        × IsFaultOf written.rewritten.rewriting.pairs fault }
 {}
 
 /// If the section that was written for an `.eh_frame` section is accepted, each address that an FDE

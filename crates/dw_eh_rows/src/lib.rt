@@ -1,4 +1,7 @@
-//! Which rows an `.eh_frame` section gives, and that the section that is written for it keeps them.
+//! The check of an `.eh_frame` section, and which rows it gives.
 #![tactic(auto)]
 
+mod check;
 pub mod laws;
+
+pub use check::check_eh_frame;

@@ -1,9 +1,9 @@
-//! The rows of rewritten sections, beside those that readelf prints for the originals.
+//! The rows of checked sections, beside those that readelf prints, and the faults of refused ones.
 
 use crate::sections::{BASES, BIG, LITTLE, LITTLE_SHORT, section_of};
 use dw_bytes::{FaultKind, Target};
-use dw_eh_frame::{original_fault, rewrite};
-use dw_rows::{CfaRule, CheckedFrame, RegisterRule, check_frame};
+use dw_eh_rows::check_eh_frame;
+use dw_rows::{CfaRule, CheckedFrame, RegisterRule};
 use std::alloc::{AllocError, Global};
 use std::process::Abort;
 
@@ -63,7 +63,7 @@ fn row_at(alloc: Global, frame: &CheckedFrame<'_>, address: u64) -> Result<Strin
     Ok(text)
 }
 
-/// Asserts that a section is accepted once it is rewritten, and has these rows and no others.
+/// Asserts that a section is accepted, and has these rows and no others.
 fn has_rows(
     rt: &(impl Abort + AllocGlobal),
     digits: &str,
@@ -72,14 +72,8 @@ fn has_rows(
     rows: &[(u64, &str)],
 ) -> Result<(), AllocError> {
     let section = section_of(rt.alloc(), digits).expect(rt, "hex digits");
-    let made = match rewrite(rt.alloc(), &section, target, BASES, is_aarch64) {
-        Ok(made) => made,
-        Err(fault) => panic!(rt; "{fault}"),
-    };
-    if made.bytes.len() >= 1 << 32 {
-        panic!(rt; "too long");
-    }
-    let frame = match check_frame(rt.alloc(), &made.bytes, target) {
+    let mut room = Vec::new(rt.alloc());
+    let frame = match check_eh_frame(rt.alloc(), &section, target, BASES, is_aarch64, &mut room) {
         Ok(frame) => frame,
         Err(fault) => panic!(rt; "{fault}"),
     };
@@ -128,29 +122,106 @@ const PLAIN_SET_LOC: &str = "\
 1400000000000000017a520001781001000c070890010000\
 200000001c00000034120000000000005600000000000000000140120000000000000e10";
 
-/// The same, with addresses of four bytes that are relative to their own place.
-const RELATIVE_SET_LOC: &str = "\
-1400000000000000017a5200017810011b0c070890010000\
-140000001c00000014f2ffff5600000000011bf2ffff0e10";
+#[test]
+fn set_loc_is_read_where_addresses_are_plain(rt: HostRuntime) -> Result<(), AllocError> {
+    let rows = [(0x1234, "1240 7+8 16=c-8"), (0x1240, "128a 7+16 16=c-8")];
+    has_rows(&rt, PLAIN_SET_LOC, LITTLE, false, &rows)
+}
+
+/// A CIE of 24 bytes whose program begins at 17. Its FDEs have addresses of four bytes that are relative
+/// to their own place.
+const CIE: &str = "1400000000000000017a5200017810011b0c070890010000";
+
+/// The same CIE, except that its program has advance_loc at 20.
+const ADVANCING_CIE: &str = "1400000000000000017a5200017810011b0c070841000000";
+
+/// An FDE of 0x1234 to 0x128a at 24, which ends at 48. Its program, of seven bytes, begins at 41.
+const FDE: &str = "140000001c00000014f2ffff5600000000";
+
+/// Seven nops.
+const NOPS: &str = "00000000000000";
+
+/// What follows a CIE, and the fault with its offset in the section.
+const REFUSED: [(&str, [&str; 4], FaultKind, u32); 9] = [
+    // set_loc where addresses aren't plain
+    (
+        CIE,
+        [FDE, "011bf2ffff0e10", "", ""],
+        FaultKind::UnknownInstruction,
+        41,
+    ),
+    // after GNU_args_size, an unknown instruction and an expression with an unknown operation
+    (
+        CIE,
+        [FDE, "2e103f00000000", "", ""],
+        FaultKind::UnknownInstruction,
+        43,
+    ),
+    (
+        CIE,
+        [FDE, "2e100f01ff0000", "", ""],
+        FaultKind::UnknownOperation,
+        45,
+    ),
+    // GNU_args_size without the end of its operand
+    (
+        CIE,
+        [FDE, "0000000000002e", "", ""],
+        FaultKind::Truncated,
+        48,
+    ),
+    // remember_state alone, before a record of length 0
+    (
+        CIE,
+        [FDE, "0a000000000000", "00000000", ""],
+        FaultKind::Unrestored,
+        48,
+    ),
+    (ADVANCING_CIE, [FDE, NOPS, "", ""], FaultKind::NotInCie, 20),
+    // an FDE of 0x1240 to 0x1250 at 52, after a record of length 0
+    (
+        CIE,
+        [
+            FDE,
+            NOPS,
+            "00000000",
+            "140000003800000004f2ffff100000000000000000000000",
+        ],
+        FaultKind::Overlap,
+        52,
+    ),
+    // a record of which two bytes are left, and, before it, an unknown instruction
+    (
+        CIE,
+        [FDE, "3f000000000000", "1400", ""],
+        FaultKind::Truncated,
+        48,
+    ),
+    // an FDE at 48 whose CIE pointer leads to the FDE at 24
+    (
+        CIE,
+        [
+            FDE,
+            NOPS,
+            "140000001c000000",
+            "08f2ffff100000000000000000000000",
+        ],
+        FaultKind::NoSuchCie,
+        52,
+    ),
+];
 
 #[test]
-fn set_loc_is_refused_where_addresses_are_not_plain(rt: HostRuntime) -> Result<(), AllocError> {
-    let rows = [(0x1234, "1240 7+8 16=c-8"), (0x1240, "128a 7+16 16=c-8")];
-    has_rows(&rt, PLAIN_SET_LOC, LITTLE, false, &rows)?;
-    let section = section_of(rt.alloc(), RELATIVE_SET_LOC).expect(&rt, "hex digits");
-    let made = match rewrite(rt.alloc(), &section, LITTLE, BASES, false) {
-        Ok(made) => made,
-        Err(fault) => panic!(&rt; "{fault}"),
-    };
-    if made.bytes.len() >= 1 << 32 {
-        panic!(&rt; "too long");
+fn faults_are_where_the_section_is_wrong(rt: HostRuntime) -> Result<(), AllocError> {
+    for (cie, [one, two, three, four], kind, at) in &REFUSED {
+        let digits = format!(in rt.alloc(); "{cie}{one}{two}{three}{four}")?;
+        let section = section_of(rt.alloc(), &digits).expect(&rt, "hex digits");
+        let mut room = Vec::new(rt.alloc());
+        let Err(fault) = check_eh_frame(rt.alloc(), &section, LITTLE, BASES, false, &mut room)
+        else {
+            panic!(&rt; "accepted: {digits}")
+        };
+        assert_eq!(&rt; (fault.kind, fault.at), (*kind, *at), "{digits}");
     }
-    // The written CIE has 20 bytes, and the FDE 24 before its program. In the section itself the CIE has
-    // 24, and the FDE 17.
-    let Err(fault) = check_frame(rt.alloc(), &made.bytes, LITTLE) else {
-        panic!(&rt; "accepted")
-    };
-    assert_eq!(&rt; (fault.kind, fault.at), (FaultKind::UnknownInstruction, 44));
-    assert_eq!(&rt; original_fault(&made.places, fault).at, 41);
     Ok(())
 }

@@ -9,7 +9,7 @@ use Rattle.dw_eh_frame.specs.Records.{eh_cie_at, eh_record_at}
 use Rattle.dw_eh_frame.specs.Progress.{IsUnderWay}
 use Rattle.dw_eh_frame.specs.Views.{IsRead, cie_room, eh_cie_of, eh_fde_of, eh_record_of, fde_room, program_of, record_room}
 use Rattle.dw_eh_frame.proofs.Refusing.{refused-reading, refused-fde}
-use Rattle.dw_eh_frame.proofs.Steps.{under-way-cie, under-way-fde, under-way-end}
+use Rattle.dw_eh_frame.proofs.Steps.{under-way-cie, under-way-fde, under-way-end, under-way-faultless}
 use Rattle.dw_eh_frame.proofs.rewriting.rewrite.Goals as goal
 
 pub loop-at-preserved-in_ok-write_fde-in-Fde : goal.loop-at-preserved-in_ok-write_fde-in-Fde
@@ -31,7 +31,8 @@ loop-at-preserved-in_ok-write_fde-in-Fde c =
     (under-way-fde c.args.is_aarch64 c.args.bases c.args.target section c.loop-at.at c.in_ok-found.next (eh_fde_of fde) c.loop-at.made.bytes.items
     c.write_fde.new.made.bytes.items c.loop-at.made.cies.items c.loop-at.made.places.items c.loop-at.invariant is c.in_ok-found.ensures.forward.0
     c.in_ok-found.ensures.forward.1 sound.1
-    (omega (arith, c.in_ok-write_fde-in-Fde.ensures.grows, c.loop-at.invariant.small, room, c.in_ok-found.ensures.forward.0)) sound.0.inside
+    (omega (arith, c.in_ok-write_fde-in-Fde.ensures.grows, c.loop-at.invariant.small, room, c.in_ok-found.ensures.forward.0))
+    c.in_ok-write_fde-in-Fde.ensures.short sound.0.inside
     c.in_ok-write_fde-in-Fde.ensures.wrote))
 
 pub loop-at-preserved-in_ok-write_cie-in-Cie : goal.loop-at-preserved-in_ok-write_cie-in-Cie
@@ -54,12 +55,18 @@ loop-at-preserved-in_ok-write_cie-in-Cie c =
     (under-way-cie c.args.is_aarch64 c.args.bases c.args.target section c.loop-at.at c.in_ok-found.next cie.offset (eh_cie_of cie) c.loop-at.made.bytes.items
     c.write_cie.new.made.bytes.items c.loop-at.made.cies.items c.loop-at.made.places.items c.loop-at.invariant is c.in_ok-found.ensures.forward.0
     c.in_ok-found.ensures.forward.1 here sound.1 sound.1
-    (omega (arith, c.in_ok-write_cie-in-Cie.ensures.grows, c.loop-at.invariant.small, room, c.in_ok-found.ensures.forward.0)) sound.0.inside
+    (omega (arith, c.in_ok-write_cie-in-Cie.ensures.grows, c.loop-at.invariant.small, room, c.in_ok-found.ensures.forward.0))
+    c.in_ok-write_cie-in-Cie.ensures.short sound.0.inside
     c.in_ok-write_cie-in-Cie.ensures.wrote))
 
 pub returns-clause-rewritten : goal.returns-clause-rewritten
 returns-clause-rewritten c =
     under-way-end c.args.is_aarch64 c.args.bases c.args.target c.args.section.now c.loop-at.at c.loop-at.made.bytes.items
+    c.loop-at.made.cies.items c.loop-at.made.places.items c.loop-at.invariant c.loop-at-test.false
+
+pub returns-clause-faultless : goal.returns-clause-faultless
+returns-clause-faultless c =
+    under-way-faultless c.args.is_aarch64 c.args.bases c.args.target c.args.section.now c.loop-at.at c.loop-at.made.bytes.items
     c.loop-at.made.cies.items c.loop-at.made.places.items c.loop-at.invariant c.loop-at-test.false
 
 pub returns-in_err-found-clause-refused : goal.returns-in_err-found-clause-refused

@@ -1,0 +1,40 @@
+-- What the check of an `.eh_frame` section answers, and what an accepted section promises.
+use Rattle.std.specs.Prelude.{◌≡◌, ◌⊎◌, ℕ, ◌<◌, ◌^◌, Bool, true, false, List, Contains, map, Option, Some, None, Result, Ok, Err}
+use Rattle.dw_bytes.specs.declared.fault.Fault.{Fault}
+use Rattle.dw_bytes.specs.Answers.{memory}
+use Rattle.dw_rows.specs.Section.{FrameSection, row_of}
+use Rattle.dw_eh_frame.specs.declared.pointer.Bases.{Bases}
+use Rattle.dw_eh_frame.specs.Records.{EhFde, EhRecord, eh_entries_of}
+use Rattle.dw_frame.specs.Bounds.{offset_of}
+use Rattle.dw_eh_frame.specs.Places.{IsOn, is_overlap, written_program}
+use Rattle.dw_eh_frame.specs.Refused.{too_long}
+use Rattle.dw_eh_frame.specs.Rewriting.{Pair}
+use Rattle.dw_eh_rows.specs.Meaning.{EhCovers, eh_fdes}
+use Rattle.dw_eh_rows.specs.OneRow.{HasOneEhRow}
+
+-- The result of the check of a section of `size` bytes that has this fault, or none. The check passes only
+-- if there is no fault. If it fails, it returns that fault. It may also say that memory ran out, or of a
+-- section of more than 2^29 bytes that it is too long.
+abbrev pub EhAnswers : {X : Type 0} → ℕ → Option Fault → Result X Fault → Type 0
+EhAnswers size fault (Ok _) = fault ≡ None
+EhAnswers size fault (Err f) = (f ≡ memory) ⊎ (((f ≡ too_long) × (2 ^ 29 < size)) ⊎ (fault ≡ Some f))
+
+-- The rows that look-ups find are those of the section: each address that one of its FDEs covers has
+-- exactly one row, the one that the definitions give, and a look-up finds it. Any other address has none.
+pub record HasEhRows (is_aarch64 : Bool) (bases : Bases) (section : List ℕ) (s : FrameSection) : Type 0 where
+  pub records : List EhRecord
+  pub are : eh_entries_of bases s.target section ≡ map Ok records
+  pub covered : (e : EhFde) → Contains (eh_fdes records) e → (a : ℕ) → EhCovers e a → HasOneEhRow is_aarch64 records s a
+  pub others : (a : ℕ) → ((e : EhFde) → Contains (eh_fdes records) e → ¬ EhCovers e a) → row_of s a ≡ None
+
+-- ---- where the faults of a written section are
+
+-- A fault is at the program of a written record, or an Overlap is at a written record.
+abbrev pub IsAt : Pair → Fault → Type 0
+IsAt p fault = ((is_overlap fault.kind ≡ false) × IsOn (written_program p.1) fault.at) ⊎ ((is_overlap fault.kind ≡ true) × (fault.at ≡ offset_of p.1))
+
+-- the fault is at one of the written records
+pub record IsFaultOf (pairs : List Pair) (fault : Fault) : Type 0 where
+  pub pair : Pair
+  pub among : Contains pairs pair
+  pub where_it_is : IsAt pair fault
