@@ -3,6 +3,8 @@
 #![tactic(auto)]
 
 #[cfg(test)]
+mod modules;
+#[cfg(test)]
 mod records;
 #[cfg(test)]
 mod rows;

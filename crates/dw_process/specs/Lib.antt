@@ -8,3 +8,5 @@ pub mod Ranges
 pub mod FirstRows
 -- why a module isn't added
 pub mod Refusals
+-- modules whose rows come from an `.eh_frame` section
+pub mod EhModules

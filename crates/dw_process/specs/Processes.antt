@@ -46,24 +46,22 @@ pub record IsStored (frame : FrameSection) (room : ℕ) (table : RowTable) : Typ
   pub counted : 16 * length table.rows + sum_by expression_bytes frame.expressions ≤ table.bytes
   pub stored : table.bytes ≤ room
 
--- The section has no fault, and a table is made of its rows, as `IsStored` says. The module has a
--- range and may be inserted at its place among the modules.
-pub record IsReady (target : Target) (section : List ℕ) (load_address : ℕ) (given : Option AddressRange) (room : ℕ)
-    (modules : List LoadedModule) (ready : ReadyModule) : Type 0 where
-  pub accepted : section_fault target section ≡ None
-  pub table : IsStored (frame_of target section) room ready.rows
-  pub range : IsRangeFor (frame_of target section) load_address given ready.range
+-- A table is made of the rows of a checked section, as `IsStored` says. The module has a range and
+-- may be inserted at its place among the modules.
+pub record IsReady (frame : FrameSection) (load_address : ℕ) (given : Option AddressRange) (room : ℕ) (modules : List LoadedModule)
+    (ready : ReadyModule) : Type 0 where
+  pub table : IsStored frame room ready.rows
+  pub range : IsRangeFor frame load_address given ready.range
   pub place : IsPlaceFor ready.range modules ready.place
 
--- The section has no fault, and a table of its rows is added, at some place, to the modules, which
--- are in order of address. The new module has the id `id`, which is counted up. What the table
--- stores is at most `room` bytes (`IsStored`).
-pub record IsAdded (section : List ℕ) (load_address : ℕ) (given : Option AddressRange) (cookie room : ℕ) (old : ProcessState) (id : ℕ)
+-- A table of the rows of a checked section is added, at some place, to the modules, which are in
+-- order of address. The new module has the id `id`, which is counted up. What the table stores is at
+-- most `room` bytes (`IsStored`).
+pub record IsAddedWith (frame : FrameSection) (load_address : ℕ) (given : Option AddressRange) (cookie room : ℕ) (old : ProcessState) (id : ℕ)
     (new : ProcessState) : Type 0 where
-  pub accepted : section_fault old.target section ≡ None
   pub added : LoadedModule
-  pub table : IsStored (frame_of old.target section) room added.rows
-  pub range : IsRangeFor (frame_of old.target section) load_address given added.range
+  pub table : IsStored frame room added.rows
+  pub range : IsRangeFor frame load_address given added.range
   pub load_address_is : added.load_address ≡ load_address
   pub cookie_is : added.cookie ≡ cookie
   pub id_is : added.id ≡ id
@@ -74,6 +72,12 @@ pub record IsAdded (section : List ℕ) (load_address : ℕ) (given : Option Add
   pub id_new : id ≡ old.next_id
   pub next : new.next_id ≡ old.next_id + 1
   pub target : new.target ≡ old.target
+
+-- The section has no fault, and a module with its rows is added.
+pub record IsAdded (section : List ℕ) (load_address : ℕ) (given : Option AddressRange) (cookie room : ℕ) (old : ProcessState) (id : ℕ)
+    (new : ProcessState) : Type 0 where
+  pub accepted : section_fault old.target section ≡ None
+  pub rows : IsAddedWith (frame_of old.target section) load_address given cookie room old id new
 
 -- the modules without the one with this id
 abbrev pub without : ℕ → List LoadedModule → List LoadedModule

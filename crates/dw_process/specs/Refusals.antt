@@ -2,7 +2,7 @@
 use Rattle.std.specs.Prelude.{◌≡◌, ◌⊎◌, ℕ, ◌<◌, List, Option, Some, None}
 use Rattle.dw_bytes.specs.declared.target.Target.{Target}
 use Rattle.dw_bytes.specs.Answers.{memory}
-use Rattle.dw_rows.specs.Section.{frame_of, section_fault}
+use Rattle.dw_rows.specs.Section.{FrameSection, frame_of, section_fault}
 use Rattle.dw_rows.specs.UnwindTables.{table_bytes}
 use Rattle.dw_process.specs.ModuleMaps.{IsTaken}
 use Rattle.dw_process.specs.Ranges.{HasNoRange, IsRangeFor}
@@ -11,14 +11,23 @@ use Rattle.dw_process.specs.declared.loaded_module.LoadedModule.{LoadedModule}
 use Rattle.dw_process.specs.declared.refusal.Refusal.{Refusal}
 use Rattle.dw_process.specs.declared.refusal.Refusal.TheVariants.{Section, Room, Range, Overlaps}
 
+-- Why a module with the rows of a checked section isn't added. `Section`: memory ran out. `Range`:
+-- the module has no range. `Overlaps id`: its range shares an address with the range of the module
+-- with that id. `Room`: the compiled table may need more than `room` bytes.
+abbrev pub IsRefusedWith : FrameSection → ℕ → Option AddressRange → ℕ → List LoadedModule → Refusal → Type 0
+IsRefusedWith frame load_address given room modules (Section fault) = fault ≡ memory
+IsRefusedWith frame load_address given room modules Room = room < table_bytes frame
+IsRefusedWith frame load_address given room modules Range = HasNoRange frame load_address given
+IsRefusedWith frame load_address given room modules (Overlaps id) =
+    (range : AddressRange) × IsRangeFor frame load_address given range × IsTaken range modules id
+
 -- `Section fault`: memory ran out, or `fault` is the first fault of the section. In the other cases
--- the section has no fault. `Range`: the module has no range. `Overlaps id`: its range shares an
--- address with the range of the module with that id. `Room`: the compiled table may need more than
--- `room` bytes.
+-- the section has no fault, and `IsRefusedWith` says why its rows aren't added.
 abbrev pub IsRefused : Target → List ℕ → ℕ → Option AddressRange → ℕ → List LoadedModule → Refusal → Type 0
 IsRefused target section load_address given room modules (Section fault) = (fault ≡ memory) ⊎ (section_fault target section ≡ Some fault)
-IsRefused target section load_address given room modules Room = (section_fault target section ≡ None) × (room < table_bytes (frame_of target section))
+IsRefused target section load_address given room modules Room =
+    (section_fault target section ≡ None) × IsRefusedWith (frame_of target section) load_address given room modules Room
 IsRefused target section load_address given room modules Range =
-    (section_fault target section ≡ None) × HasNoRange (frame_of target section) load_address given
-IsRefused target section load_address given room modules (Overlaps id) = (section_fault target section ≡ None) × (range : AddressRange)
-    × IsRangeFor (frame_of target section) load_address given range × IsTaken range modules id
+    (section_fault target section ≡ None) × IsRefusedWith (frame_of target section) load_address given room modules Range
+IsRefused target section load_address given room modules (Overlaps id) =
+    (section_fault target section ≡ None) × IsRefusedWith (frame_of target section) load_address given room modules (Overlaps id)

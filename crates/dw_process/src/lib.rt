@@ -2,6 +2,7 @@
 #![tactic(auto)]
 
 mod address_range;
+mod eh_frame;
 mod found_row;
 pub mod laws;
 mod loaded_module;
@@ -12,6 +13,7 @@ mod refusal;
 mod shared_table;
 
 pub use address_range::AddressRange;
+pub use eh_frame::EhSection;
 pub use found_row::FoundRow;
 pub use loaded_module::LoadedModule;
 pub use process::Process;

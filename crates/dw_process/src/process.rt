@@ -4,8 +4,8 @@ ghost use Rattle.std.specs.List.{list_any, position};
 ghost use Rattle.std.specs.Option.{option_map};
 ghost use Rattle.std.specs.Prelude.{◌==◌, ◌≡◌, ◌<◌, ◌^◌, All, IfErr, IfOk, IfSome, length};
 ghost use Rattle.dw_process.specs.ModuleMaps.{AreInOrder, module_at};
-ghost use Rattle.dw_process.specs.Processes.{AreDistinct, IsAdded, IsFoundIn, IsReady, found_at, no_modules, removed};
-ghost use Rattle.dw_process.specs.Refusals.{IsRefused};
+ghost use Rattle.dw_process.specs.Processes.{AreDistinct, IsAdded, IsAddedWith, IsFoundIn, IsReady, found_at, no_modules, removed};
+ghost use Rattle.dw_process.specs.Refusals.{IsRefused, IsRefusedWith};
 
 use crate::address_range::AddressRange;
 use crate::found_row::FoundRow;
@@ -15,7 +15,7 @@ use crate::ranges::range_for;
 use crate::refusal::Refusal;
 use crate::shared_table::SharedTable;
 use dw_bytes::{OUT_OF_MEMORY, Target};
-use dw_rows::{UnwindRow, UnwindRows, check_frame};
+use dw_rows::{CheckedFrame, UnwindRow, UnwindRows, check_frame};
 use dw_unwind::as_linked;
 use std::alloc::Global;
 use std::marker::Model;
@@ -63,24 +63,20 @@ struct ReadyModule {
     rows: SharedTable,
 }
 
-/// Checks and compiles a module's section, and finds the module's range and its place.
+/// Compiles a checked section, and finds the module's range and its place.
 fn prepare(
     alloc: Global,
     modules: &ModuleMap,
-    target: Target,
-    section: &[u8],
+    frame: &CheckedFrame<'_>,
     load_address: u64,
     given: Option<AddressRange>,
     room: usize,
 ) -> Result<ReadyModule, Refusal>
-    requires { length section.now < 2 ^ 32 }
-    ensures ready { IfOk result
-        (IsReady target section.now load_address given room modules.now) }
+    ensures ready { IfOk result (IsReady frame.now load_address given room modules.now) }
     ensures refused { IfErr result
-        (IsRefused target section.now load_address given room modules.now) }
+        (IsRefusedWith frame.now load_address given room modules.now) }
 {
-    let frame = check_frame(alloc, section, target)?;
-    let Some(range) = range_for(&frame, load_address, given) else {
+    let Some(range) = range_for(frame, load_address, given) else {
         return Err(Refusal::Range);
     };
     let place = match modules.place_for(range) {
@@ -162,15 +158,31 @@ impl Process {
             (IsRefused self.old.target section.now load_address range room self.old.modules) }
         ensures same { IfErr result (λ _. self.new ≡ self.old) }
     {
-        let ready = prepare(
-            alloc,
-            &self.modules,
-            self.target,
-            section,
-            load_address,
-            range,
-            room,
-        )?;
+        let frame = check_frame(alloc, section, self.target)?;
+        match self.add_checked(alloc, &frame, load_address, range, cookie, room) {
+            Ok(id) => Ok(id),
+            Err(why) => Err(why),
+        }
+    }
+
+    /// Adds a module with the rows of a checked section. The other arguments are those of `add`.
+    pub(crate) fn add_checked(
+        &mut self,
+        alloc: Global,
+        frame: &CheckedFrame<'_>,
+        load_address: u64,
+        range: Option<AddressRange>,
+        cookie: u64,
+        room: usize,
+    ) -> Result<u64, Refusal>
+        requires { frame.now.target ≡ self.old.target }
+        ensures added { IfOk result
+            (λ id. IsAddedWith frame.now load_address range cookie room self.old id self.new) }
+        ensures refused { IfErr result
+            (IsRefusedWith frame.now load_address range room self.old.modules) }
+        ensures same { IfErr result (λ _. self.new ≡ self.old) }
+    {
+        let ready = prepare(alloc, &self.modules, frame, load_address, range, room)?;
         let id = self.next_id;
         let Some(next_id) = id.checked_add(1) else {
             return Err(Refusal::Section(OUT_OF_MEMORY));

@@ -12,5 +12,6 @@ pub mod Locations
 pub mod Machine
 pub mod NotAdded
 pub mod Rows
+pub mod RuleBytes
 pub mod Slots
 pub mod Targets

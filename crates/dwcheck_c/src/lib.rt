@@ -22,6 +22,7 @@ mod part;
 mod processes;
 mod right;
 mod row;
+mod rule_bytes;
 mod slots;
 mod stacks;
 mod state;

@@ -5,18 +5,54 @@ ghost use Rattle.std.specs.Option.{IsSomeAnd};
 ghost use Rattle.dw_process.specs.ModuleMaps.{module_at};
 ghost use Rattle.dwcheck_c.specs.Handles.{modules_of};
 ghost use Rattle.dwcheck_c.specs.Lent.{Reads, loan_of, read_by};
-ghost use Rattle.dwcheck_c.specs.LoadedModules.{loaded_of, range_in};
+ghost use Rattle.dwcheck_c.specs.LoadedModules.{eh_section_in, kind_by, known_by, loaded_of, range_in};
 
 use crate::lent::{LentProcess, put};
 use crate::right::Right;
 use crate::status::{DONE, NONE};
-use dw_process::{AddressRange, LoadedModule};
+use dw_eh_frame::Bases;
+use dw_process::{AddressRange, EhSection, LoadedModule};
+
+/// The numbers of what a module's section may be: `.debug_frame`; `.eh_frame`; or `.eh_frame` for
+/// aarch64, which has instructions of its own.
+pub const DEBUG_FRAME: u32 = 0;
+
+pub const EH_FRAME: u32 = 1;
+
+pub const EH_FRAME_AARCH64: u32 = 2;
+
+/// What a module's section is.
+#[derive(Clone, Copy)]
+pub(crate) enum SectionKind {
+    DebugFrame,
+    EhFrame,
+    EhFrameAarch64,
+}
+
+/// What the section is that C gives this number for; none if there is no such number.
+pub(crate) fn section_kind(number: u32) -> Option<SectionKind>
+    ensures { result ≡ kind_by number }
+{
+    match number {
+        DEBUG_FRAME => Some(SectionKind::DebugFrame),
+        EH_FRAME => Some(SectionKind::EhFrame),
+        EH_FRAME_AARCH64 => Some(SectionKind::EhFrameAarch64),
+        _ => None,
+    }
+}
+
+/// The address that C gives; none if it is 0.
+fn known(address: u64) -> Option<u64>
+    ensures { result ≡ known_by address }
+{
+    if address == 0 { None } else { Some(address) }
+}
 
 /// A module to be added: its frame section, where it is loaded, and how much its table may take.
 #[repr(C)]
 #[derive(Drop)]
 pub struct CModule<'a> {
-    /// The bytes of the module's `.debug_frame` section.
+    /// The bytes of the module's section.
     pub frame: &'a [u8],
     /// What is added to an address as linked, modulo 2^w, to get the address as loaded.
     pub load_address: u64,
@@ -32,11 +68,13 @@ pub struct CModule<'a> {
     pub order: u32,
     pub address_size: u32,
     pub has_range: u32,
-    pub reserved: u32,
-    /// A later version may take a second section here.
-    pub reserved_section: u64,
-    pub reserved_length: u64,
-    pub reserved_address: u64,
+    /// The number of what the section is.
+    pub kind: u32,
+    /// The address of an `.eh_frame` section, as linked.
+    pub section_address: u64,
+    /// What its pointers may be relative to, as linked; 0 if that isn't known.
+    pub text_start: u64,
+    pub data_start: u64,
 }
 
 impl<'a> CModule<'a> {
@@ -51,6 +89,21 @@ impl<'a> CModule<'a> {
                 first: self.first,
                 last: self.last,
             })
+        }
+    }
+
+    /// The module's `.eh_frame` section.
+    pub(crate) fn eh_section(&self, is_aarch64: bool) -> EhSection<'a>
+        ensures { result ≡ eh_section_in is_aarch64 self.now }
+    {
+        EhSection {
+            bytes: self.frame,
+            bases: Bases {
+                section: self.section_address,
+                text_start: known(self.text_start),
+                data_start: known(self.data_start),
+            },
+            is_aarch64,
         }
     }
 }

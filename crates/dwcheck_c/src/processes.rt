@@ -1,15 +1,15 @@
 //! The C calls that add modules to a process, remove them, share them with another process, and
 //! close a process.
 
-ghost use Rattle.std.specs.Prelude.{◌≡◌, ◌≢◌, ◌≤◌, ◌<◌, ◌^◌, ◌⊎◌, ◌==◌, false, true, IfErr, IfOk, IfSome, None, Some, length, option_map};
+ghost use Rattle.std.specs.Prelude.{◌≡◌, ◌≢◌, ◌≤◌, ◌<◌, ◌^◌, ◌⊎◌, ◌==◌, false, true, IfErr, IfOk, IfSome, IsSome, None, Some, length, option_map};
 ghost use Rattle.std.specs.List.{list_any};
+ghost use Rattle.dw_bytes.specs.declared.fault.Fault.{Fault};
 ghost use Rattle.dw_bytes.specs.declared.target.Target.{Target};
-ghost use Rattle.dw_rows.specs.Section.{section_fault};
-ghost use Rattle.dw_process.specs.Processes.{IsAdded, removed};
-ghost use Rattle.dwcheck_c.specs.Faults.{Reports};
+ghost use Rattle.dw_process.specs.Processes.{removed};
+ghost use Rattle.dwcheck_c.specs.Faults.{cfault_of};
 ghost use Rattle.dwcheck_c.specs.Handles.{held_in, modules_of};
 ghost use Rattle.dwcheck_c.specs.Lent.{Reads, loan_of};
-ghost use Rattle.dwcheck_c.specs.LoadedModules.{IsModuleAdded, IsModuleRefused, IsTargetFor, range_in};
+ghost use Rattle.dwcheck_c.specs.LoadedModules.{HasFault, IsAddedBy, IsModuleAdded, IsModuleRefused, IsRefusedBy, IsTargetFor, kind_by};
 ghost use Rattle.dwcheck_c.specs.NotAdded.{IsNotAdded, IsNotAddedTo};
 ghost use Rattle.dwcheck_c.specs.Targets.{target_by};
 ghost use Rattle.dw_process.specs.declared.refusal.Refusal.TheVariants as refusal;
@@ -17,10 +17,10 @@ ghost use Rattle.dw_process.specs.declared.refusal.Refusal.TheVariants as refusa
 use crate::fault::{CFault, IN_FRAME, report};
 use crate::handle::CProcess;
 use crate::lent::{LentProcess, put};
-use crate::module::CModule;
+use crate::module::{CModule, SectionKind, section_kind};
 use crate::right::Right;
 use crate::status::{
-    BAD_RANGE, BAD_TARGET, DONE, NO_MEMORY, NO_ROOM, NONE, OVERLAPS, REFUSED, TOO_LONG,
+    BAD_KIND, BAD_RANGE, BAD_TARGET, DONE, NO_MEMORY, NO_ROOM, NONE, OVERLAPS, REFUSED, TOO_LONG,
 };
 use crate::target::target;
 use dw_bytes::{FaultKind, OUT_OF_MEMORY, Target};
@@ -35,31 +35,51 @@ enum NotAdded {
     Refused(Refusal),
 }
 
+/// Adds a module to an open process of the module's target.
+fn add_section(
+    alloc: Global,
+    process: &mut Process,
+    module: &CModule<'_>,
+    kind: SectionKind,
+) -> Result<u64, Refusal>
+    requires { length module.now.frame.now < 2 ^ 32 }
+    ensures added { IfOk result (λ id. IsAddedBy kind module.now process.old id process.new) }
+    ensures refused { IfErr result
+        (IsRefusedBy kind module.now process.old.target process.old.modules) }
+    ensures same { IfErr result (λ _. process.new ≡ process.old) }
+{
+    let load_address = module.load_address;
+    let range = module.range();
+    let section = match kind {
+        SectionKind::DebugFrame => {
+            let (cookie, room) = (module.cookie, module.room);
+            return process.add(alloc, module.frame, load_address, range, cookie, room);
+        }
+        SectionKind::EhFrame => module.eh_section(false),
+        SectionKind::EhFrameAarch64 => module.eh_section(true),
+    };
+    let (cookie, room) = (module.cookie, module.room);
+    process.add_eh_frame(alloc, section, load_address, range, cookie, room)
+}
+
 /// Adds a module to an open process, if it has the process's target.
 fn add_to(
     alloc: Global,
     process: &mut Process,
     module: &CModule<'_>,
+    kind: SectionKind,
     target: Target,
 ) -> Result<u64, NotAdded>
     requires { length module.now.frame.now < 2 ^ 32 }
     ensures added { IfOk result (λ id. (process.old.target ≡ target)
-        × IsAdded module.now.frame.now module.now.load_address (range_in module.now)
-        module.now.cookie module.now.room process.old id process.new) }
-    ensures why { IfErr result (IsNotAddedTo process.old module.now target) }
+        × IsAddedBy kind module.now process.old id process.new) }
+    ensures why { IfErr result (IsNotAddedTo process.old kind module.now target) }
     ensures same { IfErr result (λ _. process.new ≡ process.old) }
 {
     if process.target() != target {
         return Err(NotAdded::BadTarget);
     }
-    match process.add(
-        alloc,
-        module.frame,
-        module.load_address,
-        module.range(),
-        module.cookie,
-        module.room,
-    ) {
+    match add_section(alloc, process, module, kind) {
         Ok(id) => Ok(id),
         Err(why) => Err(NotAdded::Refused(why)),
     }
@@ -67,8 +87,14 @@ fn add_to(
 
 /// Adds a module to a process, which may be closed. A closed process is opened only if the module
 /// is added.
-fn add(alloc: Global, process: &mut CProcess, module: &CModule<'_>) -> Result<u64, NotAdded>
-    requires { length module.now.frame.now < 2 ^ 32 }
+fn add(
+    alloc: Global,
+    process: &mut CProcess,
+    module: &CModule<'_>,
+    kind: SectionKind,
+) -> Result<u64, NotAdded>
+    requires short { length module.now.frame.now < 2 ^ 32 }
+    requires kind { kind_by module.now.kind ≡ Some kind }
     ensures added { IfOk result (λ id. IsModuleAdded module.now (held_in process.old) id
         (held_in process.new)) }
     ensures why { IfErr result (IsNotAdded module.now (held_in process.old)) }
@@ -79,13 +105,13 @@ fn add(alloc: Global, process: &mut CProcess, module: &CModule<'_>) -> Result<u6
     };
     match process.take(alloc) {
         Some(mut held) => {
-            let added = add_to(alloc, &mut held, module, target);
+            let added = add_to(alloc, &mut held, module, kind, target);
             *process = CProcess::open(held);
             added
         }
         None => {
             let mut new = Process::new(alloc, target);
-            let id = add_to(alloc, &mut new, module, target)?;
+            let id = add_to(alloc, &mut new, module, kind, target)?;
             let Ok(held) = Box::new(alloc, new) else {
                 return Err(NotAdded::Refused(Refusal::Section(OUT_OF_MEMORY)));
             };
@@ -108,9 +134,8 @@ pub extern "C" fn dwcheck_process_add(
 ) -> u32
     ensures added { result ≡ DONE
         → IsModuleAdded module.now (held_in process.old) id.new (held_in process.new) }
-    ensures refused { result ≡ REFUSED → (target : Target)
-        × IsTargetFor module.now (held_in process.old) target
-        × Reports IN_FRAME (section_fault target module.now.frame.now) fault.new }
+    ensures refused { result ≡ REFUSED → (first : Fault)
+        × HasFault module.now (held_in process.old) first × (fault.new ≡ cfault_of IN_FRAME first) }
     ensures room { result ≡ NO_ROOM
         → IsModuleRefused module.now (held_in process.old) refusal.Room }
     ensures range { result ≡ BAD_RANGE
@@ -119,11 +144,13 @@ pub extern "C" fn dwcheck_process_add(
         → IsModuleRefused module.now (held_in process.old) (refusal.Overlaps id.new) }
     ensures target { result ≡ BAD_TARGET
         → (target : Target) → ¬ IsTargetFor module.now (held_in process.old) target }
-    ensures good { result ≢ BAD_TARGET → result ≢ TOO_LONG
+    ensures kind { result ≡ BAD_KIND → kind_by module.now.kind ≡ None }
+    ensures known { result ≢ BAD_KIND → result ≢ TOO_LONG → IsSome (kind_by module.now.kind) }
+    ensures good { result ≢ BAD_TARGET → result ≢ TOO_LONG → result ≢ BAD_KIND
         → (target : Target) × IsTargetFor module.now (held_in process.old) target }
     ensures long { result ≡ TOO_LONG → 2 ^ 32 ≤ length module.now.frame.now }
     ensures short { result ≢ TOO_LONG → length module.now.frame.now < 2 ^ 32 }
-    ensures codes { (result ≤ TOO_LONG) ⊎ (result ≡ OVERLAPS) ⊎ (result ≡ BAD_RANGE) }
+    ensures codes { (result ≤ BAD_KIND) ⊎ (result ≡ OVERLAPS) ⊎ (result ≡ BAD_RANGE) }
     ensures same { result ≢ DONE → held_in process.new ≡ held_in process.old }
     ensures unnamed { result ≢ DONE → result ≢ OVERLAPS → id.new ≡ id.old }
     ensures unreported { result ≢ REFUSED → fault.new ≡ fault.old }
@@ -131,7 +158,10 @@ pub extern "C" fn dwcheck_process_add(
     if module.frame.len() >= 1 << 32 {
         return TOO_LONG;
     }
-    match add(alloc, process, module) {
+    let Some(kind) = section_kind(module.kind) else {
+        return BAD_KIND;
+    };
+    match add(alloc, process, module, kind) {
         Ok(added) => {
             *id = added;
             DONE

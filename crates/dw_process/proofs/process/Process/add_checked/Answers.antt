@@ -1,11 +1,11 @@
-use Rattle.std.proofs.Common.{◌≡◌, ◌+◌, ℕ, sym, subst, refl, arith}
+use Rattle.std.proofs.Common.{◌≡◌, ◌∙◌, ◌+◌, ℕ, ap, sym, subst, refl, arith}
 use Rattle.std.specs.List.{insert}
 use Rattle.dw_process.specs.declared.loaded_module.LoadedModule.{LoadedModule}
-use Rattle.dw_process.specs.Processes.{AreModulesOf, IsAdded, ProcessState}
+use Rattle.dw_process.specs.Processes.{AreModulesOf, IsAddedWith, ProcessState}
 use Rattle.dw_process.specs.ModuleMaps.{AreInOrder}
 use Rattle.dw_process.proofs.Keeping.{kept_of_more}
 use Rattle.dw_process.proofs.Placing.{order_of_more}
-use Rattle.dw_process.proofs.process.Process.add.Goals as goal
+use Rattle.dw_process.proofs.process.Process.add_checked.Goals as goal
 
 pub invariant_of-self : goal.invariant_of-self
 invariant_of-self c =
@@ -16,9 +16,10 @@ invariant_of-self c =
     let is = c.in_ok-ready.ensures.ready in
     let m : LoadedModule = record { id = next_id; cookie = c.args.cookie; load_address = c.args.load_address; range = ready.range; rows = ready.rows } in
     let next_is : next_id + 1 ≡ c.in-Some.next_id = omega arith in
+    let target_is : ready.rows.target ≡ target = is.table.is.target ∙ c.requires ∙ sym (ap (λ (p : ProcessState). p.target) c.self.view_is) in
     subst (AreModulesOf target c.in-Some.next_id) (sym c.in-Ok.ensures.inserted)
     (subst (λ (n : ℕ). AreModulesOf target n (insert modules ready.place m)) next_is
-    (kept_of_more target next_id modules ready.place m refl is.table.is.target is.range.proper is.place c.self.invariant))
+    (kept_of_more target next_id modules ready.place m refl target_is is.range.proper is.place c.self.invariant))
 
 pub returns-in-Ok-clause-added : goal.returns-in-Ok-clause-added
 returns-in-Ok-clause-added c =
@@ -31,9 +32,8 @@ returns-in-Ok-clause-added c =
     let old : ProcessState = record { target = target; next_id = next_id; modules = modules } in
     let new : ProcessState = record { target = target; next_id = c.in-Some.next_id; modules = c.insert.new.self } in
     let next_is : c.in-Some.next_id ≡ next_id + 1 = omega arith in
-    subst (λ (p : ProcessState). IsAdded c.args.section.now c.args.load_address c.args.range c.args.cookie c.args.room p next_id new) c.self.view_is
+    subst (λ (p : ProcessState). IsAddedWith c.args.frame.now c.args.load_address c.args.range c.args.cookie c.args.room p next_id new) c.self.view_is
     (record {
-      accepted = is.accepted;
       added = m;
       table = is.table;
       range = is.range;

@@ -1,0 +1,55 @@
+-- A module whose rows come from an `.eh_frame` section: what adding it makes of a process, and why it
+-- isn't added.
+use Rattle.std.specs.Prelude.{◌≡◌, ◌⊎◌, ◌<◌, ◌^◌, ℕ, List, length, Option, Some, None}
+use Rattle.dw_bytes.specs.Answers.{memory}
+use Rattle.dw_bytes.specs.declared.fault.Fault.{Fault}
+use Rattle.dw_bytes.specs.declared.target.Target.{Target}
+use Rattle.dw_eh_frame.specs.Refused.{too_long}
+use Rattle.dw_eh_rows.specs.Checked.{HasEhRows}
+use Rattle.dw_eh_rows.specs.Faults.{eh_section_fault}
+use Rattle.dw_rows.specs.Section.{FrameSection}
+use Rattle.dw_process.specs.Processes.{IsAddedWith, ProcessState}
+use Rattle.dw_process.specs.Refusals.{IsRefusedWith}
+use Rattle.dw_process.specs.declared.address_range.AddressRange.{AddressRange}
+use Rattle.dw_process.specs.declared.eh_frame.EhSection.{EhSection}
+use Rattle.dw_process.specs.declared.loaded_module.LoadedModule.{LoadedModule}
+use Rattle.dw_process.specs.declared.refusal.Refusal.{Refusal}
+use Rattle.dw_process.specs.declared.refusal.Refusal.TheVariants.{Section, Room, Range, Overlaps}
+
+-- the first fault of a section
+abbrev pub first_fault_of : EhSection → Target → Option Fault
+first_fault_of s target = eh_section_fault s.is_aarch64 s.bases target s.bytes.now
+
+-- The rows that are looked up in `frame` are those of the section, which has no fault: each address
+-- that one of its FDEs covers has exactly one row, the one that the definitions give (`HasEhRows`).
+pub record IsFrameOf (s : EhSection) (target : Target) (frame : FrameSection) : Type 0 where
+  pub accepted : first_fault_of s target ≡ None
+  pub target_is : frame.target ≡ target
+  pub rows : HasEhRows s.is_aarch64 s.bases s.bytes.now frame
+
+-- A module with the rows of the section is added.
+pub record IsEhAdded (s : EhSection) (load_address : ℕ) (given : Option AddressRange) (cookie room : ℕ) (old : ProcessState) (id : ℕ)
+    (new : ProcessState) : Type 0 where
+  pub frame : FrameSection
+  pub is : IsFrameOf s old.target frame
+  pub rows : IsAddedWith frame load_address given cookie room old id new
+
+-- The fault is the first one of the section. The section may also be too long: it has more than 2^29
+-- bytes, and what is made of it in memory would have 2^32.
+abbrev pub IsEhFault : EhSection → Target → Fault → Type 0
+IsEhFault s target fault = (first_fault_of s target ≡ Some fault) ⊎ ((fault ≡ too_long) × (2 ^ 29 < length s.bytes.now))
+
+-- the section has no fault, and `IsRefusedWith` says why its rows aren't added
+pub record AreRowsRefused (s : EhSection) (target : Target) (load_address : ℕ) (given : Option AddressRange) (room : ℕ) (modules : List LoadedModule)
+    (why : Refusal) : Type 0 where
+  pub frame : FrameSection
+  pub is : IsFrameOf s target frame
+  pub refused : IsRefusedWith frame load_address given room modules why
+
+-- `Section fault`: memory ran out, or `fault` is the fault of the section. In the other cases the
+-- section has no fault.
+abbrev pub IsEhRefused : EhSection → Target → ℕ → Option AddressRange → ℕ → List LoadedModule → Refusal → Type 0
+IsEhRefused s target load_address given room modules (Section fault) = (fault ≡ memory) ⊎ IsEhFault s target fault
+IsEhRefused s target load_address given room modules Room = AreRowsRefused s target load_address given room modules Room
+IsEhRefused s target load_address given room modules Range = AreRowsRefused s target load_address given room modules Range
+IsEhRefused s target load_address given room modules (Overlaps id) = AreRowsRefused s target load_address given room modules (Overlaps id)
