@@ -23,7 +23,7 @@ INSTALL ?= install
 version := 2.0.0
 major := 2
 kit = $(dir $(shell rt doc))
-built := build/dwcheck build/libdwcheck.a build/libdwcheck.so.$(version) build/dwcheck.pc
+built := build/dwcheck build/libdwcheck.a build/libdwcheck.so.$(version) build/libdwcheck-dl.a build/dwcheck.pc build/dwcheck-dl.pc
 
 .PHONY: all try test packages install clean FORCE
 
@@ -66,25 +66,35 @@ build/dwcheck: build/program.stamp
 build/libdwcheck_c.a: build/library.stamp
 	@[ -f $@ ] || tools/build.sh library
 
-# The calls that allow NULL for empty arrays. Each calls the proved one of the same name, which
-# libdwcheck.a has as proved_..
-build/null.o: c/null.c c/include/dwcheck.h | build
+# The thin part in C: calls that allow NULL for empty arrays, each of which calls the proved one of the
+# same name, which libdwcheck.a has as proved_..; and a step that asks for memory.
+build/%.o: c/%.c c/include/dwcheck.h | build
 	@$(CC) -std=gnu11 -O2 -fPIC -Wall -Wextra -Ic/include -c $< -o $@
 
-# libdwcheck.a joins the library that rt made, those calls, and the kit's liblibc_c.a, a few lines of C
+# libdwcheck.a joins the library that rt made, that part, and the kit's liblibc_c.a, a few lines of C
 # through which the library calls malloc and free.
-build/libdwcheck.a: build/libdwcheck_c.a build/null.o c/null.c
+build/libdwcheck.a: build/libdwcheck_c.a build/null.o build/read.o c/null.c
 	@rm -f $@
 	@sed -n 's/^PROVED(\(dwcheck_[a-z_]*\));$$/\1 proved_\1/p' c/null.c >build/null.names
 	@$(OBJCOPY) --redefine-syms=build/null.names $< build/libdwcheck_proved.a
-	@printf 'create $@\naddlib build/libdwcheck_proved.a\naddmod build/null.o\naddlib $(kit)c/liblibc_c.a\nsave\nend\n' | \
+	@printf 'create $@\naddlib build/libdwcheck_proved.a\naddmod build/null.o\naddmod build/read.o\naddlib $(kit)c/liblibc_c.a\nsave\nend\n' | \
 	    $(AR) -M
 
 build/libdwcheck.so.$(version): build/libdwcheck.a c/dwcheck.map
 	$(CC) -shared -Wl,-z,defs -Wl,-soname,libdwcheck.so.$(major) -Wl,--version-script=c/dwcheck.map \
 	    -Wl,--whole-archive $< -Wl,--no-whole-archive -o $@
 
-build/dwcheck.pc: c/dwcheck.pc.in FORCE | build
+# The library that finds the modules of the running process. It is plain C, and has rows for itself.
+build/libdwcheck-dl.a: $(wildcard c/dl/*.[ch]) c/include/dwcheck.h c/include/dwcheck-dl.h | build
+	@mkdir -p build/dl
+	@for source in c/dl/*.c; do \
+	    $(CC) -std=gnu11 -O2 -fPIC -fasynchronous-unwind-tables -Wall -Wextra -Ic/include -c $$source \
+	        -o build/dl/$$(basename $$source .c).o || exit 1; \
+	done
+	@rm -f $@
+	@$(AR) rcs $@ $(patsubst c/dl/%.c,build/dl/%.o,$(wildcard c/dl/*.c))
+
+build/%.pc: c/%.pc.in FORCE | build
 	@sed -e 's|@PREFIX@|$(PREFIX)|' -e 's|@LIBDIR@|$(LIBDIR)|' -e 's|@INCLUDEDIR@|$(INCLUDEDIR)|' \
 	    -e 's|@VERSION@|$(version)|' $< >$@
 
@@ -110,8 +120,9 @@ install: all
 	$(INSTALL) -m 755 build/libdwcheck.so.$(version) $(DESTDIR)$(LIBDIR)/
 	ln -sf libdwcheck.so.$(version) $(DESTDIR)$(LIBDIR)/libdwcheck.so.$(major)
 	ln -sf libdwcheck.so.$(major) $(DESTDIR)$(LIBDIR)/libdwcheck.so
-	$(INSTALL) -m 644 build/dwcheck.pc $(DESTDIR)$(LIBDIR)/pkgconfig/
-	$(INSTALL) -m 644 c/include/dwcheck.h c/include/dwcheck.hpp $(DESTDIR)$(INCLUDEDIR)/
+	$(INSTALL) -m 644 build/libdwcheck-dl.a $(DESTDIR)$(LIBDIR)/
+	$(INSTALL) -m 644 build/dwcheck.pc build/dwcheck-dl.pc $(DESTDIR)$(LIBDIR)/pkgconfig/
+	$(INSTALL) -m 644 c/include/dwcheck.h c/include/dwcheck.hpp c/include/dwcheck-dl.h $(DESTDIR)$(INCLUDEDIR)/
 	$(INSTALL) -m 644 man/dwcheck.1 $(DESTDIR)$(MANDIR)/man1/
 	if [ -f build/dwcheck-elf ]; then $(INSTALL) -m 644 man/dwcheck-elf.1 $(DESTDIR)$(MANDIR)/man1/; fi
 	$(INSTALL) -m 644 man/dwcheck.3 $(DESTDIR)$(MANDIR)/man3/

@@ -50,6 +50,12 @@ uint32_t dwcheck_row_at(const dwcheck_process *process, uint64_t address, dwchec
     return proved_dwcheck_row_at(process, address, row, OR_NO_PLACE(rules), rules_length);
 }
 
+PROVED(dwcheck_rule_bytes);
+uint32_t dwcheck_rule_bytes(const dwcheck_process *process, uint64_t address, uint32_t reg, uint8_t *bytes,
+                            size_t bytes_length, size_t *size) {
+    return proved_dwcheck_rule_bytes(process, address, reg, OR_NO_PLACE(bytes), bytes_length, size);
+}
+
 PROVED(dwcheck_unwind);
 uint32_t dwcheck_unwind(const dwcheck_process *process, uint64_t address, const dwcheck_state *state, dwcheck_caller *caller,
                         dwcheck_register *registers, size_t registers_length, dwcheck_fault *fault) {

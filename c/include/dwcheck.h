@@ -3,8 +3,7 @@
 
    Each call is proved to meet its contract, which is written at the function of the same name in
    crates/dwcheck_c/src; before that, a few lines of C replace NULL by an address (c/null.c). The
-   proof assumes that the caller follows the rules below. The library doesn't check that the caller
-   does.
+   proof assumes that the caller follows the rules below, and the library doesn't check that.
 
    Rules for the caller of every call:
    - Each pointer points to a whole, aligned value of its type. No other thread writes that value
@@ -13,51 +12,44 @@
      length points to that many elements. If the length is 0, it may be NULL, except for the `bytes`
      of a dwcheck_block. Pointers without a length, such as `fault`, `count`, `stop`, `size`, `row`,
      `state` and `context`, are never NULL.
-   - A call that takes a process by a pointer to const only reads it: dwcheck_module_at,
-     dwcheck_row_at, dwcheck_unwind, dwcheck_backtrace, dwcheck_cursor_step and
-     dwcheck_process_share, for its first process. Any number of calls may read a process at once, in
-     any threads. A call that takes a pointer without const changes the process, and no other call
-     may use that process meanwhile. So a call that changes it comes before or after each call that
-     reads it, and threads synchronize for that: by a lock, by an atomic of memory_order_seq_cst, or
-     by a thread's start or join.
+   - A call that takes a process by a pointer to const only reads it. Any number of calls may read a
+     process at once, in any threads. A call that takes a pointer without const changes the process,
+     and no other call may use that process meanwhile. So a call that changes it comes before or
+     after each call that reads it, and threads synchronize for that: by a lock, by an atomic of
+     memory_order_seq_cst, or by a thread's start or join.
    - To add or remove modules while others read: (1) make another process by dwcheck_process_share,
      which copies no table; (2) change that one; (3) publish a pointer to it by an atomic, from which
      each reader takes the process that it reads next; (4) close the old process once all calls that
-     read it have returned. How to know that is up to the program, for example by a counter for each
-     thread.
+     read it have returned. c/dl/update.c does so.
    - To move a process, copy the structure and set the old one to DWCHECK_CLOSED; a move is a change.
      A process has to be closed if a module was added to it, or if dwcheck_process_share made it from
      an open process, even if its modules have been removed.
    - malloc, realloc and free belong to one allocator, and the calling thread may call them. So
      neither a signal handler nor the child of a fork in a program with several threads makes a call
-     that allocates or frees. Both may call dwcheck_module_at, dwcheck_row_at, dwcheck_unwind,
-     dwcheck_backtrace and dwcheck_cursor_step with a process that the interrupted code, or another
-     thread at the time of the fork, may be reading but not changing.
-   - Those five calls may be left by siglongjmp, since they hold no lock and no memory. What their
+     that allocates or frees. Both may make the other calls that read a process, also one that the
+     interrupted code, or another thread at the time of the fork, may be reading but not changing.
+   - Those calls may be left by siglongjmp, since they hold no lock and no memory. What their
      pointers without const point to is then unspecified.
-   - The proofs cover calls in threads. They don't cover a call in a signal handler that interrupts
-     another call with the same process, a call in the child of a fork, a call that is left, nor
-     later changes of a process on which a call was left. c/tests/readers.c tests all of these.
+   - The proofs cover calls in threads, but not a call in a signal handler that interrupts another one
+     with the same process, nor in the child of a fork, nor one that is left, nor later changes of a
+     process on which a call was left. c/tests/readers.c tests all of these.
    - The stack is large enough. As measured on x86-64, dwcheck_backtrace takes 3.2 KB of stack,
      dwcheck_unwind 7 KB and dwcheck_cursor_step 0.7 KB; if a rule is an expression, 4.8, 8.6 and
-     3.9 KB. dwcheck_backtrace takes 41 KB if a register with a number of 96 or more has a known
-     content. dwcheck_process_add takes 82 KB, dwcheck_check 41 KB, dwcheck_evaluate 12 KB, and every
-     other call less than 4 KB. So a signal handler on an alternate stack of the usual 8 KB, of which
-     the kernel's own frame takes some 3 KB, can walk by dwcheck_backtrace or by a cursor, unless a
-     rule or the ABI names such a register.
+     3.9 KB. dwcheck_backtrace takes 41 KB if a register of 96 or more has a known content.
+     dwcheck_process_add takes 84 KB, dwcheck_check 41 KB, dwcheck_cursor_step_with 21 KB,
+     dwcheck_evaluate 12 KB, and every other call less than 4 KB. So a signal handler on an alternate
+     stack of the usual 8 KB can walk by dwcheck_backtrace or by a cursor.
    - Fields called `reserved` are set to 0. A later version may give them a meaning.
 
    A later version may add values to enumerations, so treat a value that you don't know as
    "something else". It may add fields to structures, but only in place of fields named `reserved`.
-
    Registers are given by their DWARF numbers. A target is a byte order and an address size of 4 or
    8 bytes; w is the address size in bits. All modules of a process have the same target: that of the
    first one, until the process is closed. An address as linked is an address in the module's file.
    The address as loaded is where that place is in the process: the address as linked plus the
-   module's load address, modulo 2^w. Contents of registers and values of a context are taken modulo
-   2^w.
-   In all expressions, including those of rows, DW_OP_addr pushes an address as linked, while
-   registers and memory contain addresses as loaded.
+   module's load address, modulo 2^w. Contents of registers and values of a context are modulo 2^w. In
+   all expressions, DW_OP_addr pushes an address as linked, while registers and memory contain
+   addresses as loaded.
 
    To link: cc .. $(pkg-config --cflags --libs dwcheck), or name libdwcheck.a itself. */
 #ifndef DWCHECK_H
@@ -86,7 +78,7 @@ enum {
     DWCHECK_BAD_TARGET = 4, /* `order` isn't 0 or 1, or `address_size` isn't 4 or 8; or the process is
                                open for another target */
     DWCHECK_TOO_LONG = 5,   /* the section or expression has 2^32 bytes or more */
-    DWCHECK_BAD_KIND = 6,   /* `kind` isn't 0, 1 or 2 */
+    DWCHECK_BAD_KIND = 6,   /* `kind` isn't 0, 1 or 2, be it of a section or of an expression */
     DWCHECK_NONE = 7,       /* what was looked up doesn't exist */
     DWCHECK_OVERLAPS = 8,   /* the module's range shares an address with another module's range */
     DWCHECK_BAD_RANGE = 9,  /* the module has no range that it could answer for */
@@ -117,23 +109,33 @@ uint32_t dwcheck_fault_name(uint32_t number, uint8_t *text, size_t text_length, 
 /* Checks a .debug_frame section and a .debug_loclists section, either of which may be empty.
    Returns DONE if both are well formed; REFUSED, with the first fault in `fault`, if one isn't;
    NO_MEMORY; or BAD_TARGET. A section of 2^32 bytes or more is refused with fault 61,
-   SectionTooLong. The length of the frame section is checked first, then that of the lists, then
-   the frame section itself, then the lists. The call allocates memory in proportion to the
-   sections, and frees it. */
+   SectionTooLong. Checked are first the lengths, then the frame section, then the lists. The call
+   allocates memory in proportion to the sections, and frees it. */
 uint32_t dwcheck_check(const uint8_t *frame, size_t frame_length, const uint8_t *lists, size_t lists_length,
                        uint32_t order, uint32_t address_size, dwcheck_fault *fault);
 
 /* ---- processes ----------------------------------------------------------------------------------------------------- */
 
-/* A process: its modules, each a compiled .debug_frame section with a load address. The fields
-   are private. A process whose bytes are all 0 is closed: it has no module, and every call
-   accepts it. */
+/* A process: its modules, each a compiled .debug_frame or .eh_frame section with a load address. Its
+   fields are private. If its bytes are all 0, it is closed: it has no module, and calls accept it. */
 typedef struct dwcheck_process { void *opaque; uint64_t opaque_open; } dwcheck_process;
-#define DWCHECK_CLOSED {0, 0}
+#ifdef __cplusplus
+#define DWCHECK_CLOSED dwcheck_process{}
+#else
+#define DWCHECK_CLOSED ((dwcheck_process){0, 0}) /* a static process is closed without it */
+#endif
+
+/* What a module's section is (`kind`): .debug_frame of DWARF 5, or .eh_frame, in which aarch64 has
+   instructions of its own. */
+enum { DWCHECK_DEBUG_FRAME = 0, DWCHECK_EH_FRAME = 1, DWCHECK_EH_FRAME_AARCH64 = 2 };
 
 /* A module to be added: the executable or a library of the process.
-   - `frame` and `frame_length` are the bytes of its .debug_frame section. They aren't needed after
-     the module is added.
+   - `frame` and `frame_length` are the bytes of its section. They aren't needed after the module is
+     added. `kind` says what the section is.
+   - The other three fields at the end are for .eh_frame alone, and are addresses as linked.
+     `section_address` is that of the section's first byte. text_start and data_start are what pointers
+     relative to text and to data count from, or 0 if that isn't known: then a section with such a
+     pointer is refused. Compilers don't write them.
    - `load_address` is what is added to an address as linked, modulo 2^w, to get the address as
      loaded: for a position-independent module, the dlpi_addr that dl_iterate_phdr gives; for any
      other module, 0.
@@ -144,22 +146,18 @@ typedef struct dwcheck_process { void *opaque; uint64_t opaque_open; } dwcheck_p
      rows.
    - `room` bounds the number of bytes that the module's table stores; SIZE_MAX sets no bound. They
      are counted as 16 for each row and for each gap after a row, 64 for each set of rules, 16 for
-     each register's rule in a set, and 24 for each expression and its length. The table's arrays are
-     proved to hold at most that and 8 bytes; that they have no spare capacity is tested. The table
-     of a compiler's section takes some 1.5 times the section's length; that of a hostile section may
-     take 700 times the section's length or more. In the table, rows may share their rules. Without
-     sharing, the table would take 80 bytes, plus 80 for each FDE and each row, plus 16 for each
-     register's rule in a row, plus 24 for each expression and its length. If `room` is at least that
-     much, the call never returns NO_ROOM. If `room` is less, the call may return NO_ROOM although
-     the table would fit thanks to sharing. `room` doesn't bound the memory that the call uses while
-     it checks and compiles. */
+     each register's rule in a set, and 24 for each expression and its length. A compiler's section
+     takes some 1.5 times its length, a hostile one 700 times or more. NO_ROOM may come although the
+     table would fit, since rows share their rules, but not if `room` is at least 80, plus 80 for each
+     FDE and each row, plus 16 for each register's rule in a row, plus 24 for each expression and its
+     length. `room` doesn't bound the memory that checking and compiling use. */
 typedef struct dwcheck_module {
     const uint8_t *frame;
     size_t frame_length;
     uint64_t load_address, first, last, cookie;
     size_t room;
-    uint32_t order, address_size, has_range, reserved;
-    uint64_t reserved_section, reserved_length, reserved_address;
+    uint32_t order, address_size, has_range, kind;
+    uint64_t section_address, text_start, data_start;
 } dwcheck_module;
 
 /* Checks a module's section, compiles all its rows into a table, and adds the module to the process.
@@ -167,9 +165,9 @@ typedef struct dwcheck_module {
    is open, even if the module is removed. A process that dwcheck_process_share makes counts on from
    the same number, so of two processes that share modules, only one should get new ones.
    No two modules may answer for the same address. Returns DONE; or the first of these for which
-   there is a reason: TOO_LONG; BAD_TARGET; REFUSED with the first fault of the section; BAD_RANGE;
-   OVERLAPS, and then `id` becomes the id of a module whose range shares an address with this one's;
-   NO_ROOM. NO_MEMORY may come in place of any but the first two. BAD_RANGE means that `first` is
+   there is a reason: TOO_LONG; BAD_KIND; BAD_TARGET; REFUSED with the first fault of the section;
+   BAD_RANGE; OVERLAPS, and then `id` becomes the id of a module whose range shares an address with
+   this one's; NO_ROOM. NO_MEMORY may come in place of any but the first three. BAD_RANGE means that `first` is
    above `last` or `last` is 2^w or more; or that has_range is 0, and the section covers no address,
    or covers addresses on both sides of the highest one, 2^w - 1, as loaded. Only DONE changes the
    process, only DONE and OVERLAPS write `id`, and only REFUSED writes `fault`. The call takes
@@ -177,15 +175,15 @@ typedef struct dwcheck_module {
    moves the entries of the modules that lie at higher addresses. */
 uint32_t dwcheck_process_add(dwcheck_process *process, const dwcheck_module *module, uint64_t *id, dwcheck_fault *fault);
 
-/* Removes the module with this id. Returns DONE; or NONE if no module has this id. The call doesn't
-   allocate. It frees the module's table if no other process shares the table. */
+/* Removes the module with this id. Returns DONE; or NONE if no module has it. The call allocates
+   nothing, and frees the module's table if no other process shares it. */
 uint32_t dwcheck_process_remove(dwcheck_process *process, uint64_t id);
 
 /* Makes `other` a process with the modules of `process`, after closing what `other` was before.
-   If `process` is closed, `other` is closed too, and the call returns DONE. The modules keep their
-   ids. The tables are shared, not copied, and are freed with the last process that has them. Adding
-   modules to one of the two processes, or removing them, doesn't change the other. Returns DONE; or
-   NO_MEMORY, and then `other` is unchanged. `process` is unchanged in either case. */
+   If `process` is closed, `other` is closed too. The modules keep their ids. The tables are shared,
+   not copied, and are freed with the last process that has them. Adding modules to one of the two
+   processes, or removing them, doesn't change the other. Returns DONE; or NO_MEMORY, and then `other`
+   is unchanged. */
 uint32_t dwcheck_process_share(const dwcheck_process *process, dwcheck_process *other);
 
 /* Releases all modules and closes the process. A closed process may be closed again. */
@@ -203,8 +201,8 @@ uint32_t dwcheck_module_at(const dwcheck_process *process, uint64_t address, dwc
 /* ---- the row of an address ----------------------------------------------------------------------------------------- */
 
 /* How to find the value of register `reg` in the caller. The values of `kind` are below. If `kind`
-   is one of the last two, the expression begins at `offset` in the section and has `length`
-   bytes. */
+   is one of the last two, the expression has `length` bytes, which dwcheck_rule_bytes gives. In a
+   .debug_frame section they begin at `offset`. */
 enum {
     DWCHECK_RULE_UNDEFINED = 1,     /* the value isn't available */
     DWCHECK_RULE_SAME_VALUE = 2,    /* the value that the register has now */
@@ -236,9 +234,17 @@ typedef struct dwcheck_row {
 uint32_t dwcheck_row_at(const dwcheck_process *process, uint64_t address, dwcheck_row *row, dwcheck_rule *rules,
                         size_t rules_length);
 
+/* Writes the bytes of a rule's expression to `bytes`, as many as fit, and their number to `size`. The
+   rule is that of register `reg`, or of the CFA if `reg` is DWCHECK_CFA_RULE, in the row that
+   dwcheck_row_at gives for `address`. Returns DONE; or NONE if there is no row, or if the rule has no
+   expression, and then nothing is written. The call neither allocates nor frees. */
+#define DWCHECK_CFA_RULE 0x10000u
+uint32_t dwcheck_rule_bytes(const dwcheck_process *process, uint64_t address, uint32_t reg, uint8_t *bytes,
+                            size_t bytes_length, size_t *size);
+
 /* ---- callers and walks --------------------------------------------------------------------------------------------- */
 
-/* A block of memory that starts at address `base`. `bytes` must not be NULL, even if `length` is 0. */
+/* A block of memory that starts at address `base`. `bytes` is never NULL. */
 typedef struct dwcheck_block { uint64_t base; const uint8_t *bytes; size_t length; } dwcheck_block;
 
 /* The state of a stopped thread. The value of register n is contents[n] if contents[n] and
@@ -263,12 +269,12 @@ typedef struct dwcheck_state {
 
 /* What is known of a CFA, a return address or a register. */
 enum {
-    DWCHECK_NOT_COVERED = 0,     /* no FDE covers the frame, which is the last of a walk */
-    DWCHECK_VALUE = 1,           /* it is `value`, below 2^w */
-    DWCHECK_UNDEFINED = 2,       /* its value isn't available */
-    DWCHECK_UNREADABLE = 3,      /* it needs a register or memory that isn't known, or memory past
+    DWCHECK_ANSWER_NOT_COVERED = 0,     /* no FDE covers the frame, which is the last of a walk */
+    DWCHECK_ANSWER_VALUE = 1,           /* it is `value`, below 2^w */
+    DWCHECK_ANSWER_UNDEFINED = 2,       /* its value isn't available */
+    DWCHECK_ANSWER_UNREADABLE = 3,      /* it needs a register or memory that isn't known, or memory past
                                     the highest address, 2^w - 1 */
-    DWCHECK_DIVISION_BY_ZERO = 4 /* its expression divides by zero */
+    DWCHECK_ANSWER_DIVISION_BY_ZERO = 4 /* its expression divides by zero */
 };
 typedef struct dwcheck_answer { uint64_t value; uint32_t kind, reserved; } dwcheck_answer;
 typedef struct dwcheck_register { uint64_t value; uint32_t kind, number; } dwcheck_register;
@@ -297,14 +303,11 @@ enum {
     DWCHECK_STOP_LIMIT = 0,            /* `frames` is full */
     DWCHECK_STOP_NOT_COVERED = 1,      /* there is no row for the last frame */
     /* The return address of the last frame is undefined. Either the row's rule says so, and then
-       the walk is complete (DWARF 5, section 6.4.4); or neither the row nor `kept` names the return
-       address register. On targets where functions keep the return address in a register, put that
-       register into `kept`. */
+       the walk is complete (DWARF 5, section 6.4.4); or neither the row nor `kept` names its register.
+       On targets where functions keep the return address in a register, put that into `kept`. */
     DWCHECK_STOP_RETURN_UNDEFINED = 2,
-    /* The return address of the last frame is DWCHECK_UNREADABLE. */
-    DWCHECK_STOP_RETURN_UNREADABLE = 3,
-    /* The return address of the last frame is DWCHECK_DIVISION_BY_ZERO. */
-    DWCHECK_STOP_RETURN_DIVISION_BY_ZERO = 4
+    DWCHECK_STOP_RETURN_UNREADABLE = 3,      /* the last frame's return address is DWCHECK_ANSWER_UNREADABLE */
+    DWCHECK_STOP_RETURN_DIVISION_BY_ZERO = 4 /* or it is DWCHECK_ANSWER_DIVISION_BY_ZERO */
 };
 
 /* Walks up the stack from the frame at `address`, an address as loaded, and writes the frames to
@@ -353,12 +356,28 @@ uint32_t dwcheck_cursor_init(dwcheck_cursor *cursor, uint64_t address, const dwc
 uint32_t dwcheck_cursor_step(const dwcheck_process *process, dwcheck_cursor *cursor, const dwcheck_state *state,
                              dwcheck_frame *frame);
 
+/* Reads `length` bytes of memory at `address` into `bytes`, and returns whether it could. `order` and
+   address_size are those of the process. */
+typedef struct dwcheck_reader {
+    bool (*read)(void *data, uint64_t address, uint8_t *bytes, size_t length);
+    void *data;
+    uint32_t order, address_size;
+} dwcheck_reader;
+
+/* Steps as dwcheck_cursor_step does, but asks `reader` for the words that the step needs: of another
+   process, a core file, a target behind a protocol. The blocks of `state` aren't used. This call is C
+   over the proved ones, which see the bytes that were read (c/read.c). In a rule whose expression has
+   branches, only what is read before the first branch is asked for. `read` may leave the call by
+   longjmp, and then the cursor is as it was. The call allocates only as dwcheck_evaluate does. */
+uint32_t dwcheck_cursor_step_with(const dwcheck_process *process, dwcheck_cursor *cursor, const dwcheck_state *state,
+                                  const dwcheck_reader *reader, dwcheck_frame *frame);
+
 /* ---- expressions --------------------------------------------------------------------------------------------------- */
 
 /* What an expression is used for (`kind`): the rule of a CFA, the rule of a register, or the
    location of an object. The stack begins with the CFA for the rule of a register, and is empty at
    first for the others. */
-enum { DWCHECK_FRAME_CFA = 0, DWCHECK_FRAME_REGISTER = 1, DWCHECK_LOCATION = 2 };
+enum { DWCHECK_EXPRESSION_CFA = 0, DWCHECK_EXPRESSION_REGISTER = 1, DWCHECK_EXPRESSION_LOCATION = 2 };
 
 /* Values that an expression may need and that depend on where the program stopped: the CFA, the
    frame base (for DW_OP_fbreg) and the address of the object (for DW_OP_push_object_address). Each
@@ -372,12 +391,12 @@ typedef struct dwcheck_context {
    doesn't mention it. `steps` is the number of operations that were reached, including one that
    failed. */
 enum {
-    DWCHECK_IS_VALUE = 0,                 /* `value`, for the rule of a CFA or register */
+    DWCHECK_OUTCOME_VALUE = 0,                 /* `value`, for the rule of a CFA or register */
     /* The operation at `offset` needs a register, memory or a context value that isn't known, or
        reads memory past 2^w - 1. If has_cfa is 0, the rule of a register always has this outcome,
        at offset 0 and after 0 steps. */
-    DWCHECK_IS_UNREADABLE = 1,
-    DWCHECK_IS_DIVISION_BY_ZERO = 2,      /* the operation at `offset` divides by zero */
+    DWCHECK_OUTCOME_UNREADABLE = 1,
+    DWCHECK_OUTCOME_DIVISION_BY_ZERO = 2,      /* the operation at `offset` divides by zero */
     DWCHECK_LOCATION_NOWHERE = 3,         /* the object, or this piece of it, was optimized away */
     DWCHECK_LOCATION_ADDRESS = 4,         /* in memory, at `value` */
     DWCHECK_LOCATION_REGISTER = 5,        /* in register `value` */

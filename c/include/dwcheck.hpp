@@ -80,6 +80,16 @@ inline dwcheck_module module_of(const std::uint8_t *frame, std::size_t frame_len
     return module;
 }
 
+// The same with an .eh_frame section, whose first byte is at this address as linked.
+inline dwcheck_module eh_module_of(const std::uint8_t *frame, std::size_t frame_length, std::uint64_t section_address,
+                                   std::uint64_t load_address, std::uint32_t order = DWCHECK_LITTLE,
+                                   std::uint32_t address_size = 8) noexcept {
+    dwcheck_module module = module_of(frame, frame_length, load_address, order, address_size);
+    module.kind = DWCHECK_EH_FRAME;
+    module.section_address = section_address;
+    return module;
+}
+
 // Elements that lie one after another, as std::span is in C++20.
 template <class T> class elements {
     const T *first;
@@ -183,7 +193,7 @@ class process {
 
 public:
     process() noexcept = default;
-    process(process &&other) noexcept : handle(other.handle) { other.handle = dwcheck_process DWCHECK_CLOSED; }
+    process(process &&other) noexcept : handle(other.handle) { other.handle = DWCHECK_CLOSED; }
     process &operator=(process &&other) noexcept {
         std::swap(handle, other.handle);
         return *this;

@@ -126,7 +126,7 @@ static void closed(void) {
     dwcheck_caller caller;
     dwcheck_state s = state(2);
     IS(walk(&p, 0x1010, 8, 2), DWCHECK_DONE); IS(count, 1); IS(stop, DWCHECK_STOP_NOT_COVERED);
-    IS(frames[0].address, 0x1010); IS(frames[0].cfa.kind, DWCHECK_NOT_COVERED);
+    IS(frames[0].address, 0x1010); IS(frames[0].cfa.kind, DWCHECK_ANSWER_NOT_COVERED);
     IS(walk(&p, 0x1010, 0, 2), DWCHECK_DONE); IS(count, 0); IS(stop, DWCHECK_STOP_LIMIT);
     IS(dwcheck_row_at(&p, 0x1010, &row, rules, 4), DWCHECK_NONE);
     IS(dwcheck_module_at(&p, 0x1010, &loaded), DWCHECK_NONE);
@@ -170,8 +170,8 @@ static void walks(void) {
     upper = id;
     IS(add(&p, (uint64_t)-0x800), DWCHECK_DONE);
     IS(walk(&p, 0x810, 8, 2), DWCHECK_DONE); IS(count, 3); IS(stop, DWCHECK_STOP_NOT_COVERED);
-    IS(frames[0].cfa.value, 0x7f10); IS(frames[0].cfa.kind, DWCHECK_VALUE); IS(frames[1].address, 0x71f000001020);
-    IS(frames[1].cfa.value, 0x7f18); IS(frames[2].address, 0x55005); IS(frames[2].cfa.kind, DWCHECK_NOT_COVERED);
+    IS(frames[0].cfa.value, 0x7f10); IS(frames[0].cfa.kind, DWCHECK_ANSWER_VALUE); IS(frames[1].address, 0x71f000001020);
+    IS(frames[1].cfa.value, 0x7f18); IS(frames[2].address, 0x55005); IS(frames[2].cfa.kind, DWCHECK_ANSWER_NOT_COVERED);
     memset(frames, 0x55, sizeof frames); /* fewer slots than frames: only the slots are written */
     IS(walk(&p, 0x810, 2, 2), DWCHECK_DONE); IS(count, 2); IS(stop, DWCHECK_STOP_LIMIT); IS(frames[2].address, 0x5555555555555555);
     IS(dwcheck_row_at(&p, 0x71f0000010ff, &row, rules, 4), DWCHECK_DONE); IS(row.load_address, 0x71f000000000);
@@ -181,8 +181,8 @@ static void walks(void) {
     IS(dwcheck_row_at(&p, 0x71f0000010ff, &row, rules, 0), DWCHECK_DONE); IS(row.count, 1); IS(rules[0].kind, 99);
     IS(dwcheck_row_at(&p, 0x71f000001100, &row, rules, 4), DWCHECK_NONE);
     IS(dwcheck_unwind(&p, 0x810, &s, &caller, registers, 4, &fault), DWCHECK_DONE); IS(caller.cfa.value, 0x7f10);
-    IS(caller.return_address.value, 0x71f000001020); IS(caller.count, 4); IS(registers[0].number, 3); IS(registers[0].kind, DWCHECK_UNREADABLE);
-    IS(registers[2].number, 7); IS(registers[2].value, 0x7f10); IS(registers[3].number, 16); IS(registers[3].kind, DWCHECK_VALUE);
+    IS(caller.return_address.value, 0x71f000001020); IS(caller.count, 4); IS(registers[0].number, 3); IS(registers[0].kind, DWCHECK_ANSWER_UNREADABLE);
+    IS(registers[2].number, 7); IS(registers[2].value, 0x7f10); IS(registers[3].number, 16); IS(registers[3].kind, DWCHECK_ANSWER_VALUE);
     registers[1].number = 99;
     IS(dwcheck_unwind(&p, 0x810, &s, &caller, registers, 1, &fault), DWCHECK_DONE); IS(caller.count, 4); IS(registers[1].number, 99);
     IS(dwcheck_unwind(&p, 0x9999, &s, &caller, registers, 4, &fault), DWCHECK_NONE);
@@ -197,7 +197,7 @@ static void walks(void) {
     IS(walk(&p, 0x810, 8, 127), DWCHECK_DONE); IS(count, 3);
     kept[0] = 3; kept[1] = 6;
     known[0] = 0; /* the stack pointer isn't known */
-    IS(walk(&p, 0x810, 8, 2), DWCHECK_DONE); IS(count, 1); IS(stop, DWCHECK_STOP_RETURN_UNREADABLE); IS(frames[0].cfa.kind, DWCHECK_UNREADABLE);
+    IS(walk(&p, 0x810, 8, 2), DWCHECK_DONE); IS(count, 1); IS(stop, DWCHECK_STOP_RETURN_UNREADABLE); IS(frames[0].cfa.kind, DWCHECK_ANSWER_UNREADABLE);
     known[0] = 0x80;
     s = state(2);
     s.known_length = 0; /* `contents` has registers for which `known` has no bits */
@@ -206,7 +206,7 @@ static void walks(void) {
     s.contents_length = 7; /* `known` has bits for which `contents` has no registers */
     IS(dwcheck_backtrace(&p, 0x810, &s, frames, 8, &count, &stop, &fault), DWCHECK_DONE); IS(count, 1);
     blocks[0].length = 15; /* the last byte of the return address is missing */
-    IS(walk(&p, 0x810, 8, 2), DWCHECK_DONE); IS(count, 1); IS(stop, DWCHECK_STOP_RETURN_UNREADABLE); IS(frames[0].cfa.kind, DWCHECK_VALUE);
+    IS(walk(&p, 0x810, 8, 2), DWCHECK_DONE); IS(count, 1); IS(stop, DWCHECK_STOP_RETURN_UNREADABLE); IS(frames[0].cfa.kind, DWCHECK_ANSWER_VALUE);
     blocks[0].length = 12; /* a word whose bytes are in two blocks, which overlap */
     blocks[1].base = 0x7f0a; blocks[1].bytes = (uint8_t *)words + 10; blocks[1].length = 22;
     s = state(2);
@@ -216,7 +216,7 @@ static void walks(void) {
     blocks[0].length = 32;
     IS(dwcheck_backtrace(&p, 0x810, &s, frames, 8, &count, &stop, &fault), DWCHECK_DONE); IS(count, 3);
     s.has_stack_pointer = 0; /* the second CFA needs the stack pointer */
-    IS(dwcheck_backtrace(&p, 0x810, &s, frames, 8, &count, &stop, &fault), DWCHECK_DONE); IS(count, 2); IS(frames[1].cfa.kind, DWCHECK_UNREADABLE);
+    IS(dwcheck_backtrace(&p, 0x810, &s, frames, 8, &count, &stop, &fault), DWCHECK_DONE); IS(count, 2); IS(frames[1].cfa.kind, DWCHECK_ANSWER_UNREADABLE);
     before = asked; /* these calls don't allocate */
     s = state(2);
     IS(walk(&p, 0x810, 8, 2), DWCHECK_DONE);
@@ -330,7 +330,9 @@ static void first_refusals(void) {
     IS(add(&p, 0), DWCHECK_DONE);
     m.address_size = 4; m.has_range = 1; m.first = 0x1001; m.last = 0x1000; m.room = 10;
     IS(add_module(&p, m), DWCHECK_TOO_LONG);
-    m.frame_length = sizeof bad;
+    m.frame_length = sizeof bad; m.kind = 3;
+    IS(add_module(&p, m), DWCHECK_BAD_KIND);
+    m.kind = DWCHECK_DEBUG_FRAME;
     IS(add_module(&p, m), DWCHECK_BAD_TARGET);
     m.address_size = 8;
     IS(add_module(&p, m), DWCHECK_REFUSED);
@@ -349,6 +351,46 @@ enum { MANY = 1000 };
 
 /* Module `i` of many answers for the addresses 0x200 * i + 0x1000 up to 0x200 * i + 0x10ff. Checks what
    answers for its first and last address, for one between, and for those beside. */
+/* An .eh_frame section at 0x2000, by GNU as for x86-64, of one function at 0x1009 up to 0x100b: the CFA
+   is the value of an expression, and so is register 3. */
+static const uint8_t eh[] = {
+    0x14, 0, 0, 0, 0, 0, 0, 0, 1, 'z', 'R', 'S', 0, 1, 0x78, 16, 1, 0x1b, 0x0c, 7, 8, 0x90, 1, 0,
+    0x1c, 0, 0, 0, 0x1c, 0, 0, 0, 0xe9, 0xef, 0xff, 0xff, 3, 0, 0, 0, 0, 0x0f, 3, 0x77, 8, 6, 0x16, 3, 2, 0x23, 8, 0x42, 8, 3, 0, 0};
+
+static void eh_frames(void) {
+    dwcheck_process p = DWCHECK_CLOSED;
+    dwcheck_module m = module_of(eh, sizeof eh, 0x10000);
+    dwcheck_row row;
+    uint8_t bytes[4] = {9, 9, 9, 9}, cut[sizeof eh];
+    size_t size = 9;
+    m.kind = DWCHECK_EH_FRAME; m.section_address = 0x2000;
+    IS(add_module(&p, m), DWCHECK_DONE);
+    IS(dwcheck_row_at(&p, 0x11008, &row, rules, 4), DWCHECK_NONE);
+    IS(dwcheck_row_at(&p, 0x11009, &row, rules, 4), DWCHECK_DONE); IS(row.start, 0x1009); IS(row.end, 0x100b); IS(row.count, 2);
+    IS(row.cfa.kind, DWCHECK_RULE_VAL_EXPRESSION); IS(row.cfa.length, 3); IS(rules[0].reg, 3); IS(rules[0].length, 2);
+    IS(dwcheck_rule_bytes(&p, 0x11009, DWCHECK_CFA_RULE, bytes, 4, &size), DWCHECK_DONE); IS(size, 3);
+    IS(memcmp(bytes, "\x77\x08\x06\x09", 4), 0);
+    IS(dwcheck_rule_bytes(&p, 0x11009, 3, bytes, 1, &size), DWCHECK_DONE); IS(size, 2); IS(bytes[0], 0x23); IS(bytes[1], 8);
+    IS(dwcheck_rule_bytes(&p, 0x11009, 3, NULL, 0, &size), DWCHECK_DONE); IS(size, 2);
+    size = 9;
+    IS(dwcheck_rule_bytes(&p, 0x11009, 16, bytes, 4, &size), DWCHECK_NONE); /* its rule has no expression */
+    IS(dwcheck_rule_bytes(&p, 0x1100b, 3, bytes, 4, &size), DWCHECK_NONE);
+    IS(dwcheck_rule_bytes(&p, 0x11009, 0x10003, bytes, 4, &size), DWCHECK_NONE);
+    IS(dwcheck_rule_bytes(&p, 0x11009, UINT32_MAX, bytes, 4, &size), DWCHECK_NONE);
+    IS(dwcheck_rule_bytes(&p, 0x11008, 3, bytes, 4, &size), DWCHECK_NONE); IS(size, 9); IS(bytes[0], 0x23);
+    m.load_address = 0x20000; m.section_address = 0x3000; /* the pointer counts from where the section is */
+    IS(add_module(&p, m), DWCHECK_DONE); IS(dwcheck_row_at(&p, 0x22009, &row, rules, 4), DWCHECK_DONE);
+    memcpy(cut, eh, sizeof eh);
+    cut[sizeof eh - 1] = 0x3f; /* no instruction */
+    m.frame = cut; m.load_address = 0x30000;
+    IS(add_module(&p, m), DWCHECK_REFUSED); IS(fault.number, 12); IS(fault.offset, sizeof eh - 1); IS(fault.within, DWCHECK_IN_FRAME);
+    m.frame = eh; m.kind = DWCHECK_DEBUG_FRAME;
+    IS(add_module(&p, m), DWCHECK_REFUSED);
+    m.kind = DWCHECK_EH_FRAME; m.frame_length = 30;
+    IS(add_module(&p, m), DWCHECK_REFUSED); IS(fault.number, 1); IS(fault.offset, 28);
+    dwcheck_process_close(&p);
+}
+
 static void answers_as(dwcheck_process *p, uint64_t i, uint64_t its_id) {
     static const uint64_t inside[3] = {0, 0x7b, 0xff};
     const uint64_t load = 0x200 * i, first = load + 0x1000;
@@ -407,7 +449,7 @@ static void high_registers(void) {
     }
     s.kept_length = 2; s.stack_pointer = 7;
     IS(dwcheck_unwind(&p, 0x810, &s, &caller, registers, 4, &fault), DWCHECK_DONE); IS(caller.count, 4);
-    IS(registers[3].number, 264); IS(registers[3].kind, DWCHECK_VALUE); IS(registers[3].value, 0x264);
+    IS(registers[3].number, 264); IS(registers[3].kind, DWCHECK_ANSWER_VALUE); IS(registers[3].value, 0x264);
     dwcheck_process_close(&p);
 }
 
@@ -496,43 +538,43 @@ static void expressions(void) {
     uint32_t got;
     memset(branches + 4, 0x96, sizeof branches - 5);
     branches[sizeof branches - 1] = 0x33;
-    IS(evaluate("\x77\x08", 2, DWCHECK_FRAME_CFA, 0), DWCHECK_DONE); IS(value.kind, DWCHECK_IS_VALUE); IS(value.value, 0x7f10); IS(value.steps, 1);
-    IS(evaluate("\x77\x08\x06", 3, DWCHECK_FRAME_CFA, 0), DWCHECK_DONE); IS(value.value, 0x55005);
-    IS(evaluate("\x73\x00", 2, DWCHECK_FRAME_CFA, 0), DWCHECK_DONE); IS(value.kind, DWCHECK_IS_UNREADABLE); IS(value.offset, 0);
-    IS(evaluate("\x31\x30\x1b", 3, DWCHECK_FRAME_CFA, 0), DWCHECK_DONE); IS(value.kind, DWCHECK_IS_DIVISION_BY_ZERO); IS(value.offset, 2);
-    IS(evaluate("\x38\x1c", 2, DWCHECK_FRAME_REGISTER, 0), DWCHECK_DONE); IS(value.value, 0x7f08); /* the stack begins with the CFA */
-    IS(evaluate("", 0, DWCHECK_LOCATION, 0), DWCHECK_DONE); IS(value.kind, DWCHECK_LOCATION_NOWHERE); IS(value.steps, 0);
-    IS(evaluate("\x9c\x38\x1c", 3, DWCHECK_LOCATION, 0), DWCHECK_DONE); IS(value.kind, DWCHECK_LOCATION_ADDRESS); IS(value.value, 0x7f08);
-    IS(evaluate("\x53", 1, DWCHECK_LOCATION, 0), DWCHECK_DONE); IS(value.kind, DWCHECK_LOCATION_REGISTER); IS(value.value, 3);
-    IS(evaluate("\x35\x9f", 2, DWCHECK_LOCATION, 0), DWCHECK_DONE); IS(value.kind, DWCHECK_LOCATION_VALUE); IS(value.value, 5);
-    IS(evaluate("\x9e\x05" "abcde", 7, DWCHECK_LOCATION, 0), DWCHECK_DONE); IS(value.kind, DWCHECK_LOCATION_BYTES); IS(value.value, 5);
+    IS(evaluate("\x77\x08", 2, DWCHECK_EXPRESSION_CFA, 0), DWCHECK_DONE); IS(value.kind, DWCHECK_OUTCOME_VALUE); IS(value.value, 0x7f10); IS(value.steps, 1);
+    IS(evaluate("\x77\x08\x06", 3, DWCHECK_EXPRESSION_CFA, 0), DWCHECK_DONE); IS(value.value, 0x55005);
+    IS(evaluate("\x73\x00", 2, DWCHECK_EXPRESSION_CFA, 0), DWCHECK_DONE); IS(value.kind, DWCHECK_OUTCOME_UNREADABLE); IS(value.offset, 0);
+    IS(evaluate("\x31\x30\x1b", 3, DWCHECK_EXPRESSION_CFA, 0), DWCHECK_DONE); IS(value.kind, DWCHECK_OUTCOME_DIVISION_BY_ZERO); IS(value.offset, 2);
+    IS(evaluate("\x38\x1c", 2, DWCHECK_EXPRESSION_REGISTER, 0), DWCHECK_DONE); IS(value.value, 0x7f08); /* the stack begins with the CFA */
+    IS(evaluate("", 0, DWCHECK_EXPRESSION_LOCATION, 0), DWCHECK_DONE); IS(value.kind, DWCHECK_LOCATION_NOWHERE); IS(value.steps, 0);
+    IS(evaluate("\x9c\x38\x1c", 3, DWCHECK_EXPRESSION_LOCATION, 0), DWCHECK_DONE); IS(value.kind, DWCHECK_LOCATION_ADDRESS); IS(value.value, 0x7f08);
+    IS(evaluate("\x53", 1, DWCHECK_EXPRESSION_LOCATION, 0), DWCHECK_DONE); IS(value.kind, DWCHECK_LOCATION_REGISTER); IS(value.value, 3);
+    IS(evaluate("\x35\x9f", 2, DWCHECK_EXPRESSION_LOCATION, 0), DWCHECK_DONE); IS(value.kind, DWCHECK_LOCATION_VALUE); IS(value.value, 5);
+    IS(evaluate("\x9e\x05" "abcde", 7, DWCHECK_EXPRESSION_LOCATION, 0), DWCHECK_DONE); IS(value.kind, DWCHECK_LOCATION_BYTES); IS(value.value, 5);
     IS(memcmp(bytes, "abcd", 4), 0);
     /* pieces: register 3, 4 bytes; nowhere, 2 bytes; bytes, 3 bits from bit 1 on; register 4, 1 byte */
-    IS(evaluate("\x53\x93\x04\x93\x02\x9e\x02xy\x9d\x03\x01\x54\x93\x01", 15, DWCHECK_LOCATION, 2), DWCHECK_DONE);
+    IS(evaluate("\x53\x93\x04\x93\x02\x9e\x02xy\x9d\x03\x01\x54\x93\x01", 15, DWCHECK_EXPRESSION_LOCATION, 2), DWCHECK_DONE);
     IS(value.kind, DWCHECK_LOCATION_PIECES); IS(value.count, 4); IS(memcmp(bytes, "xy..", 4), 0);
     IS(pieces[0].kind, DWCHECK_LOCATION_REGISTER); IS(pieces[0].value, 3); IS(pieces[0].size, 4); IS(pieces[0].is_bits, 0);
     IS(pieces[1].kind, DWCHECK_LOCATION_NOWHERE); IS(pieces[1].size, 2);
     IS(pieces[2].kind, DWCHECK_LOCATION_BYTES); IS(pieces[2].value, 2); IS(pieces[2].size, 3); IS(pieces[2].bit_offset, 1); IS(pieces[2].is_bits, 1);
-    IS(evaluate("\x53\x93\x04", 3, DWCHECK_LOCATION, 9), DWCHECK_DONE); IS(memcmp(bytes, "....", 4), 0); IS(pieces[1].kind, 0x55555555);
-    IS(evaluate("\x91\x08", 2, DWCHECK_LOCATION, 0), DWCHECK_DONE); IS(value.kind, DWCHECK_IS_UNREADABLE); IS(value.steps, 1);
+    IS(evaluate("\x53\x93\x04", 3, DWCHECK_EXPRESSION_LOCATION, 9), DWCHECK_DONE); IS(memcmp(bytes, "....", 4), 0); IS(pieces[1].kind, 0x55555555);
+    IS(evaluate("\x91\x08", 2, DWCHECK_EXPRESSION_LOCATION, 0), DWCHECK_DONE); IS(value.kind, DWCHECK_OUTCOME_UNREADABLE); IS(value.steps, 1);
     context.frame_base = 0x6000; context.has_frame_base = 1;
-    IS(evaluate("\x91\x08", 2, DWCHECK_LOCATION, 0), DWCHECK_DONE); IS(value.kind, DWCHECK_LOCATION_ADDRESS); IS(value.value, 0x6008);
-    IS(evaluate("\x97", 1, DWCHECK_LOCATION, 0), DWCHECK_DONE); IS(value.kind, DWCHECK_IS_UNREADABLE); IS(value.value, 0);
+    IS(evaluate("\x91\x08", 2, DWCHECK_EXPRESSION_LOCATION, 0), DWCHECK_DONE); IS(value.kind, DWCHECK_LOCATION_ADDRESS); IS(value.value, 0x6008);
+    IS(evaluate("\x97", 1, DWCHECK_EXPRESSION_LOCATION, 0), DWCHECK_DONE); IS(value.kind, DWCHECK_OUTCOME_UNREADABLE); IS(value.value, 0);
     context.object = 0x5000; context.has_object = 1;
-    IS(evaluate("\x97", 1, DWCHECK_LOCATION, 0), DWCHECK_DONE); IS(value.kind, DWCHECK_LOCATION_ADDRESS); IS(value.value, 0x5000);
+    IS(evaluate("\x97", 1, DWCHECK_EXPRESSION_LOCATION, 0), DWCHECK_DONE); IS(value.kind, DWCHECK_LOCATION_ADDRESS); IS(value.value, 0x5000);
     context.has_cfa = 0; /* the rule of a register needs the CFA */
-    IS(evaluate("\x38\x1c", 2, DWCHECK_FRAME_REGISTER, 0), DWCHECK_DONE); IS(value.kind, DWCHECK_IS_UNREADABLE); IS(value.offset, 0); IS(value.steps, 0);
+    IS(evaluate("\x38\x1c", 2, DWCHECK_EXPRESSION_REGISTER, 0), DWCHECK_DONE); IS(value.kind, DWCHECK_OUTCOME_UNREADABLE); IS(value.offset, 0); IS(value.steps, 0);
     context.has_cfa = 1;
     value.kind = 99;
-    IS(evaluate("\x13", 1, DWCHECK_LOCATION, 0), DWCHECK_REFUSED); IS(fault.number, 35); IS(fault.within, DWCHECK_IN_EXPRESSION); IS(value.kind, 99);
+    IS(evaluate("\x13", 1, DWCHECK_EXPRESSION_LOCATION, 0), DWCHECK_REFUSED); IS(fault.number, 35); IS(fault.within, DWCHECK_IN_EXPRESSION); IS(value.kind, 99);
     IS(evaluate("\x31", 1, 3, 0), DWCHECK_BAD_KIND);
-    IS(evaluate("\x31", (size_t)1 << 32, DWCHECK_LOCATION, 0), DWCHECK_TOO_LONG);
+    IS(evaluate("\x31", (size_t)1 << 32, DWCHECK_EXPRESSION_LOCATION, 0), DWCHECK_TOO_LONG);
     before = asked;
-    IS(evaluate("\x53\x93\x04", 3, DWCHECK_LOCATION, 0), DWCHECK_DONE);
+    IS(evaluate("\x53\x93\x04", 3, DWCHECK_EXPRESSION_LOCATION, 0), DWCHECK_DONE);
     IS(asked - before, 0);
     for (m = 0;; m++) { /* each allocation for the expression with the branch fails in turn */
         until = m;
-        got = evaluate(branches, sizeof branches, DWCHECK_LOCATION, 0);
+        got = evaluate(branches, sizeof branches, DWCHECK_EXPRESSION_LOCATION, 0);
         left = until;
         until = -1;
         IS(got, left >= 0 ? DWCHECK_DONE : DWCHECK_NO_MEMORY);
@@ -589,10 +631,10 @@ static void reads_past_the_top(void) {
     dwcheck_block block = {0xfffffffc, word, sizeof word};
     dwcheck_state s = {0};
     s.blocks = &block; s.blocks_length = 1;
-    IS(dwcheck_evaluate(at_the_top, 6, DWCHECK_LITTLE, 4, DWCHECK_FRAME_CFA, &context, &s, 0, &value, NULL, 0, NULL, 0, &fault), DWCHECK_DONE);
-    IS(value.kind, DWCHECK_IS_VALUE); IS(value.value, 0x04030201);
-    IS(dwcheck_evaluate(past_it, 6, DWCHECK_LITTLE, 4, DWCHECK_FRAME_CFA, &context, &s, 0, &value, NULL, 0, NULL, 0, &fault), DWCHECK_DONE);
-    IS(value.kind, DWCHECK_IS_UNREADABLE); IS(value.offset, 5);
+    IS(dwcheck_evaluate(at_the_top, 6, DWCHECK_LITTLE, 4, DWCHECK_EXPRESSION_CFA, &context, &s, 0, &value, NULL, 0, NULL, 0, &fault), DWCHECK_DONE);
+    IS(value.kind, DWCHECK_OUTCOME_VALUE); IS(value.value, 0x04030201);
+    IS(dwcheck_evaluate(past_it, 6, DWCHECK_LITTLE, 4, DWCHECK_EXPRESSION_CFA, &context, &s, 0, &value, NULL, 0, NULL, 0, &fault), DWCHECK_DONE);
+    IS(value.kind, DWCHECK_OUTCOME_UNREADABLE); IS(value.offset, 5);
 }
 
 /* Writes to `section` the CIE of `good`, but with these instructions as its program, and the FDE of
@@ -666,7 +708,7 @@ static void refused_calls_keep_no_memory(void) {
     memset(long_one, 0x96, sizeof long_one); /* nops, and then a drop from an empty stack */
     long_one[sizeof long_one - 1] = 0x13;
     IS(dwcheck_check(good, sizeof good, bad, sizeof bad, DWCHECK_LITTLE, 8, &fault), DWCHECK_REFUSED);
-    IS(evaluate(long_one, sizeof long_one, DWCHECK_LOCATION, 0), DWCHECK_REFUSED);
+    IS(evaluate(long_one, sizeof long_one, DWCHECK_EXPRESSION_LOCATION, 0), DWCHECK_REFUSED);
     IS(look_up(sizeof lists - 1, 0xc, 0x1005, 2), DWCHECK_REFUSED);
     IS(held - before, 0);
 }
@@ -797,12 +839,12 @@ static void nothing(void) {
     IS(dwcheck_row_at(&p, 0x6010, &row, NULL, 0), DWCHECK_DONE);
     IS(row.count, 1);
     IS(dwcheck_unwind(&p, 0x6010, &none, &caller, NULL, 0, &fault), DWCHECK_DONE);
-    IS(caller.cfa.kind, DWCHECK_UNREADABLE);
+    IS(caller.cfa.kind, DWCHECK_ANSWER_UNREADABLE);
     IS(caller.count, 1);
     IS(dwcheck_backtrace(&p, 0x6010, &none, NULL, 0, &count, &stop, &fault), DWCHECK_DONE);
     IS(count, 0);
     IS(stop, DWCHECK_STOP_LIMIT);
-    IS(dwcheck_evaluate(NULL, 0, DWCHECK_LITTLE, 8, DWCHECK_LOCATION, &context, &none, 0, &value, NULL, 0, NULL, 0, &fault),
+    IS(dwcheck_evaluate(NULL, 0, DWCHECK_LITTLE, 8, DWCHECK_EXPRESSION_LOCATION, &context, &none, 0, &value, NULL, 0, NULL, 0, &fault),
        DWCHECK_DONE);
     IS(value.kind, DWCHECK_LOCATION_NOWHERE);
     IS(dwcheck_locations(NULL, 0, DWCHECK_LITTLE, 8, &lookup, NULL, 0, &count, &fault), DWCHECK_NONE);
@@ -813,7 +855,7 @@ static void nothing(void) {
     dwcheck_frame frame;
     IS(dwcheck_cursor_init(&cursor, 0x6010, &none, 1, &fault), DWCHECK_DONE);
     IS(dwcheck_cursor_step(&p, &cursor, &none, &frame), DWCHECK_DONE);
-    IS(frame.cfa.kind, DWCHECK_UNREADABLE);
+    IS(frame.cfa.kind, DWCHECK_ANSWER_UNREADABLE);
     uint32_t (*volatile through_pointer)(uint32_t, uint8_t *, size_t, size_t *) = dwcheck_fault_name;
     IS(through_pointer(1, NULL, 0, &size), DWCHECK_DONE);
     dwcheck_process_close(&p);
@@ -830,6 +872,7 @@ int main(void) {
     ranges();
     ranges_at_the_top();
     first_refusals();
+    eh_frames();
     many_modules();
     high_registers();
     own_bytes();

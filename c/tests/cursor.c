@@ -6,7 +6,7 @@
 #include "readers.c"
 #undef main
 
-static dwcheck_process process = DWCHECK_CLOSED;
+static dwcheck_process process;
 
 static uint64_t random_number(void) {
     static uint64_t x = 88172645463325252u;

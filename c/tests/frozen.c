@@ -58,7 +58,7 @@ int main(void) {
     if (arena == MAP_FAILED) return 1;
     end = arena + room;
     p = (dwcheck_process *)take(sizeof *p);
-    *p = (dwcheck_process)DWCHECK_CLOSED;
+    *p = DWCHECK_CLOSED;
     in_arena = 1;
     if (add(p, size, load, cookie, &id) != DWCHECK_DONE) return 1;
     in_arena = 0;

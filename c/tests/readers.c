@@ -136,13 +136,13 @@ static void check_caller(const dwcheck_process *p, struct stack *s) {
     dwcheck_register registers[16];
     dwcheck_fault fault;
     CHECK(dwcheck_unwind(p, s->addresses[0], &s->state, &caller, registers, 16, &fault) == DWCHECK_DONE);
-    CHECK(caller.cfa.kind == DWCHECK_VALUE && caller.cfa.value == s->cfas[0]);
-    CHECK(caller.return_address.kind == DWCHECK_VALUE && caller.return_address.value == s->addresses[1]);
+    CHECK(caller.cfa.kind == DWCHECK_ANSWER_VALUE && caller.cfa.value == s->cfas[0]);
+    CHECK(caller.return_address.kind == DWCHECK_ANSWER_VALUE && caller.return_address.value == s->addresses[1]);
     /* of the callee-saved registers 3, 6 and 12 to 15 only r6 is known; 7 is the stack pointer */
-    CHECK(caller.count == 8 && registers[0].number == 3 && registers[0].kind == DWCHECK_UNREADABLE);
-    CHECK(registers[1].number == 6 && registers[1].kind == DWCHECK_VALUE && registers[1].value == 0);
-    CHECK(registers[2].number == 7 && registers[2].kind == DWCHECK_VALUE && registers[2].value == s->cfas[0]);
-    CHECK(registers[7].number == 16 && registers[7].kind == DWCHECK_VALUE && registers[7].value == s->addresses[1]);
+    CHECK(caller.count == 8 && registers[0].number == 3 && registers[0].kind == DWCHECK_ANSWER_UNREADABLE);
+    CHECK(registers[1].number == 6 && registers[1].kind == DWCHECK_ANSWER_VALUE && registers[1].value == 0);
+    CHECK(registers[2].number == 7 && registers[2].kind == DWCHECK_ANSWER_VALUE && registers[2].value == s->cfas[0]);
+    CHECK(registers[7].number == 16 && registers[7].kind == DWCHECK_ANSWER_VALUE && registers[7].value == s->addresses[1]);
 }
 
 static void check_walk(const dwcheck_process *p, struct stack *s) {

@@ -1,19 +1,20 @@
 #!/bin/bash
 # Builds the tests with the static library build/libdwcheck.a, or the one that LIBRARY names, and runs
-# them: those of readers.c, frozen.c and cursor.c; those of wrapper.cc, as C++17 and as C++20; and those
-# of cases.c while allocations fail in turn, with sanitizers, and under valgrind. Before that, the
-# header is compiled as C11, C17 and C++17; passing a pointer of a wrong type must be an error. Prints
-# a line `ok NAME` or `FAILED NAME` for each, and ends with status 1 if one failed.
+# them: those of readers.c, frozen.c, cursor.c and dl.c; those of wrapper.cc, as C++17 and as C++20; and
+# those of cases.c while allocations fail in turn, with sanitizers, and under valgrind. Before that,
+# the headers are compiled as C11, C17 and C++17; passing a pointer of a wrong type must be an error.
+# Prints a line `ok NAME` or `FAILED NAME` for each, and ends with status 1 if one failed.
 set -u
 top=$(dirname "$(dirname "$(dirname "$(realpath "$0")")")")
 library=${LIBRARY:-$top/build/libdwcheck.a}
+dl_library=${DL_LIBRARY:-$top/build/libdwcheck-dl.a}
 out=$(mktemp -d)
 trap 'rm -rf "$out"' EXIT
 strict="-Wall -Wextra -pedantic -Werror -I$top/c/include"
 . "$top/tools/each_test.sh"
 
 header() { # COMPILER STANDARD LANGUAGE
-    printf '#include "dwcheck.h"\n' | $1 "-std=$2" $strict -x "$3" -c - -o "$out/header.o"
+    printf '#include "dwcheck-dl.h"\n' | $1 "-std=$2" $strict -x "$3" -c - -o "$out/header.o"
 }
 
 frame() { # TYPE: writes a C function that passes a pointer to this type as the frame section
@@ -40,6 +41,13 @@ readers() { # PROGRAM: builds the tests of calls that read one process at once, 
     cc -std=gnu11 -D_GNU_SOURCE $strict -O2 -g "$top/c/tests/$1.c" "$library" -o "$out/$1" -pthread -ldl && "$out/$1"
 }
 
+dl() { # builds the tests of dwcheck-dl, and runs them with a library that comes and goes
+    printf 'void call_back(void (*f)(void)); void call_back(void (*f)(void)) { f(); __asm__ volatile(""); }\n' |
+        cc -O2 -fPIC -shared -x c - -o "$out/called.so" &&
+        cc -std=gnu11 $strict -O2 -g -fno-optimize-sibling-calls "$top/c/tests/dl.c" "$dl_library" "$library" -o "$out/dl" \
+            -pthread -ldl && "$out/dl" "$out/called.so"
+}
+
 wrapper() { # STANDARD: builds the tests of the header for C++, and runs them
     c++ "-std=$1" $strict -O1 -g -fno-exceptions -fno-rtti -fsanitize=address,undefined -fno-sanitize-recover=all \
         "$top/c/tests/wrapper.cc" "$library" -o "$out/wrapper" && "$out/wrapper"
@@ -57,6 +65,7 @@ test_of "pointers of wrong types in C++" refuses_wrong_pointers c++
 test_of "calls that read one process at once" readers readers
 test_of "the same with the process in memory that can't be written" readers frozen
 test_of "steps of a cursor" readers cursor
+test_of "stacks of dwcheck-dl are glibc's, while libraries come and go" dl
 test_of "the header for C++ as C++17, beside that for C" wrapper c++17
 test_of "the header for C++ as C++20, whose frames are a range" wrapper c++20
 test_of "cases while allocations fail in turn" cases -DREFUSING

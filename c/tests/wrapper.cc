@@ -112,6 +112,12 @@ int main() {
     check_frames(process);
     check_rows(process);
 
+    // an .eh_frame section at 0x2000, of one function at 0x1009
+    const std::uint8_t eh[] = {0x14, 0, 0, 0, 0, 0, 0, 0, 1, 'z', 'R', 0, 1, 0x78, 16, 1, 0x1b, 0x0c, 7, 8, 0x90, 1, 0, 0,
+                               0x10, 0, 0, 0, 0x1c, 0, 0, 0, 0xe9, 0xef, 0xff, 0xff, 3, 0, 0, 0, 0, 0, 0, 0, 0, 0, 0, 0};
+    auto second = process.add(dwcheck::eh_module_of(eh, 44, 0x2000, 2 * LOAD));
+    CHECK(second && process.module_at(2 * LOAD + 0x100b)->id == *second && process.remove(*second));
+
     auto other = process.share();
     CHECK(other && process.remove(1) && !process.remove(1) && !process.module_at(LOAD + 0x1000));
     dwcheck::process moved = std::move(*other);

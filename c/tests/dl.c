@@ -1,0 +1,178 @@
+/* Tests of dwcheck-dl: its stacks are those of glibc's backtrace. The argument is a library with a
+   function `call_back`, which calls the function that it gets. Prints a line for each failure, and at
+   the end a line with counts. */
+#define _GNU_SOURCE
+#include "dwcheck-dl.h"
+
+#include <dlfcn.h>
+#include <execinfo.h>
+#include <pthread.h>
+#include <signal.h>
+#include <stdatomic.h>
+#include <stdio.h>
+#include <stdlib.h>
+#include <string.h>
+#include <sys/mman.h>
+#include <ucontext.h>
+
+enum { FRAMES = 100, DEPTH = 30, THREADS = 4, ROUNDS = 200 };
+
+static atomic_int wrong, walks;
+#define IS(what, want)                                                                               \
+    do {                                                                                             \
+        long long is_ = (long long)(what), want_ = (long long)(want);                                \
+        if (is_ != want_) {                                                                          \
+            wrong++;                                                                                 \
+            printf("%d: %s is %lld, not %lld\n", __LINE__, #what, is_, want_);                       \
+        }                                                                                            \
+    } while (0)
+
+/* Compares the two stacks of this function, of which the first addresses differ. */
+__attribute__((noinline)) static void compare(void) {
+    void *ours[FRAMES], *theirs[FRAMES];
+    int our_count = dwcheck_dl_backtrace(ours, FRAMES), their_count = backtrace(theirs, FRAMES);
+    walks++;
+    IS(our_count, their_count);
+    if (our_count == their_count) IS(memcmp(ours + 1, theirs + 1, (size_t)(our_count - 1) * sizeof *ours), 0);
+}
+
+__attribute__((noinline)) static int deep(int depth, void (*last)(void)) {
+    if (depth == 0) last();
+    else deep(depth - 1, last);
+    return depth + atomic_load(&walks);
+}
+
+static int compare_in_libc(const void *a, const void *b) {
+    compare();
+    return *(const int *)a - *(const int *)b;
+}
+
+static void *in_a_thread(void *unused) {
+    (void)unused;
+    deep(DEPTH, compare);
+    return NULL;
+}
+
+/* ---- signals */
+
+/* From the interrupted instruction on, the stack is what glibc has after the frame of the signal. */
+static void on_signal(int signal, siginfo_t *info, void *context) {
+    (void)signal, (void)info;
+    void *ours[FRAMES], *theirs[FRAMES];
+    int our_count = dwcheck_dl_backtrace_from(context, ours, FRAMES), their_count = backtrace(theirs, FRAMES), i = 0;
+    uint64_t interrupted = (uint64_t)((ucontext_t *)context)->uc_mcontext.gregs[REG_RIP];
+    while (i < their_count && (uint64_t)(uintptr_t)theirs[i] != interrupted) i++;
+    IS(i < their_count, 1);
+    IS(our_count, their_count - i);
+    if (our_count == their_count - i) IS(memcmp(ours, theirs + i, (size_t)our_count * sizeof *ours), 0);
+    compare(); /* through the frame of the signal */
+}
+
+static void raise_signal(void) { raise(SIGUSR1); }
+
+/* A function that a signal interrupts at its first instruction, where the address before it belongs to
+   another function. */
+__asm__(".pushsection .text\n.type traps, @function\n.globl traps\ntraps:\n.cfi_startproc\nud2\nret\n.cfi_endproc\n.size traps, . - traps\n.popsection");
+void traps(void);
+
+static void on_trap(int signal, siginfo_t *info, void *context) {
+    on_signal(signal, info, context);
+    ((ucontext_t *)context)->uc_mcontext.gregs[REG_RIP] += 2;
+}
+
+static void test_signals(void) {
+    struct sigaction action = {.sa_sigaction = on_signal, .sa_flags = SA_SIGINFO | SA_ONSTACK};
+    struct sigaction trap = {.sa_sigaction = on_trap, .sa_flags = SA_SIGINFO};
+    sigaction(SIGUSR1, &action, NULL);
+    sigaction(SIGILL, &trap, NULL);
+    deep(DEPTH, raise_signal);
+    deep(DEPTH, traps);
+    stack_t alternate = {.ss_sp = malloc(1 << 16), .ss_size = 1 << 16}, before;
+    sigaltstack(&alternate, &before);
+    deep(DEPTH, raise_signal);
+    sigaltstack(&before, NULL);
+    free(alternate.ss_sp);
+    compare();
+}
+
+/* ---- libraries that come and go */
+
+static const char *library_name;
+
+/* Loads the library, walks through it, and unloads it again. */
+static void come_and_go(void) {
+    dwcheck_dl_counts counts;
+    void *library = dlopen(library_name, RTLD_NOW);
+    void (*call_back)(void (*)(void)) = NULL;
+    if (library) *(void **)&call_back = dlsym(library, "call_back");
+    IS(call_back != NULL, 1);
+    if (!call_back) return;
+    IS(dwcheck_dl_update(&counts), DWCHECK_DONE);
+    IS(counts.added, 1);
+    call_back(compare);
+    dlclose(library);
+    IS(dwcheck_dl_update(&counts), DWCHECK_DONE);
+    IS(counts.removed, 1);
+    IS(counts.left_out, 0);
+}
+
+static atomic_int is_done;
+
+static void *walk_all_the_time(void *unused) {
+    while (!atomic_load(&is_done)) in_a_thread(unused);
+    return NULL;
+}
+
+static void test_threads(void) {
+    pthread_t threads[THREADS];
+    for (int i = 0; i < THREADS; i++) pthread_create(&threads[i], NULL, walk_all_the_time, NULL);
+    for (int i = 0; i < ROUNDS; i++) come_and_go();
+    atomic_store(&is_done, 1);
+    for (int i = 0; i < THREADS; i++) pthread_join(threads[i], NULL);
+}
+
+/* ---- the stack */
+
+static void test_stack(void) {
+    enum { PAGE = 4096 };
+    char *pages = mmap(NULL, 4 * PAGE, PROT_READ | PROT_WRITE, MAP_PRIVATE | MAP_ANONYMOUS, -1, 0);
+    mprotect(pages, PAGE, PROT_NONE);
+    mprotect(pages + 3 * PAGE, PAGE, PROT_NONE);
+    uint64_t first = (uint64_t)(uintptr_t)pages;
+    IS(dwcheck_dl_stack(first).length, 0);
+    IS(dwcheck_dl_stack(first + 2 * PAGE + 5).length, PAGE - 5);
+    IS(dwcheck_dl_stack(first + PAGE).length, 2 * PAGE);
+    IS(dwcheck_dl_stack(first + 2 * PAGE).length, PAGE);
+    IS(dwcheck_dl_stack(first + 3 * PAGE).length, 0);
+    IS(dwcheck_dl_stack(0).length, 0);
+    IS(dwcheck_dl_stack((uint64_t)1 << 63).length, 0);
+    munmap(pages, 4 * PAGE);
+    compare();
+}
+
+int main(int count, char **arguments) {
+    void *one;
+    dwcheck_dl_counts counts;
+    (void)count;
+    library_name = arguments[1];
+    IS(dwcheck_dl_backtrace(&one, 1), 0); /* there is no table yet, and so no caller of the call's own frame */
+    backtrace(&one, 1);                  /* loads the library that it needs */
+    IS(dwcheck_dl_update(&counts), DWCHECK_DONE);
+    IS(counts.added == counts.modules && counts.added >= 3, 1);
+    IS(counts.left_out, 0);
+    IS(dwcheck_dl_update(&counts), DWCHECK_DONE);
+    IS(counts.added, 0);
+    deep(DEPTH, compare);
+    int numbers[] = {3, 1, 2};
+    qsort(numbers, 3, sizeof *numbers, compare_in_libc);
+    pthread_t thread;
+    pthread_create(&thread, NULL, in_a_thread, NULL);
+    pthread_join(thread, NULL);
+    test_signals();
+    test_stack();
+    come_and_go();
+    test_threads();
+    IS(dwcheck_dl_backtrace(&one, 0), 0);
+    printf("%d walks, %d wrong\n", atomic_load(&walks), atomic_load(&wrong));
+    return atomic_load(&wrong) != 0;
+}
