@@ -6,7 +6,7 @@ top=$(dirname "$(dirname "$(realpath "$0")")")
 export DWCHECK_LIB_DIR=${DWCHECK_LIB_DIR:-$top/build}
 . "$top/tools/each_test.sh"
 
-for crate in rust/dwcheck rust/dwcheck-lint rust/dwcheck-elf examples/rust; do
+for crate in rust/dwcheck-sys rust/dwcheck rust/dwcheck-lint rust/dwcheck-elf examples/rust; do
     cd "$top/$crate"
     test_of "rustfmt of $crate" cargo fmt --check
     # Later versions of clippy leave out format_push_string unless it is asked for.

@@ -1,11 +1,13 @@
 #!/bin/sh
-# Runs this crate's tests and documentation examples, and then the tests a second time under valgrind.
-# The C library is build/libdwcheck.a, which make builds, or the one in the folders that
-# DWCHECK_LIB_DIR lists (see build.rs).
+# Runs the tests and documentation examples of this crate and of dwcheck-sys, and then this crate's tests
+# a second time under valgrind. The C library is build/libdwcheck.a, which make builds, or the one in
+# the folders that DWCHECK_LIB_DIR lists.
 set -eu
 here=$(dirname "$(realpath "$0")")
 DWCHECK_LIB_DIR=${DWCHECK_LIB_DIR:-$(dirname "$(dirname "$here")")/build}
 export DWCHECK_LIB_DIR
+cd "$here/../dwcheck-sys"
+cargo test --offline
 cd "$here"
 cargo test --offline
 host=$(rustc -vV | sed -n 's/^host: //p' | tr 'a-z-' 'A-Z_')

@@ -6,7 +6,7 @@ use crate::covered::Covered;
 use crate::debug_frame::{records, Kind, Record};
 use crate::frames::Frames;
 use crate::target::Target;
-use dwcheck::{Fault, FaultKind, Section};
+use dwcheck::{DebugFrame, DebugLoclists, Fault, FaultKind, Section};
 use std::borrow::Cow;
 use std::collections::{HashMap, HashSet};
 
@@ -95,7 +95,7 @@ pub fn accepted_part(frames: &Frames<'_>, first: Fault) -> AcceptedPart {
 /// The bytes of a section for `dwcheck`, without the CIEs and FDEs that it refuses. If there are such,
 /// the second part of the result says how many.
 pub(crate) fn accepted<'f>(frames: &'f Frames<'_>) -> Result<(Cow<'f, [u8]>, Option<String>), String> {
-    let check = |bytes: &[u8]| dwcheck::check(bytes, &[], frames.target().into());
+    let check = |bytes: &[u8]| dwcheck::check(DebugFrame(bytes), DebugLoclists(&[]), frames.target().into());
     let fault = match check(frames.bytes()) {
         Ok(()) => return Ok((frames.bytes().into(), None)),
         Err(dwcheck::Error::Refused(fault)) => fault,
@@ -123,7 +123,7 @@ impl Alone<'_> {
     }
 
     fn fault(&self, section: &[u8]) -> Option<Fault> {
-        dwcheck::check(section, &[], self.target.into()).err()?.fault()
+        dwcheck::check(DebugFrame(section), DebugLoclists(&[]), self.target.into()).err()?.fault()
     }
 
     fn cie(&self, cie: &Record) -> Option<Fault> {

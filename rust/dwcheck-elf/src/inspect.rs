@@ -9,7 +9,7 @@ use crate::program::{Program, ProgramError};
 use crate::row::Row;
 use crate::target::Target;
 use crate::validate::{validate, validate_rows, Agreement, Difference, DwcheckRows, RowSource, What};
-use dwcheck::{Error, Process};
+use dwcheck::{DebugFrame, DebugLoclists, Error, Process};
 use std::fmt;
 
 /// How to check a program.
@@ -173,7 +173,7 @@ fn counted(frames: &Frames<'_>, process: &Process) -> Agreement {
 }
 
 fn inspect_lists(lists: &[u8], target: Target) -> Result<Verdict, InspectError> {
-    match dwcheck::check(&[], lists, target.into()) {
+    match dwcheck::check(DebugFrame(&[]), DebugLoclists(lists), target.into()) {
         Ok(()) => Ok(Verdict::Lists(Contents::of(lists, target))),
         Err(Error::Refused(fault)) => Ok(Verdict::Refused(vec![Defect::of_lists(lists, fault, target)])),
         Err(error) => Err(InspectError::Dwcheck(Name::DebugLoclists, error)),

@@ -33,10 +33,10 @@ impl Answer {
 
     pub(crate) fn of(kind: u32, value: u64) -> Answer {
         match kind {
-            ffi::VALUE => Answer::Value(value),
-            ffi::UNDEFINED => Answer::Undefined,
-            ffi::UNREADABLE => Answer::Unreadable,
-            ffi::DIVISION_BY_ZERO => Answer::DivisionByZero,
+            ffi::ANSWER_VALUE => Answer::Value(value),
+            ffi::ANSWER_UNDEFINED => Answer::Undefined,
+            ffi::ANSWER_UNREADABLE => Answer::Unreadable,
+            ffi::ANSWER_DIVISION_BY_ZERO => Answer::DivisionByZero,
             other => Answer::Other(other),
         }
     }

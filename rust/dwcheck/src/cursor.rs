@@ -5,7 +5,11 @@ use crate::ffi;
 use crate::process::Process;
 use crate::state::State;
 use crate::walk::{Frame, Stop};
+use std::any::Any;
 use std::fmt;
+use std::os::raw::c_void;
+use std::panic::{catch_unwind, resume_unwind, AssertUnwindSafe};
+use std::slice;
 
 /// Where a walk up a stack is: the address of a frame, and the frame's registers.
 ///
@@ -125,6 +129,51 @@ impl fmt::Debug for Cursor {
     }
 }
 
+/// The closure that is asked for memory, and the panic of its last call.
+struct Asked<F> {
+    read: F,
+    panic: Option<Box<dyn Any + Send>>,
+}
+
+/// Asks a closure for memory. A panic doesn't leave this function, since its caller is C.
+///
+/// # Safety
+///
+/// `data` points to an `Asked<F>` that nothing else uses, and `bytes` to `length` bytes.
+unsafe extern "C" fn ask<F>(data: *mut c_void, address: u64, bytes: *mut u8, length: usize) -> bool
+where
+    F: FnMut(u64, &mut [u8]) -> bool,
+{
+    // SAFETY: by the contract of this function.
+    let (asked, bytes) = unsafe {
+        (
+            &mut *data.cast::<Asked<F>>(),
+            slice::from_raw_parts_mut(bytes, length),
+        )
+    };
+    if asked.panic.is_some() {
+        return false;
+    }
+    bytes.fill(0);
+    let read = &mut asked.read;
+    match catch_unwind(AssertUnwindSafe(|| read(address, bytes))) {
+        Ok(is_read) => is_read,
+        Err(panic) => {
+            asked.panic = Some(panic);
+            false
+        }
+    }
+}
+
+/// What a step gives that returned this status and wrote this frame.
+fn frame_of(status: u32, slot: [Frame; 1]) -> Result<Option<Frame>, Error> {
+    if status == ffi::NONE {
+        return Ok(None);
+    }
+    Error::check(status, ffi::Fault::default())?;
+    Ok(Some(slot[0]))
+}
+
 impl Process {
     /// The frame that a cursor is at. Moves the cursor to the frame's caller. `None` if the walk has
     /// ended: [`Cursor::stop`] says why.
@@ -149,11 +198,84 @@ impl Process {
                 Frame::raw_slots(&mut slot),
             )
         };
-        if status == ffi::NONE {
-            return Ok(None);
+        frame_of(status, slot)
+    }
+
+    /// Steps as [`step`](Process::step) does, but asks for the memory that the step needs: `read` is
+    /// called with an address and a slice, which it fills. It returns whether it could. So nothing
+    /// has to be copied first from another process, a core file, or a target behind a protocol. The
+    /// memory of `state` isn't used.
+    ///
+    /// In a rule whose expression has branches, only what is read before the first branch is asked
+    /// for. This allocates only as [`evaluate`](crate::evaluate) does. If `read` panics, the cursor
+    /// stays where it was, and the panic goes on.
+    ///
+    /// # Errors
+    ///
+    /// The same as those of [`step`](Process::step).
+    ///
+    /// ```
+    /// # const SECTION: &[u8] = &[
+    /// #     0x14, 0, 0, 0, 0xff, 0xff, 0xff, 0xff, 4, 0, 8, 0, 1, 0x78, 0x10, 0x0c, 7, 8, 0x90, 1, 0, 0, 0, 0,
+    /// #     0x1c, 0, 0, 0, 0, 0, 0, 0, 0, 0x10, 0, 0, 0, 0, 0, 0, 0x20, 0, 0, 0, 0, 0, 0, 0,
+    /// #     0x41, 0x0e, 0x10, 0x86, 2, 0x43, 0x0d, 6,
+    /// # ];
+    /// use dwcheck::{Abi, Cursor, Module, Process, Registers, State, Target};
+    ///
+    /// let mut process = Process::new(Target::LITTLE_64);
+    /// process.add(SECTION, Module::at(0))?;
+    /// let registers = Registers::from([(6, 0x7f00)]);
+    /// let state = State { registers: &registers, memory: &[], abi: Abi::X86_64 };
+    ///
+    /// let stack = [0, 0x80, 0, 0, 0, 0, 0, 0, 0x34, 0x12, 0, 0, 0, 0, 0, 0]; // at 0x7f00
+    /// let mut cursor = Cursor::new(0x1010, &state)?;
+    /// process.step_with(&mut cursor, &state, |address, bytes| {
+    ///     let start = address.wrapping_sub(0x7f00) as usize;
+    ///     match stack.get(start..start.saturating_add(bytes.len())) {
+    ///         Some(found) => bytes.copy_from_slice(found),
+    ///         None => return false,
+    ///     }
+    ///     true
+    /// })?;
+    /// assert_eq!((cursor.address(), cursor.register(6)), (0x1234, Some(0x8000)));
+    /// # Ok::<(), dwcheck::Error>(())
+    /// ```
+    pub fn step_with<F>(
+        &self,
+        cursor: &mut Cursor,
+        state: &State<'_>,
+        read: F,
+    ) -> Result<Option<Frame>, Error>
+    where
+        F: FnMut(u64, &mut [u8]) -> bool,
+    {
+        let mut slot = [Frame::default()];
+        let before = cursor.clone();
+        let mut asked = Asked { read, panic: None };
+        let target = self.target();
+        let reader = ffi::Reader {
+            read: Some(ask::<F>),
+            data: (&mut asked as *mut Asked<F>).cast(),
+            order: target.order_number(),
+            address_size: target.address_bytes(),
+        };
+        // SAFETY: the process is only read, the cursor is borrowed exclusively, the state's pointers
+        // are those of slices that are only read, the others are to locals, and `ask` takes what
+        // `data` is.
+        let status = unsafe {
+            ffi::dwcheck_cursor_step_with(
+                self.raw(),
+                &mut cursor.raw,
+                &state.raw(),
+                &reader,
+                Frame::raw_slots(&mut slot),
+            )
+        };
+        if let Some(panic) = asked.panic {
+            *cursor = before;
+            resume_unwind(panic);
         }
-        Error::check(status, ffi::Fault::default())?;
-        Ok(Some(slot[0]))
+        frame_of(status, slot)
     }
 
     /// The frames of a stack one by one, from the frame at an address: an iterator that allocates

@@ -20,9 +20,9 @@ pub enum ExpressionKind {
 impl ExpressionKind {
     fn number(self) -> u32 {
         match self {
-            ExpressionKind::FrameCfa => ffi::FRAME_CFA,
-            ExpressionKind::FrameRegister => ffi::FRAME_REGISTER,
-            ExpressionKind::Location => ffi::LOCATION,
+            ExpressionKind::FrameCfa => ffi::EXPRESSION_CFA,
+            ExpressionKind::FrameRegister => ffi::EXPRESSION_REGISTER,
+            ExpressionKind::Location => ffi::EXPRESSION_LOCATION,
         }
     }
 }
@@ -226,9 +226,9 @@ impl Run<'_> {
 
     fn outcome(&self, value: &ffi::Value, pieces: &[ffi::Piece]) -> Result<Outcome, Error> {
         Ok(match value.kind {
-            ffi::IS_VALUE => Outcome::Value(value.value),
-            ffi::IS_UNREADABLE => Outcome::Unreadable { at: value.offset },
-            ffi::IS_DIVISION_BY_ZERO => Outcome::DivisionByZero { at: value.offset },
+            ffi::OUTCOME_VALUE => Outcome::Value(value.value),
+            ffi::OUTCOME_UNREADABLE => Outcome::Unreadable { at: value.offset },
+            ffi::OUTCOME_DIVISION_BY_ZERO => Outcome::DivisionByZero { at: value.offset },
             ffi::LOCATION_PIECES => Outcome::Pieces(self.pieces(pieces, value.count)?),
             kind => Outcome::Location(self.location(kind, value.value, 0)?),
         })

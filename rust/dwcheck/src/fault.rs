@@ -254,7 +254,9 @@ impl fmt::Display for Section {
 ///
 /// ```
 /// let cut = [1, 0, 0, 0];
-/// let error = dwcheck::check(&cut, &[], dwcheck::Target::LITTLE_64).unwrap_err();
+/// let frame = dwcheck::DebugFrame(&cut);
+/// let lists = dwcheck::DebugLoclists(&[]);
+/// let error = dwcheck::check(frame, lists, dwcheck::Target::LITTLE_64).unwrap_err();
 /// assert_eq!(error.to_string(), "frame: 1 Truncated at 0x00000004");
 /// ```
 #[derive(Clone, Copy, Debug, PartialEq, Eq, Hash)]

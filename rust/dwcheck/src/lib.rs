@@ -15,18 +15,19 @@
 //! `docs/PROFILE.md` says what is refused, and which parts of DWARF aren't supported.
 //!
 //! ```
-//! use dwcheck::{check, FaultKind, Target};
+//! use dwcheck::{check, DebugFrame, DebugLoclists, FaultKind, Target};
 //!
 //! // A CIE, and an FDE whose CIE_pointer leads nowhere.
 //! let frame = [
 //!     0x14, 0, 0, 0, 0xff, 0xff, 0xff, 0xff, 4, 0, 8, 0, 1, 0x78, 0x10, 0x0c, 7, 8, 0x90, 1, 0, 0, 0, 0,
 //!     0x14, 0, 0, 0, 4, 0, 0, 0, 0, 0x10, 0, 0, 0, 0, 0, 0, 0x20, 0, 0, 0, 0, 0, 0, 0,
 //! ];
-//! let error = check(&frame, &[], Target::LITTLE_64).unwrap_err();
+//! let none = DebugLoclists(&[]);
+//! let error = check(DebugFrame(&frame), none, Target::LITTLE_64).unwrap_err();
 //! assert_eq!(error.fault().unwrap().kind, FaultKind::NoSuchCie);
 //! assert_eq!(error.to_string(), "frame: 9 NoSuchCie at 0x0000001c");
 //!
-//! check(&frame[..24], &[], Target::LITTLE_64)?;
+//! check(DebugFrame(&frame[..24]), none, Target::LITTLE_64)?;
 //! # Ok::<(), dwcheck::Error>(())
 //! ```
 
@@ -43,7 +44,6 @@ mod caller;
 mod cursor;
 mod expression;
 mod fault;
-#[allow(unreachable_pub)]
 mod ffi;
 #[cfg(test)]
 mod layout;
@@ -67,7 +67,7 @@ pub use expression::{
 };
 pub use fault::{Error, Fault, FaultKind, Section};
 pub use lists::{locations, Lookup};
-pub use module::{LoadedModule, Module, ModuleId};
+pub use module::{EhFrame, LoadedModule, Module, ModuleId};
 pub use process::Process;
 pub use row::{CfaRule, Row, Rule, Span};
 pub use rows::Rows;
@@ -75,6 +75,14 @@ pub use state::{Block, Registers, State};
 pub use steps::{Step, Steps};
 pub use target::{AddressSize, Order, Target};
 pub use walk::{Backtrace, Frame, Stop};
+
+/// The bytes of a `.debug_frame` section. They may be empty.
+#[derive(Clone, Copy, Debug, PartialEq, Eq)]
+pub struct DebugFrame<'a>(pub &'a [u8]);
+
+/// The bytes of a `.debug_loclists` section. They may be empty.
+#[derive(Clone, Copy, Debug, PartialEq, Eq)]
+pub struct DebugLoclists<'a>(pub &'a [u8]);
 
 /// Checks a `.debug_frame` section and a `.debug_loclists` section, either of which may be empty.
 ///
@@ -85,7 +93,8 @@ pub use walk::{Backtrace, Frame, Stop};
 ///
 /// [`Error::Refused`] with the first fault, or [`Error::NoMemory`]. A section of 2^32 bytes or more
 /// is refused with [`FaultKind::SectionTooLong`].
-pub fn check(frame: &[u8], lists: &[u8], target: Target) -> Result<(), Error> {
+pub fn check(frame: DebugFrame<'_>, lists: DebugLoclists<'_>, target: Target) -> Result<(), Error> {
+    let (DebugFrame(frame), DebugLoclists(lists)) = (frame, lists);
     let mut fault = ffi::Fault::default();
     // SAFETY: the pointers and lengths are those of slices that are only read, and `fault` is a
     // local variable.

@@ -3,6 +3,7 @@
 use crate::ffi;
 use crate::target::Target;
 use std::fmt;
+use std::num::NonZeroU64;
 use std::ops::RangeInclusive;
 
 /// The number of a module in its process.
@@ -27,8 +28,49 @@ impl fmt::Display for ModuleId {
     }
 }
 
-/// What [`Process::add`](crate::Process::add) has to know about a module besides its section: above
-/// all, where it is loaded.
+/// An `.eh_frame` section, beside its bytes. All addresses are as linked.
+///
+/// ```
+/// use dwcheck::{EhFrame, Module};
+///
+/// let module = Module::at(0x7f00_0000_0000).eh_frame(EhFrame::at(0x2040));
+/// assert_eq!(module.eh_frame, Some(EhFrame::at(0x2040)));
+/// ```
+#[derive(Clone, Debug, PartialEq, Eq, Hash)]
+#[non_exhaustive]
+pub struct EhFrame {
+    /// The address of the section's first byte.
+    pub address: u64,
+    /// What pointers relative to text count from. If this is `None`, a section with such a pointer is
+    /// refused. Compilers don't write them.
+    pub text_start: Option<NonZeroU64>,
+    /// The same for pointers relative to data.
+    pub data_start: Option<NonZeroU64>,
+    /// Whether the section is for aarch64, which has instructions of its own.
+    pub is_aarch64: bool,
+}
+
+impl EhFrame {
+    /// A section whose first byte has this address, for another processor than aarch64.
+    pub const fn at(address: u64) -> EhFrame {
+        EhFrame {
+            address,
+            text_start: None,
+            data_start: None,
+            is_aarch64: false,
+        }
+    }
+
+    /// The same section, but for aarch64.
+    #[must_use]
+    pub fn aarch64(mut self) -> EhFrame {
+        self.is_aarch64 = true;
+        self
+    }
+}
+
+/// What [`Process::add`](crate::Process::add) has to know about a module besides the bytes of its
+/// section: above all, where it is loaded.
 ///
 /// ```
 /// use dwcheck::Module;
@@ -52,21 +94,32 @@ pub struct Module {
     pub cookie: u64,
     /// A bound on the number of bytes that the module's table takes; see [`Module::room`].
     pub room: usize,
+    /// What has to be known of an `.eh_frame` section. If this is `None`, the section is a
+    /// `.debug_frame` section.
+    pub eh_frame: Option<EhFrame>,
 }
 
 impl Module {
     /// For [`room`](Module::room): no bound on the bytes that the table of a section may take.
     pub const NO_BOUND: usize = usize::MAX;
 
-    /// A module that is loaded at this address, with no range, the cookie 0, and no bound on the
-    /// bytes that its table may take.
+    /// A module with a `.debug_frame` section that is loaded at this address, with no range, the
+    /// cookie 0, and no bound on the bytes that its table may take.
     pub const fn at(load_address: u64) -> Module {
         Module {
             load_address,
             range: None,
             cookie: 0,
             room: Module::NO_BOUND,
+            eh_frame: None,
         }
+    }
+
+    /// The same module, but its section is this `.eh_frame` section.
+    #[must_use]
+    pub fn eh_frame(mut self, section: EhFrame) -> Module {
+        self.eh_frame = Some(section);
+        self
     }
 
     /// The same module, but it answers for these addresses, as loaded, and for no others. For
@@ -104,6 +157,8 @@ impl Module {
             Some(range) => (*range.start(), *range.end()),
             None => (0, 0),
         };
+        let eh_frame = self.eh_frame.as_ref();
+        let number = |address: Option<NonZeroU64>| address.map_or(0, NonZeroU64::get);
         ffi::Module {
             frame: section.as_ptr(),
             frame_length: section.len(),
@@ -115,10 +170,14 @@ impl Module {
             order: target.order_number(),
             address_size: target.address_bytes(),
             has_range: u32::from(self.range.is_some()),
-            reserved: 0,
-            reserved_section: 0,
-            reserved_length: 0,
-            reserved_address: 0,
+            kind: match eh_frame {
+                None => ffi::DEBUG_FRAME,
+                Some(section) if section.is_aarch64 => ffi::EH_FRAME_AARCH64,
+                Some(_) => ffi::EH_FRAME,
+            },
+            section_address: eh_frame.map_or(0, |section| section.address),
+            text_start: number(eh_frame.and_then(|section| section.text_start)),
+            data_start: number(eh_frame.and_then(|section| section.data_start)),
         }
     }
 }

@@ -16,8 +16,12 @@ use std::ptr::null_mut;
 /// The number of frames for which the first walk of [`Process::backtrace`] has room.
 const FIRST_FRAMES: usize = 64;
 
-/// A process: its modules, each a compiled `.debug_frame` section with a load address and the range of
-/// addresses that it answers for.
+/// The number of bytes for which the first call of [`Process::rule_bytes`] has room. The expressions
+/// of compilers are shorter.
+const EXPRESSION_BYTES: usize = 64;
+
+/// A process: its modules, each a compiled `.debug_frame` or `.eh_frame` section with a load address
+/// and the range of addresses that it answers for.
 ///
 /// A look-up uses the module that answers for the address. It finds that module in O(log n) time
 /// among n modules. The addresses that are passed to look-ups and walks are as loaded: they are those
@@ -27,7 +31,7 @@ const FIRST_FRAMES: usize = 64;
 /// at once, by `&self`, and no lock is taken. To change modules while others read, change another
 /// process, which [`share`](Process::share) makes without copying the tables.
 ///
-/// As measured on x86-64, [`add`](Process::add) takes 82 KB of stack. The walks take 3 KB, or 41 KB
+/// As measured on x86-64, [`add`](Process::add) takes 84 KB of stack. The walks take 3 KB, or 41 KB
 /// if a register with a number of 96 or more has a known content, and [`unwind`](Process::unwind)
 /// takes 7 KB; each takes 2 KB more if a rule is an expression. If a thread's stack is too small, the
 /// program ends, as with any stack overflow.
@@ -67,10 +71,10 @@ pub struct Process {
 unsafe impl Send for Process {}
 
 // SAFETY: the calls that this crate makes with a `&Process` only read: `dwcheck_module_at`,
-// `dwcheck_row_at`, `dwcheck_unwind`, `dwcheck_backtrace`, `dwcheck_cursor_step` and
-// `dwcheck_process_share` take the process by a pointer to const, and the library allows any number of
-// them at once, in any threads. The calls that change a process, `dwcheck_process_add`, `_remove` and
-// `_close`, are made with a `&mut Process`.
+// `dwcheck_row_at`, `dwcheck_rule_bytes`, `dwcheck_unwind`, `dwcheck_backtrace`,
+// `dwcheck_cursor_step` and `dwcheck_process_share` take the process by a pointer to const, and the
+// library allows any number of them at once, in any threads. The calls that change a process,
+// `dwcheck_process_add`, `_remove` and `_close`, are made with a `&mut Process`.
 unsafe impl Sync for Process {}
 
 impl Process {
@@ -91,10 +95,11 @@ impl Process {
         self.target
     }
 
-    /// Checks a module's `.debug_frame` section, compiles all its rows, and adds the module.
+    /// Checks a module's section, compiles all its rows, and adds the module.
     ///
     /// The section's bytes aren't needed after the call. `module` says where the module is loaded,
-    /// and for which addresses it answers. No two modules may answer for the same address.
+    /// for which addresses it answers, and whether the section is `.debug_frame` or `.eh_frame`. No
+    /// two modules may answer for the same address.
     ///
     /// This takes O(n log n) time, where n is the number of bytes of the section's programs and of
     /// the rows. The number of rows may be in proportion to the section's length. Also, the entries
@@ -102,8 +107,7 @@ impl Process {
     ///
     /// # Errors
     ///
-    /// [`Error::Refused`] with the first fault of the section, [`Error::Range`],
-    /// [`Error::Overlaps`] with the id of the other module, [`Error::NoRoom`], [`Error::NoMemory`]
+    /// [`Error::Refused`] with the first fault of the section, [`Error::Range`], [`Error::Overlaps`] with the id of the other module, [`Error::NoRoom`], [`Error::NoMemory`]
     /// or [`Error::TooLong`]. After an error the process is unchanged.
     ///
     /// ```
@@ -245,6 +249,60 @@ impl Process {
     /// allocate memory.
     pub fn rows(&self) -> Rows<'_> {
         Rows::new(self)
+    }
+
+    /// The bytes of a rule's expression in the row that covers an address: the rule of this register,
+    /// or of the CFA if `register` is `None`. `None` if there is no row, or if the rule has no
+    /// expression.
+    ///
+    /// The process has its own copy of these bytes, so the section isn't needed.
+    ///
+    /// ```
+    /// # const SECTION: &[u8] = &[
+    /// #     0x14, 0, 0, 0, 0xff, 0xff, 0xff, 0xff, 4, 0, 8, 0, 1, 0x78, 0x10, 0x0c, 7, 8, 0x90, 1, 0, 0, 0, 0,
+    /// #     0x1c, 0, 0, 0, 0, 0, 0, 0, 0, 0x10, 0, 0, 0, 0, 0, 0, 0x20, 0, 0, 0, 0, 0, 0, 0,
+    /// #     0x10, 6, 2, 0x23, 8, 0, 0, 0,
+    /// # ];
+    /// use dwcheck::{Module, Process, Target};
+    ///
+    /// let mut process = Process::new(Target::LITTLE_64);
+    /// process.add(SECTION, Module::at(0))?;
+    /// // register 6 is saved at the address that DW_OP_plus_uconst 8 gives
+    /// assert_eq!(process.rule_bytes(0x1000, Some(6)), Some(vec![0x23, 8]));
+    /// assert_eq!(process.rule_bytes(0x1000, None), None); // the CFA is register 7 plus 8
+    /// # Ok::<(), dwcheck::Error>(())
+    /// ```
+    pub fn rule_bytes(&self, address: u64, register: Option<u16>) -> Option<Vec<u8>> {
+        let mut bytes = vec![0; EXPRESSION_BYTES];
+        let size = self.rule_bytes_into(address, register, &mut bytes)?;
+        if size > bytes.len() {
+            bytes.resize(size, 0);
+            self.rule_bytes_into(address, register, &mut bytes)?;
+        }
+        bytes.truncate(size);
+        Some(bytes)
+    }
+
+    /// Writes the bytes of a rule's expression to `bytes`, as many as fit, and returns their number.
+    fn rule_bytes_into(
+        &self,
+        address: u64,
+        register: Option<u16>,
+        bytes: &mut [u8],
+    ) -> Option<usize> {
+        let mut size = 0;
+        // SAFETY: the process is only read, `bytes` is borrowed exclusively, and `size` is a local.
+        let status = unsafe {
+            ffi::dwcheck_rule_bytes(
+                &self.raw,
+                address,
+                register.map_or(ffi::CFA_RULE, u32::from),
+                bytes.as_mut_ptr(),
+                bytes.len(),
+                &mut size,
+            )
+        };
+        (status == ffi::DONE).then_some(size)
     }
 
     /// Writes the row that covers `address` into `row`. `slots` is where the library writes the

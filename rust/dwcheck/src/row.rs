@@ -4,9 +4,10 @@ use crate::ffi;
 use crate::module::ModuleId;
 use std::ops::Range;
 
-/// Where an expression lies in a section. For an expression of a row, the section is the one that
-/// was passed to [`Process::add`](crate::Process::add). The process doesn't keep the section's
-/// bytes.
+/// Where an expression lies in a section. For an expression of a row, the section is the
+/// `.debug_frame` section that was passed to [`Process::add`](crate::Process::add); of an `.eh_frame`
+/// section only the length counts. [`Process::rule_bytes`](crate::Process::rule_bytes) gives the
+/// bytes in both cases.
 #[derive(Clone, Copy, Debug, Default, PartialEq, Eq, Hash)]
 #[repr(C)]
 pub struct Span {

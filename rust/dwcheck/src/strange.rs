@@ -53,7 +53,7 @@ fn answers_and_reasons() {
 fn callers() {
     let register = |number| ffi::Register {
         value: 7,
-        kind: ffi::VALUE,
+        kind: ffi::ANSWER_VALUE,
         number,
     };
     let raw = ffi::Caller {

@@ -26,7 +26,7 @@ impl Frame {
     /// The frame's canonical frame address (CFA). `None` if there is no row for the frame.
     pub fn cfa(&self) -> Option<Answer> {
         match self.raw.cfa.kind {
-            ffi::NOT_COVERED => None,
+            ffi::ANSWER_NOT_COVERED => None,
             kind => Some(Answer::of(kind, self.raw.cfa.value)),
         }
     }

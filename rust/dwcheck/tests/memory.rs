@@ -10,8 +10,8 @@ mod common;
 
 use common::*;
 use dwcheck::{
-    check, evaluate, locations, Abi, Context, Error, ExpressionKind, Lookup, Process, Registers,
-    State, Target,
+    check, evaluate, locations, Abi, Context, DebugFrame, DebugLoclists, Error, ExpressionKind,
+    Lookup, Process, Registers, State, Target,
 };
 use std::cell::Cell;
 use std::os::raw::c_void;
@@ -87,7 +87,7 @@ fn sections() {
         return eprintln!("another allocator is in place: nothing is refused");
     }
     let (frame, lists) = (x(), l());
-    let asked = refuse_each(|| check(&frame, &lists, Target::LITTLE_64));
+    let asked = refuse_each(|| check(DebugFrame(&frame), DebugLoclists(&lists), Target::LITTLE_64));
     assert!(asked > 0);
     let lookup = Lookup {
         list: 0xc,

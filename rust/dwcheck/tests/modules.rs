@@ -3,7 +3,7 @@
 mod common;
 
 use common::*;
-use dwcheck::{Error, Module, ModuleId, Process, Target};
+use dwcheck::{CfaRule, EhFrame, Error, FaultKind, Module, ModuleId, Process, Rule, Target};
 use std::ops::RangeInclusive;
 
 /// Adds row 1's section, loaded at `load_address`, for a range of addresses. The section covers 0x1000
@@ -137,4 +137,91 @@ fn room_is_a_bound_and_no_request() {
     let refused = add(&mut process, &section[..5], 0x5000);
     assert_eq!(refusal(refused), Some(("Truncated", 4)));
     assert!(process.row(0x1000).is_some());
+}
+
+/// An `.eh_frame` section at 0x2000, by GNU as and ld for x86-64: the functions 0x1000..0x1009 and
+/// 0x1009..0x100c, the second a signal frame whose CFA is the value of an expression.
+fn eh_frame() -> Vec<u8> {
+    hex(
+        "1c000000 00000000 01 7a504c5200 01 78 10 07 9bed0f0000 1b 1b 0c0708 9001 0000
+         24000000 24000000 d8efffff 09000000 04 cf1f0000 41 0e10 8602 43 0d06 41 2e10 41 0a 41 0c0708 41 0b 00000000
+         14000000 00000000 01 7a525300 01 78 10 01 1b 0c0708 9001 00
+         1c000000 1c000000 9defffff 03000000 00 0f03770806 16030223 08 42 0803 0000",
+    )
+}
+
+#[test]
+fn an_eh_frame_module_has_the_rows_that_readelf_prints() {
+    let mut process = Process::new(Target::LITTLE_64);
+    let module = Module::at(0x40_0000).eh_frame(EhFrame::at(0x2000));
+    let id = process.add(&eh_frame(), module).unwrap();
+    assert_eq!(
+        process.module_at(0x40_1000).unwrap().range,
+        0x40_1000..=0x40_100b
+    );
+    let row = process.row(0x40_1003).unwrap();
+    assert_eq!((row.id, row.addresses), (id, 0x1001..0x1004));
+    let cfa = CfaRule::RegisterAndOffset {
+        register: 7,
+        offset: 16,
+    };
+    assert_eq!(row.cfa, cfa);
+    assert_eq!(row.rules, [(6, Rule::Offset(-16)), (16, Rule::Offset(-8))]);
+    assert_eq!(process.row(0x40_100c), None);
+}
+
+#[test]
+fn the_bytes_of_an_expression_are_those_of_its_rule() {
+    let mut process = Process::new(Target::LITTLE_64);
+    let module = Module::at(0).eh_frame(EhFrame::at(0x2000));
+    process.add(&eh_frame(), module).unwrap();
+    // DW_OP_breg7 8, DW_OP_deref; DW_OP_plus_uconst 8
+    assert_eq!(process.rule_bytes(0x1009, None), Some(hex("770806")));
+    assert_eq!(process.rule_bytes(0x1009, Some(3)), Some(hex("2308")));
+    for (address, register) in [(0x1009, Some(16)), (0x100b, Some(3)), (0x1000, None)] {
+        assert_eq!(
+            process.rule_bytes(address, register),
+            None,
+            "{:#x}",
+            address
+        );
+    }
+    assert_eq!(process.rule_bytes(0x2000, None), None);
+}
+
+#[test]
+fn a_fault_of_eh_frame_is_at_its_own_offset() {
+    let mut process = Process::new(Target::LITTLE_64);
+    let mut section = eh_frame();
+    *section.last_mut().unwrap() = 0x3f; // no instruction
+    let module = Module::at(0).eh_frame(EhFrame::at(0x2000));
+    match process.add(&section, module) {
+        Err(Error::Refused(fault)) => {
+            assert_eq!(
+                (fault.kind, fault.offset),
+                (FaultKind::UnknownInstruction, 0x83)
+            );
+        }
+        other => panic!("{:?}", other),
+    }
+    // the same bytes aren't a `.debug_frame` section
+    assert!(matches!(
+        process.add(&eh_frame(), Module::at(0)),
+        Err(Error::Refused(_))
+    ));
+    assert_eq!(process.row(0x1000), None);
+}
+
+#[test]
+fn only_aarch64_has_its_instructions() {
+    // pacibsp and autibsp, by GNU as and ld
+    let section = hex("14000000 00000000 01 7a524200 04 78 1e 01 1b 0c1f00 000000
+         20000000 1c000000 e0efffff 18000000 00 41 2d 41 0e10 9d02 9e01 42 dedd 0e00 41 2d 000000");
+    let module = |section| Module::at(0).eh_frame(section);
+    let mut process = Process::new(Target::LITTLE_64);
+    assert!(process
+        .add(&section, module(EhFrame::at(0x2000).aarch64()))
+        .is_ok());
+    let mut process = Process::new(Target::LITTLE_64);
+    assert!(process.add(&section, module(EhFrame::at(0x2000))).is_err());
 }

@@ -3,22 +3,40 @@
 mod common;
 
 use common::*;
-use dwcheck::{check, Error, FaultKind, Section, Target};
+use dwcheck::{check, DebugFrame, DebugLoclists, Error, FaultKind, Section, Target};
 
 fn frame(bytes: &[u8]) -> Option<(&'static str, u32)> {
-    refusal(check(bytes, &[], Target::LITTLE_64))
+    refusal(check(
+        DebugFrame(bytes),
+        DebugLoclists(&[]),
+        Target::LITTLE_64,
+    ))
 }
 
 fn lists(bytes: &[u8]) -> Option<(&'static str, u32)> {
-    refusal(check(&[], bytes, Target::LITTLE_64))
+    refusal(check(
+        DebugFrame(&[]),
+        DebugLoclists(bytes),
+        Target::LITTLE_64,
+    ))
 }
 
 #[test]
 fn good_sections_are_accepted() {
     assert_eq!(frame(&[]), None);
     for section in [row_1(), x(), with_program("60")] {
-        assert_eq!(check(&section, &row_16(), Target::LITTLE_64), Ok(()));
-        assert_eq!(check(&section, &l(), Target::LITTLE_64), Ok(()));
+        assert_eq!(
+            check(
+                DebugFrame(&section),
+                DebugLoclists(&row_16()),
+                Target::LITTLE_64
+            ),
+            Ok(())
+        );
+        assert_eq!(
+            check(DebugFrame(&section), DebugLoclists(&l()), Target::LITTLE_64),
+            Ok(())
+        );
     }
     // row 19 of docs/WORKED.md, and then location lists: one table with one list
     let wide = "ffffffff 1400000000000000 ffffffffffffffff 04 00 08 00 01 78 10 0c0708 9001";
@@ -31,10 +49,17 @@ fn good_sections_are_accepted() {
 fn other_targets() {
     let big = hex("00000010 ffffffff 04 00 04 00 04 7c 0e 0c0d00 0000
          00000014 00000000 00008000 00000010 42 0e08 8e01 000000");
-    assert_eq!(check(&big, &[], Target::BIG_32), Ok(()));
-    assert!(check(&big, &[], Target::LITTLE_32).is_err());
+    assert_eq!(
+        check(DebugFrame(&big), DebugLoclists(&[]), Target::BIG_32),
+        Ok(())
+    );
+    assert!(check(DebugFrame(&big), DebugLoclists(&[]), Target::LITTLE_32).is_err());
     // the CIE has an address size of 8, which is wrong for a 32-bit target
-    let wrong = refusal(check(&row_1(), &[], Target::LITTLE_32));
+    let wrong = refusal(check(
+        DebugFrame(&row_1()),
+        DebugLoclists(&[]),
+        Target::LITTLE_32,
+    ));
     assert_eq!(wrong, Some(("AddressSize", 10)));
 }
 
@@ -150,10 +175,10 @@ fn location_lists_that_are_refused() {
 fn faults_as_text() {
     let mut frame = row_1();
     frame[28] = 4;
-    let error = check(&frame, &[], Target::LITTLE_64).unwrap_err();
+    let error = check(DebugFrame(&frame), DebugLoclists(&[]), Target::LITTLE_64).unwrap_err();
     assert_eq!(error.to_string(), "frame: 9 NoSuchCie at 0x0000001c");
     let back = hex("0d000000 0500 08 00 00000000 04 10 00 00 00");
-    let error = check(&[], &back, Target::LITTLE_64).unwrap_err();
+    let error = check(DebugFrame(&[]), DebugLoclists(&back), Target::LITTLE_64).unwrap_err();
     assert_eq!(error.to_string(), "lists: 52 BackRange at 0x0000000c");
     let fault = error.fault().unwrap();
     assert_eq!(fault.section, Section::Lists);
@@ -169,14 +194,22 @@ fn faults_as_text() {
 fn each_small_change_has_an_answer() {
     for section in [row_1(), x(), row_16(), l()] {
         for length in 0..section.len() {
-            let _ = check(&section[..length], &section[length..], Target::LITTLE_64);
+            let _ = check(
+                DebugFrame(&section[..length]),
+                DebugLoclists(&section[length..]),
+                Target::LITTLE_64,
+            );
         }
         for place in 0..section.len() {
             for byte in [0, 1, 0x7f, 0x80, 0xff, section[place] ^ 0x40] {
                 let mut changed = section.clone();
                 changed[place] = byte;
-                let _ = check(&changed, &changed, Target::BIG_32);
-                let both = check(&changed, &[], Target::LITTLE_64);
+                let _ = check(
+                    DebugFrame(&changed),
+                    DebugLoclists(&changed),
+                    Target::BIG_32,
+                );
+                let both = check(DebugFrame(&changed), DebugLoclists(&[]), Target::LITTLE_64);
                 assert_eq!(both, add_alone(&changed));
             }
         }

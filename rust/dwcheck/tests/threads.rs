@@ -4,7 +4,9 @@
 mod common;
 
 use common::*;
-use dwcheck::{Abi, Block, Process, Registers, Row, State, Stop, Target};
+use dwcheck::{
+    check, Abi, Block, DebugFrame, DebugLoclists, Process, Registers, Row, State, Stop, Target,
+};
 use std::sync::{mpsc, Barrier, Mutex, RwLock};
 use std::thread;
 
@@ -174,7 +176,11 @@ fn calls_fit_a_small_stack() {
             abi: Abi::X86_64,
         };
         let unwound = process.unwind(0x201010, &state).unwrap();
-        let checked = dwcheck::check(&row_1(), &row_16(), Target::LITTLE_64);
+        let checked = check(
+            DebugFrame(&row_1()),
+            DebugLoclists(&row_16()),
+            Target::LITTLE_64,
+        );
         let good = walks_well(&process) && unwound.is_some() && checked.is_ok();
         good && process.row(0x201010).is_some()
     });

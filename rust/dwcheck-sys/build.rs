@@ -1,16 +1,20 @@
 //! Finds the C library `dwcheck` and tells cargo to link it. The library is looked for in the
-//! folders that DWCHECK_LIB_DIR lists, or, if that variable isn't set, with pkg-config, which also
-//! tells its version.
+//! folders that DWCHECK_LIB_DIR lists, or, if that variable isn't set, with pkg-config. Its version
+//! is checked by pkg-config, or by the file dwcheck.pc if one is in or near the folder.
 
 use std::env;
 use std::ffi::{OsStr, OsString};
-use std::path::PathBuf;
+use std::fs;
+use std::path::{Path, PathBuf};
 use std::process::{exit, Command};
 
 const DIRS: &str = "DWCHECK_LIB_DIR";
 const NAMES: &str = "DWCHECK_LIBS";
 
-/// The versions of the library's interface that this crate is for, in pkg-config's words.
+/// The major version of the library's interface that this crate is for.
+const MAJOR: &str = "2";
+
+/// The same in pkg-config's words.
 const VERSIONS: &str = "dwcheck >= 2 dwcheck < 3";
 
 /// The libraries to link if DWCHECK_LIBS isn't set: one library that has everything, or, if it
@@ -53,12 +57,39 @@ fn from_folders(dirs: &OsStr) -> Result<(), String> {
         Err(_) => find_known(&folders)?,
     };
     for library in found {
+        check_version(&library.folder)?;
         println!("cargo:rerun-if-changed={}", library.file.display());
         println!(
             "cargo:rustc-link-search=native={}",
             library.folder.display()
         );
         println!("cargo:rustc-link-lib={}={}", library.kind, library.name);
+    }
+    Ok(())
+}
+
+/// Refuses a library of another version, if a file dwcheck.pc beside it or in its folder `pkgconfig`
+/// says so.
+fn check_version(folder: &Path) -> Result<(), String> {
+    for file in [
+        folder.join("dwcheck.pc"),
+        folder.join("pkgconfig/dwcheck.pc"),
+    ] {
+        let text = match fs::read_to_string(&file) {
+            Ok(text) => text,
+            Err(_) => continue,
+        };
+        println!("cargo:rerun-if-changed={}", file.display());
+        let version = text.lines().find_map(|line| line.strip_prefix("Version:"));
+        let version = version.unwrap_or("").trim();
+        if version.split('.').next() != Some(MAJOR) {
+            return Err(format!(
+                "{} has version {}, and this crate is for version {}",
+                file.display(),
+                version,
+                MAJOR
+            ));
+        }
     }
     Ok(())
 }

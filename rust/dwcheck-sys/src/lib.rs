@@ -1,0 +1,618 @@
+//! The declarations of `dwcheck.h`, the C interface of `dwcheck`, in the same order and with the same
+//! fields. Names of numbers are the header's without `DWCHECK_`; those of structures are without
+//! `dwcheck_` and in Rust's case. The crate `dwcheck` is the safe wrapper of these calls.
+//!
+//! The header has rules for the caller of every call, such as what pointers point to and which calls
+//! may read a process at once. They hold for callers from Rust too, and nothing checks them.
+//!
+//! The crate's build script finds the library, in the folders that the variable DWCHECK_LIB_DIR lists
+//! or else by pkg-config, and refuses one whose interface has another version.
+//!
+//! ```
+//! use dwcheck_sys::{dwcheck_check, Fault, DONE, LITTLE};
+//!
+//! // The bytes of a CIE: a section without FDEs.
+//! let section = [
+//!     0x14, 0, 0, 0, 0xff, 0xff, 0xff, 0xff, 4, 0, 8, 0, 1, 0x78, 0x10, 0x0c, 7, 8, 0x90, 1, 0, 0, 0, 0,
+//! ];
+//! let (none, mut fault) = ([0u8; 1], Fault::default());
+//! // SAFETY: both pointers are to that many bytes, and `fault` is a local.
+//! let status = unsafe {
+//!     dwcheck_check(section.as_ptr(), section.len(), none.as_ptr(), 0, LITTLE, 8, &mut fault)
+//! };
+//! assert_eq!(status, DONE);
+//! ```
+
+#![warn(rust_2018_idioms, unreachable_pub)]
+
+#[cfg(test)]
+mod layout;
+
+use std::mem::MaybeUninit;
+use std::os::raw::c_void;
+
+/// The call's results are written.
+pub const DONE: u32 = 0;
+/// `fault` says why.
+pub const REFUSED: u32 = 1;
+/// malloc or realloc returned NULL.
+pub const NO_MEMORY: u32 = 2;
+/// The table of the section can take more than `room` bytes.
+pub const NO_ROOM: u32 = 3;
+/// The section or expression has 2^32 bytes or more. (The statuses 4 and 6 are missing here: this
+/// crate passes only byte orders, address sizes and kinds of expressions that the library knows, and
+/// all modules of a process with the same target.)
+pub const TOO_LONG: u32 = 5;
+/// What was looked up doesn't exist.
+pub const NONE: u32 = 7;
+/// The module's range shares an address with another module's range.
+pub const OVERLAPS: u32 = 8;
+/// The module has no range that it could answer for.
+pub const BAD_RANGE: u32 = 9;
+/// A register that is known has no place in a cursor.
+pub const NO_PLACE: u32 = 10;
+
+/// Byte orders: the least significant byte first, or last.
+pub const LITTLE: u32 = 0;
+pub const BIG: u32 = 1;
+
+/// A fault's `offset` counts bytes of the frame section, from 0. (The four IN_ constants are the
+/// values of a fault's `within`.)
+pub const IN_FRAME: u32 = 0;
+/// A fault's `offset` counts bytes of the location list section.
+pub const IN_LISTS: u32 = 1;
+/// A fault's `offset` counts bytes of the expression.
+pub const IN_EXPRESSION: u32 = 2;
+/// A fault's `offset` counts elements of `kept`; `kept_length` stands for the stack pointer.
+pub const IN_ABI: u32 = 3;
+
+/// Why an input is refused. `number` says what is wrong (docs/PROFILE.md lists the numbers),
+/// `offset` says where, and `within` says what the offset counts.
+#[repr(C)]
+#[derive(Clone, Copy, Debug, Default)]
+pub struct Fault {
+    pub number: u32,
+    pub offset: u32,
+    pub within: u32,
+    pub reserved: u32,
+}
+
+/// A process: its modules, each a compiled .debug_frame or .eh_frame section with a load address. The
+/// fields are private. A process whose bytes are all 0 is closed: it has no module, and every call accepts it.
+/// The library writes one byte of `opaque_open`, and may leave its other bytes uninitialized.
+#[repr(C)]
+pub struct Process {
+    pub opaque: *mut c_void,
+    pub opaque_open: MaybeUninit<u64>,
+}
+
+/// What a module's section is: .debug_frame of DWARF 5.
+pub const DEBUG_FRAME: u32 = 0;
+/// .eh_frame.
+pub const EH_FRAME: u32 = 1;
+/// .eh_frame of aarch64, which has instructions of its own.
+pub const EH_FRAME_AARCH64: u32 = 2;
+
+/// A module to be added: `frame_length` bytes of its section, its load address and, if has_range isn't
+/// 0, the first and the last address, as loaded, that it answers for. Otherwise these are the first
+/// and the last address that the section covers. `cookie` is a number of the caller's own. `room`
+/// bounds the number of bytes that the module's table stores; SIZE_MAX sets no bound. `kind` says what
+/// the section is. The other three are for .eh_frame, and are addresses as linked: that of the
+/// section, and what pointers relative to text and to data count from, or 0 if that isn't known.
+#[repr(C)]
+pub struct Module {
+    pub frame: *const u8,
+    pub frame_length: usize,
+    pub load_address: u64,
+    pub first: u64,
+    pub last: u64,
+    pub cookie: u64,
+    pub room: usize,
+    pub order: u32,
+    pub address_size: u32,
+    pub has_range: u32,
+    pub kind: u32,
+    pub section_address: u64,
+    pub text_start: u64,
+    pub data_start: u64,
+}
+
+/// A module of a process: its id, its cookie, its load address, and the first and the last address,
+/// as loaded, that it answers for.
+#[repr(C)]
+#[derive(Clone, Copy, Debug, Default)]
+pub struct Loaded {
+    pub id: u64,
+    pub cookie: u64,
+    pub load_address: u64,
+    pub first: u64,
+    pub last: u64,
+}
+
+/// The value isn't available. (The seven RULE_ constants are the values of a rule's `kind`.)
+pub const RULE_UNDEFINED: u32 = 1;
+/// The value that the register has now.
+pub const RULE_SAME_VALUE: u32 = 2;
+/// Saved in memory at CFA + `offset`.
+pub const RULE_OFFSET: u32 = 3;
+/// The number CFA + `offset`.
+pub const RULE_VAL_OFFSET: u32 = 4;
+/// The value that register `source` has now.
+pub const RULE_REGISTER: u32 = 5;
+/// Saved in memory at the address that the expression gives.
+pub const RULE_EXPRESSION: u32 = 6;
+/// The value that the expression gives.
+pub const RULE_VAL_EXPRESSION: u32 = 7;
+
+/// How to find the value of register `reg` in the caller. If `kind` is one of the two for
+/// expressions, the expression begins at `offset` in the section and has `length` bytes.
+#[repr(C)]
+#[derive(Clone, Copy, Debug, Default)]
+pub struct Rule {
+    pub offset: i64,
+    pub length: u64,
+    pub reg: u16,
+    pub source: u16,
+    pub kind: u32,
+}
+
+pub const MAX_RULES: usize = 128;
+
+/// Stands for the CFA's rule where a register's number is expected.
+pub const CFA_RULE: u32 = 0x10000;
+
+/// A row of the module with this id, cookie and load address. The row covers the addresses as linked
+/// from `start` up to, but not including, `end`. If cfa.kind is RULE_VAL_OFFSET, the CFA is the
+/// value of register cfa.reg plus cfa.offset. If it is RULE_VAL_EXPRESSION, the CFA is the value
+/// that an expression gives. `return_reg` is the register of the return address, and `count` the
+/// number of registers that have a rule, at most MAX_RULES.
+#[repr(C)]
+#[derive(Clone, Copy, Debug, Default)]
+pub struct Row {
+    pub id: u64,
+    pub cookie: u64,
+    pub load_address: u64,
+    pub start: u64,
+    pub end: u64,
+    pub cfa: Rule,
+    pub return_reg: u32,
+    pub count: u32,
+}
+
+/// A block of memory that starts at address `base`.
+#[repr(C)]
+#[derive(Clone, Copy)]
+pub struct Block {
+    pub base: u64,
+    pub bytes: *const u8,
+    pub length: usize,
+}
+
+/// The state of a stopped thread. The value of register n is contents[n] if contents[n] and
+/// known[n / 8] exist and bit n % 8 of known[n / 8] is set (bit 0 is the least significant);
+/// otherwise it isn't known. Memory is the bytes of the blocks; if two blocks contain an address,
+/// the byte of the first block counts. The ABI is `kept` (the callee-saved registers, 127 at most)
+/// and, if has_stack_pointer isn't 0, stack_pointer. The ABI applies to registers to which the row
+/// gives no rule: in the caller, a register in `kept` has the value that it has now, the stack
+/// pointer is the CFA, and any other register is undefined. The ABI names no register twice.
+#[repr(C)]
+pub struct State {
+    pub contents: *const u64,
+    pub contents_length: usize,
+    pub known: *const u8,
+    pub known_length: usize,
+    pub blocks: *const Block,
+    pub blocks_length: usize,
+    pub kept: *const u16,
+    pub kept_length: usize,
+    pub stack_pointer: u16,
+    pub has_stack_pointer: u16,
+    pub reserved: u32,
+}
+
+/// No FDE covers the frame. This occurs only in the last frame of a walk. (This and the next four
+/// are the values of `kind` in `Answer` and `Register`.)
+pub const ANSWER_NOT_COVERED: u32 = 0;
+/// The CFA, return address or register is `value`, which is below 2^w, where w is the address size
+/// in bits.
+pub const ANSWER_VALUE: u32 = 1;
+/// The CFA, return address or register isn't available.
+pub const ANSWER_UNDEFINED: u32 = 2;
+/// The CFA, return address or register depends on a register or memory that isn't known, or on
+/// memory past the highest address, 2^w - 1, where w is the address size in bits.
+pub const ANSWER_UNREADABLE: u32 = 3;
+/// The expression for the CFA, return address or register divides by zero.
+pub const ANSWER_DIVISION_BY_ZERO: u32 = 4;
+
+/// What is known of a CFA or a return address.
+#[repr(C)]
+#[derive(Clone, Copy, Debug, Default)]
+pub struct Answer {
+    pub value: u64,
+    pub kind: u32,
+    pub reserved: u32,
+}
+
+/// What is known of the register with this number.
+#[repr(C)]
+#[derive(Clone, Copy, Debug, Default)]
+pub struct Register {
+    pub value: u64,
+    pub kind: u32,
+    pub number: u32,
+}
+
+/// A caller. `cfa` is the canonical frame address of the frame that was called. `return_address` is
+/// where the caller continues, just after the call. `count` is the number of registers that have a
+/// rule from the row or the ABI, at most MAX_REGISTERS.
+#[repr(C)]
+#[derive(Clone, Copy, Debug, Default)]
+pub struct Caller {
+    pub cfa: Answer,
+    pub return_address: Answer,
+    pub count: u64,
+}
+
+pub const MAX_REGISTERS: usize = 256;
+
+/// A frame: its address as loaded, and its canonical frame address (CFA).
+#[repr(C)]
+#[derive(Clone, Copy, Debug, Default)]
+pub struct Frame {
+    pub address: u64,
+    pub cfa: Answer,
+}
+
+/// The frame of a cursor is looked up at its address. (At any stage but this one and the next, the
+/// walk has ended, and the stage minus 1 is the reason.)
+pub const CURSOR_EXACT: u32 = 0;
+/// The frame of a cursor is looked up at its address minus 1, inside of the call.
+pub const CURSOR_CALLER: u32 = 1;
+
+/// Where a walk up a stack is: the address of a frame, and its registers. The value of register n is
+/// contents[n], if known[n] isn't 0; registers with numbers of 96 or more have no place. Any bytes
+/// are a cursor.
+#[repr(C)]
+#[derive(Clone, Copy)]
+pub struct Cursor {
+    pub contents: [u64; 96],
+    pub known: [u8; 96],
+    pub address: u64,
+    pub stage: u32,
+    pub reserved: u32,
+}
+
+impl Cursor {
+    /// No register is known.
+    pub const EMPTY: Cursor = Cursor {
+        contents: [0; 96],
+        known: [0; 96],
+        address: 0,
+        stage: CURSOR_EXACT,
+        reserved: 0,
+    };
+}
+
+/// Reads `length` bytes of memory at `address` into `bytes`, and returns whether it could. `order` and
+/// `address_size` are those of the process.
+#[repr(C)]
+pub struct Reader {
+    pub read: Option<unsafe extern "C" fn(*mut c_void, u64, *mut u8, usize) -> bool>,
+    pub data: *mut c_void,
+    pub order: u32,
+    pub address_size: u32,
+}
+
+/// The walk ends because `frames` has no room for more. (The five STOP_ constants are the reasons.)
+pub const STOP_LIMIT: u32 = 0;
+/// There is no row for the last frame.
+pub const STOP_NOT_COVERED: u32 = 1;
+/// The return address of the last frame is undefined. Either the row's rule says so, and then the
+/// walk is complete (DWARF 5, section 6.4.4); or neither the row nor `kept` names the return
+/// address register.
+pub const STOP_RETURN_UNDEFINED: u32 = 2;
+/// The return address of the last frame is UNREADABLE.
+pub const STOP_RETURN_UNREADABLE: u32 = 3;
+/// The return address of the last frame is DIVISION_BY_ZERO.
+pub const STOP_RETURN_DIVISION_BY_ZERO: u32 = 4;
+
+/// The expression is the rule of a CFA: the stack is empty at first. (This and the next two are the
+/// kinds of expressions.)
+pub const EXPRESSION_CFA: u32 = 0;
+/// The expression is in the rule of a register: the stack begins with the CFA.
+pub const EXPRESSION_REGISTER: u32 = 1;
+/// The expression is the location of an object: the stack is empty at first.
+pub const EXPRESSION_LOCATION: u32 = 2;
+
+/// Values that an expression may need and that depend on where the program stopped: the CFA, the
+/// frame base (for DW_OP_fbreg) and the address of the object (for DW_OP_push_object_address). Each
+/// is known only if its flag, such as has_cfa, isn't 0.
+#[repr(C)]
+#[derive(Clone, Copy, Debug, Default)]
+pub struct Context {
+    pub cfa: u64,
+    pub frame_base: u64,
+    pub object: u64,
+    pub has_cfa: u32,
+    pub has_frame_base: u32,
+    pub has_object: u32,
+    pub reserved: u32,
+}
+
+/// The result is `value`, for the rule of a CFA or register. (This and the next eight are the
+/// values of `kind` in `Value`. Those from LOCATION_NOWHERE to LOCATION_BYTES also occur in
+/// `Piece`.)
+pub const OUTCOME_VALUE: u32 = 0;
+/// The operation at `offset` needs a register, memory or a context value that isn't known, or reads
+/// memory past 2^w - 1. If has_cfa is 0, the rule of a register always has this outcome, at offset
+/// 0 and after 0 steps.
+pub const OUTCOME_UNREADABLE: u32 = 1;
+/// The operation at `offset` divides by zero.
+pub const OUTCOME_DIVISION_BY_ZERO: u32 = 2;
+/// The object, or this piece of it, was optimized away.
+pub const LOCATION_NOWHERE: u32 = 3;
+/// In memory, at `value`.
+pub const LOCATION_ADDRESS: u32 = 4;
+/// In register `value`.
+pub const LOCATION_REGISTER: u32 = 5;
+/// Nowhere, but the object's value is `value`.
+pub const LOCATION_VALUE: u32 = 6;
+/// Nowhere, but the object's value is bytes, and `value` is their number.
+pub const LOCATION_BYTES: u32 = 7;
+/// `count` pieces, 32 at most.
+pub const LOCATION_PIECES: u32 = 8;
+
+/// The outcome of an expression. `value` is 0 for kinds whose comment doesn't mention it. `steps`
+/// is the number of operations that were reached, including one that failed.
+#[repr(C)]
+#[derive(Clone, Copy, Debug, Default)]
+pub struct Value {
+    pub value: u64,
+    pub kind: u32,
+    pub offset: u32,
+    pub steps: u32,
+    pub count: u32,
+}
+
+/// A piece: where it is (`kind` and `value`, as in `Value`), and its size. The size is in bytes;
+/// but if is_bits isn't 0, it is in bits, and the piece begins at bit bit_offset.
+#[repr(C)]
+#[derive(Clone, Copy, Debug, Default)]
+pub struct Piece {
+    pub value: u64,
+    pub kind: u32,
+    pub size: u32,
+    pub bit_offset: u32,
+    pub is_bits: u32,
+}
+
+pub const MAX_PIECES: usize = 32;
+
+/// What to look up: `address`, an address as linked, in the list whose first byte is at offset
+/// `list` of the section. `base` is the base address of the unit to which the list belongs.
+#[repr(C)]
+#[derive(Clone, Copy, Debug, Default)]
+pub struct Lookup {
+    pub base: u64,
+    pub address: u64,
+    pub list: u32,
+    pub reserved: u32,
+}
+
+/// An expression: the offset in the section where it begins, and its length in bytes.
+#[repr(C)]
+#[derive(Clone, Copy, Debug, Default)]
+pub struct Location {
+    pub offset: u64,
+    pub length: u64,
+}
+
+extern "C" {
+    /// The version of the library's interface: 65536 * major + minor. A program keeps working with
+    /// a library that has the same major version and the same or a later minor version.
+    pub fn dwcheck_version() -> u32;
+
+    /// Writes the name of a fault, such as "NoSuchCie", to `text`, without a NUL at the end and as
+    /// much as fits. Writes the length of the whole name, at most 22, to `size`. Returns DONE; or
+    /// NONE if no fault has the number, and then nothing is written. The call neither allocates nor
+    /// frees.
+    pub fn dwcheck_fault_name(
+        number: u32,
+        text: *mut u8,
+        text_length: usize,
+        size: *mut usize,
+    ) -> u32;
+
+    /// Checks a .debug_frame section and a .debug_loclists section, either of which may be empty.
+    /// Returns DONE if both are well formed; REFUSED, with the first fault in `fault`, if one
+    /// isn't; NO_MEMORY; or BAD_TARGET. A section of 2^32 bytes or more is refused with fault 61,
+    /// SectionTooLong. The length of the frame section is checked first, then that of the lists,
+    /// then the frame section itself, then the lists. The call allocates memory in proportion to
+    /// the sections, and frees it.
+    pub fn dwcheck_check(
+        frame: *const u8,
+        frame_length: usize,
+        lists: *const u8,
+        lists_length: usize,
+        order: u32,
+        address_size: u32,
+        fault: *mut Fault,
+    ) -> u32;
+
+    /// Checks a module's section, compiles all its rows into a table, and adds the module to the
+    /// process. The section's bytes aren't needed after the call returns. `id` becomes the module's
+    /// id. Ids count up from 1, so a process doesn't give an id twice while it is open, even if the
+    /// module is removed. A process that dwcheck_process_share makes counts on from the same number.
+    /// In the table, rows may share their rules. The call may return NO_ROOM although the table
+    /// would fit thanks to this sharing. `room` doesn't bound the memory that the call uses while it
+    /// checks and compiles. No two modules may answer for the same address. Returns DONE; REFUSED
+    /// with the first fault of the section; NO_MEMORY; NO_ROOM; BAD_TARGET; TOO_LONG; BAD_KIND;
+    /// OVERLAPS, and
+    /// then `id` becomes the id of a module whose range shares an address with this one's; or
+    /// BAD_RANGE. BAD_RANGE means that `first` is above `last` or `last` is 2^w or more; or that
+    /// has_range is 0, and the section covers no address, or covers addresses on both sides of the
+    /// highest one, 2^w - 1, as loaded. Only DONE changes the process, only DONE and OVERLAPS write
+    /// `id`, and only REFUSED writes `fault`.
+    pub fn dwcheck_process_add(
+        process: *mut Process,
+        module: *const Module,
+        id: *mut u64,
+        fault: *mut Fault,
+    ) -> u32;
+
+    /// Removes the module with this id. Returns DONE; or NONE if no module has this id. The call
+    /// doesn't allocate. It frees the module's table if no other process shares the table.
+    pub fn dwcheck_process_remove(process: *mut Process, id: u64) -> u32;
+
+    /// Makes `other` a process with the modules of `process`, after closing what `other` was
+    /// before. If `process` is closed, `other` is closed too, and the call returns DONE. The modules
+    /// keep their ids. The tables are shared, not copied, and are freed with the last process that
+    /// has them. Returns DONE; or NO_MEMORY, and then `other` is unchanged. `process` is unchanged in
+    /// either case.
+    pub fn dwcheck_process_share(process: *const Process, other: *mut Process) -> u32;
+
+    /// Releases all modules and closes the process. A closed process may be closed again.
+    pub fn dwcheck_process_close(process: *mut Process);
+
+    /// Writes the module that answers for `address`, an address as loaded. Returns DONE; or NONE if
+    /// no module does, and then nothing is written. The call takes O(log n) time among n modules. It
+    /// neither allocates nor frees.
+    pub fn dwcheck_module_at(process: *const Process, address: u64, module: *mut Loaded) -> u32;
+
+    /// Writes the row that covers `address`, an address as loaded, from the module that answers for
+    /// the address. The rules of registers go into `rules` in ascending order of registers, as many
+    /// as fit. Returns DONE; or NONE if there is no such row, and then nothing is written. The call
+    /// neither allocates nor frees.
+    pub fn dwcheck_row_at(
+        process: *const Process,
+        address: u64,
+        row: *mut Row,
+        rules: *mut Rule,
+        rules_length: usize,
+    ) -> u32;
+
+    /// Writes the bytes of a rule's expression to `bytes`, as many as fit, and their number to `size`.
+    /// The rule is that of register `reg`, or of the CFA if `reg` is CFA_RULE, in the row that
+    /// dwcheck_row_at gives for `address`. Returns DONE; or NONE if there is no row, or if the rule has
+    /// no expression, and then nothing is written. The call neither allocates nor frees.
+    pub fn dwcheck_rule_bytes(
+        process: *const Process,
+        address: u64,
+        reg: u32,
+        bytes: *mut u8,
+        bytes_length: usize,
+        size: *mut usize,
+    ) -> u32;
+
+    /// Writes the caller of the frame at `address`, an address as loaded, by the row that
+    /// dwcheck_row_at gives for it. The address itself is looked up, so to find the caller's own
+    /// caller, pass the caller's return address minus 1. The caller's registers go into `registers`
+    /// in ascending order, as many as fit. Returns DONE; NONE if there is no row; or REFUSED if the
+    /// ABI names too many registers or names one twice. Only DONE writes `caller` and `registers`,
+    /// and only REFUSED writes `fault`. The call neither allocates nor frees.
+    pub fn dwcheck_unwind(
+        process: *const Process,
+        address: u64,
+        state: *const State,
+        caller: *mut Caller,
+        registers: *mut Register,
+        registers_length: usize,
+        fault: *mut Fault,
+    ) -> u32;
+
+    /// Walks up the stack from the frame at `address`, an address as loaded, and writes the frames
+    /// to `frames`, the innermost first, as many as fit. `count` becomes their number, and `stop`
+    /// the reason why there are no more. Frame 0 is looked up at its address, and each later frame
+    /// at its address minus 1. Returns DONE; or REFUSED if the ABI names too many registers or
+    /// names one twice. Only DONE writes `frames`, `count` and `stop`, and only REFUSED writes
+    /// `fault`. The call neither allocates nor frees.
+    pub fn dwcheck_backtrace(
+        process: *const Process,
+        address: u64,
+        state: *const State,
+        frames: *mut Frame,
+        frames_length: usize,
+        count: *mut usize,
+        stop: *mut u32,
+        fault: *mut Fault,
+    ) -> u32;
+
+    /// Places a cursor at the frame at `address`, an address as loaded, with the registers of
+    /// `state`. The frame is looked up at its address if `exact` isn't 0, and at its address minus 1
+    /// if it is. Returns DONE; REFUSED if the ABI names too many registers or names one twice; or
+    /// NO_PLACE if a register with a number of 96 or more is known. Only DONE writes `cursor`, and
+    /// only REFUSED writes `fault`. The call neither allocates nor frees.
+    pub fn dwcheck_cursor_init(
+        cursor: *mut Cursor,
+        address: u64,
+        state: *const State,
+        exact: u32,
+        fault: *mut Fault,
+    ) -> u32;
+
+    /// Writes the frame that a cursor is at to `frame`, and moves the cursor to the frame's caller.
+    /// The memory and the ABI are those of `state`, and the registers those of the cursor. If there
+    /// is no caller, the cursor keeps the frame's address and registers, and its stage says why.
+    /// Returns DONE; NONE if the walk has ended; or NO_PLACE if a register of the caller with a
+    /// number of 96 or more would be known. Only DONE changes `cursor` and `frame`. The call neither
+    /// allocates nor frees.
+    pub fn dwcheck_cursor_step(
+        process: *const Process,
+        cursor: *mut Cursor,
+        state: *const State,
+        frame: *mut Frame,
+    ) -> u32;
+
+    /// Steps as dwcheck_cursor_step does, but asks `reader` for the words that the step needs. The
+    /// blocks of `state` aren't used. In a rule whose expression has branches, only what is read
+    /// before the first branch is asked for. The call allocates only as dwcheck_evaluate does.
+    pub fn dwcheck_cursor_step_with(
+        process: *const Process,
+        cursor: *mut Cursor,
+        state: *const State,
+        reader: *const Reader,
+        frame: *mut Frame,
+    ) -> u32;
+
+    /// Checks all paths of an expression, and runs it with the registers and memory of `state`,
+    /// whose ABI isn't used. The pieces of the result go into `pieces`, as many as fit. If the
+    /// result is LOCATION_BYTES, or if piece `n` (counted from 0) is, these bytes go into `bytes`,
+    /// as many as fit. Returns DONE; REFUSED with the first fault of the expression; NO_MEMORY;
+    /// BAD_TARGET; TOO_LONG; or BAD_KIND. Only DONE writes `value`, `pieces` and `bytes`, and only
+    /// REFUSED writes `fault`. The call allocates memory only if the expression has more than 16
+    /// operations and branches or is refused, and frees the memory.
+    pub fn dwcheck_evaluate(
+        expression: *const u8,
+        expression_length: usize,
+        order: u32,
+        address_size: u32,
+        kind: u32,
+        context: *const Context,
+        state: *const State,
+        n: u32,
+        value: *mut Value,
+        pieces: *mut Piece,
+        pieces_length: usize,
+        bytes: *mut u8,
+        bytes_length: usize,
+        fault: *mut Fault,
+    ) -> u32;
+
+    /// Checks a .debug_loclists section, and writes the expressions of a list that apply at an
+    /// address into `locations`, in the order of the list, as many as fit. `count` becomes the
+    /// number written; if it is `locations_length`, there may be more. Returns DONE; NONE if no
+    /// list begins at `lookup.list`; REFUSED with the first fault; NO_MEMORY; BAD_TARGET; or
+    /// TOO_LONG. Only DONE writes `locations` and `count`, and only REFUSED writes `fault`. The
+    /// call takes time and memory in proportion to the section, and frees the memory.
+    pub fn dwcheck_locations(
+        lists: *const u8,
+        lists_length: usize,
+        order: u32,
+        address_size: u32,
+        lookup: *const Lookup,
+        locations: *mut Location,
+        locations_length: usize,
+        count: *mut usize,
+        fault: *mut Fault,
+    ) -> u32;
+}
