@@ -4,8 +4,8 @@ it crashes, before its handler runs.
 
 gdb's level 0 is the frame of `printed`, or of the null pointer that `crash` has called. Neither is
 printed, so gdb's level 1 is frame 0. The address of frame 0 of `stack` isn't compared, because the
-function has run on since it took its registers. If no module covers the last frame, no canonical
-frame address is printed for it.
+function has run on since it took its registers. gdb says of the outermost frame, `_start`, that its
+canonical frame address is 0, so that isn't compared either.
 """
 import re
 import signal
@@ -36,7 +36,7 @@ def compare(path, expected, has_run_on):
     for (number, address, cfa), (pc, at) in zip(frames, expected):
         if int(address, 16) != pc and not (has_run_on and int(number) == 0):
             sys.exit("frame %s: %s, and gdb's is 0x%x" % (number, address, pc))
-        if cfa is not None and int(cfa, 16) != at:
+        if cfa is not None and at and int(cfa, 16) != at:
             sys.exit("frame %s: cfa %s, and gdb's is 0x%x" % (number, cfa, at))
     if len(frames) > len(expected):
         sys.exit("%d frames, and gdb's are %d" % (len(frames), len(expected)))

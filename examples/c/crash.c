@@ -2,18 +2,17 @@
    thread. The handler of SIGSEGV runs on an alternate stack of 8 KB, and makes only calls that a
    signal handler may make. */
 #define _GNU_SOURCE
-#include "modules.h"
+#include "state.h"
 
+#include <dwcheck-dl.h>
 #include <pthread.h>
 #include <signal.h>
 #include <string.h>
 #include <sys/mman.h>
 #include <unistd.h>
 
-enum { DEPTH = 10, FRAMES = 64, ALTERNATE = 8192, GUARD = 4096 };
-
-static dwcheck_process process; /* it has no module at first, and isn't changed once threads run */
-static _Thread_local uintptr_t end_of_stack;
+/* The red zone of 128 bytes below the stack pointer belongs to the interrupted function. */
+enum { DEPTH = 10, FRAMES = 64, ALTERNATE = 8192, GUARD = 4096, RED_ZONE = 128 };
 
 /* ---- writing text: a line is put together here, and written by one call */
 
@@ -52,6 +51,7 @@ static uint64_t registers[REGISTERS];
 static dwcheck_frame frames[FRAMES];
 static dwcheck_state state;
 static dwcheck_block stack;
+static const dwcheck_process *process;
 
 /* Writes a frame. `inside` is an address within its instruction, and is the frame's own address or,
    where that is a return address, the one before. The module's file and the address in the file are
@@ -59,8 +59,8 @@ static dwcheck_block stack;
 static void write_frame(size_t number, const dwcheck_frame *frame, uint64_t inside) {
     dwcheck_loaded module;
     put_text("frame "), put_decimal(number), put_text(" "), put_address(frame->address);
-    if (frame->cfa.kind == DWCHECK_VALUE) put_text(" cfa "), put_address(frame->cfa.value);
-    if (dwcheck_module_at(&process, inside, &module) == DWCHECK_DONE) {
+    if (frame->cfa.kind == DWCHECK_ANSWER_VALUE) put_text(" cfa "), put_address(frame->cfa.value);
+    if (dwcheck_module_at(process, inside, &module) == DWCHECK_DONE) {
         put_text(" "), put_text((const char *)(uintptr_t)module.cookie);
         put_text("+"), put_address(inside - module.load_address);
     }
@@ -72,19 +72,22 @@ static void on_crash(int signal, siginfo_t *why, void *context) {
     copy_registers(context, registers);
     /* A call of a null pointer has pushed its return address and done nothing else, and there is no
        row for the address 0. So the walk begins with the function that made the call. */
-    size_t is_after_call = registers[16] == 0 && registers[7] < end_of_stack;
+    stack = dwcheck_dl_stack(registers[7]);
+    size_t is_after_call = registers[16] == 0 && stack.length >= 8;
     if (is_after_call) {
         registers[16] = *(const uint64_t *)(uintptr_t)registers[7];
         registers[7] += 8;
     }
-    stack = stack_block(registers, end_of_stack);
+    stack = dwcheck_dl_stack(registers[7] - RED_ZONE);
     state = state_of(registers, &stack);
     size_t count = 0;
     uint32_t stop;
     dwcheck_fault fault;
-    dwcheck_backtrace(&process, registers[16] - is_after_call, &state, frames, FRAMES, &count, &stop, &fault);
+    process = dwcheck_dl_begin();
+    dwcheck_backtrace(process, registers[16] - is_after_call, &state, frames, FRAMES, &count, &stop, &fault);
     frames[0].address = registers[16]; /* and not the address that was looked up */
     for (size_t i = 0; i < count; i++) write_frame(i, &frames[i], frames[i].address - (i > 0 || is_after_call));
+    dwcheck_dl_end();
 }
 
 /* Gives the calling thread an alternate stack for the handler, since its own stack may have no room
@@ -92,7 +95,6 @@ static void on_crash(int signal, siginfo_t *why, void *context) {
 static int prepare_thread(void) {
     char *bytes = mmap(NULL, GUARD + ALTERNATE, PROT_READ | PROT_WRITE, MAP_PRIVATE | MAP_ANONYMOUS, -1, 0);
     if (bytes == MAP_FAILED || mprotect(bytes, GUARD, PROT_NONE) != 0) return 0;
-    end_of_stack = stack_end();
     return sigaltstack(&(stack_t){.ss_sp = bytes + GUARD, .ss_size = ALTERNATE}, NULL) == 0;
 }
 
@@ -113,7 +115,7 @@ static void *work(void *unused) {
 int main(void) {
     pthread_t worker;
     if (!prepare_thread()) return 1;
-    add_modules(&process);
+    if (dwcheck_dl_update(NULL) != DWCHECK_DONE) return 1;
     struct sigaction action = {.sa_sigaction = on_crash, .sa_flags = SA_SIGINFO | SA_ONSTACK | SA_RESETHAND};
     sigaction(SIGSEGV, &action, NULL);
     if (pthread_create(&worker, NULL, work, NULL) != 0) return 1;

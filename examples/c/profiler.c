@@ -3,9 +3,8 @@
    without a lock. At the end the main thread counts how often each stack occurs, and prints the
    stacks that occurred most often. */
 #define _GNU_SOURCE
-#include "modules.h"
-
 #include <dlfcn.h>
+#include <dwcheck-dl.h>
 #include <pthread.h>
 #include <signal.h>
 #include <stdatomic.h>
@@ -18,33 +17,21 @@
 enum { WORKERS = 2, SAMPLES = 4096, FRAMES = 32, STACKS = 1000, SHOWN = 3 };
 
 struct sample {
-    dwcheck_frame frames[FRAMES];
-    size_t length;
+    void *addresses[FRAMES];
+    int length;
 };
 
-/* The process has no module at first. Modules are added before the first signal, and none is added
-   or removed while the handler may run. */
-static dwcheck_process process;
 static struct sample samples[SAMPLES];
 static atomic_size_t sample_count;
-static _Thread_local uintptr_t end_of_stack;
 static atomic_int is_done;
 
-/* The handler takes no lock and allocates nothing. It names the live stack as the memory of the walk:
-   its own frame lies below the red zone, and no other thread writes to the worker's stack. Each call
-   has a slot of its own, so handlers may run in several threads at once. */
+/* The handler takes no lock and allocates nothing. Each call has a slot of its own, so handlers may run
+   in several threads at once. */
 static void on_profile(int signal, siginfo_t *info, void *context) {
     (void)signal, (void)info;
     size_t number = atomic_fetch_add(&sample_count, 1);
     if (number >= SAMPLES) return;
-    struct sample *sample = &samples[number];
-    uint64_t registers[REGISTERS];
-    copy_registers(context, registers);
-    dwcheck_block stack = stack_block(registers, end_of_stack);
-    dwcheck_state state = state_of(registers, &stack);
-    dwcheck_fault fault;
-    uint32_t stop;
-    dwcheck_backtrace(&process, registers[16], &state, sample->frames, FRAMES, &sample->length, &stop, &fault);
+    samples[number].length = dwcheck_dl_backtrace_from(context, samples[number].addresses, FRAMES);
 }
 
 /* ---- the code to profile: it spends most of its time in `square_roots`, called by `often` */
@@ -60,7 +47,6 @@ __attribute__((noinline)) void seldom(void) { sink = square_roots(10000) + 2; }
 
 void *work(void *unused) {
     (void)unused;
-    end_of_stack = stack_end();
     sigset_t profile;
     sigemptyset(&profile);
     sigaddset(&profile, SIGPROF);
@@ -101,8 +87,8 @@ static uint64_t function_of(uint64_t address) {
 
 static void count_sample(const struct sample *sample) {
     uint64_t functions[FRAMES];
-    for (size_t i = 0; i < sample->length; i++) functions[i] = function_of(sample->frames[i].address - (i > 0));
-    count_stack(functions, sample->length);
+    for (int i = 0; i < sample->length; i++) functions[i] = function_of((uintptr_t)sample->addresses[i] - (i > 0));
+    count_stack(functions, (size_t)sample->length);
 }
 
 static int by_count(const void *a, const void *b) {
@@ -123,7 +109,7 @@ static void print_stacks(void) {
 }
 
 int main(void) {
-    add_modules(&process);
+    if (dwcheck_dl_update(NULL) != DWCHECK_DONE) return 1;
     struct sigaction action = {.sa_sigaction = on_profile, .sa_flags = SA_SIGINFO | SA_RESTART};
     sigaction(SIGPROF, &action, NULL);
     sigset_t profile;
@@ -142,6 +128,5 @@ int main(void) {
     size_t count = atomic_load(&sample_count);
     for (size_t i = 0; i < count && i < SAMPLES; i++) count_sample(&samples[i]);
     print_stacks();
-    dwcheck_process_close(&process);
     return 0;
 }

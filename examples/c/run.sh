@@ -1,21 +1,40 @@
 #!/bin/sh
-# Builds the examples and runs them. The frames that `stack` and `crash` print must be those that gdb
-# finds in the same process. The first one that `crash` prints must be in the function `deep`, by its
-# file and its address there. A stack that `profiler` prints must contain the function `often`.
+# Builds the examples and runs them. The frames that `stack`, `crash` and `attach` print must be those
+# that gdb finds in the same process. The first one that `crash` prints must be in the function `deep`,
+# by its file and its address there. A stack that `profiler` prints must contain the function `often`.
 # usage: examples/c/run.sh
-# The flags with which the compiler finds the library come from pkg-config, or from DWCHECK_FLAGS if
-# it is set, for example DWCHECK_FLAGS="-Iinclude libdwcheck.a".
-# The examples are built without .eh_frame tables, so that they have a .debug_frame section.
+# The flags with which the compiler finds the libraries come from pkg-config, or from DWCHECK_FLAGS if
+# it is set, for example DWCHECK_FLAGS="-Iinclude libdwcheck-dl.a libdwcheck.a".
 set -eu
 here=$(cd "$(dirname "$0")" && pwd)
 out=$(mktemp -d)
 trap 'rm -rf "$out"' EXIT
-library=${DWCHECK_FLAGS:-$(pkg-config --cflags --libs dwcheck)}
-build="-std=gnu11 -Wall -Wextra -Werror -O2 -g -fno-asynchronous-unwind-tables -fno-optimize-sibling-calls -rdynamic"
-for program in stack crash profiler; do
+library=${DWCHECK_FLAGS:-$(pkg-config --cflags --libs dwcheck-dl)}
+build="-std=gnu11 -Wall -Wextra -Werror -O2 -g -fno-optimize-sibling-calls -rdynamic"
+for program in stack crash profiler attach; do
     # $build and $library aren't quoted, because each is a list of words.
-    "${CC:-cc}" $build "$here/$program.c" "$here/modules.c" $library -pthread -ldl -o "$out/$program"
+    "${CC:-cc}" $build "$here/$program.c" "$here/state.c" $library -pthread -ldl -o "$out/$program"
 done
+
+# $build and $library aren't quoted, for the same reason.
+"${CC:-cc}" $build "$here/moved.c" "$here/state.c" $library -pthread -ldl -o "$out/moved"
+"${CC:-cc}" $build -DLIBUNWIND "$here/moved.c" -lunwind -o "$out/before"
+
+# It waits, and lets any process trace it.
+printf '#include <sys/prctl.h>\n#include <unistd.h>\nint main(void) { return prctl(PR_SET_PTRACER, -1L, 0, 0, 0), pause(); }\n' |
+    "${CC:-cc}" -x c - -o "$out/waiting"
+
+attached() { # the frames of a process that waits, beside gdb's
+    "$out/waiting" &
+    sleeper=$!
+    sleep 1 # until it has begun
+    "$out/attach" $sleeper > "$out/frames" || return 1
+    gdb -q -batch -ex "set backtrace past-main on" -ex "python f = gdb.newest_frame()" \
+        -ex "python while f: print('gdb %#018x' % f.pc()); f = f.older()" -p $sleeper > "$out/gdb" 2>&1
+    kill $sleeper
+    sed -n 's/^frame [0-9]* \(0x[0-9a-f]*\) .*/\1/p' "$out/frames" > "$out/ours"
+    sed -n 's/^gdb \(0x[0-9a-f]*\)$/\1/p' "$out/gdb" | diff "$out/ours" - && [ "$(wc -l < "$out/ours")" -ge 5 ]
+}
 
 compared() { # PROGRAM LEAST: its frames, of which there must be so many, are compared with gdb's
     if [ -n "${DWCHECK_NO_PTRACE:-}" ]; then
@@ -38,6 +57,14 @@ compared crash 13
 place=$(sed -n 's/^frame 0 .* \(.*\)+\(0x.*\)$/-e \1 \2/p' "$out/frames")
 addr2line -f $place | grep -qx deep
 echo "ok crash: frame 0 is in deep"
+"$out/before" > "$out/theirs"
+"$out/moved" | diff - "$out/theirs"
+[ "$(grep -c deep "$out/theirs")" -eq 11 ]
+echo "ok moved: $(wc -l < "$out/theirs") frames are libunwind's"
+if [ -z "${DWCHECK_NO_PTRACE:-}" ]; then
+    attached
+    echo "ok attach: $(wc -l < "$out/ours") frames are gdb's"
+fi
 "$out/profiler" | tee "$out/stacks"
 grep -q often "$out/stacks"
 echo "ok profiler: often is in a stack"

@@ -1,0 +1,78 @@
+/* An example program: a page that was written for libunwind, and the same page moved to dwcheck call by
+   call. It is compiled twice, with -DLIBUNWIND and without, and prints the same: for each frame of its
+   stack how far its stack pointer is from the innermost one, and for those of `deep` how far the
+   instruction pointer is from the beginning of that function. */
+#define _GNU_SOURCE
+#include <inttypes.h>
+#include <stdio.h>
+#include <stdlib.h>
+
+static int deep(int depth);
+
+static void print_frame(uint64_t ip, uint64_t sp) {
+    enum { LENGTH = 128 };
+    static uint64_t innermost;
+    if (innermost == 0) innermost = sp;
+    uint64_t inside = ip - (uintptr_t)deep;
+    if (inside < LENGTH) printf("%6" PRIu64 " deep+0x%" PRIx64 "\n", sp - innermost, inside);
+    else printf("%6" PRIu64 "\n", sp - innermost);
+}
+
+#ifdef LIBUNWIND
+
+#define UNW_LOCAL_ONLY
+#include <libunwind.h>
+
+__attribute__((noinline)) static void print_stack(void) {
+    unw_context_t context;
+    unw_cursor_t cursor;
+    unw_word_t ip, sp;
+    unw_getcontext(&context);
+    unw_init_local2(&cursor, &context, 0);
+    while (unw_step(&cursor) > 0) {
+        unw_get_reg(&cursor, UNW_REG_IP, &ip);
+        unw_get_reg(&cursor, UNW_REG_SP, &sp);
+        print_frame(ip, sp);
+    }
+}
+
+#else
+
+#include "state.h"
+#include <dwcheck-dl.h>
+
+__attribute__((noinline)) static void print_stack(void) {
+    ucontext_t context;
+    dwcheck_cursor cursor;
+    dwcheck_frame frame;
+    dwcheck_fault fault;
+    uint64_t registers[REGISTERS];
+    dwcheck_dl_update(NULL);
+    getcontext(&context);                                                /* unw_getcontext */
+    copy_registers(&context, registers);
+    dwcheck_block stack = dwcheck_dl_stack(registers[7]);
+    dwcheck_state state = state_of(registers, &stack);
+    dwcheck_cursor_init(&cursor, registers[16], &state, 1, &fault);      /* unw_init_local2 */
+    const dwcheck_process *process = dwcheck_dl_begin();
+    while (dwcheck_cursor_step(process, &cursor, &state, &frame) == DWCHECK_DONE /* unw_step */
+           && cursor.stage <= DWCHECK_CURSOR_CALLER)
+        print_frame(cursor.address, cursor.contents[7]);                 /* unw_get_reg */
+    dwcheck_dl_end();
+}
+
+#endif
+
+static int compare(const void *a, const void *b) {
+    static int calls;
+    if (calls++ == 0) print_stack();
+    return *(const int *)a - *(const int *)b;
+}
+
+__attribute__((noinline)) static int deep(int depth) {
+    int numbers[] = {3, 1, 2};
+    if (depth > 0) return deep(depth - 1) + 1;
+    qsort(numbers, 3, sizeof *numbers, compare);
+    return numbers[0];
+}
+
+int main(void) { return deep(10) - 11; }
