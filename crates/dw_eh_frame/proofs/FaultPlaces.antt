@@ -14,7 +14,7 @@ use Rattle.dw_eh_frame.specs.declared.places.RecordPlace.{RecordPlace}
 use Rattle.dw_eh_frame.specs.Records.{eh_cie, eh_fde, eh_nothing}
 use Rattle.dw_eh_frame.specs.Rewriting.{Pair}
 use Rattle.dw_eh_frame.specs.Places.{FitsPair, ArePlaces, IsOn, is_overlap, moved, moved_or, original_of, source_program_start, source_start, written_program}
-use Rattle.dw_eh_frame.proofs.Steps.{length-some}
+use Rattle.dw_eh_frame.proofs.RecordOrder.{length-some}
 
 abbrev made-records : List Pair → List Record
 made-records pairs = map (λ (p : Pair). p.1) pairs

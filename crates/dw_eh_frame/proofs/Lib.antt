@@ -1,6 +1,8 @@
 pub mod Written
 pub mod Numbers
 pub mod PlaceSearch
+pub mod RecordOrder
+pub mod CopiesFound
 pub mod Steps
 pub mod Refusing
 pub mod Nops

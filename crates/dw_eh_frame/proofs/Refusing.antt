@@ -1,5 +1,5 @@
 -- Why a section isn't rewritten.
-use Rattle.std.proofs.Common.{◌≡◌, ◌≢◌, ℕ, zero, suc, ◌+◌, ◌<◌, ◌≤◌, Bool, false, cond, List, [], ◌∷◌, ◌++◌, length, Some, None, Ok, Err, Contains, refl, sym, ap, ◌∙◌, arith, inl, inr}
+use Rattle.std.proofs.Common.{◌≡◌, ◌≢◌, ℕ, zero, suc, ◌+◌, ◌<◌, ◌≤◌, Bool, false, cond, List, [], ◌∷◌, ◌++◌, length, Some, None, Ok, Err, Contains, refl, sym, ap, ◌∙◌, arith, inl, inr, Option}
 use Rattle.std.specs.Prelude.{◌==◌, ◌||◌}
 use Rattle.std.specs.List.{list_any}
 use Rattle.std.specs.Option.{option_or}
@@ -24,9 +24,9 @@ at-fault bases target section at fault h is = stops (eh_record_at bases section)
     (omega (arith, length-drop at section)) is
 
 pub refused-reading : (a : Bool) (bases : Bases) (target : Target) (section : List ℕ) (at : ℕ) (made : List ℕ) (cies : List CiePlace) (list : List RecordPlace)
-    (fault : Fault) → IsUnderWay a bases target section at made cies list → at < length section
+    (firsts : ℕ → Option ℕ) (fault : Fault) → IsUnderWay a bases target section at made cies list firsts → at < length section
     → eh_record_at bases section (section_from target section at) ≡ Err fault → IsRefused bases target section fault
-refused-reading a bases target section at made cies list fault way some is =
+refused-reading a bases target section at made cies list firsts fault way some is =
     inr (inr (way.first ∙ ap (reading_fault_after way.records) (at-fault bases target section at fault some is)))
 
 -- no record before an FDE is the CIE at this offset
@@ -43,19 +43,19 @@ none-begins at (eh_cie d ∷ xs) none =
 
 -- a record wasn't written
 pub refused-record : (a : Bool) (bases : Bases) (target : Target) (section : List ℕ) (at next room : ℕ) (made : List ℕ)
-    (cies : List CiePlace) (list : List RecordPlace) (fault : Fault) → IsUnderWay a bases target section at made cies list → at + room < next → next ≤ length section
+    (cies : List CiePlace) (list : List RecordPlace) (firsts : ℕ → Option ℕ) (fault : Fault) → IsUnderWay a bases target section at made cies list firsts → at + room < next → next ≤ length section
     → IsUnwritten (length made + room + 32) fault → IsRefused bases target section fault
-refused-record a bases target section at next room made cies list fault way some inside (inl h) = inl h
-refused-record a bases target section at next room made cies list fault way some inside (inr (h, long)) =
+refused-record a bases target section at next room made cies list firsts fault way some inside (inl h) = inl h
+refused-record a bases target section at next room made cies list firsts fault way some inside (inr (h, long)) =
     inr (inl (h, omega (arith, way.small, some, inside, long)))
 
 pub refused-fde : (a : Bool) (bases : Bases) (target : Target) (section : List ℕ) (at next room : ℕ) (made : List ℕ) (cies : List CiePlace) (list : List RecordPlace)
-    (e : EhFde) (fault : Fault) → IsUnderWay a bases target section at made cies list → at + room < next → next ≤ length section
+    (firsts : ℕ → Option ℕ) (e : EhFde) (fault : Fault) → IsUnderWay a bases target section at made cies list firsts → at + room < next → next ≤ length section
     → eh_record_at bases section (section_from target section at) ≡ Ok (eh_fde e, section_from target section next)
     → IsUnwrittenFde (length made + room + 32) cies e fault → IsRefused bases target section fault
-refused-fde a bases target section at next room made cies list e fault way some inside is (inl h) =
-    refused-record a bases target section at next room made cies list fault way some inside h
-refused-fde a bases target section at next room made cies list e fault way some inside is (inr (h, alone)) =
+refused-fde a bases target section at next room made cies list firsts e fault way some inside is (inl h) =
+    refused-record a bases target section at next room made cies list firsts fault way some inside h
+refused-fde a bases target section at next room made cies list firsts e fault way some inside is (inr (h, alone)) =
     let none : list_any (begins_at e.cie.offset) way.records ≡ false =
     none-begins e.cie.offset way.records (λ c among same. let place = way.complete c among in alone place.0 place.1 (place.2 ∙ same)) in
     inr (inr (way.first

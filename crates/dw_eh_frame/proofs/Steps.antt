@@ -1,11 +1,14 @@
 -- One record of a rewriting after another.
-use Rattle.std.proofs.Common.{◌≡◌, ℕ, zero, suc, ◌+◌, ◌*◌, ◌^◌, ◌<◌, ◌≤◌, Bool, false, cond, List, [], ◌∷◌, ◌++◌, length, Some, None, Result, Ok, refl, sym, ap, subst, ◌∙◌, arith, append_assoc, inl, inr}
-use Rattle.std.specs.Prelude.{true, map, filter, Contains, ◌==◌, ◌||◌}
-use Rattle.std.specs.Option.{option_or}
+use Rattle.std.proofs.Common.{◌≡◌, ℕ, zero, suc, ◌+◌, ◌*◌, ◌^◌, ◌<◌, ◌≤◌, Bool, false, cond, List, [], ◌∷◌, ◌++◌, length, Some, None, Result, Ok, refl, sym, ap, subst, ◌∙◌, arith, append_assoc, inl, inr, Option, true}
+use Rattle.std.specs.Prelude.{map, filter, Contains, ◌==◌, ◌||◌}
+use Rattle.std.specs.Option.{option_map, option_or}
 use Rattle.std.proofs.lemmas.Bool.Decides.{nat_tests}
 use Rattle.std.proofs.lemmas.List.{length-append, length-drop, map-append, append-nil}
 use Rattle.std.specs.List.{AllByRecursion, list_any}
 use Rattle.std.proofs.lemmas.List.Elements.{All-from_recursion, filter-append, Contains-append_left, Contains-push, Contains-push_cases}
+use Rattle.std.specs.BTreeMap.{BTreeMap, IsEmpty, get, is_at}
+use Rattle.std.specs.Map.{lookup}
+use Rattle.std.specs.Ordering.{nat_cmp}
 use Rattle.dw_bytes.specs.declared.target.Target.{Target}
 use Rattle.dw_bytes.specs.declared.fault.Fault.{Fault}
 use Rattle.dw_bytes.specs.Reading.{ReadPosition, ◌>>=◌, section_from}
@@ -15,10 +18,6 @@ use Rattle.dw_bytes.proofs.Bodies.{framed-found}
 use Rattle.dw_bytes.proofs.Sequences.{Forward, goes-on, ends}
 use Rattle.dw_frame.specs.Records.{Cie, Record, cie_record, fde_record}
 use Rattle.dw_frame.specs.Sections.{IsRecord, AreRecords}
-use Rattle.dw_bytes.specs.declared.target.Order.{Order}
-use Rattle.dw_bytes.specs.declared.target.Format.{Format}
-use Rattle.dw_bytes.specs.declared.target.Format.TheVariants.{Dwarf32, Dwarf64}
-use Rattle.dw_bytes.specs.Encoding.{Len}
 use Rattle.dw_eh_frame.specs.declared.pointer.Bases.{Bases}
 use Rattle.dw_eh_frame.specs.declared.rewriting.CiePlace.{CiePlace}
 use Rattle.dw_eh_frame.specs.Records.{EhCie, EhFde, EhRecord, eh_cie, eh_fde, eh_nothing, eh_cie_at, eh_body_at, eh_record_at, eh_entries_from, eh_entries_of, begins_at, lost, reading_fault_after, eh_reading_fault}
@@ -29,13 +28,13 @@ use Rattle.dw_eh_frame.specs.Places.{Fits, FitsPair, ArePlaces, IsInside, IsRewr
 use Rattle.dw_eh_frame.proofs.PastInstructions.{silenced-long}
 use Rattle.dw_eh_frame.specs.Rewriting.{Pair, SaysTheSame, LeadsTo, says_something, IsSameProgram}
 use Rattle.dw_eh_frame.proofs.PlaceSearch.{ascends-more}
-use Rattle.dw_eh_frame.specs.Progress.{IsPlace, IsUnderWay, WritesCie, WritesPointing}
+use Rattle.dw_eh_frame.specs.Progress.{IsPlace, IsReadAgain, IsUnderWay, TakesFde, WritesCie, WritesPointing, fde_start}
+use Rattle.dw_eh_frame.specs.Copies.{distinct, first_at, is_copy}
+use Rattle.dw_eh_frame.specs.CopySearch.{copied_by, remembered}
+use Rattle.dw_eh_frame.proofs.RecordOrder.{length-some, record-starts}
+use Rattle.dw_eh_frame.proofs.CopiesFound.{distinct-cie, distinct-nothing, distinct-fde, distinct-copy, distinct-within, first-among, first-cie, first-nothing, first-fde, first-copy, copy-of, repeats-cie, copied-is}
 
 -- ---- reading
-
-pub length-some : (order : Order) (bytes : List ℕ) (format : Format) (v : ℕ) → Len order bytes format v → 0 < length bytes
-length-some order bytes Dwarf32 v h = omega (arith, h.0.count)
-length-some order bytes Dwarf64 v (mark, rest, parts, first, second) = omega (arith, first.count, ap length parts, length-append mark rest)
 
 -- a record has at least one byte
 pub records-forward : (bases : Bases) (section : List ℕ) → Forward (eh_record_at bases section)
@@ -155,9 +154,10 @@ from-zero target made bytes r h =
 
 -- ---- the steps
 
-pub under-way-first : (a : Bool) (bases : Bases) (target : Target) (section : List ℕ) → IsUnderWay a bases target section 0 [] [] []
+pub under-way-first : (a : Bool) (bases : Bases) (target : Target) (section : List ℕ) (firsts : ℕ → Option ℕ)
+    → ((x : ℕ) → firsts x ≡ None) → IsUnderWay a bases target section 0 [] [] [] firsts
 unfolding eh_reading_fault
-under-way-first a bases target section = record {
+under-way-first a bases target section firsts none = record {
   inside = omega arith;
   records = [];
   read = refl;
@@ -171,10 +171,26 @@ under-way-first a bases target section = record {
   ascend = tt;
   below = λ q (k, inside, is). absurd (omega arith);
   written = λ q (k, inside, is). absurd (omega arith);
+  led = λ e (k, inside, is). absurd (omega arith);
+  again = λ e (k, inside, is). absurd (omega arith);
+  firsts_are = none;
   small = omega arith;
   short = omega arith;
   listed = tt;
 }
+
+-- the same, where the lists are known to be empty
+pub under-way-begins : (a : Bool) (bases : Bases) (target : Target) (section made : List ℕ) (cies : List CiePlace) (list : List RecordPlace)
+    (firsts : ℕ → Option ℕ) → made ≡ [] → cies ≡ [] → list ≡ [] → ((x : ℕ) → firsts x ≡ None)
+    → IsUnderWay a bases target section 0 made cies list firsts
+under-way-begins a bases target section made cies list firsts no_bytes no_cies no_places none =
+    subst (λ (m : List ℕ). IsUnderWay a bases target section 0 m cies list firsts) (sym no_bytes)
+    (subst (λ (c : List CiePlace). IsUnderWay a bases target section 0 [] c list firsts) (sym no_cies)
+    (subst (λ (l : List RecordPlace). IsUnderWay a bases target section 0 [] [] l firsts) (sym no_places)
+    (under-way-first a bases target section firsts none)))
+
+pub get-none : (m : BTreeMap ℕ ℕ) → IsEmpty m → (x : ℕ) → get nat_cmp m x ≡ None
+get-none m empty x = ap (λ (es : List (ℕ × ℕ)). lookup (is_at (nat_cmp x)) es) empty
 
 -- ---- places
 
@@ -218,17 +234,66 @@ still-complete records x cies other complete c among = elim (Contains-push_cases
 cie-is : (c d : EhCie) → eh_cie c ≡ eh_cie d → c ≡ d
 cie-is c d same = cc
 
-pub under-way-nothing : (a : Bool) (bases : Bases) (target : Target) (section : List ℕ) (at next n : ℕ) (made : List ℕ) (cies : List CiePlace) (list : List RecordPlace)
-    → IsUnderWay a bases target section at made cies list
+-- ---- FDEs so far
+
+any-more : (p : EhRecord → Bool) (xs ys : List EhRecord) → list_any p xs ≡ true → list_any p (xs ++ ys) ≡ true
+any-more p [] ys is = absurd cc
+any-more p (x ∷ xs) ys is = go (p x) (λ h. any-more p xs ys h) is
+  where
+    go : (b : Bool) → (list_any p xs ≡ true → list_any p (xs ++ ys) ≡ true) → (b || list_any p xs) ≡ true → (b || list_any p (xs ++ ys)) ≡ true
+    go true others h = refl
+    go false others h = others h
+
+led-more : (records : List EhRecord) (x : EhRecord) → ((e : EhFde) → Contains records (eh_fde e) → list_any (begins_at e.cie.offset) records ≡ true)
+    → ((e : EhFde) → x ≡ eh_fde e → list_any (begins_at e.cie.offset) records ≡ true)
+    → (e : EhFde) → Contains (records ++ x ∷ []) (eh_fde e) → list_any (begins_at e.cie.offset) (records ++ x ∷ []) ≡ true
+led-more records x old new e among = any-more (begins_at e.cie.offset) records (x ∷ []) (elim (Contains-push_cases records x (eh_fde e) among) [
+  | inl h ↦ old e h
+  | inr is ↦ new e is
+])
+
+again-more : (bases : Bases) (target : Target) (section : List ℕ) (at next : ℕ) (records : List EhRecord) (x : EhRecord) → at < next
+    → ((e : EhFde) → Contains records (eh_fde e) → IsReadAgain bases target section at e)
+    → ((e : EhFde) → x ≡ eh_fde e → IsReadAgain bases target section next e)
+    → (e : EhFde) → Contains (records ++ x ∷ []) (eh_fde e) → IsReadAgain bases target section next e
+again-more bases target section at next records x forward old new e among = elim (Contains-push_cases records x (eh_fde e) among) [
+  | inl h ↦ let found = old e h in record { before = omega (arith, found.before, forward); after = found.after; read = found.read }
+  | inr is ↦ new e is
+]
+
+fde-is : (e g : EhFde) → eh_fde e ≡ eh_fde g → e ≡ g
+fde-is e g same = cc
+
+-- an FDE that was just read is read again at its offset
+just-read : (bases : Bases) (target : Target) (section : List ℕ) (at next : ℕ) (e g : EhFde) → at < next
+    → eh_record_at bases section (section_from target section at) ≡ Ok (eh_fde e, section_from target section next) → eh_fde e ≡ eh_fde g
+    → IsReadAgain bases target section next g
+just-read bases target section at next e g forward is same =
+    let start = record-starts bases section (section_from target section at) (eh_fde e) (section_from target section next) is in
+    let here : e.offset ≡ at = start.0 in
+    subst (IsReadAgain bases target section next) (fde-is e g same) (record {
+      before = omega (arith, here, forward);
+      after = section_from target section next;
+      read = ap (λ n. eh_record_at bases section (section_from target section n)) here ∙ is;
+    })
+
+pub under-way-nothing : (a : Bool) (bases : Bases) (target : Target) (section : List ℕ) (at next n : ℕ) (made : List ℕ) (cies : List CiePlace) (list : List RecordPlace) (firsts : ℕ → Option ℕ)
+    → IsUnderWay a bases target section at made cies list firsts
     → eh_record_at bases section (section_from target section at) ≡ Ok (eh_nothing n, section_from target section next)
-    → at < next → next ≤ length section → IsUnderWay a bases target section next made cies list
-under-way-nothing a bases target section at next n made cies list way is forward inside = record {
+    → at < next → next ≤ length section → IsUnderWay a bases target section next made cies list firsts
+under-way-nothing a bases target section at next n made cies list firsts way is forward inside = record {
   inside = inside;
   records = way.records ++ eh_nothing n ∷ [];
   read = read-more bases target section at next way.records (eh_nothing n) way.read is;
   first = way.first ∙ ap (reading_fault_after way.records) (at-record bases target section at next (eh_nothing n) is);
   pairs = way.pairs;
-  sources = way.sources ∙ (sym (append-nil (filter says_something way.records)) ∙ sym (filter-append says_something way.records (eh_nothing n ∷ [])));
+  sources = way.sources
+      ∙ (sym (append-nil (filter says_something (distinct way.records)))
+      ∙ (sym (filter-append says_something (distinct way.records) (eh_nothing n ∷ []))
+      ∙ ap (filter says_something) (sym (distinct-nothing way.records n))));
+  led = led-more way.records (eh_nothing n) way.led (λ e same. absurd cc);
+  again = again-more bases target section at next way.records (eh_nothing n) forward way.again (λ e same. absurd cc);
+  firsts_are = λ x. way.firsts_are x ∙ ap (option_map fde_start) (sym (first-nothing way.records n x));
   encoded = way.encoded;
   same = way.same;
   places = way.places;
@@ -242,13 +307,13 @@ under-way-nothing a bases target section at next n made cies list way is forward
 }
 
 pub under-way-cie : (a : Bool) (bases : Bases) (target : Target) (section : List ℕ) (at next source : ℕ) (e : EhCie) (made new : List ℕ)
-    (cies : List CiePlace) (list : List RecordPlace) → IsUnderWay a bases target section at made cies list
+    (cies : List CiePlace) (list : List RecordPlace) (firsts : ℕ → Option ℕ) → IsUnderWay a bases target section at made cies list firsts
     → eh_record_at bases section (section_from target section at) ≡ Ok (eh_cie e, section_from target section next)
     → at < next → next ≤ length section → eh_cie_at target section source ≡ Ok e → source ≡ at → e.offset ≡ at
     → length new ≤ 5 * next → length new < 2 ^ 32 → e.program.position + length e.program.rest < 2 ^ 32 → WritesCie a target e made new
     → IsUnderWay a bases target section next new (cies ++ record { source = source; made = length made } ∷ [])
-    (list ++ place_for e.offset e.program (length made) (length new) ∷ [])
-under-way-cie a bases target section at next source e made new cies list way is forward inside found source_is offset_is small short program_inside wrote =
+    (list ++ place_for e.offset e.program (length made) (length new) ∷ []) firsts
+under-way-cie a bases target section at next source e made new cies list firsts way is forward inside found source_is offset_is small short program_inside wrote =
     let p : Pair = (eh_cie e, cie_record wrote.cie) in
     let q : CiePlace = record { source = source; made = length made } in
     let more : AreRecords target 0 (made ++ wrote.bytes) (map (λ (p : Pair). p.1) way.pairs ++ cie_record wrote.cie ∷ []) =
@@ -260,7 +325,11 @@ under-way-cie a bases target section at next source e made new cies list way is 
       read = read-more bases target section at next way.records (eh_cie e) way.read is;
       first = way.first ∙ ap (reading_fault_after way.records) (at-record bases target section at next (eh_cie e) is);
       pairs = way.pairs ++ p ∷ [];
-      sources = sources-more way.pairs way.records p refl way.sources;
+      sources = sources-more way.pairs (distinct way.records) p refl way.sources
+          ∙ ap (filter says_something) (sym (distinct-cie way.records e));
+      led = led-more way.records (eh_cie e) way.led (λ g same. absurd cc);
+      again = again-more bases target section at next way.records (eh_cie e) forward way.again (λ g same. absurd cc);
+      firsts_are = λ x. way.firsts_are x ∙ ap (option_map fde_start) (sym (first-cie way.records e x));
       encoded = subst (λ (b : List ℕ). AreRecords target 0 b (map (λ (p : Pair). p.1) (way.pairs ++ p ∷ []))) (sym wrote.appended)
           (subst (AreRecords target 0 (made ++ wrote.bytes)) (sym (map-append (λ (p : Pair). p.1) way.pairs (p ∷ []))) more);
       same = all-say a way.pairs p way.same wrote.same;
@@ -328,19 +397,19 @@ unfiltered (eh_fde f ∷ xs) x (suc k, less, is) =
     let found = unfiltered xs x (k, omega arith, is) in
     (suc found.0, omega (arith, found.1), found.2)
 
-among-records : (pairs : List Pair) (records : List EhRecord) (c : EhCie) (d : Cie) → map (λ (p : Pair). p.0) pairs ≡ filter says_something records
-    → Contains pairs (eh_cie c, cie_record d) → Contains records (eh_cie c)
+among-records : (pairs : List Pair) (records : List EhRecord) (c : EhCie) (d : Cie)
+    → map (λ (p : Pair). p.0) pairs ≡ filter says_something (distinct records)
+    → Contains pairs (eh_cie c, cie_record d) → list_any (begins_at c.offset) records ≡ true
 among-records pairs records c d sources among =
-    unfiltered records (eh_cie c)
-    (subst (λ (xs : List EhRecord). Contains xs (eh_cie c)) sources (among-sources pairs (eh_cie c) (cie_record d) among))
+    let kept : Contains (distinct records) (eh_cie c) = unfiltered (distinct records) (eh_cie c)
+    (subst (λ (xs : List EhRecord). Contains xs (eh_cie c)) sources (among-sources pairs (eh_cie c) (cie_record d) among)) in
+    any-found (begins_at c.offset) records (eh_cie c) (distinct-within [] records (eh_cie c) kept) (same-number c.offset)
 
 still-first : (bases : Bases) (target : Target) (section : List ℕ) (next : ℕ) (records : List EhRecord) (e : EhFde)
-    → Contains records (eh_cie e.cie)
+    → list_any (begins_at e.cie.offset) records ≡ true
     → reading_fault_after records (Ok (eh_fde e) ∷ eh_entries_from bases target section next)
     ≡ reading_fault_after (records ++ eh_fde e ∷ []) (eh_entries_from bases target section next)
-still-first bases target section next records e among =
-    let found : list_any (begins_at e.cie.offset) records ≡ true =
-    any-found (begins_at e.cie.offset) records (eh_cie e.cie) among (same-number e.cie.offset) in
+still-first bases target section next records e found =
     ap (λ b. option_or (cond b None (Some (lost e))) (reading_fault_after (records ++ eh_fde e ∷ []) (eh_entries_from bases target section next)))
     found
 
@@ -351,13 +420,15 @@ same-cie : (a b : EhCie) → ok-cie a ≡ ok-cie b → a ≡ b
 same-cie a b e = cc
 
 pub under-way-fde : (a : Bool) (bases : Bases) (target : Target) (section : List ℕ) (at next : ℕ) (e : EhFde) (made new : List ℕ)
-    (cies : List CiePlace) (list : List RecordPlace) → IsUnderWay a bases target section at made cies list
+    (cies : List CiePlace) (list : List RecordPlace) (firsts more_firsts : ℕ → Option ℕ) → IsUnderWay a bases target section at made cies list firsts
     → eh_record_at bases section (section_from target section at) ≡ Ok (eh_fde e, section_from target section next)
     → at < next → next ≤ length section → eh_cie_at target section e.cie.offset ≡ Ok e.cie → length new ≤ 5 * next → length new < 2 ^ 32
     → e.program.position + length e.program.rest < 2 ^ 32 → WritesPointing a target e cies made new
+    → copied_by (λ n. eh_record_at bases section (section_from target section n)) firsts e ≡ false
+    → ((x : ℕ) → more_firsts x ≡ remembered (firsts x) e x)
     → IsUnderWay a bases target section next new cies
-    (list ++ place_for e.offset e.program (length made) (length new) ∷ [])
-under-way-fde a bases target section at next e made new cies list way is forward inside found small short program_inside pointing =
+    (list ++ place_for e.offset e.program (length made) (length new) ∷ []) more_firsts
+under-way-fde a bases target section at next e made new cies list firsts more_firsts way is forward inside found small short program_inside pointing other remembers =
     let wrote = pointing.wrote in
     let p : Pair = (eh_fde e, fde_record wrote.fde) in
     let place = way.places pointing.place pointing.among in
@@ -372,16 +443,28 @@ under-way-fde a bases target section at next e made new cies list way is forward
     let more : AreRecords target 0 (made ++ wrote.bytes) (map (λ (p : Pair). p.1) way.pairs ++ fde_record wrote.fde ∷ []) =
     records-more target 0 made wrote.bytes (map (λ (p : Pair). p.1) way.pairs) (fde_record wrote.fde) way.encoded
     (from-zero target made wrote.bytes _ wrote.encoded) in
+    let led : list_any (begins_at e.cie.offset) way.records ≡ true =
+    among-records way.pairs way.records e.cie place.written way.sources
+    (subst (λ (c : EhCie). Contains way.pairs (eh_cie c, cie_record place.written)) cie_is place.among) in
+    let new_fde : is_copy way.records e ≡ false =
+    sym (copied-is way.records (λ n. eh_record_at bases section (section_from target section n)) firsts e way.firsts_are
+    (λ g among. let found = way.again g among in (found.after, found.read))) ∙ other in
     record {
       inside = inside;
       records = way.records ++ eh_fde e ∷ [];
       read = read-more bases target section at next way.records (eh_fde e) way.read is;
       first = way.first
           ∙ (ap (reading_fault_after way.records) (at-record bases target section at next (eh_fde e) is)
-          ∙ still-first bases target section next way.records e (among-records way.pairs way.records e.cie place.written way.sources
-          (subst (λ (c : EhCie). Contains way.pairs (eh_cie c, cie_record place.written)) cie_is place.among)));
+          ∙ still-first bases target section next way.records e led);
       pairs = way.pairs ++ p ∷ [];
-      sources = sources-more way.pairs way.records p refl way.sources;
+      sources = sources-more way.pairs (distinct way.records) p refl way.sources
+          ∙ ap (filter says_something) (sym (distinct-fde way.records e new_fde));
+      led = led-more way.records (eh_fde e) way.led
+          (λ g same. subst (λ (f : EhFde). list_any (begins_at f.cie.offset) way.records ≡ true) (fde-is e g same) led);
+      again = again-more bases target section at next way.records (eh_fde e) forward way.again
+          (λ g same. just-read bases target section at next e g forward is same);
+      firsts_are = λ x. remembers x
+          ∙ (ap (λ o. remembered o e x) (way.firsts_are x) ∙ sym (first-fde way.records e x));
       encoded = subst (λ (b : List ℕ). AreRecords target 0 b (map (λ (p : Pair). p.1) (way.pairs ++ p ∷ []))) (sym wrote.appended)
           (subst (AreRecords target 0 (made ++ wrote.bytes)) (sym (map-append (λ (p : Pair). p.1) way.pairs (p ∷ []))) more);
       same = all-say a way.pairs p way.same (wrote.same, leads);
@@ -397,9 +480,85 @@ under-way-fde a bases target section at next e made new cies list way is forward
           wrote.same.program wrote.offset wrote.ends program_inside);
     }
 
-pub under-way-end : (a : Bool) (bases : Bases) (target : Target) (section : List ℕ) (at : ℕ) (made : List ℕ) (cies : List CiePlace) (list : List RecordPlace)
-    → IsUnderWay a bases target section at made cies list → length section ≤ at → IsRewrittenAt a bases target section made list
-under-way-end a bases target section at made cies list way end = record {
+-- an exact copy is left out
+pub under-way-copy : (a : Bool) (bases : Bases) (target : Target) (section : List ℕ) (at next : ℕ) (e : EhFde) (made : List ℕ)
+    (cies : List CiePlace) (list : List RecordPlace) (firsts : ℕ → Option ℕ) → IsUnderWay a bases target section at made cies list firsts
+    → eh_record_at bases section (section_from target section at) ≡ Ok (eh_fde e, section_from target section next)
+    → at < next → next ≤ length section → copied_by (λ n. eh_record_at bases section (section_from target section n)) firsts e ≡ true
+    → IsUnderWay a bases target section next made cies list firsts
+under-way-copy a bases target section at next e made cies list firsts way is forward inside found =
+    let copy : is_copy way.records e ≡ true =
+    sym (copied-is way.records (λ n. eh_record_at bases section (section_from target section n)) firsts e way.firsts_are
+    (λ g among. let own = way.again g among in (own.after, own.read))) ∙ found in
+    let one = copy-of way.records e copy in
+    let led : list_any (begins_at e.cie.offset) way.records ≡ true =
+    subst (λ n. list_any (begins_at n) way.records ≡ true) (repeats-cie one.0 e one.2)
+    (way.led one.0 (first-among way.records e.initial_location one.0 one.1)) in
+    record {
+      inside = inside;
+      records = way.records ++ eh_fde e ∷ [];
+      read = read-more bases target section at next way.records (eh_fde e) way.read is;
+      first = way.first
+          ∙ (ap (reading_fault_after way.records) (at-record bases target section at next (eh_fde e) is)
+          ∙ still-first bases target section next way.records e led);
+      pairs = way.pairs;
+      sources = way.sources ∙ ap (filter says_something) (sym (distinct-copy way.records e copy));
+      encoded = way.encoded;
+      same = way.same;
+      places = way.places;
+      complete = still-complete way.records (eh_fde e) cies (λ c same. cc) way.complete;
+      led = led-more way.records (eh_fde e) way.led
+          (λ g same. subst (λ (f : EhFde). list_any (begins_at f.cie.offset) way.records ≡ true) (fde-is e g same) led);
+      again = again-more bases target section at next way.records (eh_fde e) forward way.again
+          (λ g same. just-read bases target section at next e g forward is same);
+      firsts_are = λ x. way.firsts_are x ∙ ap (option_map fde_start) (sym (first-copy way.records e x copy));
+      ascend = way.ascend;
+      below = λ q among. omega (arith, way.below q among, forward);
+      written = way.written;
+      small = omega (arith, way.small, forward);
+      short = way.short;
+      listed = way.listed;
+    }
+
+-- an FDE is left out, or written
+pub under-way-taken : (a : Bool) (bases : Bases) (target : Target) (section : List ℕ) (at next room : ℕ) (e : EhFde) (made new : List ℕ)
+    (cies : List CiePlace) (list after : List RecordPlace) (firsts more_firsts : ℕ → Option ℕ) (copied : Bool)
+    → IsUnderWay a bases target section at made cies list firsts
+    → eh_record_at bases section (section_from target section at) ≡ Ok (eh_fde e, section_from target section next)
+    → at < next → next ≤ length section → eh_cie_at target section e.cie.offset ≡ Ok e.cie → at + (4 + room) < next
+    → e.program.position + length e.program.rest < 2 ^ 32
+    → copied_by (λ n. eh_record_at bases section (section_from target section n)) firsts e ≡ copied
+    → TakesFde copied a target e room cies made new list after firsts more_firsts
+    → IsUnderWay a bases target section next new cies after more_firsts
+under-way-taken a bases target section at next room e made new cies list after firsts more_firsts true way is forward inside found enough program_inside copied (same, still, known) =
+    subst (λ (b : List ℕ). IsUnderWay a bases target section next b cies after more_firsts) (sym same)
+    (subst (λ (l : List RecordPlace). IsUnderWay a bases target section next made cies l more_firsts) (sym still)
+    (subst (IsUnderWay a bases target section next made cies list) (sym known)
+    (under-way-copy a bases target section at next e made cies list firsts way is forward inside copied)))
+under-way-taken a bases target section at next room e made new cies list after firsts more_firsts false way is forward inside found enough program_inside copied (pointing, grows, short, listed, remembers) =
+    subst (λ (l : List RecordPlace). IsUnderWay a bases target section next new cies l more_firsts) (sym listed)
+    (under-way-fde a bases target section at next e made new cies list firsts more_firsts way is forward inside found
+    (omega (arith, grows, way.small, enough, forward)) short program_inside pointing copied remembers)
+
+-- the offsets of FDEs so far are in the section
+pub firsts-inside : (a : Bool) (bases : Bases) (target : Target) (section : List ℕ) (at : ℕ) (made : List ℕ) (cies : List CiePlace)
+    (list : List RecordPlace) (firsts : ℕ → Option ℕ) → IsUnderWay a bases target section at made cies list firsts → (x n : ℕ)
+    → firsts x ≡ Some n → n ≤ length section
+firsts-inside a bases target section at made cies list firsts way x n is = go (first_at way.records x) refl (sym (way.firsts_are x) ∙ is)
+  where
+    number : (k m : ℕ) → ◌≡◌ {A = Option ℕ} (Some k) (Some m) → k ≡ m
+    number k m same = cc
+
+    go : (o : Option EhFde) → first_at way.records x ≡ o → option_map fde_start o ≡ Some n → n ≤ length section
+    go None first h = absurd cc
+    go (Some g) first h =
+        let found = way.again g (first-among way.records x g first) in
+        let here : g.offset ≡ n = number g.offset n h in
+        omega (arith, found.before, way.inside, here)
+
+pub under-way-end : (a : Bool) (bases : Bases) (target : Target) (section : List ℕ) (at : ℕ) (made : List ℕ) (cies : List CiePlace) (list : List RecordPlace) (firsts : ℕ → Option ℕ)
+    → IsUnderWay a bases target section at made cies list firsts → length section ≤ at → IsRewrittenAt a bases target section made list
+under-way-end a bases target section at made cies list firsts way end = record {
   rewritten = record {
     records = way.records;
     are = way.read ∙ (ap (λ (items : List (Result EhRecord Fault)). map Ok way.records ++ items) (at-end bases target section at end)
@@ -412,9 +571,9 @@ under-way-end a bases target section at made cies list way end = record {
 
 -- the section was read without a fault
 pub under-way-faultless : (a : Bool) (bases : Bases) (target : Target) (section : List ℕ) (at : ℕ) (made : List ℕ) (cies : List CiePlace)
-    (list : List RecordPlace) → IsUnderWay a bases target section at made cies list → length section ≤ at
+    (list : List RecordPlace) (firsts : ℕ → Option ℕ) → IsUnderWay a bases target section at made cies list firsts → length section ≤ at
     → eh_reading_fault bases target section ≡ None
-under-way-faultless a bases target section at made cies list way end =
+under-way-faultless a bases target section at made cies list firsts way end =
     way.first ∙ ap (reading_fault_after way.records) (at-end bases target section at end)
 
-pub ruleset steps = (under-way-first, under-way-nothing, under-way-cie, under-way-fde, under-way-end)
+pub ruleset steps = (under-way-first, under-way-nothing, under-way-cie, under-way-end)

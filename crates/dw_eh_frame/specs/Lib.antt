@@ -8,6 +8,8 @@ pub mod Augmentations
 pub mod Records
 -- the call frame instructions (10.5.2)
 pub mod Instructions
+-- exact copies of FDEs
+pub mod Copies
 -- ---- What is written for a section, and why it may be refused. Which rows a section gives doesn't
 -- depend on this.
 
@@ -26,6 +28,8 @@ pub mod Refused
 pub mod Views
 -- ---- Internal.
 
+-- how copies are found
+pub mod CopySearch
 -- the state of a rewriting
 pub mod Progress
 -- the bytes that are written for a record of `.debug_frame`

@@ -7,6 +7,7 @@ use Rattle.dw_frame.specs.Sections.{AreRecords, cie_header}
 use Rattle.dw_eh_frame.specs.declared.pointer.Bases.{Bases}
 use Rattle.dw_eh_frame.specs.declared.dialect.Dialect.{Dialect}
 use Rattle.dw_eh_frame.specs.Instructions.{dialect_of}
+use Rattle.dw_eh_frame.specs.Copies.{distinct}
 use Rattle.dw_eh_frame.specs.Silencing.{silenced}
 use Rattle.dw_eh_frame.specs.Records.{EhCie, EhFde, EhRecord, eh_cie, eh_fde, eh_nothing, eh_entries_of}
 
@@ -64,8 +65,8 @@ pub record IsRewriting (is_aarch64 : Bool) (target : Target) (records : List EhR
   pub encoded : AreRecords target 0 made (map (λ (p : Pair). p.1) pairs)
   pub same : (p : Pair) → Contains pairs p → SaysTheSame is_aarch64 pairs p
 
--- The section is read without a fault, and `made` is a rewriting of its records.
+-- The section is read without a fault, and `made` is a rewriting of its records without exact copies.
 pub record IsRewritten (is_aarch64 : Bool) (bases : Bases) (target : Target) (section made : List ℕ) : Type 0 where
   pub records : List EhRecord
   pub are : eh_entries_of bases target section ≡ map Ok records
-  pub rewriting : IsRewriting is_aarch64 target records made
+  pub rewriting : IsRewriting is_aarch64 target (distinct records) made

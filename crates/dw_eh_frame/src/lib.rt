@@ -2,6 +2,7 @@
 #![tactic(auto)]
 
 mod augmentation;
+mod copies;
 mod dialect;
 mod head;
 pub mod laws;

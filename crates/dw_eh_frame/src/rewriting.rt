@@ -1,15 +1,20 @@
 //! Rewrites an `.eh_frame` section as a `.debug_frame` section.
 
 ghost use Rattle.std.specs.Prelude.{◌≡◌, ◌+◌, ◌^◌, ◌<◌, ◌≤◌, ◌≢◌, IfOk, IfErr, MatchOption, OnOk, length, [], ◌∷◌, ◌++◌};
-ghost use Rattle.std.specs.Prelude.{Contains};
-ghost use Rattle.dw_eh_frame.specs.Progress.{WritesCie, WritesPointing, place_source};
+ghost use Rattle.std.specs.Prelude.{Contains, ℕ, None, Some};
+ghost use Rattle.std.specs.BTreeMap.{get};
+ghost use Rattle.std.specs.Ordering.{nat_cmp};
+ghost use Rattle.dw_bytes.specs.Reading.{section_from};
+ghost use Rattle.dw_eh_frame.specs.Progress.{TakesFde, WritesCie, WritesPointing, place_source};
 ghost use Rattle.dw_eh_frame.specs.Places.{IsRewrittenAt, place_for};
 ghost use Rattle.dw_eh_frame.specs.Refused.{IsRefused, IsUnwritten, IsUnwrittenFde};
 ghost use Rattle.dw_eh_frame.specs.Views.{IsReadCie, IsReadFde, cie_room, eh_cie_of, eh_fde_of, fde_room, program_of};
-ghost use Rattle.dw_eh_frame.specs.Records.{eh_reading_fault};
+ghost use Rattle.dw_eh_frame.specs.CopySearch.{copied_by};
+ghost use Rattle.dw_eh_frame.specs.Records.{eh_reading_fault, eh_record_at};
 ghost use Rattle.dw_frame.specs.Bounds.{Ascends};
 ghost use Rattle.dw_eh_frame.specs.declared.rewriting.CiePlace.{CiePlace};
 
+use crate::copies::{is_exact_copy, remember};
 use crate::dialect::dialect_by;
 use crate::places::RecordPlace;
 use crate::pointer::Bases;
@@ -17,6 +22,7 @@ use crate::record::{EhCie, EhFde, EhRecord, eh_record};
 use crate::write::{push_cie, push_fde};
 use dw_bytes::{Fault, FaultKind, OUT_OF_MEMORY, Target};
 use std::alloc::Global;
+use std::collections::BTreeMap;
 
 /// Where a CIE begins in `.eh_frame`, and where the CIE begins that was written for it.
 #[derive(Clone, Copy)]
@@ -25,12 +31,14 @@ pub struct CiePlace {
     pub made: u32,
 }
 
-/// The state of a rewriting: the bytes that were written, and the places of the CIEs and of all records.
+/// The state of a rewriting: the bytes that were written, the places of the CIEs and of all records, and
+/// where the first FDE is that begins at each address.
 #[derive(Drop)]
 struct Made {
     bytes: Vec<u8>,
     cies: Vec<CiePlace>,
     places: Vec<RecordPlace>,
+    firsts: BTreeMap<u64, u32>,
 }
 
 /// A rewritten section.
@@ -38,7 +46,7 @@ struct Made {
 pub struct Rewritten {
     /// The `.debug_frame` section.
     pub bytes: Vec<u8>,
-    /// The place of each CIE and each FDE, in their order.
+    /// The place of each CIE and each FDE that was written, in their order.
     pub places: Vec<RecordPlace>,
 }
 
@@ -77,6 +85,7 @@ fn write_cie(
 ) -> Result<(), Fault>
     requires { IsReadCie target cie.now }
     ensures wrote { OnOk result (WritesCie is_aarch64 target (eh_cie_of cie.now) made.old.bytes.items made.new.bytes.items) }
+    ensures firsts { OnOk result (get nat_cmp made.new.firsts ≡ get nat_cmp made.old.firsts) }
     ensures refused { IfErr result (IsUnwritten (length made.old.bytes.items + cie_room cie.now + 32)) }
     ensures grows { OnOk result (length made.new.bytes.items ≤ length made.old.bytes.items + cie_room cie.now + 24) }
     ensures short { OnOk result (length made.new.bytes.items < 2 ^ 32) }
@@ -129,6 +138,7 @@ fn write_fde(
     requires written { (q : CiePlace) → Contains made.old.cies.items q → q.made ≤ length made.old.bytes.items }
     ensures wrote { OnOk result (WritesPointing is_aarch64 target (eh_fde_of fde.now) made.old.cies.items
         made.old.bytes.items made.new.bytes.items) }
+    ensures firsts { OnOk result (get nat_cmp made.new.firsts ≡ get nat_cmp made.old.firsts) }
     ensures refused { IfErr result (IsUnwrittenFde (length made.old.bytes.items + fde_room fde.now + 32)
         made.old.cies.items (eh_fde_of fde.now)) }
     ensures grows { OnOk result (length made.new.bytes.items ≤ length made.old.bytes.items + fde_room fde.now + 24) }
@@ -173,6 +183,37 @@ fn write_fde(
     Ok(())
 }
 
+/// Writes an FDE of a section, unless it is an exact copy of an earlier one.
+fn take_fde(
+    made: &mut Made,
+    section: &[u8],
+    target: Target,
+    bases: Bases,
+    fde: &EhFde<'_>,
+    is_aarch64: bool,
+) -> Result<(), Fault>
+    requires short { length section.now < 2 ^ 32 }
+    requires inside { (a at : ℕ) → get nat_cmp made.old.firsts a ≡ Some at → at ≤ length section.now }
+    requires sound { IsReadFde target fde.now }
+    requires ascend { Ascends place_source made.old.cies.items }
+    requires written { (q : CiePlace) → Contains made.old.cies.items q → q.made ≤ length made.old.bytes.items }
+    ensures took { OnOk result (TakesFde
+        (copied_by (λ at. eh_record_at bases section.now (section_from target section.now at))
+        (get nat_cmp made.old.firsts) (eh_fde_of fde.now)) is_aarch64 target (eh_fde_of fde.now) (fde_room fde.now)
+        made.old.cies.items made.old.bytes.items made.new.bytes.items made.old.places.items made.new.places.items
+        (get nat_cmp made.old.firsts) (get nat_cmp made.new.firsts)) }
+    ensures place { OnOk result (made.new.cies.items ≡ made.old.cies.items) }
+    ensures refused { IfErr result (IsUnwrittenFde (length made.old.bytes.items + fde_room fde.now + 32)
+        made.old.cies.items (eh_fde_of fde.now)) }
+{
+    if is_exact_copy(section, target, bases, &made.firsts, fde) {
+        return Ok(());
+    }
+    write_fde(made, target, fde, is_aarch64)?;
+    remember(&mut made.firsts, fde)?;
+    Ok(())
+}
+
 /// Rewrites a section of fewer than 2^32 bytes.
 #[tactic(auto, using(crate::proofs::Steps::steps, crate::proofs::Refusing::refusals))]
 pub fn rewrite(
@@ -193,13 +234,16 @@ pub fn rewrite(
         bytes: Vec::with_capacity(alloc, section.len())?,
         cies: Vec::new(alloc),
         places: Vec::new(alloc),
+        firsts: BTreeMap::new(alloc),
     };
     let mut at = 0u32;
     while (at as usize) < section.len() {
         let (found, next) = eh_record(section, target, bases, at)?;
         match found {
             EhRecord::Cie(cie) => write_cie(&mut made, target, &cie, is_aarch64)?,
-            EhRecord::Fde(fde) => write_fde(&mut made, target, &fde, is_aarch64)?,
+            EhRecord::Fde(fde) => {
+                take_fde(&mut made, section, target, bases, &fde, is_aarch64)?;
+            }
             EhRecord::Nothing(_) => {}
         }
         at = next;

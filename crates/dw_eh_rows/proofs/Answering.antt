@@ -6,6 +6,7 @@ use Rattle.dw_bytes.specs.declared.fault.Fault.{Fault}
 use Rattle.dw_bytes.specs.Answers.{memory}
 use Rattle.dw_rows.specs.Section.{FrameSection, IsChecked, frame_of, row_of, section_fault}
 use Rattle.dw_eh_frame.specs.declared.pointer.Bases.{Bases}
+use Rattle.dw_eh_frame.specs.Copies.{distinct}
 use Rattle.dw_eh_frame.specs.declared.places.RecordPlace.{RecordPlace}
 use Rattle.dw_eh_frame.specs.Places.{original_of}
 use Rattle.dw_eh_frame.specs.Records.{EhFde, eh_reading_fault}
@@ -49,7 +50,7 @@ refused-answers a bases target section f (inr (inr first)) = inr (inr (reading-f
 abbrev pub HaveEhRows : Type 0
 HaveEhRows = (is_aarch64 : Bool) (bases : Bases) (section : List ℕ) (s : FrameSection)
     → (written : IsRewritten is_aarch64 bases s.target section s.section) → IsChecked s → (e : EhFde) → Contains (eh_fdes written.records) e
-    → (a : ℕ) → EhCovers e a → HasOneEhRow is_aarch64 written.records s a
+    → (a : ℕ) → EhCovers e a → HasOneEhRow is_aarch64 (distinct written.records) s a
 
 abbrev pub HaveNoOthers : Type 0
 HaveNoOthers = (is_aarch64 : Bool) (bases : Bases) (section : List ℕ) (s : FrameSection)

@@ -1,6 +1,6 @@
 -- Each address that an FDE of `.eh_frame` covers has one row, and a look-up in the written section
 -- finds it.
-use Rattle.std.proofs.Common.{◌≡◌, ℕ, ◌+◌, ◌<◌, ◌≤◌, Bool, true, false, cond, List, [], ◌∷◌, ◌++◌, map, Option, Some, None, Contains, refl, sym, ap, subst, ◌∙◌}
+use Rattle.std.proofs.Common.{◌≡◌, ℕ, ◌+◌, ◌<◌, ◌≤◌, Bool, true, false, cond, List, [], ◌∷◌, ◌++◌, map, Option, Some, None, Contains, refl, sym, ap, subst, ◌∙◌, arith, inl, inr}
 use Rattle.std.specs.Prelude.{filter}
 use Rattle.dw_bytes.specs.declared.target.Target.{Target}
 use Rattle.dw_bytes.specs.Answers.{values_in}
@@ -20,6 +20,9 @@ use Rattle.dw_rows.proofs.Covering.{cover-rows}
 use Rattle.dw_rows.proofs.Programs.{fde-from-good}
 use Rattle.dw_rows.proofs.RowsOf.{one-row}
 use Rattle.dw_eh_frame.specs.declared.pointer.Bases.{Bases}
+use Rattle.dw_eh_frame.specs.Copies.{distinct}
+use Rattle.dw_eh_frame.proofs.CopiesFound.{distinct-within}
+use Rattle.dw_eh_rows.proofs.CopiesKept.{kept-or-copy}
 use Rattle.dw_eh_frame.specs.Records.{EhFde, EhRecord, eh_cie, eh_fde, eh_nothing}
 use Rattle.dw_eh_frame.specs.Rewriting.{Pair, SaysTheSame, says_something, IsRewriting, IsRewritten}
 use Rattle.dw_eh_rows.specs.Meaning.{EhCovers, eh_fdes, expression_number}
@@ -154,17 +157,17 @@ HaveNone = (s : FrameSection) (a : ℕ) → ((f : Fde) → Contains s.fdes f →
 head-is : (x y : Row) (rows : List Row) → rows ≡ x ∷ [] → rows ≡ y ∷ [] → x ≡ y
 head-is x y rows p q = cc
 
-pub has-one-eh-row : HaveRows → AreApart → (a : Bool) (bases : Bases) (section : List ℕ) (s : FrameSection) (w : IsRewritten a bases s.target section s.section)
-    → IsChecked s → (e : EhFde) → Contains (eh_fdes w.records) e → (x : ℕ) → EhCovers e x → HasOneEhRow a w.records s x
-has-one-eh-row rows_law apart a bases section s w checked e among x covers =
+pub has-one-kept-row : HaveRows → AreApart → (a : Bool) (bases : Bases) (section : List ℕ) (s : FrameSection) (w : IsRewritten a bases s.target section s.section)
+    → IsChecked s → (e : EhFde) → Contains (eh_fdes (distinct w.records)) e → (x : ℕ) → EhCovers e x → HasOneEhRow a (distinct w.records) s x
+has-one-kept-row rows_law apart a bases section s w checked e among x covers =
     let pairs = w.rewriting.pairs in
-    let made = written-for a s.target w.records s.section w.rewriting e among in
+    let made = written-for a s.target (distinct w.records) s.section w.rewriting e among in
     let f = made.0 in
-    let keeps = rows-kept a s.target w.records s.section w.rewriting e f made.1 in
+    let keeps = rows-kept a s.target (distinct w.records) s.section w.rewriting e f made.1 in
     let c = keeps.cie in
-    let f_among : Contains s.fdes f = subst (λ (l : List Fde). Contains l f) (sym (fdes-are a w.records s w.rewriting checked))
+    let f_among : Contains s.fdes f = subst (λ (l : List Fde). Contains l f) (sym (fdes-are a (distinct w.records) s w.rewriting checked))
     (fde-among (made-records pairs) f (mapped (λ (p : Pair). p.1) pairs (eh_fde e, fde_record f) made.1)) in
-    let c_among : Contains s.cies c = subst (λ (l : List Cie). Contains l c) (sym (cies-are a w.records s w.rewriting checked))
+    let c_among : Contains s.cies c = subst (λ (l : List Cie). Contains l c) (sym (cies-are a (distinct w.records) s w.rewriting checked))
     (cie-among (made-records pairs) c (mapped (λ (p : Pair). p.1) pairs (eh_cie e.cie, cie_record c) keeps.among)) in
     let cie_found : cie_at s.cies f.cie_pointer ≡ Some c = found-at s.cies (checked-cies-ascend s checked) c f.cie_pointer c_among keeps.offset in
     let here : Covers f x = covers-too e f x keeps.initial_location keeps.address_range covers in
@@ -197,10 +200,10 @@ has-one-eh-row rows_law apart a bases section s w checked e among x covers =
         among,
         covers,
         λ g g_in g_covers.
-            let other = written-for a s.target w.records s.section w.rewriting g g_in in
-            let kept = rows-kept a s.target w.records s.section w.rewriting g other.0 other.1 in
+            let other = written-for a s.target (distinct w.records) s.section w.rewriting g g_in in
+            let kept = rows-kept a s.target (distinct w.records) s.section w.rewriting g other.0 other.1 in
             let there = covers-too g other.0 x kept.initial_location kept.address_range g_covers in
-            let other_in : Contains s.fdes other.0 = subst (λ (l : List Fde). Contains l other.0) (sym (fdes-are a w.records s w.rewriting checked))
+            let other_in : Contains s.fdes other.0 = subst (λ (l : List Fde). Contains l other.0) (sym (fdes-are a (distinct w.records) s w.rewriting checked))
             (fde-among (made-records pairs) other.0 (mapped (λ (p : Pair). p.1) pairs (eh_fde g, fde_record other.0) other.1)) in
             let same : other.0 ≡ f = law.covers.2 other.0 other_in there ∙ sym fde_is in
             let pair : (eh_fde g, fde_record other.0) ≡ (eh_fde e, fde_record f) =
@@ -219,11 +222,23 @@ has-one-eh-row rows_law apart a bases section s w checked e among x covers =
       returns = (f, c, only, cie_found, refl);
     }
 
+-- the row of an address that any FDE covers, which may be a copy
+pub has-one-eh-row : HaveRows → AreApart → (a : Bool) (bases : Bases) (section : List ℕ) (s : FrameSection) (w : IsRewritten a bases s.target section s.section)
+    → IsChecked s → (e : EhFde) → Contains (eh_fdes w.records) e → (x : ℕ) → EhCovers e x → HasOneEhRow a (distinct w.records) s x
+has-one-eh-row rows_law apart a bases section s w checked e among x covers =
+    elim (kept-or-copy w.records e (eh-record-of w.records e among)) [
+      | inl kept ↦ has-one-kept-row rows_law apart a bases section s w checked e (eh-fde-among (distinct w.records) e kept) x covers
+      | inr copy ↦ has-one-kept-row rows_law apart a bases section s w checked copy.original
+          (eh-fde-among (distinct w.records) copy.original copy.kept) x
+          (omega (arith, covers.0, copy.initial), omega (arith, covers.1, copy.initial, copy.range))
+    ]
+
 pub has-no-row : HaveNone → (a : Bool) (bases : Bases) (section : List ℕ) (s : FrameSection) (w : IsRewritten a bases s.target section s.section)
     → IsChecked s → (x : ℕ) → ((e : EhFde) → Contains (eh_fdes w.records) e → ¬ EhCovers e x) → row_of s x ≡ None
 has-no-row none_law a bases section s w checked x free = none_law s x (λ f f_in covers.
     let listed = record-of (made-records w.rewriting.pairs) f
-    (subst (λ (l : List Fde). Contains l f) (fdes-are a w.records s w.rewriting checked) f_in) in
-    let source = written-from a s.target w.records s.section w.rewriting f listed in
-    let keeps = rows-kept a s.target w.records s.section w.rewriting source.0 f source.1 in
-    free source.0 source.2 (covers-back source.0 f x keeps.initial_location keeps.address_range covers))
+    (subst (λ (l : List Fde). Contains l f) (fdes-are a (distinct w.records) s w.rewriting checked) f_in) in
+    let source = written-from a s.target (distinct w.records) s.section w.rewriting f listed in
+    let keeps = rows-kept a s.target (distinct w.records) s.section w.rewriting source.0 f source.1 in
+    free source.0 (eh-fde-among w.records source.0 (distinct-within [] w.records (eh_fde source.0)
+    (eh-record-of (distinct w.records) source.0 source.2))) (covers-back source.0 f x keeps.initial_location keeps.address_range covers))

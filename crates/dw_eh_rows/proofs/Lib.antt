@@ -4,11 +4,11 @@ pub mod RowsKept
 pub mod OnlyRows
 pub mod Listed
 pub mod NamesFound
+pub mod CopiesKept
 pub mod Found
 pub mod FaultsAlike
 pub mod ProgramFaults
 pub mod NoOverlaps
-pub mod RecordOrder
 pub mod SectionFaults
 pub mod Answering
 pub mod ReadAgain

@@ -15,7 +15,7 @@ use Rattle.dw_bytes.proofs.Readers.{leaves-suffix, length-exact, take-exact}
 use Rattle.dw_eh_frame.specs.declared.pointer.Bases.{Bases}
 use Rattle.dw_eh_frame.specs.Records.{EhCie, EhFde, EhRecord, eh_cie, eh_fde, eh_nothing, eh_cie_from, eh_cie_at, no_such_cie, eh_cie_before, eh_area_at, eh_fde_from, eh_full_at, eh_body_at, eh_record_at, eh_entries_from, eh_entries_of}
 use Rattle.dw_eh_frame.specs.Pointers.{pointer_at, range_at}
-use Rattle.dw_eh_rows.proofs.RecordOrder.{ok-bind, same-given, cie-starts, fde-of}
+use Rattle.dw_eh_frame.proofs.RecordOrder.{ok-bind, same-given, cie-starts, fde-of}
 
 -- ---- what is left after a record
 

@@ -18,6 +18,8 @@ use Rattle.dw_rows.specs.Section.{cies_among, fdes_among, first_fault, cie_at, p
 use Rattle.dw_rows.specs.Overlap.{cie_offset}
 use Rattle.dw_rows.proofs.Standing.{cie-stands, fde-stands}
 use Rattle.dw_eh_frame.specs.declared.pointer.Bases.{Bases}
+use Rattle.dw_eh_frame.specs.Copies.{distinct}
+use Rattle.dw_eh_frame.proofs.CopiesFound.{distinct-rise}
 use Rattle.dw_eh_frame.specs.declared.places.RecordPlace.{RecordPlace}
 use Rattle.dw_eh_frame.specs.Records.{EhCie, EhFde, EhRecord, eh_cie, eh_fde, eh_nothing, eh_entries_of, eh_reading_fault}
 use Rattle.dw_eh_frame.specs.Rewriting.{Pair, SaysTheSame, says_something, IsSameCie, IsSameFde}
@@ -29,7 +31,7 @@ use Rattle.dw_eh_rows.specs.Checked.{IsFaultOf}
 use Rattle.dw_eh_rows.proofs.FaultsAlike.{Matched}
 use Rattle.dw_eh_rows.proofs.ProgramFaults.{cie-matched, fde-matched}
 use Rattle.dw_eh_rows.proofs.NoOverlaps.{NoOverlap, cie-never, fde-never}
-use Rattle.dw_eh_rows.proofs.RecordOrder.{records-rise, kept-rise}
+use Rattle.dw_eh_frame.proofs.RecordOrder.{records-rise, kept-rise}
 use Rattle.dw_eh_rows.proofs.Listed.{values-read, found-at, mapped, cie-among}
 
 abbrev sources : List Pair → List EhRecord
@@ -352,20 +354,20 @@ pub section-kept : (a : Bool) (bases : Bases) (target : Target) (section made : 
     → Kept w.rewritten.rewriting.pairs places (eh_section_fault a bases target section) (section_fault target made)
 unfolding eh_section_fault
 section-kept a bases target section made places w faultless =
-    let records = w.rewritten.records in
+    let records : List EhRecord = distinct w.rewritten.records in
     let pairs = w.rewritten.rewriting.pairs in
     let rise : Ascends source_start (sources pairs) =
     subst (λ (l : List EhRecord). Ascends source_start l) (sym w.rewritten.rewriting.sources)
-    (kept-rise records (records-rise bases target section records w.rewritten.are)) in
+    (kept-rise records (distinct-rise [] w.rewritten.records (records-rise bases target section w.rewritten.records w.rewritten.are))) in
     let parts : Parts a target made pairs places = record {
       encoded = w.rewritten.rewriting.encoded;
       same = w.rewritten.rewriting.same;
       are = w.are;
       rise = rise;
     } in
-    let values : values_in (eh_entries_of bases target section) ≡ records =
-    ap (λ items. values_in {X = EhRecord} items) w.rewritten.are ∙ values-found records in
+    let values : values_in (eh_entries_of bases target section) ≡ w.rewritten.records =
+    ap (λ items. values_in {X = EhRecord} items) w.rewritten.are ∙ values-found w.rewritten.records in
     let own : eh_section_fault a bases target section ≡ eh_parts_fault a (sources pairs) =
-    ap (λ o. option_or o (eh_parts_fault a (values_in (eh_entries_of bases target section)))) faultless
-    ∙ (ap (eh_parts_fault a) values ∙ (sym (same-parts a records) ∙ ap (eh_parts_fault a) (sym w.rewritten.rewriting.sources))) in
+    ap (λ o. option_or o (eh_parts_fault a (distinct (values_in (eh_entries_of bases target section))))) faultless
+    ∙ (ap (λ (l : List EhRecord). eh_parts_fault a (distinct l)) values ∙ (sym (same-parts a records) ∙ ap (eh_parts_fault a) (sym w.rewritten.rewriting.sources))) in
     subst (λ o. Kept pairs places o (section_fault target made)) (sym own) (parts-kept a target made pairs places parts)

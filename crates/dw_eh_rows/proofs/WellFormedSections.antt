@@ -14,6 +14,8 @@ use Rattle.dw_frame.specs.Bounds.{Ascends}
 use Rattle.dw_frame.specs.Records.{Fde}
 use Rattle.dw_rows.specs.Section.{first_fault, shares}
 use Rattle.dw_eh_frame.specs.declared.pointer.Bases.{Bases}
+use Rattle.dw_eh_frame.specs.Copies.{distinct}
+use Rattle.dw_eh_frame.proofs.CopiesFound.{distinct-within, distinct-cies, distinct-rise}
 use Rattle.dw_eh_frame.specs.Places.{source_start}
 use Rattle.dw_eh_frame.specs.Records.{EhCie, EhFde, EhRecord, eh_cie, eh_fde, eh_nothing, eh_cie_at, eh_entries_of, begins_at, lost, pointer_fault, reading_fault_after, eh_reading_fault}
 use Rattle.dw_eh_rows.specs.Meaning.{as_fde, eh_fdes, EhCovers}
@@ -22,7 +24,7 @@ use Rattle.dw_eh_rows.specs.WellFormed.{IsGoodEhCie, IsEhWellFormed}
 use Rattle.dw_eh_rows.proofs.GoodPrograms.{either-none, good-from-cie, cie-from-good, good-from-fde, fde-from-good}
 use Rattle.dw_eh_rows.proofs.Listed.{eh-record-of}
 use Rattle.dw_eh_rows.proofs.ReadAgain.{each-again}
-use Rattle.dw_eh_rows.proofs.RecordOrder.{records-rise, same-given}
+use Rattle.dw_eh_frame.proofs.RecordOrder.{records-rise, same-given}
 
 -- ---- lists
 
@@ -300,13 +302,14 @@ unfolding eh_section_fault eh_reading_fault eh_parts_fault
 well-formed a bases target section none =
     let entries = eh_entries_of bases target section in
     let records : List EhRecord = values_in entries in
-    let halves = either-none (reading_fault_after [] entries) (eh_parts_fault a records) none in
+    let kept : List EhRecord = distinct records in
+    let halves = either-none (reading_fault_after [] entries) (eh_parts_fault a kept) none in
     let are : entries ≡ map Ok records = read-whole [] entries halves.0 in
     let reading : reading_fault_after [] (map Ok records) ≡ None = ap (reading_fault_after []) (sym are) ∙ halves.0 in
-    let first = either-none (first_fault (eh_cie_fault a) (eh_cies records)) (option_or (first_fault (eh_fde_fault a) (eh_fdes records))
-    (first_fault (eh_overlap_fault (eh_fdes records)) (eh_fdes records))) halves.1 in
-    let second = either-none (first_fault (eh_fde_fault a) (eh_fdes records))
-    (first_fault (eh_overlap_fault (eh_fdes records)) (eh_fdes records)) first.1 in
+    let first = either-none (first_fault (eh_cie_fault a) (eh_cies kept)) (option_or (first_fault (eh_fde_fault a) (eh_fdes kept))
+    (first_fault (eh_overlap_fault (eh_fdes kept)) (eh_fdes kept))) halves.1 in
+    let second = either-none (first_fault (eh_fde_fault a) (eh_fdes kept))
+    (first_fault (eh_overlap_fault (eh_fdes kept)) (eh_fdes kept)) first.1 in
     let pointers : (front back : List EhRecord) (e : EhFde) → records ≡ front ++ eh_fde e ∷ back → Contains front (eh_cie e.cie) =
     λ front back e split.
     let found = pointers-before [] front back e (ap (λ (l : List EhRecord). reading_fault_after [] (map Ok l)) (sym split) ∙ reading) in
@@ -315,21 +318,21 @@ well-formed a bases target section none =
     let c_in : Contains records (eh_cie found.0) =
     subst (λ (l : List EhRecord). Contains l (eh_cie found.0)) (sym split) (Contains-front front (eh_fde e ∷ back) (eh_cie found.0) found.1) in
     subst (λ (c : EhCie). Contains front (eh_cie c)) (own-cie bases target section records are e e_in found.0 c_in found.2) found.1 in
-    let cie_programs : (c : EhCie) → Contains (eh_cies records) c → IsGoodEhCie a c =
-    λ c among. good-from-cie a c (none-each (eh_cie_fault a) (eh_cies records) first.0 c among) in
+    let cie_programs : (c : EhCie) → Contains (eh_cies kept) c → IsGoodEhCie a c =
+    λ c among. good-from-cie a c (none-each (eh_cie_fault a) (eh_cies kept) first.0 c among) in
     record {
       records = records;
       are = are;
       pointers = pointers;
       cie_programs = cie_programs;
       fde_programs = λ e among.
-          let split = split-at records (eh_fde e) (eh-record-of records e among) in
+          let split = split-at records (eh_fde e) (distinct-within [] records (eh_fde e) (eh-record-of kept e among)) in
           let own = pointers split.0 split.1 e split.2 in
           let c_in : Contains records (eh_cie e.cie) =
           subst (λ (l : List EhRecord). Contains l (eh_cie e.cie)) (sym split.2) (Contains-front split.0 (eh_fde e ∷ split.1) (eh_cie e.cie) own) in
-          good-from-fde a e (cie_programs e.cie (cie-among records e.cie c_in))
-          (none-each (eh_fde_fault a) (eh_fdes records) second.0 e among);
-      once = covered-once (eh_fdes records) (fdes-rise records (records-rise bases target section records are)) second.1;
+          good-from-fde a e (cie_programs e.cie (cie-among kept e.cie (distinct-cies [] records e.cie c_in)))
+          (none-each (eh_fde_fault a) (eh_fdes kept) second.0 e among);
+      once = covered-once (eh_fdes kept) (fdes-rise kept (distinct-rise [] records (records-rise bases target section records are))) second.1;
     }
 
 no-fault : (a : Bool) (bases : Bases) (target : Target) (section : List ℕ) → IsEhWellFormed a bases target section
@@ -337,17 +340,19 @@ no-fault : (a : Bool) (bases : Bases) (target : Target) (section : List ℕ) →
 unfolding eh_section_fault eh_reading_fault eh_parts_fault
 no-fault a bases target section w =
     let entries = eh_entries_of bases target section in
+    let kept : List EhRecord = distinct w.records in
     let values : values_in {X = EhRecord} entries ≡ w.records = ap (λ items. values_in {X = EhRecord} items) w.are ∙ values-read w.records in
     let reading : reading_fault_after [] entries ≡ None =
     ap (reading_fault_after []) w.are ∙ all-found [] w.records w.pointers in
-    let cies = each-none (eh_cie_fault a) (eh_cies w.records) (λ c among. cie-from-good a c (w.cie_programs c among)) in
-    let fdes = each-none (eh_fde_fault a) (eh_fdes w.records) (λ e among. fde-from-good a e (w.fde_programs e among)) in
-    let overlap = no-overlap (eh_fdes w.records) w.once in
-    let parts : eh_parts_fault a w.records ≡ None =
-    ap (λ o. option_or o (option_or (first_fault (eh_fde_fault a) (eh_fdes w.records))
-    (first_fault (eh_overlap_fault (eh_fdes w.records)) (eh_fdes w.records)))) cies
-    ∙ (ap (λ o. option_or o (first_fault (eh_overlap_fault (eh_fdes w.records)) (eh_fdes w.records))) fdes ∙ overlap) in
-    ap (λ o. option_or o (eh_parts_fault a (values_in entries))) reading ∙ (ap (eh_parts_fault a) values ∙ parts)
+    let cies = each-none (eh_cie_fault a) (eh_cies kept) (λ c among. cie-from-good a c (w.cie_programs c among)) in
+    let fdes = each-none (eh_fde_fault a) (eh_fdes kept) (λ e among. fde-from-good a e (w.fde_programs e among)) in
+    let overlap = no-overlap (eh_fdes kept) w.once in
+    let parts : eh_parts_fault a kept ≡ None =
+    ap (λ o. option_or o (option_or (first_fault (eh_fde_fault a) (eh_fdes kept))
+    (first_fault (eh_overlap_fault (eh_fdes kept)) (eh_fdes kept)))) cies
+    ∙ (ap (λ o. option_or o (first_fault (eh_overlap_fault (eh_fdes kept)) (eh_fdes kept))) fdes ∙ overlap) in
+    ap (λ o. option_or o (eh_parts_fault a (distinct (values_in entries)))) reading
+    ∙ (ap (λ (l : List EhRecord). eh_parts_fault a (distinct l)) values ∙ parts)
 
 pub faultless-well-formed : (a : Bool) (bases : Bases) (target : Target) (section : List ℕ)
     → (eh_section_fault a bases target section ≡ None) ↔ IsEhWellFormed a bases target section

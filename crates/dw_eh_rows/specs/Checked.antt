@@ -4,6 +4,7 @@ use Rattle.dw_bytes.specs.declared.fault.Fault.{Fault}
 use Rattle.dw_bytes.specs.Answers.{memory}
 use Rattle.dw_rows.specs.Section.{FrameSection, row_of}
 use Rattle.dw_eh_frame.specs.declared.pointer.Bases.{Bases}
+use Rattle.dw_eh_frame.specs.Copies.{distinct}
 use Rattle.dw_eh_frame.specs.Records.{EhFde, EhRecord, eh_entries_of}
 use Rattle.dw_frame.specs.Bounds.{offset_of}
 use Rattle.dw_eh_frame.specs.Places.{IsOn, is_overlap, written_program}
@@ -21,10 +22,11 @@ EhAnswers size fault (Err f) = (f ≡ memory) ⊎ (((f ≡ too_long) × (2 ^ 29 
 
 -- The rows that look-ups find are those of the section: each address that one of its FDEs covers has
 -- exactly one row, the one that the definitions give, and a look-up finds it. Any other address has none.
+-- Exact copies of an FDE are one FDE.
 pub record HasEhRows (is_aarch64 : Bool) (bases : Bases) (section : List ℕ) (s : FrameSection) : Type 0 where
   pub records : List EhRecord
   pub are : eh_entries_of bases s.target section ≡ map Ok records
-  pub covered : (e : EhFde) → Contains (eh_fdes records) e → (a : ℕ) → EhCovers e a → HasOneEhRow is_aarch64 records s a
+  pub covered : (e : EhFde) → Contains (eh_fdes records) e → (a : ℕ) → EhCovers e a → HasOneEhRow is_aarch64 (distinct records) s a
   pub others : (a : ℕ) → ((e : EhFde) → Contains (eh_fdes records) e → ¬ EhCovers e a) → row_of s a ≡ None
 
 -- ---- where the faults of a written section are

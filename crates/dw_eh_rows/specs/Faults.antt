@@ -16,6 +16,7 @@ use Rattle.dw_rows.specs.InForce.{Start, start_behind}
 use Rattle.dw_rows.specs.Judgement.{standing_at, refusal_at, refusal_at_end, cie_refusal_at, end_of}
 use Rattle.dw_rows.specs.Section.{first_fault, overlap_fault}
 use Rattle.dw_eh_frame.specs.declared.pointer.Bases.{Bases}
+use Rattle.dw_eh_frame.specs.Copies.{distinct}
 use Rattle.dw_eh_frame.specs.Records.{EhCie, EhFde, EhRecord, eh_cie, eh_fde, eh_nothing, eh_entries_of, eh_reading_fault}
 use Rattle.dw_eh_frame.specs.Instructions.{EhInstruction, dialect_of, eh_instructions_of}
 use Rattle.dw_eh_rows.specs.Meaning.{as_fde, dialect_in, eh_effect_of, eh_effects_from, eh_expression_in, eh_fdes}
@@ -107,8 +108,8 @@ eh_parts_fault is_aarch64 records =
     (option_or (first_fault (eh_fde_fault is_aarch64) (eh_fdes records))
     (first_fault (eh_overlap_fault (eh_fdes records)) (eh_fdes records)))
 
--- the first fault of a section: the first fault in reading it, or else of its parts
+-- the first fault of a section: the first fault in reading it, or else of its records without exact copies
 unfoldable pub eh_section_fault : Bool → Bases → Target → List ℕ → Option Fault
 eh_section_fault is_aarch64 bases target section =
     option_or (eh_reading_fault bases target section)
-    (eh_parts_fault is_aarch64 (values_in (eh_entries_of bases target section)))
+    (eh_parts_fault is_aarch64 (distinct (values_in (eh_entries_of bases target section))))

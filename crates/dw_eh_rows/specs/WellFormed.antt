@@ -5,6 +5,7 @@ use Rattle.dw_stack.specs.Expressions.{IsGoodExpression}
 use Rattle.dw_stack.specs.Located.{LocatedExpression}
 use Rattle.dw_rows.specs.Good.{IsGood, IsGoodCie}
 use Rattle.dw_eh_frame.specs.declared.pointer.Bases.{Bases}
+use Rattle.dw_eh_frame.specs.Copies.{distinct}
 use Rattle.dw_eh_frame.specs.Records.{EhCie, EhFde, EhRecord, eh_cie, eh_fde, eh_entries_of}
 use Rattle.dw_eh_frame.specs.Instructions.{EhInstruction, dialect_of, AreEhInstructions}
 use Rattle.dw_eh_rows.specs.Meaning.{dialect_in, eh_effects_from, eh_expression_in, eh_fdes, EhCovers}
@@ -34,12 +35,13 @@ pub record IsGoodEhFde (is_aarch64 : Bool) (e : EhFde) : Type 0 where
   pub expressions : AreGoodEhExpressions items
 
 -- The section's bytes are read as records, one after another, up to the end. The CIE of each FDE is one
--- of the records before it. All programs are good. No address is covered by two FDEs.
+-- of the records before it. Except for exact copies, all programs are good, and no address is covered by
+-- two FDEs.
 pub record IsEhWellFormed (is_aarch64 : Bool) (bases : Bases) (target : Target) (section : List ℕ) : Type 0 where
   pub records : List EhRecord
   pub are : eh_entries_of bases target section ≡ map Ok records
   pub pointers : (front back : List EhRecord) (e : EhFde) → records ≡ front ++ eh_fde e ∷ back
       → Contains front (eh_cie e.cie)
-  pub cie_programs : (c : EhCie) → Contains (eh_cies records) c → IsGoodEhCie is_aarch64 c
-  pub fde_programs : (e : EhFde) → Contains (eh_fdes records) e → IsGoodEhFde is_aarch64 e
-  pub once : (a : ℕ) (e g : EhFde) → Contains (eh_fdes records) e → Contains (eh_fdes records) g → EhCovers e a → EhCovers g a → e ≡ g
+  pub cie_programs : (c : EhCie) → Contains (eh_cies (distinct records)) c → IsGoodEhCie is_aarch64 c
+  pub fde_programs : (e : EhFde) → Contains (eh_fdes (distinct records)) e → IsGoodEhFde is_aarch64 e
+  pub once : (a : ℕ) (e g : EhFde) → Contains (eh_fdes (distinct records)) e → Contains (eh_fdes (distinct records)) g → EhCovers e a → EhCovers g a → e ≡ g

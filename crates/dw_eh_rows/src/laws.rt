@@ -8,6 +8,7 @@ ghost use Rattle.dw_frame.specs.Records.{Fde, fde_record};
 ghost use Rattle.dw_rows.specs.Rules.{PlacedRow};
 ghost use Rattle.dw_rows.specs.Section.{FrameSection, IsChecked, row_of, section_fault};
 ghost use Rattle.dw_eh_frame.specs.declared.pointer.Bases.{Bases};
+ghost use Rattle.dw_eh_frame.specs.Copies.{distinct};
 ghost use Rattle.dw_eh_frame.specs.declared.places.RecordPlace.{RecordPlace};
 ghost use Rattle.dw_eh_frame.specs.Places.{IsRewrittenAt, original_of};
 ghost use Rattle.dw_eh_frame.specs.Records.{EhFde, EhRecord, eh_fde, eh_reading_fault};
@@ -63,7 +64,7 @@ pub fn exact_eh_rows()
     ensures covered { (is_aarch64 : Bool) (bases : Bases) (section : List ℕ) (s : FrameSection)
         → (written : IsRewritten is_aarch64 bases s.target section s.section) → IsChecked s
         → (e : EhFde) → Contains (eh_fdes written.records) e → (a : ℕ) → EhCovers e a
-        → HasOneEhRow is_aarch64 written.records s a }
+        → HasOneEhRow is_aarch64 (distinct written.records) s a }
     ensures others { (is_aarch64 : Bool) (bases : Bases) (section : List ℕ) (s : FrameSection)
         → (written : IsRewritten is_aarch64 bases s.target section s.section) → IsChecked s
         → (a : ℕ) → ((e : EhFde) → Contains (eh_fdes written.records) e → ¬ EhCovers e a)

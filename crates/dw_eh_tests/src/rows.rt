@@ -141,8 +141,27 @@ const FDE: &str = "140000001c00000014f2ffff5600000000";
 /// Seven nops.
 const NOPS: &str = "00000000000000";
 
+/// The same addresses again, in an FDE at 48 whose program begins at 65.
+const AGAIN: &str = "1400000034000000fcf1ffff5600000000";
+
+/// def_cfa_offset 16, and nops.
+const SIXTEEN: &str = "0e100000000000";
+
+/// FDEs at 24 and 48 of 0x1234 that cover nothing.
+const EMPTY: &str = "140000001c00000014f2ffff0000000000";
+
+const EMPTY_AGAIN: &str = "1400000034000000fcf1ffff0000000000";
+
+#[test]
+fn exact_copies_are_one_fde(rt: HostRuntime) -> Result<(), AllocError> {
+    let copies = format!(in rt.alloc(); "{CIE}{FDE}{SIXTEEN}{AGAIN}{SIXTEEN}")?;
+    has_rows(&rt, &copies, LITTLE, false, &[(0x1234, "128a 7+16 16=c-8")])?;
+    let empty = format!(in rt.alloc(); "{CIE}{EMPTY}{SIXTEEN}{EMPTY_AGAIN}{NOPS}")?;
+    has_rows(&rt, &empty, LITTLE, false, &[])
+}
+
 /// What follows a CIE, and the fault with its offset in the section.
-const REFUSED: [(&str, [&str; 4], FaultKind, u32); 9] = [
+const REFUSED: [(&str, [&str; 4], FaultKind, u32); 10] = [
     // set_loc where addresses aren't plain
     (
         CIE,
@@ -190,6 +209,8 @@ const REFUSED: [(&str, [&str; 4], FaultKind, u32); 9] = [
         FaultKind::Overlap,
         52,
     ),
+    // the same addresses with another program
+    (CIE, [FDE, NOPS, AGAIN, SIXTEEN], FaultKind::Overlap, 48),
     // a record of which two bytes are left, and, before it, an unknown instruction
     (
         CIE,
