@@ -16,6 +16,7 @@ use Rattle.dw_eh_rows.specs.Meaning.{EhCovers, eh_fdes}
 use Rattle.dw_eh_rows.specs.Faults.{eh_section_fault}
 use Rattle.dw_eh_rows.specs.OneRow.{HasOneEhRow}
 use Rattle.dw_eh_rows.specs.Checked.{HasEhRows, IsFaultOf}
+use Rattle.dw_eh_rows.proofs.CopyRows.{each-kept}
 use Rattle.dw_eh_rows.proofs.SectionFaults.{Kept}
 
 pub kept-none : (pairs : List Pair) (places : List RecordPlace) (o w : Option Fault) → Kept pairs places o w → w ≡ None → o ≡ None
@@ -65,6 +66,7 @@ has-rows covered others a bases target section made s is w none =
       records = w.records;
       are = w.are;
       covered = covered a bases section (frame_of target made) w checked;
+      copies = each-kept a bases target section w.records w.are;
       others = others a bases section (frame_of target made) w checked;
     } in
     subst (HasEhRows a bases section) (sym is) rows

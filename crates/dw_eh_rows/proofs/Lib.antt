@@ -11,6 +11,8 @@ pub mod ProgramFaults
 pub mod NoOverlaps
 pub mod SectionFaults
 pub mod Answering
+pub mod ReadTargets
 pub mod ReadAgain
 pub mod GoodPrograms
 pub mod WellFormedSections
+pub mod CopyRows

@@ -15,6 +15,7 @@ use Rattle.dw_bytes.proofs.Readers.{leaves-suffix, length-exact, take-exact}
 use Rattle.dw_eh_frame.specs.declared.pointer.Bases.{Bases}
 use Rattle.dw_eh_frame.specs.Records.{EhCie, EhFde, EhRecord, eh_cie, eh_fde, eh_nothing, eh_cie_from, eh_cie_at, no_such_cie, eh_cie_before, eh_area_at, eh_fde_from, eh_full_at, eh_body_at, eh_record_at, eh_entries_from, eh_entries_of}
 use Rattle.dw_eh_frame.specs.Pointers.{pointer_at, range_at}
+use Rattle.dw_eh_rows.proofs.ReadTargets.{Keeps, fixed-keeps, program-target}
 use Rattle.dw_eh_frame.proofs.RecordOrder.{ok-bind, same-given, cie-starts, fde-of}
 
 -- ---- what is left after a record
@@ -76,10 +77,10 @@ before-again target section place back c is = by (nat_le back place) is
 
 -- ---- records
 
--- a CIE is read again where it begins, and so is the CIE of an FDE
+-- a CIE is read again where it begins, and so is the CIE of an FDE, whose program has the section's target
 abbrev pub IsAgain : Target → List ℕ → EhRecord → Type 0
 IsAgain target section (eh_cie c) = eh_cie_at target section c.offset ≡ Ok c
-IsAgain target section (eh_fde e) = eh_cie_at target section e.cie.offset ≡ Ok e.cie
+IsAgain target section (eh_fde e) = (eh_cie_at target section e.cie.offset ≡ Ok e.cie) × (e.program.target ≡ target)
 IsAgain target section (eh_nothing n) = Unit {0}
 
 fde-cie : (bases : Bases) (at : ℕ) (format : Format) (place : ℕ) (cie : EhCie) (r : ReadPosition) (e : EhFde)
@@ -98,23 +99,25 @@ abbrev Framed : Type 0
 Framed = (Format × ReadPosition) × ReadPosition
 
 full-again : (bases : Bases) (target : Target) (section : List ℕ) (at : ℕ) (format : Format) (body : ReadPosition) (id : ℕ × ReadPosition)
-    (x : EhRecord) (b : Bool) → (id.0 == 0) ≡ b → body.target ≡ target
+    (x : EhRecord) (b : Bool) → (id.0 == 0) ≡ b → body.target ≡ target → id.1.target ≡ target
     → cond b (eh_cie_from at format id.1 >>= λ cie. Ok (eh_cie cie)) (eh_cie_before body.target section body.position id.0 >>= λ cie.
     eh_fde_from bases at format body.position cie id.1 >>= λ fde. Ok (eh_fde fde)) ≡ Ok x
     → (eh_cie_at target section at ≡ cond b (eh_cie_from at format id.1) (Err (record { kind = NoSuchCie; at = at }))) → IsAgain target section x
-full-again bases target section at format body id x true test same is reads =
+full-again bases target section at format body id x true test same id_target is reads =
     let c = ok-bind (eh_cie_from at format id.1) (λ cie. Ok (eh_cie cie)) x is in
     subst (IsAgain target section) (same-given (eh_cie c.0) x c.2)
     (ap (eh_cie_at target section) (cie-starts at format id.1 c.0 c.1) ∙ (reads ∙ c.1))
-full-again bases target section at format body id x false test same is reads =
+full-again bases target section at format body id x false test same id_target is reads =
     let c = ok-bind (eh_cie_before body.target section body.position id.0)
     (λ cie. eh_fde_from bases at format body.position cie id.1 >>= λ fde. Ok (eh_fde fde)) x is in
     let f = ok-bind (eh_fde_from bases at format body.position c.0 id.1) (λ fde. Ok (eh_fde fde)) x c.2 in
     let own = fde-cie bases at format body.position c.0 id.1 f.0 f.1 in
     let there : eh_cie_before target section body.position id.0 ≡ Ok c.0 = ap (λ t. eh_cie_before t section body.position id.0) (sym same) ∙ c.1 in
     let found = before-again target section body.position id.0 c.0 there in
-    subst (IsAgain target section) (same-given (eh_fde f.0) x f.2)
-    (subst (λ (d : EhCie). eh_cie_at target section d.offset ≡ Ok d) own found)
+    subst (IsAgain target section) (same-given (eh_fde f.0) x f.2) (
+      subst (λ (d : EhCie). eh_cie_at target section d.offset ≡ Ok d) own found,
+      program-target bases at format body.position c.0 id.1 f.0 f.1 ∙ id_target,
+    )
 
 body-again : (bases : Bases) (target : Target) (section : List ℕ) (at : ℕ) (format : Format) (body : ReadPosition) (x : EhRecord) (b : Bool)
     → body.target ≡ target → cond b (Ok (eh_nothing at)) (fixed_at 4 body >>= eh_full_at bases section at format body) ≡ Ok x
@@ -124,7 +127,8 @@ unfolding eh_full_at
 body-again bases target section at format body x true same is reads = subst (IsAgain target section) (same-given (eh_nothing at) x is) tt
 body-again bases target section at format body x false same is reads =
     let id = ok-bind (fixed_at 4 body) (eh_full_at bases section at format body) x is in
-    full-again bases target section at format body id.0 x (id.0.0 == 0) refl same id.2
+    full-again bases target section at format body id.0 x (id.0.0 == 0) refl same
+    (subst (Keeps {X = ℕ} target) id.1 (fixed-keeps target 4 body same)) id.2
     (reads ∙ ap (λ (r : Result (ℕ × ReadPosition) Fault). r >>= λ id. cond (id.0 == 0) (eh_cie_from at format id.1) (Err (record { kind = NoSuchCie; at = at }))) id.1)
 
 body-target : (target : Target) (section : List ℕ) (at : ℕ) (framed : Framed) → framed_at (section_from target section at) ≡ Ok framed

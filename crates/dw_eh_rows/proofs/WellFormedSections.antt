@@ -139,10 +139,10 @@ Contains-middle : (front back : List EhRecord) (x : EhRecord) → Contains (fron
 Contains-middle [] back x = (zero, omega arith, refl)
 Contains-middle (y ∷ front) back x = let more = Contains-middle front back x in (suc more.0, omega (arith, more.1), more.2)
 
-abbrev read-as : EhRecord → Result EhRecord Fault
+abbrev pub read-as : EhRecord → Result EhRecord Fault
 read-as x = Ok x
 
-as-read : (records : List EhRecord) (x : EhRecord) → Contains records x → Contains (map read-as records) (read-as x)
+pub as-read : (records : List EhRecord) (x : EhRecord) → Contains records x → Contains (map read-as records) (read-as x)
 as-read [] x (k, less, is) = absurd (omega arith)
 as-read (y ∷ records) x (zero, less, is) = (zero, omega arith, ap read-as is)
 as-read (y ∷ records) x (suc k, less, is) =
@@ -156,7 +156,7 @@ own-cie bases target section records are e e_in c c_in same =
     (subst (λ (l : List (Result EhRecord Fault)). Contains l (Ok (eh_fde e))) (sym are) (as-read records (eh_fde e) e_in)) in
     let two = each-again bases target section (eh_cie c)
     (subst (λ (l : List (Result EhRecord Fault)). Contains l (Ok (eh_cie c))) (sym are) (as-read records (eh_cie c) c_in)) in
-    same-given c e.cie (sym two ∙ (ap (eh_cie_at target section) same ∙ one))
+    same-given c e.cie (sym two ∙ (ap (eh_cie_at target section) same ∙ one.0))
 
 split-at : (records : List EhRecord) (x : EhRecord) → Contains records x
     → (front : List EhRecord) × (back : List EhRecord) × (records ≡ front ++ x ∷ back)

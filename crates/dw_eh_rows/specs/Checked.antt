@@ -10,7 +10,8 @@ use Rattle.dw_frame.specs.Bounds.{offset_of}
 use Rattle.dw_eh_frame.specs.Places.{IsOn, is_overlap, written_program}
 use Rattle.dw_eh_frame.specs.Refused.{too_long}
 use Rattle.dw_eh_frame.specs.Rewriting.{Pair}
-use Rattle.dw_eh_rows.specs.Meaning.{EhCovers, eh_fdes}
+use Rattle.dw_rows.specs.Rules.{PlacedRow}
+use Rattle.dw_eh_rows.specs.Meaning.{AreEhRows, EhCovers, eh_fdes}
 use Rattle.dw_eh_rows.specs.OneRow.{HasOneEhRow}
 
 -- The result of the check of a section of `size` bytes that has this fault, or none. The check passes only
@@ -20,6 +21,14 @@ abbrev pub EhAnswers : {X : Type 0} → ℕ → Option Fault → Result X Fault 
 EhAnswers size fault (Ok _) = fault ≡ None
 EhAnswers size fault (Err f) = (f ≡ memory) ⊎ (((f ≡ too_long) × (2 ^ 29 < size)) ⊎ (fault ≡ Some f))
 
+-- The FDE is an exact copy of one that is kept: it covers the same addresses, and has the same rows.
+pub record IsKeptElsewhere (is_aarch64 : Bool) (records : List EhRecord) (e : EhFde) : Type 0 where
+  pub original : EhFde
+  pub kept : Contains (eh_fdes (distinct records)) original
+  pub initial_location : original.initial_location ≡ e.initial_location
+  pub address_range : original.address_range ≡ e.address_range
+  pub rows : (rows : List PlacedRow) → AreEhRows is_aarch64 original rows → AreEhRows is_aarch64 e rows
+
 -- The rows that look-ups find are those of the section: each address that one of its FDEs covers has
 -- exactly one row, the one that the definitions give, and a look-up finds it. Any other address has none.
 -- Exact copies of an FDE are one FDE.
@@ -27,6 +36,7 @@ pub record HasEhRows (is_aarch64 : Bool) (bases : Bases) (section : List ℕ) (s
   pub records : List EhRecord
   pub are : eh_entries_of bases s.target section ≡ map Ok records
   pub covered : (e : EhFde) → Contains (eh_fdes records) e → (a : ℕ) → EhCovers e a → HasOneEhRow is_aarch64 (distinct records) s a
+  pub copies : (e : EhFde) → Contains (eh_fdes records) e → Contains (eh_fdes (distinct records)) e ⊎ IsKeptElsewhere is_aarch64 records e
   pub others : (a : ℕ) → ((e : EhFde) → Contains (eh_fdes records) e → ¬ EhCovers e a) → row_of s a ≡ None
 
 -- ---- where the faults of a written section are
