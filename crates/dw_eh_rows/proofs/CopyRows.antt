@@ -197,6 +197,7 @@ copied a bases target section records are e e_in copy =
     record {
       original = g;
       kept = eh-fde-among (distinct records) g copy.kept;
+      cie = cie;
       initial_location = copy.initial;
       address_range = copy.range;
       rows = λ rows own. copy-rows a g e rows cie copy.initial copy.range (one.1 ∙ sym two.1)

@@ -16,3 +16,5 @@ pub mod ReadAgain
 pub mod GoodPrograms
 pub mod WellFormedSections
 pub mod CopyRows
+pub mod SignalsRead
+pub mod SignalAddresses

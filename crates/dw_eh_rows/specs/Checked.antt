@@ -21,10 +21,11 @@ abbrev pub EhAnswers : {X : Type 0} → ℕ → Option Fault → Result X Fault 
 EhAnswers size fault (Ok _) = fault ≡ None
 EhAnswers size fault (Err f) = (f ≡ memory) ⊎ (((f ≡ too_long) × (2 ^ 29 < size)) ⊎ (fault ≡ Some f))
 
--- The FDE is an exact copy of one that is kept: it covers the same addresses, and has the same rows.
+-- The FDE is an exact copy of one that is kept: it has the same CIE, covers the same addresses, and has the same rows.
 pub record IsKeptElsewhere (is_aarch64 : Bool) (records : List EhRecord) (e : EhFde) : Type 0 where
   pub original : EhFde
   pub kept : Contains (eh_fdes (distinct records)) original
+  pub cie : original.cie ≡ e.cie
   pub initial_location : original.initial_location ≡ e.initial_location
   pub address_range : original.address_range ≡ e.address_range
   pub rows : (rows : List PlacedRow) → AreEhRows is_aarch64 original rows → AreEhRows is_aarch64 e rows

@@ -6,6 +6,8 @@ pub mod WellFormed
 pub mod Checked
 -- each address that an FDE covers has one row, and a look-up finds it
 pub mod OneRow
+-- which addresses are those of signal frames
+pub mod Signals
 -- rows with their expressions
 pub mod Named
 -- ---- The first fault, computed from the records and their instructions. A law ties it to when a

@@ -1,7 +1,8 @@
 //! Laws about the rows of `.eh_frame`. The functions do nothing, except that one calls laws of
 //! `dw_rows`: the contract of each is a law.
 
-ghost use Rattle.std.specs.Prelude.{◌≡◌, ◌↔◌, ℕ, Bool, List, Contains, Some, None};
+ghost use Rattle.std.specs.Prelude.{◌≡◌, ◌↔◌, ℕ, Bool, false, List, Contains, Some, None};
+ghost use Rattle.dw_bytes.specs.Answers.{values_in};
 ghost use Rattle.dw_bytes.specs.declared.fault.Fault.{Fault};
 ghost use Rattle.dw_bytes.specs.declared.target.Target.{Target};
 ghost use Rattle.dw_frame.specs.Records.{Fde, fde_record};
@@ -11,13 +12,14 @@ ghost use Rattle.dw_eh_frame.specs.declared.pointer.Bases.{Bases};
 ghost use Rattle.dw_eh_frame.specs.Copies.{distinct};
 ghost use Rattle.dw_eh_frame.specs.declared.places.RecordPlace.{RecordPlace};
 ghost use Rattle.dw_eh_frame.specs.Places.{IsRewrittenAt, original_of};
-ghost use Rattle.dw_eh_frame.specs.Records.{EhFde, EhRecord, eh_fde, eh_reading_fault};
+ghost use Rattle.dw_eh_frame.specs.Records.{EhFde, EhRecord, eh_fde, eh_entries_of, eh_reading_fault};
 ghost use Rattle.dw_eh_rows.specs.Checked.{IsFaultOf};
 ghost use Rattle.dw_eh_rows.specs.Faults.{eh_section_fault};
 ghost use Rattle.dw_eh_frame.specs.Rewriting.{IsRewriting, IsRewritten};
 ghost use Rattle.dw_eh_rows.specs.Kept.{KeepsRows};
 ghost use Rattle.dw_eh_rows.specs.Meaning.{AreEhRows, EhCovers, eh_fdes};
 ghost use Rattle.dw_eh_rows.specs.OneRow.{HasOneEhRow};
+ghost use Rattle.dw_eh_rows.specs.Signals.{is_signal_at, is_signal_frame, signal_frames};
 ghost use Rattle.dw_eh_rows.specs.WellFormed.{IsEhWellFormed};
 
 /// An FDE of `.eh_frame` has only one list of rows.
@@ -55,6 +57,17 @@ pub fn written_faults_are_the_sections()
         → eh_reading_fault bases target section ≡ None → section_fault target made ≡ Some fault
         → (eh_section_fault is_aarch64 bases target section ≡ Some (original_of places fault))
         × IsFaultOf written.rewritten.rewriting.pairs fault }
+{}
+
+/// In a section without fault, an address that an FDE covers is one of a signal frame if and only if that
+/// FDE is a signal frame. An address that no FDE covers is none.
+pub fn signal_frames_are_exact()
+    ensures covered { (is_aarch64 : Bool) (bases : Bases) (target : Target) (section : List ℕ)
+        → eh_section_fault is_aarch64 bases target section ≡ None
+        → (e : EhFde) → Contains (eh_fdes (values_in (eh_entries_of bases target section))) e → (a : ℕ) → EhCovers e a
+        → is_signal_at (signal_frames (values_in (eh_entries_of bases target section))) a ≡ is_signal_frame e }
+    ensures others { (records : List EhRecord) (a : ℕ) → ((e : EhFde) → Contains (eh_fdes records) e → ¬ EhCovers e a)
+        → is_signal_at (signal_frames records) a ≡ false }
 {}
 
 /// If the section that was written for an `.eh_frame` section is accepted, each address that an FDE

@@ -3,5 +3,7 @@
 
 mod check;
 pub mod laws;
+mod signals;
 
 pub use check::check_eh_frame;
+pub use signals::{AddressRange, is_signal_address, signal_frames};

@@ -1,8 +1,8 @@
 //! The rows of checked sections, beside those that readelf prints, and the faults of refused ones.
 
 use crate::sections::{BASES, BIG, LITTLE, LITTLE_SHORT, section_of};
-use dw_bytes::{FaultKind, Target};
-use dw_eh_rows::check_eh_frame;
+use dw_bytes::{Fault, FaultKind, Target};
+use dw_eh_rows::{check_eh_frame, is_signal_address, signal_frames};
 use dw_rows::{CfaRule, CheckedFrame, RegisterRule};
 use std::alloc::{AllocError, Global};
 use std::process::Abort;
@@ -115,6 +115,28 @@ fn rows_are_readelfs(rt: HostRuntime) -> Result<(), AllocError> {
     has_rows(&rt, S390X, BIG, false, &s390x)?;
     let i386 = [(0x1000, "1001 4+4 8=c-4"), (0x1001, "1002 4+8 5=c-8 8=c-4")];
     has_rows(&rt, I386, LITTLE_SHORT, false, &i386)
+}
+
+#[test]
+fn signal_frames_are_the_fdes_with_the_letter_s(rt: HostRuntime) {
+    let section = section_of(rt.alloc(), X86).expect(&rt, "hex digits");
+    let ranges = match signal_frames(rt.alloc(), &section, LITTLE, BASES) {
+        Ok(ranges) => ranges,
+        Err(fault) => panic!(rt; "{fault}"),
+    };
+    assert_eq!(rt; ranges.len(), 1);
+    assert!(rt; !is_signal_address(&ranges, 0));
+    assert!(rt; !is_signal_address(&ranges, 0x1000));
+    assert!(rt; !is_signal_address(&ranges, 0x1008));
+    assert!(rt; is_signal_address(&ranges, 0x1009));
+    assert!(rt; is_signal_address(&ranges, 0x100b));
+    assert!(rt; !is_signal_address(&ranges, 0x100c));
+    let cut = signal_frames(rt.alloc(), &section[..50], LITTLE, BASES);
+    let fault = Fault {
+        kind: FaultKind::Truncated,
+        at: 36,
+    };
+    assert_eq!(rt; cut.err(), Some(fault));
 }
 
 /// A CIE whose addresses are plain, and an FDE whose program has set_loc 0x1240 and def_cfa_offset 16.

@@ -1,0 +1,70 @@
+//! Which addresses are those of signal frames.
+
+ghost use Rattle.std.specs.Prelude.{◌≡◌, ◌<◌, ◌^◌, ◌++◌, ◌⊎◌, [], ◌∷◌, IfOk, IfErr, OnOk, Some, length};
+ghost use Rattle.dw_bytes.specs.Answers.{fault_in, memory, values_in};
+ghost use Rattle.dw_eh_frame.specs.Records.{eh_entries_of};
+ghost use Rattle.dw_eh_frame.specs.Views.{eh_record_of};
+ghost use Rattle.dw_eh_rows.specs.Signals.{is_signal_at, signal_frames as frames_of};
+
+use dw_bytes::{Fault, Target};
+use dw_eh_frame::{Bases, EhRecord, eh_record};
+use std::alloc::Global;
+
+/// `count` addresses, the first of which is `start`.
+#[derive(Clone, Copy, Debug, PartialEq, Eq)]
+pub struct AddressRange {
+    pub start: u64,
+    pub count: u64,
+}
+
+/// Appends the addresses of an FDE that is a signal frame.
+fn push_signal_frame(ranges: &mut Vec<AddressRange>, record: &EhRecord<'_>) -> Result<(), Fault>
+    ensures pushed { OnOk result (ranges.new.items ≡ ranges.old.items ++ frames_of (eh_record_of record.now ∷ [])) }
+    ensures lack { IfErr result (λ fault. fault ≡ memory) }
+{
+    if let EhRecord::Fde(fde) = record
+        && fde.cie.head.augmentation.is_signal
+    {
+        ranges.push(AddressRange {
+            start: fde.initial_location,
+            count: fde.address_range,
+        })?;
+    }
+    Ok(())
+}
+
+/// The addresses of each FDE of a section of fewer than 2^32 bytes that is a signal frame, in the order of
+/// the section. O(records).
+pub fn signal_frames(
+    alloc: Global,
+    section: &[u8],
+    target: Target,
+    bases: Bases,
+) -> Result<Vec<AddressRange>, Fault>
+    requires { length section.now < 2 ^ 32 }
+    ensures refused { IfErr result (λ fault. (fault ≡ memory)
+        ⊎ (fault_in (eh_entries_of bases target section.now) ≡ Some fault)) }
+    ensures frames { IfOk result (λ ranges. ranges.items
+        ≡ frames_of (values_in (eh_entries_of bases target section.now))) }
+{
+    let mut ranges = Vec::new(alloc);
+    let mut at = 0u32;
+    while (at as usize) < section.len() {
+        let (record, next) = eh_record(section, target, bases, at)?;
+        push_signal_frame(&mut ranges, &record)?;
+        at = next;
+    }
+    Ok(ranges)
+}
+
+/// Whether an address is in one of the ranges.
+pub fn is_signal_address(ranges: &[AddressRange], address: u64) -> bool
+    ensures { result ≡ is_signal_at ranges.now address }
+{
+    for range in ranges {
+        if range.start <= address && address - range.start < range.count {
+            return true;
+        }
+    }
+    false
+}
