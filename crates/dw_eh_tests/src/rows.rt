@@ -118,7 +118,7 @@ fn rows_are_readelfs(rt: HostRuntime) -> Result<(), AllocError> {
 }
 
 #[test]
-fn signal_frames_are_the_fdes_with_the_letter_s(rt: HostRuntime) {
+fn signal_frames_are_the_fdes_with_the_letter_s(rt: HostRuntime) -> Result<(), AllocError> {
     let section = section_of(rt.alloc(), X86).expect(&rt, "hex digits");
     let ranges = match signal_frames(rt.alloc(), &section, LITTLE, BASES) {
         Ok(ranges) => ranges,
@@ -131,12 +131,17 @@ fn signal_frames_are_the_fdes_with_the_letter_s(rt: HostRuntime) {
     assert!(rt; is_signal_address(&ranges, 0x1009));
     assert!(rt; is_signal_address(&ranges, 0x100b));
     assert!(rt; !is_signal_address(&ranges, 0x100c));
-    let cut = signal_frames(rt.alloc(), &section[..50], LITTLE, BASES);
+    let digits = format!(in rt.alloc(); "{CIE}140000001c0000")?;
+    let cut = section_of(rt.alloc(), &digits).expect(&rt, "hex digits");
     let fault = Fault {
         kind: FaultKind::Truncated,
-        at: 36,
+        at: 28,
     };
-    assert_eq!(rt; cut.err(), Some(fault));
+    assert_eq!(rt;
+        signal_frames(rt.alloc(), &cut, LITTLE, BASES).err(),
+        Some(fault)
+    );
+    Ok(())
 }
 
 /// A CIE whose addresses are plain, and an FDE whose program has set_loc 0x1240 and def_cfa_offset 16.
