@@ -1,22 +1,28 @@
 //! Looks up the functions of an ELF file, by address or by name.
 
 use crate::layout::Layout;
-use crate::names::{is_shown_as, similar};
+use crate::names::{is_shown_as, similar, STUB};
+use crate::plt::stubs;
 use crate::target::Target;
 use object::elf;
 use object::read::{Object, ObjectSection, ObjectSymbol, SymbolSection};
 use object::{SectionFlags, SymbolFlags};
+use std::borrow::Cow;
 use std::collections::HashMap;
 use std::fmt;
 
 /// The most names that [`NameError::Unknown`] has.
 pub const SIMILAR: usize = 3;
 
-/// A symbol of a function, or a label in code.
-#[derive(Clone, Copy, Debug, PartialEq, Eq)]
+/// The rank of a local function.
+const FUNCTION: u8 = 3;
+
+/// A symbol of a function, a label in code, or a stub of the procedure linkage table.
+#[derive(Clone, Debug, PartialEq, Eq)]
 pub struct Function<'data> {
-    /// The name, as it is in the file.
-    pub name: &'data str,
+    /// The name, as it is in the file. The name of a stub is that of the function that it jumps to,
+    /// and `@plt`.
+    pub name: Cow<'data, str>,
     /// The first address.
     pub begin: u64,
     /// The number of bytes, 0 if it isn't known.
@@ -61,11 +67,26 @@ impl<'data> Function<'data> {
 }
 
 impl<'data> Functions<'data> {
-    /// Reads the functions in `.symtab` and `.dynsym`. Leaves out symbols whose names aren't UTF-8.
+    /// Reads the functions in `.symtab` and `.dynsym`, and the stubs of the procedure linkage table.
+    /// Leaves out symbols whose names aren't UTF-8.
     pub(crate) fn read(file: &object::File<'data>, layout: &Layout, machine: u16, target: Target) -> Self {
         let code = code_sections(file, layout);
         let symbols = file.symbols().chain(file.dynamic_symbols());
-        Functions::of(symbols.filter_map(|symbol| function(&symbol, layout, &code, machine, target)).collect())
+        let named = symbols.filter_map(|symbol| function(&symbol, layout, &code, machine, target));
+        let stubs = stubs(file, machine).into_iter().map(|stub| Function {
+            name: Cow::Owned(format!("{}{}", stub.function, STUB)),
+            begin: stub.range.start,
+            size: stub.range.end - stub.range.start,
+            limit: stub.range.end,
+            rank: FUNCTION,
+        });
+        Functions::of(named.chain(stubs).collect())
+    }
+
+    /// These functions, with their own copies of the names.
+    pub(crate) fn into_owned(self) -> Functions<'static> {
+        let own = |function: Function<'data>| Function { name: Cow::Owned(function.name.into_owned()), ..function };
+        Functions { functions: self.functions.into_iter().map(own).collect(), ends: self.ends }
     }
 
     /// These functions, and those of another file that has the same code, such as a file of debug
@@ -76,7 +97,8 @@ impl<'data> Functions<'data> {
     }
 
     fn of(mut functions: Vec<Function<'data>>) -> Self {
-        functions.sort_by_key(|function| (function.begin, function.rank, function.size, function.name));
+        let key = |function: &Function<'data>| (function.begin, function.rank, function.size);
+        functions.sort_by(|one, other| key(one).cmp(&key(other)).then_with(|| one.name.cmp(&other.name)));
         functions.dedup();
         let ends = functions.iter().scan(0, |highest: &mut u64, function| {
             *highest = function.end().max(*highest);
@@ -128,7 +150,7 @@ impl<'data> Functions<'data> {
     /// rank is below the highest one among these are ignored. The rest have to have the same
     /// address. `name` is for the error.
     fn only(&self, name: &str, has_name: impl Fn(&str) -> bool) -> Result<u64, NameError> {
-        let named: Vec<_> = self.functions.iter().filter(|function| has_name(function.name)).collect();
+        let named: Vec<_> = self.functions.iter().filter(|function| has_name(&function.name)).collect();
         let best = named.iter().map(|function| function.rank).max();
         let best = best.ok_or_else(|| NameError::Unknown(name.to_string(), Vec::new()))?;
         let preferred = named.iter().filter(|function| function.rank == best);
@@ -165,7 +187,7 @@ impl<'data> Functions<'data> {
     /// The names of up to [`SIMILAR`] functions that `name` may stand for, by address, each once.
     fn similar(&self, name: &str) -> Vec<String> {
         let mut found = Vec::new();
-        for shown in self.functions.iter().filter_map(|function| similar(function.name, name)) {
+        for shown in self.functions.iter().filter_map(|function| similar(&function.name, name)) {
             if !found.contains(&shown) {
                 found.push(shown);
             }
@@ -248,7 +270,8 @@ fn function<'data>(
         _ => 0,
     };
     let limit = code_end.unwrap_or_else(|| begin.saturating_add(symbol.size()));
-    Some(Function { name, begin, size: symbol.size(), limit, rank: binding + if is_function { 3 } else { 0 } })
+    let rank = binding + if is_function { FUNCTION } else { 0 };
+    Some(Function { name: Cow::Borrowed(name), begin, size: symbol.size(), limit, rank })
 }
 
 /// Writes names that may be meant, such as `; there are f(int) and f(long)`.

@@ -111,7 +111,7 @@ fn undefined<'data>(file: &object::File<'data>, outside: Outside) -> Vec<(u64, &
 }
 
 /// The pointers that the dynamic linker sets.
-fn dynamic_imports<'data>(file: &object::File<'data>) -> Vec<(u64, &'data str)> {
+pub(crate) fn dynamic_imports<'data>(file: &object::File<'data>) -> Vec<(u64, &'data str)> {
     use object::read::ObjectSymbolTable;
     let symbols = file.dynamic_symbol_table();
     let relocations = file.dynamic_relocations().into_iter().flatten();

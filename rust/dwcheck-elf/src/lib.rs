@@ -37,6 +37,7 @@ pub mod loclists;
 pub mod mapped;
 pub mod modules;
 pub mod names;
+mod plt;
 pub mod program;
 pub mod relocate;
 pub mod row;

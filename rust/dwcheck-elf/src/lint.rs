@@ -111,7 +111,7 @@ fn convention(program: &Program<'_>, functions: &Functions<'_>) -> Convention {
     let is_caml = |name: &str| matches!(name, "caml_call_gc" | "caml_start_program");
     if program.has_section(".gopclntab") || program.has_section(".go.buildinfo") {
         Convention::Go
-    } else if functions.all().iter().any(|function| is_caml(function.name)) {
+    } else if functions.all().iter().any(|function| is_caml(&function.name)) {
         Convention::KeepsNone
     } else {
         Convention::KeepsRegisters

@@ -9,6 +9,9 @@ use std::fmt::{self, Write};
 /// have more bytes than this, because a short mangled name can stand for a huge one.
 const LONGEST: usize = 4096;
 
+/// The end of the name of a stub of the procedure linkage table.
+pub(crate) const STUB: &str = "@plt";
+
 /// A C++ name whose parts are nested deeper than this isn't demangled.
 const NESTED: u32 = 64;
 
@@ -21,8 +24,14 @@ const NESTED: u32 = 64;
 /// assert_eq!(demangled("_ZNSt6vectorIiSaIiEE9push_backERKi"), "std::vector<int, std::allocator<int> >::push_back(int const&)");
 /// assert_eq!(demangled("_ZN4core3fmt5write17h0123456789abcdefE"), "core::fmt::write");
 /// assert_eq!(demangled("main"), "main");
+/// assert_eq!(demangled("_Z5twicei@plt"), "twice(int)@plt");
 /// ```
 pub fn demangled(name: &str) -> Cow<'_, str> {
+    match name.strip_suffix(STUB).map(demangled) {
+        Some(Cow::Owned(function)) => return Cow::Owned(function + STUB),
+        Some(Cow::Borrowed(_)) => return Cow::Borrowed(name),
+        None => {}
+    }
     if name.len() > LONGEST || !(name.starts_with("_Z") || name.starts_with("_R")) {
         return Cow::Borrowed(name);
     }
@@ -53,6 +62,11 @@ fn shown(demangled: &str) -> impl Iterator<Item = char> + '_ {
 /// A function's name as it is shown: demangled, without control characters.
 pub(crate) fn shown_name(symbol: &str) -> String {
     shown(&demangled(symbol)).collect()
+}
+
+/// A function's name as it is in the file, without control characters.
+pub(crate) fn raw_name(symbol: &str) -> String {
+    shown(symbol).collect()
 }
 
 /// Whether the function that has the name `symbol` in the file is shown as `name`.
@@ -129,13 +143,13 @@ pub struct Spot<'a> {
 
 impl<'a> Spot<'a> {
     /// The function and offset of an address. `None` if the file has no name for the address.
-    pub fn at(functions: &Functions<'a>, address: u64) -> Option<Self> {
-        functions.at(address).map(|(function, offset)| Spot { name: function.name, offset })
+    pub fn at(functions: &'a Functions<'_>, address: u64) -> Option<Self> {
+        functions.at(address).map(|(function, offset)| Spot { name: &function.name, offset })
     }
 
     /// The function and offset of a return address. The function is the one that contains the call,
     /// even if the call is its last instruction.
-    pub fn after_call(functions: &Functions<'a>, address: u64) -> Option<Self> {
+    pub fn after_call(functions: &'a Functions<'_>, address: u64) -> Option<Self> {
         let Spot { name, offset } = Spot::at(functions, address.wrapping_sub(1))?;
         Some(Spot { name, offset: offset.saturating_add(1) })
     }

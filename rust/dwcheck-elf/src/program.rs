@@ -13,7 +13,10 @@ use object::read::{CompressionFormat, Object, ObjectSection, ObjectSegment};
 use object::{SectionFlags, SegmentFlags};
 use std::borrow::Cow;
 use std::fmt;
+use std::io::Read;
 use std::ops::RangeInclusive;
+use xz2::read::XzDecoder;
+use xz2::stream::Stream;
 
 /// A compressed section may have at most this many bytes when it is decompressed.
 pub const DECOMPRESSED_LIMIT: u64 = 1 << 30;
@@ -23,6 +26,12 @@ const DEFLATE_RATIO: u64 = 1032;
 
 /// The type of a section that is compressed by zstd.
 const ELFCOMPRESS_ZSTD: u64 = 2;
+
+/// The section with a compressed ELF file of symbols.
+const PACKED: &str = ".gnu_debugdata";
+
+/// What [`PACKED`] may have at most when it is decompressed, in bytes, and what the decoder may take.
+const PACKED_LIMIT: u64 = 128 << 20;
 
 const OTHER_SIZE: &str = "the section has another size when it is decompressed";
 
@@ -173,9 +182,34 @@ impl<'data> Program<'data> {
         }
     }
 
-    /// The functions of both symbol tables. This takes time, so keep the result.
+    /// The functions of both symbol tables, and of the one in `.gnu_debugdata` if it can be read. This
+    /// takes time, so keep the result.
     pub fn functions(&self) -> Functions<'data> {
+        self.all_functions().0
+    }
+
+    /// The [`functions`](Self::functions), and why `.gnu_debugdata` can't be read.
+    pub(crate) fn all_functions(&self) -> (Functions<'data>, Option<ProgramError>) {
+        let own = self.own_functions();
+        match self.packed_functions() {
+            Ok(Some(packed)) => (own.with(packed), None),
+            Ok(None) => (own, None),
+            Err(error) => (own, Some(error)),
+        }
+    }
+
+    fn own_functions(&self) -> Functions<'data> {
         Functions::read(&self.file, &self.layout, self.machine, self.target)
+    }
+
+    /// The functions of the ELF file that `.gnu_debugdata` holds, compressed by xz. Distributions leave
+    /// there the local functions of programs without a `.symtab`.
+    fn packed_functions(&self) -> Result<Option<Functions<'static>>, ProgramError> {
+        let bytes = match self.section(PACKED)? {
+            Some(section) => unpacked(&section.bytes)?,
+            None => return Ok(None),
+        };
+        Ok(Some(Program::read(&bytes)?.own_functions().into_owned()))
     }
 
     /// The file's build id, which its file of debug information has too.
@@ -322,6 +356,19 @@ fn zstd_bytes(data: &[u8], size: u64, name: &'static str) -> Result<Vec<u8>, Pro
     match bytes.len() as u64 == size {
         true => Ok(bytes),
         false => Err(ProgramError::Section(name, OTHER_SIZE.to_string())),
+    }
+}
+
+/// Decompresses the bytes of [`PACKED`].
+fn unpacked(bytes: &[u8]) -> Result<Vec<u8>, ProgramError> {
+    let fail = |error: String| ProgramError::Section(PACKED, error);
+    let decoder = Stream::new_stream_decoder(PACKED_LIMIT, 0).map_err(|error| fail(error.to_string()))?;
+    let mut unpacked = Vec::new();
+    let read = XzDecoder::new_stream(bytes, decoder).take(PACKED_LIMIT + 1).read_to_end(&mut unpacked);
+    match read {
+        Ok(size) if size as u64 > PACKED_LIMIT => Err(ProgramError::TooLarge(PACKED, size as u64)),
+        Ok(_) => Ok(unpacked),
+        Err(error) => Err(fail(error.to_string())),
     }
 }
 

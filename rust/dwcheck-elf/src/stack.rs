@@ -6,6 +6,7 @@
 //! another rule; such a caller is a guess, and marked with the rule ([`FoundBy`]).
 
 mod guess;
+mod instruction;
 mod json;
 mod names;
 mod pieces;
@@ -15,6 +16,7 @@ mod text;
 mod walker;
 
 pub(crate) use crate::alone::accepted;
+pub use instruction::Instruction;
 pub use names::{Inlined, NameOptions, Place, SourceLine};
 pub use text::Lines;
 

@@ -123,6 +123,50 @@ fn calls_to_where_no_code_is() {
     }
 }
 
+const FAULT: &str = "
+#include <stdlib.h>
+__attribute__((noinline)) static int reads(volatile int *address) { return *address + 1; }
+__attribute__((noinline)) static int divides(volatile int n) { return 7 / n; }
+int main(int c, char **v) { return c == 1 ? reads((volatile int *)16) : c == 2 ? divides(0) : (abort(), 0); }
+";
+
+/// Says the address and the bytes of the instruction at which a thread is.
+const INSTRUCTION: &str = "python
+frame = gdb.newest_frame()
+length = frame.architecture().disassemble(frame.pc())[0]['length']
+bytes = gdb.selected_inferior().read_memory(frame.pc(), length).tobytes()
+print('%#018x: %s' % (frame.pc(), bytes.hex(' ')))
+end
+";
+
+/// The bytes of the instruction that caused the signal are those that gdb shows. If the signal wasn't
+/// caused by an instruction, there are none; if its page isn't readable, the line says so.
+#[test]
+fn the_instruction_of_a_fault() {
+    let folder = Folder::new("crash-instruction");
+    if !build(&folder, "") {
+        return;
+    }
+    folder.write("fault.c", FAULT);
+    folder.write("at.gdb", INSTRUCTION);
+    folder.run("gcc -O1 fault.c -o fault");
+    for words in ["./fault", "./fault 2", "./crash none"] {
+        folder.crash(words);
+        let program = words.split(' ').next().unwrap();
+        let shown = folder.run(&format!("gdb --batch -x at.gdb {} core 2> /dev/null | tail -1", program));
+        let ran = dwcheck_elf(&folder, "stack core");
+        assert!(ran.lines()[1].starts_with(&format!("instruction {}, ", shown.trim())), "{}{}", shown, ran.out);
+    }
+    folder.crash("./crash null");
+    let ran = dwcheck_elf(&folder, "stack core");
+    assert_eq!(ran.lines()[1], "instruction 0x0000000000000000: unreadable");
+    let json = dwcheck_elf(&folder, "stack --json core").out;
+    assert!(json.contains("\"instruction\":{\"address\":\"0x0\",\"bytes\":null,\"text\":null}"), "{}", json);
+    folder.crash("./fault 2 3");
+    let ran = dwcheck_elf(&folder, "stack core");
+    assert!(ran.lines()[1].starts_with("thread "), "{}", ran.out);
+}
+
 /// Code without a row that keeps a frame pointer is passed by it, and its caller is marked. The next
 /// frames are found by rows again. Code that keeps none ends the stack.
 #[test]

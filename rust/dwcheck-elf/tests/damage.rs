@@ -76,7 +76,7 @@ fn program(bytes: &[u8]) {
     let functions = program.functions();
     for function in functions.all() {
         functions.at(function.begin.wrapping_add(1));
-        let _ = functions.address_of(function.name);
+        let _ = functions.address_of(&function.name);
     }
     let _ = (functions.parse("main+4"), program.debug_frame(), program.debug_loclists());
     if let Ok(Some(section)) = program.eh_frame() {

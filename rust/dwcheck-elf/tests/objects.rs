@@ -62,7 +62,7 @@ fn functions_of_frames(folder: &Folder, file: &str, section: &str, ranges: &[(u6
         let (found, offset) = functions.at(range.0).expect("a function is there");
         assert_eq!((found.begin, found.size, offset), (range.0, *size, 0));
         assert_eq!(range.1, *size, "{}", name);
-        assert!(found.name == name || functions.address_of(name) == Ok(range.0), "{} {}", found.name, name);
+        assert!(found.name == *name || functions.address_of(name) == Ok(range.0), "{} {}", found.name, name);
     }
     let mut sorted = ranges.to_vec();
     sorted.sort_unstable();

@@ -74,7 +74,7 @@ fn decode(bytes: &[u8], address: u64) -> Instruction {
 }
 
 /// The entries of procedure linkage tables: `adrp x16; ldr x17, [x16, ..]; add x16, ..; br x17`, perhaps
-/// after `bti c`.
+/// after `bti c`, and perhaps with `autia1716` before the jump.
 fn stub(bytes: &[u8], address: u64) -> Option<u64> {
     let effect =
         |index: usize| Some(Word::read(bytes.get(4 * index..)?)?.effect(address.wrapping_add(4 * index as u64)));
@@ -86,7 +86,7 @@ fn stub(bytes: &[u8], address: u64) -> Option<u64> {
         _ => return None,
     };
     let jump = Effect::Jump { target: Target::Register(pointer) };
-    Some(page as u64).filter(|_| effect(first + 2) == Some(jump) || effect(first + 3) == Some(jump))
+    Some(page as u64).filter(|_| (first + 2..=first + 4).any(|index| effect(index) == Some(jump)))
 }
 
 /// A register that may be changed, or nothing for the register that is always zero.

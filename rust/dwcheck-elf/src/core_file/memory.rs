@@ -102,6 +102,20 @@ impl<'a> Memory<'a> {
         block.bytes.get(past..).filter(|bytes| !bytes.is_empty())
     }
 
+    /// The bytes from an address on, from one block or several, up to `count` of them, or up to the
+    /// first one that isn't known.
+    pub fn at_most(&self, address: u64, count: usize) -> Vec<u8> {
+        let mut bytes = Vec::new();
+        while let Some(held) = address.checked_add(bytes.len() as u64).and_then(|next| self.from(next)) {
+            let wanted = count - bytes.len();
+            bytes.extend(held.iter().take(wanted));
+            if bytes.len() == count {
+                break;
+            }
+        }
+        bytes
+    }
+
     /// Copies the bytes from an address on into `bytes`, from one block or several. Returns false
     /// if one of the bytes isn't known; a part of `bytes` may then have been overwritten.
     pub fn read(&self, address: u64, bytes: &mut [u8]) -> bool {

@@ -58,6 +58,11 @@ impl Signal {
         Some(self.address).filter(|_| is_fault)
     }
 
+    /// Whether an instruction caused the signal, which wasn't carried out. False for a breakpoint.
+    pub fn is_fault(&self) -> bool {
+        matches!(self.number, 4 | 7 | 8 | 11) && self.code.map_or(true, |code| code > 0)
+    }
+
     fn causes(&self) -> &'static [&'static str] {
         match self.number {
             4 => &ILL,

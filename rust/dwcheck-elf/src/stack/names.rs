@@ -3,7 +3,7 @@
 use crate::core_file::{Files, Module};
 use crate::debug_files::DebugFiles;
 use crate::functions::Functions;
-use crate::names::{shown_name, Spot};
+use crate::names::{raw_name, shown_name, Spot, STUB};
 use crate::program::Program;
 use addr2line::Context;
 use gimli::{Dwarf, EndianSlice, RunTimeEndian, SectionId};
@@ -19,6 +19,19 @@ pub struct NameOptions {
     pub inlined: bool,
     /// Whether to show files and lines of source code.
     pub source: bool,
+    /// Whether to show names as they are in the file, not demangled.
+    pub raw: bool,
+}
+
+impl NameOptions {
+    /// A function's name as it is shown.
+    fn shown(self, name: &str) -> String {
+        if self.raw {
+            raw_name(name)
+        } else {
+            shown_name(name)
+        }
+    }
 }
 
 /// A line of a source file.
@@ -33,7 +46,7 @@ pub struct SourceLine {
 /// A function that was inlined at a frame's address.
 #[derive(Clone, Debug, PartialEq, Eq)]
 pub struct Inlined {
-    /// Its name, demangled.
+    /// Its name.
     pub name: String,
     /// The line of its code that runs.
     pub source: Option<SourceLine>,
@@ -44,7 +57,7 @@ pub struct Inlined {
 pub struct Place {
     /// The file whose code it is in.
     pub module: Option<PathBuf>,
-    /// The name of the function, demangled.
+    /// The name of the function.
     pub function: Option<String>,
     /// The number of bytes from the function's first address to the frame's address. `None` if only
     /// the debug information names the function.
@@ -65,7 +78,7 @@ pub(super) struct Names<'a> {
 
 impl Default for NameOptions {
     fn default() -> Self {
-        NameOptions { inlined: true, source: true }
+        NameOptions { inlined: true, source: true, raw: false }
     }
 }
 
@@ -78,7 +91,9 @@ impl<'a> Names<'a> {
             Ok(program) => program,
             Err(_) => return names,
         };
-        names.functions = program.functions();
+        let (functions, problem) = program.all_functions();
+        names.functions = functions;
+        names.problems.extend(problem.map(|problem| (module.path.clone(), problem.to_string())));
         let debug = match files.debug_files().of(&module.path, &program) {
             Ok(debug) => debug.and_then(|bytes| Program::read(bytes).ok()),
             Err((path, why)) => {
@@ -101,11 +116,11 @@ impl<'a> Names<'a> {
     pub fn place(&self, address: u64, looked_up: u64, options: NameOptions) -> Place {
         let mut place = Place::default();
         if let Some(spot) = Spot::at(&self.functions, looked_up) {
-            place.function = Some(shown_name(without_version(spot.name)));
+            place.function = Some(options.shown(without_version(spot.name)));
             place.offset = Some(spot.offset.saturating_add(address.wrapping_sub(looked_up)));
         }
         if let Some(lines) = &self.lines {
-            let mut found = inlined(lines, looked_up);
+            let mut found = inlined(lines, looked_up, options);
             if let Some(Inlined { name, source }) = found.pop() {
                 place.source = source.filter(|_| options.source);
                 place.function = place.function.or_else(|| Some(name).filter(|name| !name.is_empty()));
@@ -122,19 +137,19 @@ impl<'a> Names<'a> {
 /// A symbol's name without the version that `.symtab` has in it, such as `@@GLIBC_2.34`.
 fn without_version(name: &str) -> &str {
     match name.find('@') {
-        Some(at) if at > 0 => &name[..at],
+        Some(at) if at > 0 && &name[at..] != STUB => &name[..at],
         _ => name,
     }
 }
 
 /// The functions at an address by the debug information, the innermost first. The last one is the
 /// function that isn't inlined.
-fn inlined(lines: &Context<Bytes<'_>>, address: u64) -> Vec<Inlined> {
+fn inlined(lines: &Context<Bytes<'_>>, address: u64, options: NameOptions) -> Vec<Inlined> {
     let mut found = Vec::new();
     if let Ok(mut frames) = lines.find_frames(address) {
         while let Ok(Some(frame)) = frames.next() {
             let name = frame.function.as_ref().and_then(|function| function.raw_name().ok());
-            let name = name.map_or_else(String::new, |name| shown_name(&name));
+            let name = name.map_or_else(String::new, |name| options.shown(&name));
             let source = frame
                 .location
                 .as_ref()

@@ -195,6 +195,9 @@ pub struct StackWords {
     /// Leave out files and lines of source code
     #[arg(long)]
     pub no_source: bool,
+    /// Show names of functions as they are in the file, not demangled
+    #[arg(long)]
+    pub raw_names: bool,
     /// Print the registers of each frame, as far as they are known
     #[arg(long)]
     pub registers: bool,

@@ -85,7 +85,8 @@ fn print(
     mut warnings: Vec<String>,
     out: &mut impl Write,
 ) -> Result<Done, Failure> {
-    stacks.show_names(NameOptions { inlined: !words.no_inline, source: !words.no_source });
+    let (inlined, source, raw) = (!words.no_inline, !words.no_source, words.raw_names);
+    stacks.show_names(NameOptions { inlined, source, raw });
     let report = Report { words, core, stacks, longest_stop };
     report.write(out, &mut warnings)?;
     out.flush()?;

@@ -40,10 +40,15 @@ impl<'a> Loaded<'a> {
     /// has one. `is_after_call` says that the address is a return address. Then the name is that of
     /// the function that contains the call.
     fn named(&self, address: u64, is_after_call: bool) -> String {
-        let find = if is_after_call { Spot::after_call } else { Spot::at };
-        let spot =
-            |(functions, load): &(Functions<'a>, u64)| find(functions, self.target.wrap(address.wrapping_sub(*load)));
-        self.functions.iter().find_map(spot).map_or_else(String::new, |spot| format!(" ({})", spot))
+        let spot = self.functions.iter().find_map(|(functions, load)| {
+            let linked = self.target.wrap(address.wrapping_sub(*load));
+            if is_after_call {
+                Spot::after_call(functions, linked)
+            } else {
+                Spot::at(functions, linked)
+            }
+        });
+        spot.map_or_else(String::new, |spot| format!(" ({})", spot))
     }
 }
 

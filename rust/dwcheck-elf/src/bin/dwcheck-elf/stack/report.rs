@@ -3,7 +3,7 @@
 use crate::arguments::StackWords;
 use crate::end::Failure;
 use dwcheck_elf::core_file::{CoreFile, Signal, Thread};
-use dwcheck_elf::stack::{Stack, Stacks, Stop, WalkOptions};
+use dwcheck_elf::stack::{Instruction, Stack, Stacks, Stop, WalkOptions};
 use dwcheck_elf::text::{Address, Plain};
 use serde_json::{json, Value};
 use std::collections::HashMap;
@@ -93,7 +93,9 @@ impl<'r, 'a> Report<'r, 'a> {
             write!(out, "\"name\":{},", Value::from(process.map(|process| process.name.clone())))?;
             let longest = self.longest_stop.map(|longest| longest.as_micros() as u64);
             write!(out, "\"longest_stop_us\":{},", Value::from(longest))?;
-            return write!(out, "\"signal\":{},\"threads\":[", Value::from(signal));
+            write!(out, "\"signal\":{},", Value::from(signal))?;
+            let instruction = self.stacks.instruction().map(json_instruction);
+            return write!(out, "\"instruction\":{},\"threads\":[", Value::from(instruction));
         }
         let signal = match signal {
             Some(signal) => signal,
@@ -109,6 +111,17 @@ impl<'r, 'a> Report<'r, 'a> {
         if let Some(address) = signal.fault_address() {
             write!(out, ", address {}", Address(self.core.target(), address))?;
         }
+        writeln!(out)?;
+        self.stacks.instruction().map_or(Ok(()), |instruction| self.write_instruction(out, &instruction))
+    }
+
+    fn write_instruction(&self, out: &mut impl Write, instruction: &Instruction) -> io::Result<()> {
+        write!(out, "instruction {}:", Address(self.core.target(), instruction.address))?;
+        if instruction.bytes.is_empty() {
+            return writeln!(out, " unreadable");
+        }
+        instruction.bytes.iter().try_for_each(|byte| write!(out, " {:02x}", byte))?;
+        instruction.text.as_ref().map_or(Ok(()), |text| write!(out, ", {}", text))?;
         writeln!(out)
     }
 
@@ -149,4 +162,15 @@ impl<'r, 'a> Report<'r, 'a> {
         object["threads"] = threads.collect();
         object
     }
+}
+
+/// An instruction as JSON. Its bytes are hex digits, and `null` if they aren't known.
+fn json_instruction(instruction: Instruction) -> Value {
+    let Instruction { address, bytes, text } = instruction;
+    let digits: String = bytes.iter().map(|byte| format!("{:02x}", byte)).collect();
+    json!({
+        "address": format!("{:#x}", address),
+        "bytes": Some(digits).filter(|digits| !digits.is_empty()),
+        "text": text,
+    })
 }
