@@ -19,7 +19,7 @@ pub(crate) struct DebugFiles {
     /// The folder that stands for `/`.
     root: PathBuf,
     files: Arena<Bytes>,
-    sections: Arena<Vec<u8>>,
+    unpacked: Arena<Vec<u8>>,
 }
 
 /// Why a file of debug information that was found isn't used.
@@ -36,12 +36,12 @@ pub(crate) enum NotUsed {
 impl DebugFiles {
     /// Looks for files in the folder `root`, which stands for `/`.
     pub fn new(root: &Path) -> Self {
-        DebugFiles { root: root.to_path_buf(), files: Arena::new(), sections: Arena::new() }
+        DebugFiles { root: root.to_path_buf(), files: Arena::new(), unpacked: Arena::new() }
     }
 
-    /// Keeps the bytes of a section that was decompressed.
-    pub fn keep(&self, bytes: Vec<u8>) -> &[u8] {
-        self.sections.alloc(bytes)
+    /// Where the bytes of sections that are decompressed are kept.
+    pub fn unpacked(&self) -> &Arena<Vec<u8>> {
+        &self.unpacked
     }
 
     /// The file of debug information of a program whose file is `path`. `None` if there is none. If

@@ -47,13 +47,47 @@ pub enum Name {
 /// ```
 #[derive(Clone, Debug)]
 pub struct Frames<'data> {
-    name: Name,
-    target: Target,
-    machine: u16,
-    source: Section<'data>,
+    section: FrameSection<'data>,
+    bridged: Bridged,
+}
+
+/// A frame section as it is in the file, with the addresses that its pointers may be relative to.
+#[derive(Clone, Debug)]
+pub(crate) struct FrameSection<'data> {
+    pub name: Name,
+    pub target: Target,
+    /// The machine's number (`e_machine`).
+    pub machine: u16,
+    /// The bytes, decompressed and with relocations applied.
+    pub source: Section<'data>,
     text: Option<u64>,
     data: Option<u64>,
-    bridged: Bridged,
+}
+
+impl<'data> FrameSection<'data> {
+    /// Reads one section of a program. `None` if the program doesn't have it, or if it is empty.
+    pub fn read(program: &Program<'data>, name: Name) -> Result<Option<Self>, ProgramError> {
+        let read = if name == Name::EhFrame { program.eh_frame() } else { program.debug_frame() };
+        let source = match read? {
+            Some(source) => source,
+            None => return Ok(None),
+        };
+        let EhFrame { target, machine, text, data, .. } = program.eh_frame_of(&source);
+        Ok(Some(FrameSection { name, target, machine, source, text, data }))
+    }
+
+    /// The section as [`bridge`] takes it.
+    pub fn eh_frame(&self) -> EhFrame<'_> {
+        EhFrame {
+            bytes: &self.source.bytes,
+            address: self.source.address,
+            target: self.target,
+            machine: self.machine,
+            text: self.text,
+            data: self.data,
+            unresolved: &self.source.unresolved,
+        }
+    }
 }
 
 /// Why a frame section can't be passed to `dwcheck`.
@@ -82,52 +116,41 @@ impl<'data> Frames<'data> {
     /// Reads one section, and rewrites it for `dwcheck`. `None` if the program doesn't have it, or
     /// if it is empty.
     fn read(program: &Program<'data>, name: Name, options: Options) -> Result<Option<Self>, FramesError> {
-        let target = program.target();
-        let read = if name == Name::EhFrame { program.eh_frame() } else { program.debug_frame() };
-        let source = match read.map_err(|error| FramesError::Program(name, error))? {
-            Some(source) => source,
+        let section = FrameSection::read(program, name).map_err(|error| FramesError::Program(name, error))?;
+        let section = match section {
+            Some(section) => section,
             None => return Ok(None),
         };
-        let section = program.eh_frame_of(&source);
-        let (text, data) = (section.text, section.data);
         let bridged = match name {
-            Name::EhFrame => bridge(&section, options).map_err(FramesError::Bridge)?,
-            _ => plain(&source.bytes, target, program.machine()).ok_or(FramesError::TooLong(name))?,
+            Name::EhFrame => bridge(&section.eh_frame(), options).map_err(FramesError::Bridge)?,
+            _ => plain(&section.source.bytes, section.target, section.machine).ok_or(FramesError::TooLong(name))?,
         };
-        Ok(Some(Frames { name, target, machine: program.machine(), source, text, data, bridged }))
+        Ok(Some(Frames { section, bridged }))
     }
 
     /// The name of the section.
     pub fn name(&self) -> Name {
-        self.name
+        self.section.name
     }
 
     /// The byte order and the address size.
     pub fn target(&self) -> Target {
-        self.target
+        self.section.target
     }
 
     /// The machine's number (`e_machine`).
     pub fn machine(&self) -> u16 {
-        self.machine
+        self.section.machine
     }
 
     /// The section's bytes in the file, decompressed and with relocations applied.
     pub fn source(&self) -> &Section<'data> {
-        &self.source
+        &self.section.source
     }
 
     /// The section as [`bridge`] takes it, with the addresses that its pointers may be relative to.
     pub fn eh_frame(&self) -> EhFrame<'_> {
-        EhFrame {
-            bytes: &self.source.bytes,
-            address: self.source.address,
-            target: self.target,
-            machine: self.machine,
-            text: self.text,
-            data: self.data,
-            unresolved: &self.source.unresolved,
-        }
+        self.section.eh_frame()
     }
 
     /// The rewritten section, with a list of its CIEs and FDEs, and the counts of what was dropped
@@ -144,7 +167,7 @@ impl<'data> Frames<'data> {
     /// Whether the bytes that `dwcheck` takes differ from the file's.
     pub fn is_rewritten(&self) -> bool {
         let counts = self.bridged.counts();
-        self.name == Name::EhFrame || counts.terminators + counts.copies + self.bridged.negated().len() > 0
+        self.name() == Name::EhFrame || counts.terminators + counts.copies + self.bridged.negated().len() > 0
     }
 
     /// The place in the file's section from which the byte at an offset of [`bytes`](Self::bytes)
@@ -161,8 +184,8 @@ impl<'data> Frames<'data> {
     /// [`Error::Refused`] with the first fault; [`Error::NoMemory`]; or [`Error::NoRoom`] if the
     /// rows may take more than 64 times the section's bytes and more than 64 MiB.
     pub fn process(&self, load: u64) -> Result<Process, Error> {
-        let mut process = Process::new(self.target.into());
-        let whole = Module::at(load).range(0..=self.target.address_size.highest());
+        let mut process = Process::new(self.target().into());
+        let whole = Module::at(load).range(0..=self.target().address_size.highest());
         process.add(self.bytes(), whole.room(room(self.bytes())))?;
         Ok(process)
     }

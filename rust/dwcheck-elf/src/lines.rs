@@ -1,32 +1,38 @@
-//! Finds the source lines of addresses, by the line tables of a program.
+//! Finds the source lines and the inlined functions of addresses, by the debug information of a
+//! program.
 
 use crate::program::Program;
 use gimli::{Dwarf, EndianSlice, RunTimeEndian, SectionId};
 use std::borrow::Cow;
-use std::collections::HashMap;
+use typed_arena::Arena;
 
-/// The sections of debug information of a program.
-pub struct DebugSections<'data> {
-    all: HashMap<&'static str, Cow<'data, [u8]>>,
-    order: RunTimeEndian,
-}
+type Bytes<'a> = EndianSlice<'a, RunTimeEndian>;
 
 /// A line of a source file.
 #[derive(Clone, Debug, PartialEq, Eq)]
-pub struct Line {
-    /// The path of the file, as the compiler was called.
+pub struct SourceLine {
+    /// The path of the file, as the debug information has it.
     pub file: String,
-    /// The number of the line, from 1 on.
-    pub line: u32,
-    /// The number of the column, from 1 on, if the table has it.
+    /// The number of the line, from 1 on. `None` if it isn't known.
+    pub line: Option<u32>,
+    /// The number of the column, from 1 on. `None` if it isn't known.
     pub column: Option<u32>,
 }
 
-/// The line tables of a program.
-pub struct Lines<'a>(addr2line::Context<EndianSlice<'a, RunTimeEndian>>);
+/// A function at an address, by the debug information.
+#[derive(Clone, Debug, PartialEq, Eq)]
+pub struct At {
+    /// Its name as linkers see it, or else as in the source code. `None` if it isn't known.
+    pub name: Option<String>,
+    /// The line of its code that runs, or that calls the function that is inlined there.
+    pub source: Option<SourceLine>,
+}
 
-/// The sections that line tables need.
-const NEEDED: [SectionId; 12] = [
+/// The debug information of a program.
+pub struct Lines<'a>(addr2line::Context<Bytes<'a>>);
+
+/// The sections that are read.
+const NEEDED: [SectionId; 10] = [
     SectionId::DebugAbbrev,
     SectionId::DebugAddr,
     SectionId::DebugAranges,
@@ -37,36 +43,54 @@ const NEEDED: [SectionId; 12] = [
     SectionId::DebugRngLists,
     SectionId::DebugStr,
     SectionId::DebugStrOffsets,
-    SectionId::DebugTypes,
-    SectionId::DebugLoc,
 ];
 
-impl<'data> DebugSections<'data> {
-    /// Reads the sections. Those that can't be read are left out.
-    pub fn read(program: &Program<'data>) -> Self {
-        let read = |id: SectionId| Some((id.name(), program.debug_section(id.name()).ok()??));
-        DebugSections { all: NEEDED.into_iter().filter_map(read).collect(), order: program.target().gimli_order() }
+impl<'a> Lines<'a> {
+    /// Opens the debug information of a program, with that of the file that its `.gnu_debugaltlink`
+    /// names. Sections that are compressed are decompressed into `unpacked`. `None` if the program has
+    /// no debug information that can be read.
+    pub fn read(program: &Program<'a>, shared: Option<&Program<'a>>, unpacked: &'a Arena<Vec<u8>>) -> Option<Self> {
+        if !program.has_section(".debug_info") {
+            return None;
+        }
+        let section = |program: &Program<'a>, id: SectionId| {
+            let read = NEEDED.contains(&id).then(|| program.debug_section(id.name()));
+            let bytes = match read {
+                Some(Ok(Some(Cow::Borrowed(bytes)))) => bytes,
+                Some(Ok(Some(Cow::Owned(bytes)))) => unpacked.alloc(bytes),
+                _ => &[],
+            };
+            Ok::<_, gimli::Error>(EndianSlice::new(bytes, program.target().gimli_order()))
+        };
+        let mut dwarf = Dwarf::load(|id| section(program, id)).ok()?;
+        if let Some(shared) = shared {
+            dwarf.load_sup(|id| section(shared, id)).ok()?;
+        }
+        addr2line::Context::from_dwarf(dwarf).ok().map(Lines)
     }
 
-    /// The line tables. `None` if there are none, or they can't be read.
-    pub fn lines(&self) -> Option<Lines<'_>> {
-        let load = |id: SectionId| {
-            let bytes = self.all.get(id.name()).map_or(&[][..], |section| &section[..]);
-            Ok::<_, gimli::Error>(EndianSlice::new(bytes, self.order))
-        };
-        let dwarf = Dwarf::load(load).ok()?;
-        addr2line::Context::from_dwarf(dwarf).ok().map(Lines)
+    /// The line of an address. `None` if no table has it.
+    pub fn line(&self, address: u64) -> Option<SourceLine> {
+        SourceLine::of(self.0.find_location(address).ok()??)
+    }
+
+    /// The functions at an address, the innermost first. The last one is the function that isn't
+    /// inlined.
+    pub fn functions(&self, address: u64) -> Vec<At> {
+        let mut found = Vec::new();
+        if let Ok(mut frames) = self.0.find_frames(address) {
+            while let Ok(Some(frame)) = frames.next() {
+                let name = frame.function.as_ref().and_then(|function| Some(function.raw_name().ok()?.into_owned()));
+                found.push(At { name, source: frame.location.and_then(SourceLine::of) });
+            }
+        }
+        found
     }
 }
 
-impl Lines<'_> {
-    /// The line of an address. `None` if no table has it.
-    pub fn line(&self, address: u64) -> Option<Line> {
-        let found = self.0.find_location(address).ok()??;
-        Some(Line {
-            file: found.file?.to_string(),
-            line: found.line?,
-            column: found.column.filter(|column| *column > 0),
-        })
+impl SourceLine {
+    fn of(found: addr2line::Location<'_>) -> Option<Self> {
+        let column = found.column.filter(|column| *column > 0);
+        Some(SourceLine { file: found.file?.to_string(), line: found.line, column })
     }
 }

@@ -16,8 +16,9 @@ mod text;
 mod walker;
 
 pub(crate) use crate::alone::accepted;
+pub use crate::lines::SourceLine;
 pub use instruction::Instruction;
-pub use names::{Inlined, NameOptions, Place, SourceLine};
+pub use names::{Inlined, NameOptions, Place};
 pub use text::Lines;
 
 use crate::core_file::{CoreFile, Files, Memory, Thread};

@@ -1,16 +1,11 @@
 //! Names of functions, and lines of source files.
 
 use crate::core_file::{Files, Module};
-use crate::debug_files::DebugFiles;
 use crate::functions::Functions;
+use crate::lines::{At, Lines, SourceLine};
 use crate::names::{raw_name, shown_name, Spot, STUB};
 use crate::program::Program;
-use addr2line::Context;
-use gimli::{Dwarf, EndianSlice, RunTimeEndian, SectionId};
-use std::borrow::Cow;
 use std::path::PathBuf;
-
-type Bytes<'a> = EndianSlice<'a, RunTimeEndian>;
 
 /// Which names a stack shows.
 #[derive(Clone, Copy, Debug, PartialEq, Eq)]
@@ -32,15 +27,6 @@ impl NameOptions {
             shown_name(name)
         }
     }
-}
-
-/// A line of a source file.
-#[derive(Clone, Debug, PartialEq, Eq)]
-pub struct SourceLine {
-    /// The file's path, as the debug information has it.
-    pub file: String,
-    /// The line's number, from 1 on. `None` if it isn't known.
-    pub line: Option<u32>,
 }
 
 /// A function that was inlined at a frame's address.
@@ -71,7 +57,7 @@ pub struct Place {
 /// The names of a module.
 pub(super) struct Names<'a> {
     functions: Functions<'a>,
-    lines: Option<Context<Bytes<'a>>>,
+    lines: Option<Lines<'a>>,
     /// The files of debug information that aren't used, and why.
     pub problems: Vec<(PathBuf, String)>,
 }
@@ -106,7 +92,8 @@ impl<'a> Names<'a> {
         }
         if options.source || options.inlined {
             let source = debug.filter(|_| !program.has_section(".debug_info")).unwrap_or(program);
-            names.lines = lines(&source, files.debug_files());
+            let shared = files.debug_files().shared(&source).and_then(|bytes| Program::read(bytes).ok());
+            names.lines = Lines::read(&source, shared.as_ref(), files.debug_files().unpacked());
         }
         names
     }
@@ -120,15 +107,16 @@ impl<'a> Names<'a> {
             place.offset = Some(spot.offset.saturating_add(address.wrapping_sub(looked_up)));
         }
         if let Some(lines) = &self.lines {
-            let mut found = inlined(lines, looked_up, options);
-            if let Some(Inlined { name, source }) = found.pop() {
+            let mut found = lines.functions(looked_up);
+            if let Some(At { name, source }) = found.pop() {
                 place.source = source.filter(|_| options.source);
-                place.function = place.function.or_else(|| Some(name).filter(|name| !name.is_empty()));
+                place.function = place.function.or_else(|| name.map(|name| options.shown(&name)));
             }
-            if options.inlined {
-                found.iter_mut().for_each(|one| one.source = one.source.take().filter(|_| options.source));
-                place.inlined = found;
-            }
+            let inlined = found.into_iter().filter(|_| options.inlined).map(|At { name, source }| Inlined {
+                name: name.map_or_else(String::new, |name| options.shown(&name)),
+                source: source.filter(|_| options.source),
+            });
+            place.inlined = inlined.collect();
         }
         place
     }
@@ -140,45 +128,4 @@ fn without_version(name: &str) -> &str {
         Some(at) if at > 0 && &name[at..] != STUB => &name[..at],
         _ => name,
     }
-}
-
-/// The functions at an address by the debug information, the innermost first. The last one is the
-/// function that isn't inlined.
-fn inlined(lines: &Context<Bytes<'_>>, address: u64, options: NameOptions) -> Vec<Inlined> {
-    let mut found = Vec::new();
-    if let Ok(mut frames) = lines.find_frames(address) {
-        while let Ok(Some(frame)) = frames.next() {
-            let name = frame.function.as_ref().and_then(|function| function.raw_name().ok());
-            let name = name.map_or_else(String::new, |name| options.shown(&name));
-            let source = frame
-                .location
-                .as_ref()
-                .and_then(|location| Some(SourceLine { file: location.file?.to_string(), line: location.line }));
-            found.push(Inlined { name, source });
-        }
-    }
-    found
-}
-
-/// Opens the debug information of a program. `None` if it has none that can be read.
-fn lines<'a>(program: &Program<'a>, files: &'a DebugFiles) -> Option<Context<Bytes<'a>>> {
-    if !program.has_section(".debug_info") {
-        return None;
-    }
-    let mut dwarf: Dwarf<Bytes<'a>> = Dwarf::load(|id| section(program, id, files)).ok()?;
-    let shared = files.shared(program).and_then(|bytes| Program::read(bytes).ok());
-    if let Some(shared) = shared {
-        dwarf.load_sup(|id| section(&shared, id, files)).ok()?;
-    }
-    Context::from_dwarf(dwarf).ok()
-}
-
-/// The bytes of a section; none if the program doesn't have it.
-fn section<'a>(program: &Program<'a>, id: SectionId, files: &'a DebugFiles) -> Result<Bytes<'a>, gimli::Error> {
-    let bytes = match program.debug_section(id.name()) {
-        Ok(Some(Cow::Borrowed(bytes))) => bytes,
-        Ok(Some(Cow::Owned(bytes))) => files.keep(bytes),
-        _ => &[],
-    };
-    Ok(EndianSlice::new(bytes, program.target().gimli_order()))
 }

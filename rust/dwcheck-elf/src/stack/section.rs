@@ -1,11 +1,11 @@
 //! The FDEs of a frame section, each of which can be used alone.
 
 use super::pieces::{Piece, Pieces};
-use crate::bridge::{bridge_one, EhFrame, FdeHeader, Options};
+use crate::bridge::{bridge_one, FdeHeader, Options};
 use crate::cfi::{with_nops, REMEMBER_STATE, RESTORE_STATE};
 use crate::debug_frame::{self, instructions, Kind};
-use crate::frames::Name;
-use crate::program::{Program, ProgramError, Section};
+use crate::frames::{FrameSection, Name};
+use crate::program::Program;
 use crate::target::Target;
 use std::borrow::Cow;
 use std::ops::Range;
@@ -13,12 +13,7 @@ use std::ops::Range;
 /// The FDEs of a frame section, by address.
 #[derive(Debug)]
 pub(super) struct SectionTable<'a> {
-    name: Name,
-    target: Target,
-    machine: u16,
-    source: Section<'a>,
-    text: Option<u64>,
-    data: Option<u64>,
+    section: FrameSection<'a>,
     fdes: Vec<FdeHeader>,
     pieces: Pieces,
 }
@@ -38,45 +33,22 @@ impl<'a> SectionTable<'a> {
     pub fn all(program: &Program<'a>) -> (Vec<Self>, Vec<String>) {
         let mut problems = Vec::new();
         let mut sections = Vec::new();
-        for (name, read) in [(Name::DebugFrame, program.debug_frame()), (Name::EhFrame, program.eh_frame())] {
-            match Self::read(program, name, read) {
-                Ok(section) => sections.extend(section),
+        for name in [Name::DebugFrame, Name::EhFrame] {
+            match FrameSection::read(program, name) {
+                Ok(section) => sections.extend(section.map(Self::of)),
                 Err(error) => problems.push(error.to_string()),
             }
         }
         (sections, problems)
     }
 
-    fn read(
-        program: &Program<'a>,
-        name: Name,
-        read: Result<Option<Section<'a>>, ProgramError>,
-    ) -> Result<Option<Self>, ProgramError> {
-        let source = match read? {
-            Some(source) => source,
-            None => return Ok(None),
-        };
-        let EhFrame { target, machine, text, data, .. } = program.eh_frame_of(&source);
-        let (fdes, pieces) = (Vec::new(), Pieces::default());
-        let mut section = SectionTable { name, target, machine, source, text, data, fdes, pieces };
-        section.fdes = match name {
+    fn of(section: FrameSection<'a>) -> Self {
+        let fdes = match section.name {
             Name::EhFrame => section.eh_frame().fdes(),
-            _ => debug_fdes(&section.source.bytes, target),
+            _ => debug_fdes(&section.source.bytes, section.target),
         };
-        section.pieces = Pieces::of(section.fdes.iter().map(|fde| fde.range.clone()));
-        Ok(Some(section))
-    }
-
-    fn eh_frame(&self) -> EhFrame<'_> {
-        EhFrame {
-            bytes: &self.source.bytes,
-            address: self.source.address,
-            target: self.target,
-            machine: self.machine,
-            text: self.text,
-            data: self.data,
-            unresolved: &self.source.unresolved,
-        }
+        let pieces = Pieces::of(fdes.iter().map(|fde| fde.range.clone()));
+        SectionTable { section, fdes, pieces }
     }
 
     /// The FDE that counts at an address, and the addresses around it at which it counts.
@@ -87,15 +59,16 @@ impl<'a> SectionTable<'a> {
     /// An FDE with its CIE, or why it can't be used.
     pub fn one(&self, fde: usize) -> Result<OneFde, String> {
         let header = &self.fdes[fde];
-        let (target, is_signal_frame) = (self.target, header.is_signal_frame);
-        if self.name == Name::EhFrame {
-            let bridged = bridge_one(&self.eh_frame(), header, Options::default());
+        let FrameSection { name, target, machine, source, .. } = &self.section;
+        let (target, is_signal_frame) = (*target, header.is_signal_frame);
+        if *name == Name::EhFrame {
+            let bridged = bridge_one(&self.section.eh_frame(), header, Options::default());
             let bridged = bridged.map_err(|error| error.reason.to_string())?;
             let signed = bridged.signed().to_vec();
             return Ok(OneFde { bytes: bridged.bytes().to_vec(), target, is_signal_frame, signed });
         }
-        let bytes = debug_one(&self.source.bytes, header, target).ok_or("its CIE or it can't be read")?;
-        let negated = debug_frame::negations(&bytes, target, self.machine);
+        let bytes = debug_one(&source.bytes, header, target).ok_or("its CIE or it can't be read")?;
+        let negated = debug_frame::negations(&bytes, target, *machine);
         let signed = match debug_frame::records(&bytes, target).as_slice() {
             [cie, fde] if !negated.is_empty() => debug_frame::signed(&bytes, cie, fde, target),
             _ => Vec::new(),
@@ -106,7 +79,7 @@ impl<'a> SectionTable<'a> {
     /// The line that says that an FDE can't be used.
     pub fn problem(&self, fde: usize, reason: &str) -> String {
         let FdeHeader { range, offset, .. } = &self.fdes[fde];
-        format!("{}+{:#x}: {}: FDE {:#x}..{:#x} isn't used", self.name, offset, reason, range.start, range.end)
+        format!("{}+{:#x}: {}: FDE {:#x}..{:#x} isn't used", self.section.name, offset, reason, range.start, range.end)
     }
 }
 

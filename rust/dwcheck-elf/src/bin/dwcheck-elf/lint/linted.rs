@@ -4,7 +4,7 @@ use super::known::Key;
 use super::sarif;
 use crate::survey::files::content;
 use dwcheck_elf::functions::Functions;
-use dwcheck_elf::lines::{DebugSections, Lines};
+use dwcheck_elf::lines::Lines;
 use dwcheck_elf::lint::{LintError, Sections};
 use dwcheck_elf::names::Spot;
 use dwcheck_elf::program::Program;
@@ -16,6 +16,7 @@ use dwcheck_lint::lint::Lint;
 use dwcheck_lint::module::Module;
 use dwcheck_lint::report::{Json, Quoted, Text};
 use std::path::{Path, PathBuf};
+use typed_arena::Arena;
 
 /// How a function without a name is shown.
 pub const NAMELESS: &str = "a function without a name";
@@ -91,8 +92,8 @@ fn judged(path: &Path, data: &[u8], shown: &Shown) -> Outcome {
         let is_kind = shown.kinds.is_empty() || shown.kinds.contains(&finding.kind);
         is_kind && (shown.private || finding.severity != Severity::Private)
     };
-    let debug = shown.sarif.then(|| DebugSections::read(&program));
-    let lines = debug.as_ref().and_then(DebugSections::lines);
+    let unpacked = Arena::new();
+    let lines = shown.sarif.then(|| Lines::read(&program, None, &unpacked)).flatten();
     let file = File { path, module: &module, functions: &functions, lines };
     let findings = report.findings.iter().filter(is_shown).map(|finding| file.written(finding, &mut lint, shown));
     let findings = findings.collect();

@@ -1,6 +1,6 @@
 //! Writes findings as SARIF 2.1.0, which code hosts show at the source line.
 
-use dwcheck_elf::lines::Line;
+use dwcheck_elf::lines::SourceLine;
 use dwcheck_lint::coverage::Coverage;
 use dwcheck_lint::finding::{Finding, Severity};
 use dwcheck_lint::kinds::KINDS;
@@ -21,21 +21,21 @@ pub fn result(
     finding: &Finding<'_>,
     text: &str,
     function: Option<String>,
-    line: Option<Line>,
+    line: Option<SourceLine>,
 ) -> Value {
     let address = finding.mark.address;
     let logical = function.unwrap_or_else(|| Place(module, address).to_string());
     let fingerprint = logical.rsplit_once("+0x").map_or(logical.as_str(), |(name, _)| name).to_string();
     let file = path.file_name().map_or_else(String::new, |name| name.to_string_lossy().into_owned());
     let place = match &line {
-        Some(Line { file, line, column }) => {
+        Some(SourceLine { file, line: Some(line), column }) => {
             let mut region = json!({ "startLine": line });
             if let Some(column) = column {
                 region["startColumn"] = json!(column);
             }
             json!({ "artifactLocation": { "uri": uri(Path::new(file)) }, "region": region })
         }
-        None => json!({
+        _ => json!({
             "artifactLocation": { "uri": uri(path) },
             "region": { "startLine": 1 },
             "address": { "absoluteAddress": address },
