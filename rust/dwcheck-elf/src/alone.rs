@@ -1,10 +1,10 @@
 //! Checks the CIEs and FDEs of a frame section one by one, after `dwcheck` has refused the section
 //! as a whole.
 
-use crate::bridge::RecordKind;
-use crate::covered::Covered;
+use crate::bridge::Record as BridgedRecord;
 use crate::debug_frame::{records, Kind, Record};
 use crate::frames::Frames;
+use crate::pieces::Pieces;
 use crate::target::Target;
 use dwcheck::{DebugFrame, DebugLoclists, Fault, FaultKind, Section};
 use std::borrow::Cow;
@@ -155,18 +155,38 @@ fn moved(fault: Fault, from: usize, to: usize) -> Fault {
 
 /// The fault Overlap for each FDE that shares an address with an earlier FDE of the section.
 fn overlaps(frames: &Frames<'_>) -> Vec<Fault> {
-    let mut covered = Covered::default();
-    let mut found = Vec::new();
-    for record in frames.bridged().records() {
-        let (begin, end) = match record.kind {
-            RecordKind::Fde { begin, size, .. } if size > 0 => (begin, begin.saturating_add(size)),
-            _ => continue,
-        };
-        if covered.meets(begin, end) {
-            let offset = record.bridged as u32;
-            found.push(Fault { kind: FaultKind::Overlap, offset, section: Section::Frame });
-        }
-        covered.insert(begin, end);
+    let shared = Shared::of(frames.bridged().records());
+    let later = frames.bridged().records().iter().filter(|record| shared.first(record.bridged).is_some());
+    let fault = |record: &BridgedRecord| Fault {
+        kind: FaultKind::Overlap,
+        offset: record.bridged as u32,
+        section: Section::Frame,
+    };
+    later.map(fault).collect()
+}
+
+/// The FDEs that share an address with an earlier FDE of the section.
+#[derive(Clone, Debug, Default)]
+pub(crate) struct Shared {
+    /// The offset in the rewritten section of each such FDE, and the first FDE that it shares an address
+    /// with.
+    first: HashMap<u64, BridgedRecord>,
+}
+
+impl Shared {
+    /// This takes O(n log n) time for n FDEs.
+    pub fn of(records: &[BridgedRecord]) -> Self {
+        let ranges: Vec<_> = records.iter().map(|record| record.kind.range().unwrap_or(0..0)).collect();
+        let all = Pieces::of(ranges.iter().cloned()).first_in(&ranges);
+        let earlier =
+            all.into_iter().enumerate().filter_map(|(own, first)| Some((own, first.filter(|first| *first < own)?)));
+        let pair = |(own, first): (usize, usize)| Some((records.get(own)?.bridged, records.get(first)?.clone()));
+        Shared { first: earlier.filter_map(pair).collect() }
     }
-    found
+
+    /// The first FDE of the section that shares an address with the one at this offset of the rewritten
+    /// section. `None` if no earlier one does.
+    pub fn first(&self, bridged: u64) -> Option<&BridgedRecord> {
+        self.first.get(&bridged)
+    }
 }

@@ -1,6 +1,7 @@
 //! Describes the faults that `dwcheck` finds in terms of the ELF file: which section, which CIE or
 //! FDE, which instruction or operation, and which function.
 
+use crate::alone::Shared;
 use crate::bridge::{BridgeError, Edge, RecordKind};
 use crate::debug_frame::{self, Instruction, Record};
 use crate::expression;
@@ -62,12 +63,15 @@ pub struct Terms<'a> {
     functions: &'a Functions<'a>,
     /// The CIEs and FDEs of [`Frames::bytes`], in order.
     records: Vec<Record>,
+    /// The FDEs that share an address with an earlier one.
+    shared: Shared,
 }
 
 impl<'a> Terms<'a> {
     /// Reads the CIEs and FDEs of a section, whose faults can then be described.
     pub fn of(frames: &'a Frames<'a>, functions: &'a Functions<'a>) -> Self {
-        Terms { frames, functions, records: debug_frame::records(frames.bytes(), frames.target()) }
+        let records = debug_frame::records(frames.bytes(), frames.target());
+        Terms { frames, functions, records, shared: Shared::of(frames.bridged().records()) }
     }
 
     /// The CIEs and FDEs of [`Frames::bytes`], in order.
@@ -86,7 +90,7 @@ impl<'a> Terms<'a> {
         });
         let record = after.checked_sub(1).and_then(|before| self.records.get(before));
         let record = record.filter(|record| offset <= record.end);
-        let what = record.map_or_else(|| "a record".to_string(), |record| what(self.frames, &fault, record));
+        let what = record.map_or_else(|| "a record".to_string(), |record| what(self, &fault, record));
         let within = place.map(|place| match place.kind {
             RecordKind::Fde { begin, size, .. } => Within::Fde(begin..begin.saturating_add(size)),
             RecordKind::Cie if record.is_some() => Within::Cie(place.record),
@@ -188,7 +192,7 @@ fn entry_hint(code: u8) -> Option<&'static str> {
 
 /// Says in words what is at a fault: an instruction, an operation, a field, or the end of the
 /// instructions of a CIE or FDE.
-fn what(frames: &Frames<'_>, fault: &Fault, record: &Record) -> String {
+fn what(terms: &Terms<'_>, fault: &Fault, record: &Record) -> String {
     let field = match fault.kind {
         FaultKind::Version => "version",
         FaultKind::Augmentation => "augmentation",
@@ -198,8 +202,8 @@ fn what(frames: &Frames<'_>, fault: &Fault, record: &Record) -> String {
         FaultKind::NoSuchCie => "CIE_pointer",
         FaultKind::RangePastTop => "address_range",
         FaultKind::Unrestored => "the end of the program",
-        FaultKind::Overlap => return overlap(frames, record),
-        _ => return in_program(frames, fault, record),
+        FaultKind::Overlap => return overlap(&terms.shared, record),
+        _ => return in_program(terms.frames, fault, record),
     };
     field.to_string()
 }
@@ -247,19 +251,10 @@ fn named(frames: &Frames<'_>, instruction: &Instruction, offset: usize) -> Strin
 
 /// Says which FDE before `record` shares an address with it, and which addresses that FDE covers.
 /// If there are several, this is the first one in the section.
-fn overlap(frames: &Frames<'_>, record: &Record) -> String {
-    let range = |kind| match kind {
-        RecordKind::Fde { begin, size, .. } => begin..begin.saturating_add(size),
-        RecordKind::Cie => 0..0,
-    };
-    let records = frames.bridged().records();
-    let later = records.iter().position(|one| one.bridged == record.offset as u64).unwrap_or(0);
-    let own = records.get(later).map_or(0..0, |one| range(one.kind));
-    let shares = |other: &Range<u64>| other.start < own.end && own.start < other.end && other.start < other.end;
-    let earlier = records.iter().take(later).map(|one| (one, range(one.kind))).find(|(_, other)| shares(other));
-    match earlier {
-        Some((one, other)) => {
-            format!("shares addresses with {:#x}..{:#x} of the FDE at {:#x}", other.start, other.end, one.source)
+fn overlap(shared: &Shared, record: &Record) -> String {
+    match shared.first(record.offset as u64).and_then(|first| Some((first, first.kind.range()?))) {
+        Some((first, range)) => {
+            format!("shares addresses with {:#x}..{:#x} of the FDE at {:#x}", range.start, range.end, first.source)
         }
         None => "shares addresses with an FDE before it".to_string(),
     }

@@ -37,6 +37,7 @@ pub mod loclists;
 pub mod mapped;
 pub mod modules;
 pub mod names;
+mod pieces;
 mod plt;
 pub mod program;
 pub mod relocate;

@@ -9,7 +9,6 @@ mod guess;
 mod instruction;
 mod json;
 mod names;
-mod pieces;
 mod section;
 mod tables;
 mod text;

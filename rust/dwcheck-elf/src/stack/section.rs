@@ -1,10 +1,10 @@
 //! The FDEs of a frame section, each of which can be used alone.
 
-use super::pieces::{Piece, Pieces};
 use crate::bridge::{bridge_one, FdeHeader, Options};
 use crate::cfi::{with_nops, REMEMBER_STATE, RESTORE_STATE};
 use crate::debug_frame::{self, instructions, Kind};
 use crate::frames::{FrameSection, Name};
+use crate::pieces::{Piece, Pieces};
 use crate::program::Program;
 use crate::target::Target;
 use std::borrow::Cow;

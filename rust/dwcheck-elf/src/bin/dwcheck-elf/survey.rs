@@ -2,7 +2,6 @@
 
 pub mod files;
 mod json;
-mod sparse;
 mod totals;
 
 use crate::arguments::SurveyWords;
@@ -97,18 +96,8 @@ pub fn progress(count: u64) -> ProgressBar {
     style.map_or(bar.clone(), |style| bar.with_style(style))
 }
 
-/// Checks a file. If only frame sections are to be checked, only these are read at first, and that
-/// is enough if they are accepted. Otherwise the whole file is read, because its symbols name the
-/// functions of refused FDEs.
+/// Checks a file.
 fn inspected(path: PathBuf, check: Check, has_lists: bool) -> Surveyed {
-    if !has_lists {
-        if let Ok(Some(data)) = sparse::frame_content(&path) {
-            let surveyed = inspected_bytes(path.clone(), &data, check, has_lists);
-            if surveyed.is_accepted() {
-                return surveyed;
-            }
-        }
-    }
     match content(&path) {
         Ok(data) => inspected_bytes(path, &data, check, has_lists),
         Err(error) => Surveyed { path, machine: None, outcome: Err(format!("cannot read: {}", error)) },
@@ -126,11 +115,6 @@ fn inspected_bytes(path: PathBuf, data: &[u8], check: Check, has_lists: bool) ->
 }
 
 impl Surveyed {
-    /// Whether all sections are accepted.
-    fn is_accepted(&self) -> bool {
-        self.outcome.as_ref().map_or(false, |sections| sections.iter().all(Section::is_accepted))
-    }
-
     /// Whether the file or one of its sections can't be read or checked.
     fn is_unread(&self) -> bool {
         self.outcome.as_ref().map_or(true, |sections| sections.iter().any(|section| section.error.is_some()))
@@ -157,10 +141,6 @@ impl Section {
             }
         };
         Section { name, bytes, held, defects, error, counts, mended, negated }
-    }
-
-    fn is_accepted(&self) -> bool {
-        self.defects.is_empty() && self.error.is_none()
     }
 }
 

@@ -1,5 +1,6 @@
 //! Finds the ELF files in folders, each once.
 
+use dwcheck_elf::mapped::Bytes;
 use rayon::prelude::*;
 use std::collections::hash_map::RandomState;
 use std::collections::{HashMap, HashSet};
@@ -149,14 +150,11 @@ fn mark(path: &Path, keys: &(RandomState, RandomState)) -> io::Result<u128> {
     }
 }
 
-/// Reads a file of at most [`LARGEST`] bytes.
-pub fn content(path: &Path) -> io::Result<Vec<u8>> {
-    let file = File::open(path)?;
-    let size = file.metadata()?.len();
+/// The bytes of a file of at most [`LARGEST`] bytes, which is mapped.
+pub fn content(path: &Path) -> io::Result<Bytes> {
+    let size = path.metadata()?.len();
     if size > LARGEST {
         return Err(io::Error::new(io::ErrorKind::Other, format!("it has {} bytes", size)));
     }
-    let mut bytes = Vec::with_capacity(size as usize);
-    file.take(LARGEST).read_to_end(&mut bytes)?;
-    Ok(bytes)
+    Bytes::of_elf(path)
 }

@@ -4,74 +4,63 @@ use super::files::Files;
 use super::totals::Totals;
 use super::{Held, Section, Surveyed};
 use dwcheck_elf::fault::{Defect, Within};
+use serde_json::{json, Map, Value};
 use std::io::{self, Write};
 
 /// Writes one JSON object on each line: first one for each file, then one for the totals.
 pub fn write(out: &mut impl Write, files: &Files, surveyed: &[Surveyed], totals: &Totals) -> io::Result<()> {
     for (path, error) in &files.unread {
-        writeln!(out, "{{\"file\":{},\"error\":{}}}", text(&path.to_string_lossy()), text(error))?;
+        writeln!(out, "{}", json!({ "file": path.to_string_lossy(), "error": error }))?;
     }
-    for Surveyed { path, machine, outcome } in surveyed {
-        write!(out, "{{\"file\":{}", text(&path.to_string_lossy()))?;
-        if let Some(machine) = machine {
-            write!(out, ",\"machine\":{}", machine)?;
-        }
-        match outcome {
-            Ok(sections) => {
-                let sections: Vec<_> = sections.iter().map(section).collect();
-                writeln!(out, ",\"sections\":[{}]}}", sections.join(","))?;
-            }
-            Err(error) => writeln!(out, ",\"error\":{}}}", text(error))?,
-        }
+    for one in surveyed {
+        writeln!(out, "{}", file(one))?;
     }
-    let counts: Vec<_> = totals.named().iter().map(|(name, count)| format!("\"{}\":{}", name, count)).collect();
-    writeln!(out, "{{\"totals\":{{{}}}}}", counts.join(","))
+    let counts: Map<_, _> = totals.named().iter().map(|(name, count)| (name.to_string(), json!(count))).collect();
+    writeln!(out, "{}", json!({ "totals": counts }))
 }
 
-fn section(section: &Section) -> String {
-    if let Some(error) = &section.error {
-        return format!("{{\"section\":\"{}\",\"error\":{}}}", section.name, text(error));
+fn file(one: &Surveyed) -> Value {
+    let Surveyed { path, machine, outcome } = one;
+    let mut object = json!({ "file": path.to_string_lossy() });
+    if let Some(machine) = machine {
+        object["machine"] = json!(machine);
     }
-    let start = format!("{{\"section\":\"{}\",\"bytes\":{}", section.name, section.bytes);
+    match outcome {
+        Ok(sections) => object["sections"] = sections.iter().map(section).collect(),
+        Err(error) => object["error"] = json!(error),
+    }
+    object
+}
+
+fn section(section: &Section) -> Value {
+    let name = section.name.to_string();
+    let bytes = section.bytes;
+    if let Some(error) = &section.error {
+        return json!({ "section": name, "error": error });
+    }
     match section.held {
         Held::Frames { cies, fdes, rows } => {
-            format!("{},\"accepted\":true,\"cies\":{},\"fdes\":{},\"rows\":{}}}", start, cies, fdes, rows)
+            json!({ "section": name, "bytes": bytes, "accepted": true, "cies": cies, "fdes": fdes, "rows": rows })
         }
         Held::Lists { lists, expressions } => {
-            format!("{},\"accepted\":true,\"lists\":{},\"expressions\":{}}}", start, lists, expressions)
+            json!({ "section": name, "bytes": bytes, "accepted": true, "lists": lists, "expressions": expressions })
         }
         Held::Unknown => {
             let faults: Vec<_> = section.defects.iter().map(fault).collect();
-            format!("{},\"accepted\":false,\"faults\":[{}]}}", start, faults.join(","))
+            json!({ "section": name, "bytes": bytes, "accepted": false, "faults": faults })
         }
     }
 }
 
-fn fault(defect: &Defect) -> String {
+fn fault(defect: &Defect) -> Value {
     let Defect { offset, at, fault, what, record, function, rule, .. } = defect;
-    let mut shown =
-        format!("{{\"record\":{},\"offset\":{},\"fault\":\"{}\",\"what\":{}", at, offset, fault, text(what));
+    let mut object = json!({ "record": at, "offset": offset, "fault": fault, "what": what, "rule": rule });
     if let Some(Within::Fde(range)) = record {
-        shown.push_str(&format!(",\"begin\":{},\"end\":{}", range.start, range.end));
+        object["begin"] = json!(range.start);
+        object["end"] = json!(range.end);
     }
     if let Some(function) = function {
-        shown.push_str(&format!(",\"function\":{}", text(function)));
+        object["function"] = json!(function);
     }
-    shown.push_str(&format!(",\"rule\":{}}}", text(rule)));
-    shown
-}
-
-/// A string in JSON, with its quotes.
-fn text(plain: &str) -> String {
-    let mut quoted = String::with_capacity(plain.len() + 2);
-    quoted.push('"');
-    for c in plain.chars() {
-        match c {
-            '"' | '\\' => quoted.extend(['\\', c]),
-            c if c.is_control() => quoted.push_str(&format!("\\u{:04x}", u32::from(c))),
-            c => quoted.push(c),
-        }
-    }
-    quoted.push('"');
-    quoted
+    object
 }

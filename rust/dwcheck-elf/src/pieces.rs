@@ -6,14 +6,14 @@ use std::ops::Range;
 
 /// A range of addresses, and the index of the FDE that counts there.
 #[derive(Clone, Debug, PartialEq, Eq)]
-pub(super) struct Piece {
+pub(crate) struct Piece {
     pub range: Range<u64>,
     pub fde: usize,
 }
 
 /// Ranges that share no address, ascending.
 #[derive(Clone, Debug, Default)]
-pub(super) struct Pieces(Vec<Piece>);
+pub(crate) struct Pieces(Vec<Piece>);
 
 impl Pieces {
     /// The pieces of FDEs with these ranges. Where several FDEs cover an address, the first of them
@@ -24,6 +24,19 @@ impl Pieces {
         pieces.sort_by_key(|piece| piece.range.start);
         let overlap = pieces.windows(2).any(|pair| pair[1].range.start < pair[0].range.end);
         Pieces(if overlap { swept(&pieces) } else { pieces })
+    }
+
+    /// For each of these ranges, the first FDE that shares an address with it. `None` for a range
+    /// without addresses, and for one that shares none. This takes O(n log n) time for n pieces and
+    /// ranges.
+    pub fn first_in(&self, ranges: &[Range<u64>]) -> Vec<Option<usize>> {
+        let least = Least::of(self.0.iter().map(|piece| piece.fde).collect());
+        let first = |range: &Range<u64>| {
+            let begin = self.0.partition_point(|piece| piece.range.end <= range.start);
+            let end = self.0.partition_point(|piece| piece.range.start < range.end);
+            least.among(begin..end).filter(|_| range.start < range.end)
+        };
+        ranges.iter().map(first).collect()
     }
 
     /// The piece that has an address.
@@ -60,9 +73,38 @@ fn swept(all: &[Piece]) -> Vec<Piece> {
     pieces
 }
 
+/// Finds the least of numbers that are next to each other: the numbers, the lesser one of each two that
+/// are neighbors, the least one of each four, and so on.
+struct Least(Vec<Vec<usize>>);
+
+impl Least {
+    fn of(numbers: Vec<usize>) -> Self {
+        let mut levels = vec![numbers];
+        for width in (0..).map(|level| 1 << level) {
+            let last: &[usize] = levels.last().map_or(&[], |last| last);
+            let next: Vec<_> = last.iter().zip(last.iter().skip(width)).map(|(one, other)| *one.min(other)).collect();
+            if next.is_empty() {
+                break;
+            }
+            levels.push(next);
+        }
+        Least(levels)
+    }
+
+    /// The least number in a range of places. `None` if the range is empty.
+    fn among(&self, places: Range<usize>) -> Option<usize> {
+        let count = places.end.checked_sub(places.start).filter(|count| *count > 0)?;
+        let level = usize::BITS - 1 - count.leading_zeros();
+        let least = self.0.get(level as usize)?;
+        let (first, last) = (least.get(places.start)?, least.get(places.end - (1 << level))?);
+        Some(*first.min(last))
+    }
+}
+
 #[cfg(test)]
 mod tests {
     use super::Pieces;
+    use std::ops::Range;
 
     /// Compared with a search through all ranges.
     #[test]
@@ -73,5 +115,17 @@ mod tests {
             let first = ranges.iter().position(|range| range.contains(&address));
             assert_eq!(pieces.find(address).map(|piece| piece.fde), first, "{}", address);
         }
+    }
+
+    /// Compared with a search through all ranges.
+    #[test]
+    fn the_first_fde_that_shares_an_address() {
+        let ranges: Vec<Range<u64>> = (0..200).map(|n| n * 7919 % 101..(n * 7919 % 101 + n * 31 % 23)).collect();
+        let pieces = Pieces::of(ranges.iter().cloned());
+        let shares = |one: &Range<u64>, other: &Range<u64>| one.start.max(other.start) < one.end.min(other.end);
+        for (range, first) in ranges.iter().zip(pieces.first_in(&ranges)) {
+            assert_eq!(first, ranges.iter().position(|other| shares(range, other)), "{:?}", range);
+        }
+        assert_eq!(pieces.first_in(&[500..600, 7..7]), [None, None]);
     }
 }
