@@ -7,8 +7,7 @@ use crate::frames::Frames;
 use crate::pieces::Pieces;
 use crate::target::Target;
 use dwcheck::{DebugFrame, DebugLoclists, Fault, FaultKind, Section};
-use std::borrow::Cow;
-use std::collections::{HashMap, HashSet};
+use std::collections::HashMap;
 
 /// Lists the first fault of each CIE and of each FDE of a refused section, and every overlap of
 /// FDEs. Each CIE is checked as a section of its own. Each FDE is checked as a section that has
@@ -43,71 +42,43 @@ pub fn every_fault(frames: &Frames<'_>, first: Fault) -> Vec<Fault> {
     faults
 }
 
-/// A section from which the refused CIEs and FDEs have been left out.
-#[derive(Clone, Debug)]
-pub struct AcceptedPart {
-    /// The section's bytes up to the end of the last CIE or FDE whose length can be read. Each CIE
-    /// or FDE that is left out is overwritten with a CIE that no FDE uses, so the others keep their
-    /// offsets.
-    pub bytes: Vec<u8>,
-    /// The number of CIEs and FDEs that are left out: those with a fault, and the FDEs whose CIE
-    /// has a fault.
-    pub left_out: usize,
-}
-
-/// Leaves the refused CIEs and FDEs out of a section, so that the other FDEs can still be used to
-/// unwind a stack. `first` is the fault that the check of the whole section gave.
-pub fn accepted_part(frames: &Frames<'_>, first: Fault) -> AcceptedPart {
+/// Leaves out of a section the CIEs and FDEs that have one of these faults, and FDEs whose CIE has one,
+/// so that the others can still be used. `faults` are those that [`every_fault`] lists.
+pub fn accepted_part<'data>(frames: &Frames<'data>, faults: &[Fault]) -> Frames<'data> {
     let all = records(frames.bytes(), frames.target());
-    let mut refused: HashSet<usize> = HashSet::new();
-    for fault in every_fault(frames, first) {
+    let record_of = |fault: &Fault| {
         let offset = fault.offset as usize;
         let before = all.partition_point(|record| match fault.kind {
             FaultKind::Overlap => record.offset <= offset,
             _ => record.offset < offset,
         });
-        refused.extend(before.checked_sub(1).and_then(|before| all.get(before)).map(|record| record.offset));
-    }
-    let is_left_out = |record: &&Record| match record.kind {
-        Kind::Fde { cie, .. } => refused.contains(&record.offset) || refused.contains(&(cie as usize)),
-        _ => refused.contains(&record.offset),
+        all.get(before.checked_sub(1)?).map(|record| record.offset)
     };
-    let mut bytes = frames.bytes().to_vec();
-    bytes.truncate(all.last().map_or(0, |record| record.end));
-    let mut left_out = 0;
-    for record in all.iter().filter(is_left_out) {
-        left_out += 1;
-        // The CIE or FDE becomes this CIE: its id, version 1, an empty augmentation string,
-        // alignment factors 1, return address register 0; then nops.
-        let id = usize::from(record.offset_size());
-        let body = bytes.get_mut(record.body..record.end).unwrap_or(&mut []);
-        body.iter_mut().enumerate().for_each(|(place, byte)| {
-            *byte = match place {
-                _ if place < id => 0xff,
-                _ if place == id || place == id + 2 || place == id + 3 => 1,
-                _ => 0,
-            };
-        });
-    }
-    AcceptedPart { bytes, left_out }
+    frames.without(&faults.iter().filter_map(record_of).collect())
 }
 
-/// The bytes of a section for `dwcheck`, without the CIEs and FDEs that it refuses. If there are such,
-/// the second part of the result says how many.
-pub(crate) fn accepted<'f>(frames: &'f Frames<'_>) -> Result<(Cow<'f, [u8]>, Option<String>), String> {
-    let check = |bytes: &[u8]| dwcheck::check(DebugFrame(bytes), DebugLoclists(&[]), frames.target().into());
-    let fault = match check(frames.bytes()) {
-        Ok(()) => return Ok((frames.bytes().into(), None)),
-        Err(dwcheck::Error::Refused(fault)) => fault,
-        Err(error) => return Err(format!("{}: {}", frames.name(), error)),
-    };
-    let AcceptedPart { bytes, left_out } = accepted_part(frames, fault);
-    match check(&bytes) {
-        Ok(()) => {
-            let problem = format!("{}: {}: {} of its records aren't used", frames.name(), fault.kind, left_out);
-            Ok((bytes.into(), Some(problem)))
+/// A section without the CIEs and FDEs that are refused. If there are such, the second part of the result
+/// says how many.
+pub(crate) fn accepted<'data>(frames: Frames<'data>) -> Result<(Frames<'data>, Option<String>), String> {
+    let name = frames.name();
+    let check =
+        |frames: &Frames<'_>| dwcheck::check(DebugFrame(frames.bytes()), DebugLoclists(&[]), frames.target().into());
+    let (rest, fault) = match check(&frames) {
+        Ok(()) => (frames, None),
+        Err(dwcheck::Error::Refused(fault)) => {
+            (accepted_part(&frames, &every_fault(&frames, fault)), Some(fault.name()))
         }
-        Err(_) => Err(format!("{}: {}: not used", frames.name(), fault.kind)),
+        Err(error) => return Err(format!("{}: {}", name, error)),
+    };
+    let reason = fault.or_else(|| rest.bridged().refused().first().map(|error| error.reason.name()));
+    match reason {
+        None => Ok((rest, None)),
+        Some(reason) if fault.is_some() && check(&rest).is_err() => Err(format!("{}: {}: not used", name, reason)),
+        Some(reason) => {
+            let left_out = rest.bridged().left_out().len();
+            let problem = format!("{}: {}: {} of its records aren't used", name, reason, left_out);
+            Ok((rest, Some(problem)))
+        }
     }
 }
 

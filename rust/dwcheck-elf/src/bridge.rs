@@ -12,7 +12,8 @@
 //!   instruction.
 //!
 //! An instruction that is unknown or cut off is copied, together with the rest of its CIE or FDE.
-//! `dwcheck` then refuses it.
+//! `dwcheck` then refuses it. A CIE or FDE that has no counterpart in `.debug_frame` is left out, and so
+//! are the FDEs of such a CIE; [`Bridged::refused`] says why.
 //!
 //! [`crate::validate`] compares the rows of the `.eh_frame` section with those of the rewritten
 //! section.
@@ -25,6 +26,7 @@ mod places;
 mod plain;
 mod pointer;
 mod records;
+mod rest;
 
 pub use error::{BridgeError, Reason};
 pub use header::FdeHeader;
@@ -95,7 +97,7 @@ pub struct Counts {
 }
 
 /// The result of rewriting a section: a `.debug_frame` section with the same rows.
-#[derive(Clone, Debug)]
+#[derive(Clone, Debug, Default)]
 pub struct Bridged {
     bytes: Vec<u8>,
     places: Places,
@@ -107,10 +109,14 @@ pub struct Bridged {
     signed: Vec<Range<u64>>,
     /// The offsets in the file's section of the FDEs that were left out as copies, ascending.
     copies: Vec<u64>,
+    refused: Vec<BridgeError>,
+    /// The offsets in the file's section of the CIEs and FDEs that were left out for other reasons,
+    /// ascending.
+    left_out: Vec<u64>,
 }
 
-/// Rewrites a section. An error names the first CIE or FDE that has no counterpart in
-/// `.debug_frame`.
+/// Rewrites a section, but for CIEs and FDEs that have no counterpart in `.debug_frame`. It is an error
+/// if the section has 2^32 bytes or more.
 ///
 /// The rewritten section is at most a few times as long as the original.
 pub fn bridge(section: &EhFrame<'_>, options: Options) -> Result<Bridged, BridgeError> {
@@ -155,6 +161,23 @@ impl Bridged {
     /// of an earlier one.
     pub(crate) fn is_copy(&self, source: u64) -> bool {
         self.copies.binary_search(&source).is_ok()
+    }
+
+    /// Why CIEs and FDEs were left out by [`bridge`], in the order of the section. FDEs of a CIE that
+    /// is left out aren't listed.
+    pub fn refused(&self) -> &[BridgeError] {
+        &self.refused
+    }
+
+    /// The offsets in the file's section of the CIEs and FDEs that were left out, but for copies,
+    /// ascending. The last one may be that of bytes that are no record.
+    pub fn left_out(&self) -> &[u64] {
+        &self.left_out
+    }
+
+    /// Whether the CIE or FDE at an offset of the file's section was left out, but not as a copy.
+    pub(crate) fn is_left_out(&self, source: u64) -> bool {
+        self.left_out.binary_search(&source).is_ok()
     }
 
     /// The file's section as gimli can read it. It doesn't know

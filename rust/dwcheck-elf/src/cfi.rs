@@ -118,7 +118,7 @@ pub(crate) fn name_of(code: u8, machine: u16) -> Option<&'static str> {
     })
 }
 
-/// A section in which the instructions at these offsets, which have no operands, are `DW_CFA_nop`.
+/// A section in which the bytes at these offsets, which are those of whole instructions, are `DW_CFA_nop`.
 pub(crate) fn with_nops<'a>(section: &'a [u8], places: &[u64]) -> Cow<'a, [u8]> {
     let mut bytes = Cow::Borrowed(section);
     for place in places {

@@ -5,7 +5,7 @@
 //! that `dwcheck`'s answers can be shown.
 
 use crate::bytes::Cursor;
-use crate::cfi::{name_of, operands, skip, Signing, NEGATE_RA_STATE};
+use crate::cfi::{name_of, operands, skip, Signing, GNU_ARGS_SIZE, NEGATE_RA_STATE};
 use crate::target::Target;
 use object::elf::EM_AARCH64;
 use std::ops::Range;
@@ -184,15 +184,43 @@ pub fn instructions(section: &[u8], program: Range<usize>, target: Target) -> Ve
     all
 }
 
-/// The offsets of the instructions `DW_CFA_AARCH64_negate_ra_state`, ascending. Empty for another
-/// machine (`e_machine`) than aarch64.
-pub(crate) fn negations(section: &[u8], target: Target, machine: u16) -> Vec<u64> {
-    if machine != EM_AARCH64 {
-        return Vec::new();
+/// The instructions of a section that `dwcheck` doesn't know, and that change no rule.
+#[derive(Clone, Debug, Default, PartialEq, Eq)]
+pub(crate) struct Harmless {
+    /// The offsets of the instructions `DW_CFA_AARCH64_negate_ra_state`, ascending. Empty for another
+    /// machine than aarch64.
+    pub negations: Vec<u64>,
+    /// The bytes of the instructions `DW_CFA_GNU_args_size`.
+    pub args_sizes: Vec<Range<u64>>,
+}
+
+impl Harmless {
+    /// `machine` is the machine's number (`e_machine`).
+    pub fn of(section: &[u8], target: Target, machine: u16) -> Self {
+        let mut found = Harmless::default();
+        let programs = records(section, target).into_iter().filter_map(|record| record.program);
+        for one in programs.flat_map(|program| instructions(section, program, target)) {
+            match one.code {
+                NEGATE_RA_STATE if machine == EM_AARCH64 => found.negations.push(one.offset as u64),
+                GNU_ARGS_SIZE => found.args_sizes.extend(args_size(section, one.offset, target)),
+                _ => {}
+            }
+        }
+        found
     }
-    let programs = records(section, target).into_iter().filter_map(|record| record.program);
-    let all = programs.flat_map(|program| instructions(section, program, target));
-    all.filter(|one| one.code == NEGATE_RA_STATE).map(|one| one.offset as u64).collect()
+
+    /// The offsets of all bytes of these instructions.
+    pub fn bytes(&self) -> Vec<u64> {
+        self.negations.iter().copied().chain(self.args_sizes.iter().flat_map(|range| range.clone())).collect()
+    }
+}
+
+/// The bytes of the `DW_CFA_GNU_args_size` at an offset. `None` if its operand can't be read.
+fn args_size(section: &[u8], offset: usize, target: Target) -> Option<Range<u64>> {
+    let mut cursor = Cursor::new(section, target);
+    cursor.take(offset as u64 + 1).ok()?;
+    cursor.skip_leb().ok()?;
+    Some(offset as u64..cursor.at() as u64)
 }
 
 /// The ranges of addresses at which the return address is signed, for an FDE of aarch64.

@@ -1,9 +1,10 @@
 //! The frame sections of a program, in the form that `dwcheck` takes.
 
-use crate::bridge::{bridge, plain, BridgeError, Bridged, Edge, EhFrame, Options, Place};
+use crate::bridge::{bridge, plain, Bridged, Edge, EhFrame, Options, Place, RecordKind};
 use crate::program::{Program, ProgramError, Section};
 use crate::target::Target;
 use dwcheck::{Error, Module, Process};
+use std::collections::HashSet;
 use std::fmt;
 
 /// A section's compiled rows may take this many times the section's bytes in memory. For sections
@@ -95,8 +96,6 @@ impl<'data> FrameSection<'data> {
 pub enum FramesError {
     /// The section can't be read from the file.
     Program(Name, ProgramError),
-    /// A CIE or FDE of `.eh_frame` has no counterpart in `.debug_frame`.
-    Bridge(BridgeError),
     /// The section has 2^32 bytes or more.
     TooLong(Name),
 }
@@ -122,7 +121,7 @@ impl<'data> Frames<'data> {
             None => return Ok(None),
         };
         let bridged = match name {
-            Name::EhFrame => bridge(&section.eh_frame(), options).map_err(FramesError::Bridge)?,
+            Name::EhFrame => bridge(&section.eh_frame(), options).map_err(|_| FramesError::TooLong(name))?,
             _ => plain(&section.source.bytes, section.target, section.machine).ok_or(FramesError::TooLong(name))?,
         };
         Ok(Some(Frames { section, bridged }))
@@ -164,10 +163,22 @@ impl<'data> Frames<'data> {
         self.bridged.bytes()
     }
 
+    /// Whether the section has FDEs.
+    pub fn has_fdes(&self) -> bool {
+        self.bridged.records().iter().any(|record| matches!(record.kind, RecordKind::Fde { .. }))
+    }
+
     /// Whether the bytes that `dwcheck` takes differ from the file's.
     pub fn is_rewritten(&self) -> bool {
         let counts = self.bridged.counts();
-        self.name() == Name::EhFrame || counts.terminators + counts.copies + self.bridged.negated().len() > 0
+        let dropped = counts.terminators + counts.copies + counts.args_sizes + self.bridged.left_out().len();
+        self.name() == Name::EhFrame || dropped + self.bridged.negated().len() > 0
+    }
+
+    /// The section without the CIEs and FDEs at these offsets of [`bytes`](Self::bytes), without the FDEs
+    /// of such CIEs, and without the bytes after the last record that can be read.
+    pub(crate) fn without(&self, refused: &HashSet<usize>) -> Self {
+        Frames { section: self.section.clone(), bridged: self.bridged.without(refused, self.target()) }
     }
 
     /// The place in the file's section from which the byte at an offset of [`bytes`](Self::bytes)
@@ -205,7 +216,6 @@ impl fmt::Display for FramesError {
     fn fmt(&self, f: &mut fmt::Formatter<'_>) -> fmt::Result {
         match self {
             FramesError::Program(_, error) => error.fmt(f),
-            FramesError::Bridge(error) => error.fmt(f),
             FramesError::TooLong(name) => write!(f, "{} has 2^32 bytes or more", name),
         }
     }

@@ -1,7 +1,7 @@
 //! Checks the frame sections and the location lists of a program.
 
-use crate::alone::every_fault;
-use crate::bridge::{BridgeError, Edge, Options, RecordKind};
+use crate::alone::{accepted_part, every_fault};
+use crate::bridge::{BridgeError, Edge, Options, Reason, RecordKind};
 use crate::fault::{Defect, Terms};
 use crate::frames::{Frames, FramesError, Name};
 use crate::loclists::Contents;
@@ -34,11 +34,9 @@ pub struct Check {
 pub struct Inspected<'data> {
     /// The name of the section.
     pub name: Name,
-    /// The number of bytes of the section in the file, decompressed. 0 if it is a frame section
-    /// that couldn't be rewritten.
+    /// The number of bytes of the section in the file, decompressed. 0 if it couldn't be read.
     pub bytes: usize,
-    /// The frame section. `None` for location lists, and for a frame section that couldn't be
-    /// rewritten.
+    /// The frame section. `None` for location lists, and for a frame section that couldn't be read.
     pub frames: Option<Frames<'data>>,
     /// Whether the section was accepted.
     pub verdict: Verdict,
@@ -53,7 +51,7 @@ pub enum Verdict {
     /// Well-formed location lists.
     Lists(Contents),
     /// The section is refused. These are its first fault, or all faults if [`Check::all`] is set.
-    /// Never empty.
+    /// Never empty. [`Inspected::rest`] has what isn't refused.
     Refused(Vec<Defect>),
     /// The section can't be read or checked. The file's other sections can be, even so.
     Unread(InspectError),
@@ -99,22 +97,17 @@ pub fn inspect_frame_sections<'data>(program: &Program<'data>, check: Check) -> 
     sections.collect()
 }
 
-/// The result for a frame section that [`Frames::all`] gives an error for: a section that can't be
-/// rewritten is refused.
+/// The result for a frame section that [`Frames::all`] gives an error for: a section that is too long is
+/// refused.
 fn unread_frames<'data>(error: FramesError) -> Inspected<'data> {
-    let (name, defect) = match error {
-        FramesError::Program(name, error) => {
-            let verdict = Verdict::Unread(InspectError::Program(error));
-            return Inspected { name, bytes: 0, frames: None, verdict };
-        }
-        FramesError::Bridge(error) => (Name::EhFrame, Defect::of_bridge(&error)),
+    let (name, verdict) = match error {
+        FramesError::Program(name, error) => (name, Verdict::Unread(InspectError::Program(error))),
         FramesError::TooLong(name) => {
-            let reason = crate::bridge::Reason::TooLong;
-            let defect = Defect::of_bridge(&BridgeError { record: 0, field: 0, reason });
-            (name, Defect { section: name, ..defect })
+            let defect = Defect::of_bridge(&BridgeError { record: 0, field: 0, reason: Reason::TooLong });
+            (name, Verdict::Refused(vec![Defect { section: name, ..defect }]))
         }
     };
-    Inspected { name, bytes: 0, frames: None, verdict: Verdict::Refused(vec![defect]) }
+    Inspected { name, bytes: 0, frames: None, verdict }
 }
 
 fn inspect_frames<'data>(program: &Program<'data>, frames: Frames<'data>, check: Check) -> Inspected<'data> {
@@ -123,21 +116,84 @@ fn inspect_frames<'data>(program: &Program<'data>, frames: Frames<'data>, check:
 }
 
 fn verdict_on(program: &Program<'_>, frames: &Frames<'_>, check: Check) -> Result<Verdict, InspectError> {
-    let verdict = match frames.process(0) {
-        Ok(process) if frames.is_rewritten() => {
-            Verdict::Frames(validate_rows(frames, &process).map_err(InspectError::Difference)?)
+    let fault = match frames.process(0) {
+        Ok(process) if frames.bridged().refused().is_empty() => {
+            return agreement(frames, &process).map(Verdict::Frames);
         }
-        Ok(process) => Verdict::Frames(counted(frames, &process)),
-        Err(Error::Refused(fault)) => {
-            compared_by_gimli(frames)?;
-            let functions = program.functions();
-            let terms = Terms::of(frames, &functions);
-            let faults = if check.all { every_fault(frames, fault) } else { vec![fault] };
-            Verdict::Refused(faults.into_iter().map(|fault| terms.defect(fault)).collect())
-        }
+        Ok(_) => None,
+        Err(Error::Refused(fault)) => Some(fault),
         Err(error) => return Err(InspectError::Dwcheck(frames.name(), error)),
     };
-    Ok(verdict)
+    compared_by_gimli(frames)?;
+    let mut defects: Vec<_> = frames.bridged().refused().iter().map(Defect::of_bridge).collect();
+    if let Some(fault) = fault {
+        let functions = program.functions();
+        let terms = Terms::of(frames, &functions);
+        let faults = if check.all { every_fault(frames, fault) } else { vec![fault] };
+        defects.extend(faults.into_iter().map(|fault| terms.defect(fault)));
+    }
+    if !frames.bridged().refused().is_empty() {
+        defects.sort_by_key(|defect| defect.offset);
+    }
+    defects.truncate(if check.all { usize::MAX } else { 1 });
+    Ok(Verdict::Refused(defects))
+}
+
+/// Counts what an accepted section has. If it was rewritten, its rows are compared with gimli's.
+fn agreement(frames: &Frames<'_>, process: &Process) -> Result<Agreement, InspectError> {
+    match frames.is_rewritten() {
+        true => validate_rows(frames, process).map_err(InspectError::Difference),
+        false => Ok(counted(frames, process)),
+    }
+}
+
+/// What is left of a refused frame section without what is refused.
+#[derive(Clone, Debug)]
+pub struct Rest<'data> {
+    /// The section without the CIEs and FDEs that are refused.
+    pub frames: Frames<'data>,
+    /// What it has.
+    pub agreement: Agreement,
+}
+
+/// How many of the CIEs and FDEs of a section are left out. Its text is such as `2 of 31 records left out`.
+#[derive(Clone, Copy, Debug, PartialEq, Eq)]
+pub struct LeftOut {
+    /// How many are left out, but for copies.
+    pub count: usize,
+    /// How many there are, but for copies.
+    pub of: usize,
+}
+
+impl Rest<'_> {
+    /// How much isn't in it.
+    pub fn left_out(&self) -> LeftOut {
+        let bridged = self.frames.bridged();
+        let count = bridged.left_out().len();
+        LeftOut { count, of: count + bridged.records().len() }
+    }
+}
+
+impl<'data> Inspected<'data> {
+    /// What is left of a refused frame section. `None` for any other section, and for one that can't
+    /// be rewritten at all. Each FDE is checked alone, as for [`Check::all`].
+    pub fn rest(&self) -> Result<Option<Rest<'data>>, InspectError> {
+        let frames = match (&self.verdict, &self.frames) {
+            (Verdict::Refused(_), Some(frames)) => frames,
+            _ => return Ok(None),
+        };
+        let failed = |error| InspectError::Dwcheck(self.name, error);
+        let (frames, process) = match frames.process(0) {
+            Err(Error::Refused(fault)) => {
+                let rest = accepted_part(frames, &every_fault(frames, fault));
+                let process = rest.process(0).map_err(failed)?;
+                (rest, process)
+            }
+            process => (frames.clone(), process.map_err(failed)?),
+        };
+        let agreement = agreement(&frames, &process)?;
+        Ok(Some(Rest { frames, agreement }))
+    }
 }
 
 /// Makes sure that a fault isn't due to the rewriting of `.eh_frame`: it is an error if the
@@ -198,3 +254,9 @@ impl fmt::Display for InspectError {
 }
 
 impl std::error::Error for InspectError {}
+
+impl fmt::Display for LeftOut {
+    fn fmt(&self, f: &mut fmt::Formatter<'_>) -> fmt::Result {
+        write!(f, "{} of {} records left out", self.count, self.of)
+    }
+}

@@ -3,12 +3,12 @@
 //! [`Sections`] reads and checks the frame sections, and [`Sections::module`] makes a
 //! [`Module`](dwcheck_lint::module::Module), which [`dwcheck_lint::lint`] judges.
 
+use crate::alone::accepted;
 use crate::bridge::{EhFrame, Options};
-use crate::frames::{room, Frames, Name};
+use crate::frames::{Frames, Name};
 use crate::functions::Functions;
 use crate::image::{Image, Part};
 use crate::program::Program;
-use crate::stack::accepted;
 use crate::target::AddressSize;
 use dwcheck::{CfaRule, Process, Span};
 use dwcheck_lint::landings::landings;
@@ -43,13 +43,13 @@ impl<'data> Sections<'data> {
     pub fn read(program: &Program<'data>) -> Self {
         let mut sections = Sections { all: Vec::new(), image: program.image(), unused: Vec::new() };
         for frames in Frames::all(program, Options::default()) {
-            match frames {
-                Ok(frames) => {
-                    let mut process = Process::new(frames.target().into());
-                    sections.unused.extend(add_accepted(&mut process, &frames).err());
+            let used = frames.map_err(|error| error.to_string()).and_then(used);
+            match used {
+                Ok((frames, process, problem)) => {
                     sections.all.push((frames, process));
+                    sections.unused.extend(problem);
                 }
-                Err(error) => sections.unused.push(error.to_string()),
+                Err(problem) => sections.unused.push(problem),
             }
         }
         sections.all.sort_by_key(|(frames, _)| frames.name() != Name::EhFrame);
@@ -96,14 +96,11 @@ impl<'data> Sections<'data> {
     }
 }
 
-/// Adds a section to a process, at the addresses that it is linked for. A refused section is added
-/// without its refused CIEs and FDEs. The error says what isn't used.
-fn add_accepted(process: &mut Process, frames: &Frames<'_>) -> Result<(), String> {
-    let (bytes, left_out) = accepted(frames)?;
-    let whole = dwcheck::Module::at(0).range(0..=frames.target().address_size.highest());
-    let added = process.add(&bytes, whole.room(room(&bytes)));
-    added.map_err(|error| format!("{}: {}", frames.name(), error))?;
-    left_out.map_or(Ok(()), Err)
+/// A section without the CIEs and FDEs that are refused, its rows, and what isn't used of it.
+fn used(frames: Frames<'_>) -> Result<(Frames<'_>, Process, Option<String>), String> {
+    let (frames, problem) = accepted(frames)?;
+    let process = frames.process(0).map_err(|error| format!("{}: {}", frames.name(), error))?;
+    Ok((frames, process, problem))
 }
 
 /// What the functions of a program do with registers: those of Go and OCaml keep none.

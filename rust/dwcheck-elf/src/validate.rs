@@ -126,7 +126,7 @@ fn shown(outcome: &Result<bool, String>, row: &Row<'_>) -> String {
 /// Compares each CIE and FDE of `.eh_frame` with its counterpart in the rewritten section, as gimli
 /// reads both.
 ///
-/// FDEs that were left out as copies of earlier ones have no counterpart.
+/// What was left out, as a copy or because it is refused, has no counterpart.
 pub fn validate(section: &EhFrame<'_>, bridged: &Bridged) -> Result<Agreement, Difference> {
     let comparable = bridged.comparable(section.bytes);
     let section = &EhFrame { bytes: &comparable, ..*section };
@@ -138,7 +138,7 @@ pub fn validate(section: &EhFrame<'_>, bridged: &Bridged) -> Result<Agreement, D
     let mut agreement = Agreement::default();
     let mut cursor = Cursor::new(section.bytes, section.target);
     while let Some(record) = next_record(&mut cursor) {
-        if bridged.is_copy(record as u64) {
+        if bridged.is_copy(record as u64) || bridged.is_left_out(record as u64) {
             continue;
         }
         let fail = |what| Difference { section: Name::EhFrame, record: record as u64, what };

@@ -182,7 +182,7 @@ fn walks_are_those_of_dwcheck() {
     }
     folder.write("bad", "reg 1 0x1\n\nreg 2 1\n");
     let bad = dwcheck_elf(&folder, "unwind program f bad");
-    assert_eq!((bad.status, bad.error.as_str()), (2, "dwcheck-elf: state line 3\n"));
+    assert_eq!((bad.status, bad.error.as_str()), (2, "dwcheck-elf: bad: state line 3: reg 2 1\n"));
 }
 
 /// The 8 bytes of a little-endian number, in the hexadecimal digits of a state file.

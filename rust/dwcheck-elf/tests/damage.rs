@@ -41,17 +41,14 @@ impl Numbers {
     }
 }
 
-/// Rewrites a section, and compares gimli's rows of both sections. Returns false if the section
+/// Rewrites a section, and compares gimli's rows of both sections. Returns false if a part of the section
 /// can't be rewritten. The only allowed difference is a CIE or FDE that gimli can't read because of
 /// its augmentation data, which the rewritten section doesn't have.
 fn frames(section: &EhFrame<'_>) -> bool {
-    let bridged = match bridge(section, Options::default()) {
-        Ok(bridged) => bridged,
-        Err(error) => {
-            assert!(error.record <= error.field && error.field <= section.bytes.len() as u64, "{}", error);
-            return false;
-        }
-    };
+    let bridged = bridge(section, Options::default()).unwrap();
+    for error in bridged.refused() {
+        assert!(error.record <= error.field && error.field <= section.bytes.len() as u64, "{}", error);
+    }
     let end = bridged.bytes().len() as u64;
     for offset in (0..end + 4).step_by(7).chain([end, end + 1, u64::MAX]) {
         for edge in [Edge::Begin, Edge::End] {
@@ -63,7 +60,7 @@ fn frames(section: &EhFrame<'_>) -> bool {
         Ok(agreement) => assert_eq!(agreement.fdes, bridged.counts().fdes),
         Err(difference) => assert!(matches!(difference.what, What::Unreadable(_)), "{}", difference),
     }
-    true
+    bridged.refused().is_empty()
 }
 
 /// Reads everything that a program has.
@@ -91,6 +88,8 @@ fn told(section: &Inspected<'_>) {
         let end = frames.source().bytes.len() as u64;
         assert!(!defects.is_empty());
         assert!(defects.iter().all(|defect| defect.offset <= end && !defect.to_string().is_empty()), "{:?}", defects);
+        let rest = section.rest().map(|rest| rest.map(|rest| rest.frames.bridged().left_out().len()));
+        assert!(matches!(rest, Ok(Some(left_out)) if left_out > 0) || rest.is_err(), "{:?}", rest);
     }
 }
 

@@ -121,7 +121,7 @@ fn fde(at: usize, rest: &[u8]) -> Vec<u8> {
 }
 
 fn refused(bytes: &[u8]) -> BridgeError {
-    bridge(&section(bytes), Options::default()).unwrap_err()
+    bridge(&section(bytes), Options::default()).unwrap().refused()[0].clone()
 }
 
 fn error(record: u64, field: u64, reason: Reason) -> BridgeError {

@@ -95,6 +95,22 @@ fn signed_return_addresses() {
     }
 }
 
+/// `DW_CFA_GNU_args_size` says nothing about registers. In both sections it is dropped, and the rows are
+/// those that readelf shows.
+#[test]
+fn sizes_of_arguments() {
+    let folder = Folder::new("args-size");
+    for section in [".eh_frame", ".debug_frame"] {
+        let function = ".globl f\nf: .cfi_startproc\n nop\n .cfi_escape 0x2e, 0x90, 1\n nop\n .cfi_def_cfa_offset 24\n nop\n .cfi_endproc\n";
+        folder.write("a.s", format!(".cfi_sections {}\n{}", section, function));
+        folder.run("as a.s -o a.o; ld -e f a.o -o linked");
+        let ran = dwcheck_elf(&folder, "check --notes linked");
+        assert_eq!((ran.status, ran.error.as_str()), (0, ""), "{}", ran.out);
+        assert!(ran.out.starts_with(&format!("linked: {}: accepted\ncies 1 fdes 1 rows 3 ", section)), "{}", ran.out);
+        assert!(ran.out.contains(": 1 DW_CFA_GNU_args_size dropped"), "{}", ran.out);
+    }
+}
+
 /// Compiles a program with a `.debug_frame` that is long enough for objcopy to compress it.
 fn with_debug_frame(folder: &Folder) {
     let function = |number| format!("int unused{}(int x) {{ volatile int kept = x; return kept; }}\n", number);

@@ -161,7 +161,7 @@ fn a_fault_in_a_stub() {
     folder.write("a.c", CALLS);
     folder.run("gcc -O1 -no-pie -Wl,-z,lazy a.c -o program");
     let program = folder.bytes("program");
-    let slot = folder.run("readelf -rW program | awk '$3 == \"R_X86_64_JUMP_SLO\" && $5 ~ /^puts/ { print $1 }'");
+    let slot = folder.run("readelf -rW program | awk '$3 ~ /JUMP_SLO/ && $5 ~ /^puts/ { print $1 }'");
     let stub = folder.run("objdump -d program | sed -n 's/ <puts@plt>:$//p'");
     assert!(!program.is_empty());
     let lines = format!(

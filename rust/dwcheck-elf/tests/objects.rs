@@ -212,8 +212,8 @@ fde_end:
     let section = program.eh_frame().unwrap().unwrap();
     let record = folder.section("a.o", ".eh_frame").len() as u64 - 17;
     assert_eq!(section.unresolved, [record + 8]);
-    let error = bridge(&program.eh_frame_of(&section), Options::default()).unwrap_err();
-    assert_eq!(error, BridgeError { record, field: record + 8, reason: Reason::Unresolved });
+    let bridged = bridge(&program.eh_frame_of(&section), Options::default()).unwrap();
+    assert_eq!(bridged.refused(), [BridgeError { record, field: record + 8, reason: Reason::Unresolved }]);
 }
 
 /// An empty section with the same name is ignored. Two sections with bytes are refused.

@@ -60,7 +60,12 @@ fn each_defect_is_listed_in_the_terms_of_the_file() {
     let ranges: Vec<_> =
         shown.lines().map(|line| line.rsplit_once("pc=").unwrap().1.split_once("..").unwrap()).collect();
     let lines = ran.lines();
-    assert_eq!(lines.len(), 2 * DEFECTS.len(), "{}", ran.out);
+    let (lines, rest) = lines.split_at(2 * DEFECTS.len());
+    // A CIE and an FDE for each function, but for equal CIEs.
+    let all = shown.lines().count() + folder.run("readelf --debug-dump=frames linked | grep CIE").lines().count();
+    let left_out = format!("linked: .eh_frame: {} of {} records left out", DEFECTS.len(), all);
+    assert_eq!((rest[0], rest.len()), (left_out.as_str(), 2), "{}", ran.out);
+    assert!(rest[1].starts_with("cies 1 fdes 1 rows 2 "), "{}", ran.out);
     for ((name, _, fault, what), (number, pair)) in DEFECTS.iter().zip(lines.chunks(2).enumerate()) {
         let (begin, end) = ranges[number + 1];
         let range = format!("FDE {:#x}..{:#x}", common::hex(begin), common::hex(end));
@@ -71,9 +76,68 @@ fn each_defect_is_listed_in_the_terms_of_the_file() {
         assert!(pair[1].starts_with("    at 0x") && pair[1].contains("(DWARF 5, "), "{}", pair[1]);
     }
     let first = dwcheck_elf(&folder, "check linked");
-    assert_eq!((first.status, first.lines()), (1, lines[..2].to_vec()));
+    assert_eq!((first.status, first.lines()), (1, [&lines[..2], rest].concat()));
+    // The function without a defect has its rows, and the others have the same faults on standard error.
     let rows = dwcheck_elf(&folder, "rows linked");
-    assert_eq!((rows.status, rows.lines()), (1, lines[..2].to_vec()));
+    assert_eq!((rows.status, rows.lines()[0], rows.lines().len()), (1, "section .eh_frame", 4), "{}", rows.out);
+    assert!(rows.lines()[1].ends_with(" (_start)"), "{}", rows.out);
+    let notes: Vec<_> = rows.error.lines().filter_map(|line| line.strip_prefix("dwcheck-elf: ")).collect();
+    let faults: Vec<_> = lines.iter().step_by(2).copied().collect();
+    assert_eq!(notes, [vec![rest[0]], faults].concat());
+}
+
+/// A row and a caller of a function without a defect are found; for one with a defect its fault is the
+/// answer. The first fault is a note.
+#[test]
+fn a_defect_costs_only_its_fde() {
+    let folder = Folder::new("one-defect");
+    all_defects(&folder);
+    folder.write("state", "keep 3\nsp 7\nreg 7 0x7f00\nmem 0x7f00 00000000000000000000000000000000\n");
+    let check = dwcheck_elf(&folder, "check --all linked");
+    let faults = check.lines();
+    for (command, rest) in [("row linked _start+1", ""), ("unwind linked _start+1", " state")] {
+        let ran = dwcheck_elf(&folder, &format!("{}{}", command, rest));
+        assert!(ran.status == 1 && (ran.out.contains("cfa=r7+16") || ran.out.contains("cfa value ")), "{}", ran.out);
+        let notes: Vec<_> = ran.error.lines().filter_map(|line| line.strip_prefix("dwcheck-elf: ")).collect();
+        assert_eq!(notes, [faults[faults.len() - 2], faults[0]]);
+        let ran = dwcheck_elf(&folder, &format!("{}{}", command.replace("_start", "underflow"), rest));
+        let expected = faults.iter().position(|line| line.ends_with(" (underflow)")).unwrap();
+        assert_eq!((ran.status, ran.lines()), (1, faults[expected..expected + 2].to_vec()), "{}", ran.out);
+    }
+}
+
+/// A CIE or FDE of `.eh_frame` that has no counterpart costs only itself: an unknown augmentation, which
+/// costs the FDE of that CIE too, and a CIE pointer that leads to no CIE.
+#[test]
+fn what_cannot_be_rewritten_costs_only_itself() {
+    let folder = Folder::new("not-rewritten");
+    let cie = |name: &str, letters: &str| {
+        let fields = format!(".byte 1\n .asciz \"{}\"\n .byte 1, 0x78, 16, 0x0c, 7, 8, 0x90, 1\n", letters);
+        format!("{0}: .long {0}_end - {0} - 4\n .long 0\n {1}{0}_end:\n", name, fields)
+    };
+    let fde = |cie: &str, place| format!(".long 20\n1: .long 1b - {}\n .quad _start + {}\n .quad 4\n", cie, place);
+    let unknown = cie("unknown", "eh") + &fde("unknown", 4);
+    let records = [cie("first", ""), fde("first", 0), unknown, fde("first_end", 8), cie("last", ""), fde("last", 12)];
+    folder.write("a.s", format!(".globl _start\n_start: .skip 16\n.section frames, \"a\"\n{}", records.concat()));
+    folder.run("as a.s -o a.o && ld a.o -o linked && objcopy --rename-section frames=.eh_frame linked");
+    let ran = dwcheck_elf(&folder, "check --all linked");
+    let faults: Vec<_> = ran.lines().iter().filter_map(|line| line.split(": ").nth(2)).map(str::to_string).collect();
+    assert_eq!(
+        (ran.status, &faults[..2]),
+        (1, &["Augmentation".to_string(), "NoSuchCie".to_string()][..]),
+        "{}",
+        ran.out
+    );
+    let rest = ran.lines();
+    assert_eq!(rest[4], "linked: .eh_frame: 3 of 7 records left out", "{}", ran.out);
+    assert!(rest[5].starts_with("cies 2 fdes 2 rows 2 "), "{}", ran.out);
+    let rows = dwcheck_elf(&folder, "rows linked");
+    assert_eq!(
+        (rows.status, rows.out.matches("\nfde ").count(), rows.error.lines().count()),
+        (1, 2, 3),
+        "{}",
+        rows.error
+    );
 }
 
 /// An FDE that covers addresses of another FDE. Linkers leave such FDEs for functions that they
@@ -94,7 +158,9 @@ fn fdes_that_share_addresses() {
         start + 4
     );
     assert_eq!(ran.lines()[0], format!("{}, FDE {:#x}..{:#x} (_start+0x2)", first, start + 2, start + 10));
-    assert_eq!((ran.status, ran.lines().len()), (1, 2));
+    let rest = &ran.lines()[2..];
+    assert_eq!((ran.status, rest[0], rest.len()), (1, "linked: .debug_frame: 1 of 4 records left out", 2));
+    assert!(rest[1].starts_with("cies 1 fdes 2 rows 2 "), "{}", ran.out);
 }
 
 /// Records of length 0, which some linkers leave in `.debug_frame`, are left out, and CIE pointers
@@ -140,56 +206,65 @@ fn refused_sections(folder: &Folder) {
     folder.write("state", "keep 3\nsp 7\nreg 7 0x7f00\nmem 0x7f00 00000000000000000000000000000000\n");
 }
 
-/// The commands that show rows and callers use `.eh_frame` if `.debug_frame` is refused.
+/// The FDE of `.debug_frame` is refused, so the one of `.eh_frame` counts. If both are refused, there are
+/// no rows.
 #[test]
 fn eh_frame_is_used_if_debug_frame_is_refused() {
     let folder = Folder::new("used-sections");
     refused_sections(&folder);
     let check = dwcheck_elf(&folder, "check debug");
-    assert_eq!((check.status, check.error.as_str(), check.lines()[2]), (1, "", "debug: .eh_frame: accepted"));
+    assert_eq!((check.status, check.error.as_str(), check.lines()[4]), (1, "", "debug: .eh_frame: accepted"));
     let fault = check.lines()[0].strip_prefix("debug: ").unwrap();
     assert!(fault.starts_with(".debug_frame+0x10: Unrestored: the end of the program, FDE "), "{}", fault);
     let survey = dwcheck_elf(&folder, "survey debug");
     assert!(survey.error.is_empty() && survey.out.contains("sections 2 accepted 1 refused 1 "), "{}", survey.out);
-    let note = format!("dwcheck-elf: debug: .debug_frame is refused, so .eh_frame is used: {}\n", fault);
+    let notes =
+        |file| format!("dwcheck-elf: {0}: .debug_frame: 1 of 2 records left out\ndwcheck-elf: {0}: {1}\n", file, fault);
     for (command, rest) in COMMANDS {
         let run = |program| dwcheck_elf(&folder, &format!("{} {}{}", command, program, rest));
         let (ours, expected) = (run("debug"), run("eh_alone"));
-        assert_eq!((ours.status, &ours.error, &ours.out), (0, &note, &expected.out));
+        assert_eq!((ours.status, ours.error, &ours.out), (1, notes("debug"), &expected.out));
         assert!(expected.error.is_empty() && expected.out != "none\n", "{}", expected.out);
         for refused in ["debug_alone", "both"] {
             let ran = run(refused);
-            assert_eq!((ran.status, ran.error.as_str()), (1, ""));
-            assert_eq!((ran.lines()[0], ran.lines().len()), (format!("{}: {}", refused, fault).as_str(), 2));
+            assert_eq!(ran.status, 1);
+            match command {
+                "rows" => assert_eq!(ran.out, ""),
+                "backtrace" => assert_eq!(ran.lines()[1], "stop not covered"),
+                _ => assert_eq!((ran.lines()[0], ran.lines().len()), (format!("{}: {}", refused, fault).as_str(), 2)),
+            }
         }
     }
 }
 
-/// If `.eh_frame` is refused, its fault is the answer, even if `.debug_frame` is accepted.
+/// If `.eh_frame` is refused, `.debug_frame` still answers.
 #[test]
-fn a_refused_eh_frame_is_the_answer() {
+fn debug_frame_is_used_if_eh_frame_is_refused() {
     let folder = Folder::new("refused-eh-frame");
     refused_sections(&folder);
+    folder.run("objcopy -R .eh_frame eh alone");
     assert_eq!(dwcheck_elf(&folder, "check eh").lines()[0], "eh: .debug_frame: accepted");
     for (command, rest) in COMMANDS {
-        let ran = dwcheck_elf(&folder, &format!("{} eh{}", command, rest));
-        assert_eq!((ran.status, ran.error.as_str(), ran.lines().len()), (1, "", 2));
-        assert!(ran.out.starts_with("eh: .eh_frame+0x18: UnknownInstruction: "), "{}", ran.out);
+        let run = |program| dwcheck_elf(&folder, &format!("{} {}{}", command, program, rest));
+        let (ours, expected) = (run("eh"), run("alone"));
+        assert_eq!((ours.status, &ours.out, expected.status), (1, &expected.out, 0));
+        assert!(ours.error.starts_with("dwcheck-elf: eh: .eh_frame: 1 of 2 records left out\n"), "{}", ours.error);
+        assert!(ours.error.contains("eh: .eh_frame+0x18: UnknownInstruction: "), "{}", ours.error);
     }
 }
 
-/// Which section of a module is used doesn't depend on the other modules.
+/// What is used of a module doesn't depend on the other modules.
 #[test]
 fn the_sections_of_a_module() {
     let folder = Folder::new("sections-of-modules");
     refused_sections(&folder);
-    let with = |module| dwcheck_elf(&folder, &format!("unwind --module 0x10000={} eh_alone _start+1 state", module));
-    let ran = with("debug");
-    assert_eq!((ran.status, &ran.out), (0, &dwcheck_elf(&folder, "unwind eh_alone _start+1 state").out));
-    let note = "dwcheck-elf: debug: .debug_frame is refused, so .eh_frame is used: ";
-    assert!(ran.error.starts_with(note), "{}", ran.error);
-    let ran = with("both");
-    assert!(ran.status == 1 && ran.out.starts_with("both: .debug_frame+0x10: "), "{}", ran.out);
+    let alone = dwcheck_elf(&folder, "unwind eh_alone _start+1 state");
+    for module in ["debug", "both"] {
+        let ran = dwcheck_elf(&folder, &format!("unwind --module 0x10000={} eh_alone _start+1 state", module));
+        assert_eq!((ran.status, &ran.out), (1, &alone.out));
+        let note = format!("dwcheck-elf: {}: .debug_frame: 1 of 2 records left out\n", module);
+        assert!(ran.error.starts_with(&note), "{}", ran.error);
+    }
 }
 
 /// For these machines GNU as begins CIEs with DW_CFA_def_cfa_register, where the CFA has no rule

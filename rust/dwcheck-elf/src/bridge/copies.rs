@@ -3,7 +3,7 @@
 //! If several objects have the same inline function, the linker keeps one of the functions, but may
 //! keep all their FDEs. They then say the same about the same addresses.
 
-use super::places::{Pair, Places, Record};
+use super::rest::Rest;
 use super::Bridged;
 use crate::debug_frame::{self, records, Kind};
 use crate::target::Target;
@@ -22,7 +22,11 @@ impl Bridged {
         if copies.is_empty() {
             return self;
         }
-        Rest { old: &self, all: &all, copies: &copies, target }.kept()
+        let (rest, copies) = Rest { old: &self, all: &all, dropped: &copies, has_tail: true, target }.kept();
+        let mut counts = self.counts;
+        counts.fdes -= copies.len();
+        counts.copies = copies.len();
+        Bridged { counts, copies: copies.into_iter().map(|record| record.source).collect(), ..rest }
     }
 }
 
@@ -59,72 +63,4 @@ fn copies(bytes: &[u8], all: &[debug_frame::Record]) -> HashSet<usize> {
 fn repeated(mut ranges: Vec<(u64, u64)>) -> HashSet<(u64, u64)> {
     ranges.sort_unstable();
     ranges.windows(2).filter(|pair| pair[0] == pair[1]).map(|pair| pair[0]).collect()
-}
-
-/// A section from which copies are left out.
-struct Rest<'a> {
-    old: &'a Bridged,
-    all: &'a [debug_frame::Record],
-    copies: &'a HashSet<usize>,
-    target: Target,
-}
-
-impl Rest<'_> {
-    fn kept(&self) -> Bridged {
-        let mut starts = HashMap::new();
-        let mut bytes = Vec::with_capacity(self.old.bytes.len());
-        for record in self.all.iter().filter(|record| !self.copies.contains(&record.offset)) {
-            starts.insert(record.offset as u64, bytes.len() as u64);
-            bytes.extend_from_slice(self.old.bytes.get(record.offset..record.end).unwrap_or(&[]));
-        }
-        // The bytes after the last record that can be read.
-        let rest = self.all.last().map_or(0, |record| record.end);
-        starts.insert(rest as u64, bytes.len() as u64);
-        bytes.extend_from_slice(self.old.bytes.get(rest..).unwrap_or(&[]));
-        self.point_to_cies(&mut bytes, &starts);
-        let copies: Vec<_> = self.dropped().map(|record| record.source).collect();
-        let mut counts = self.old.counts;
-        counts.fdes -= copies.len();
-        counts.copies = copies.len();
-        Bridged { bytes, places: self.places(&starts), counts, copies, ..self.old.clone() }
-    }
-
-    /// The entries of the list of records for the FDEs that are left out.
-    fn dropped(&self) -> impl Iterator<Item = &Record> {
-        self.old.places.records.iter().filter(|record| self.copies.contains(&(record.bridged as usize)))
-    }
-
-    /// Changes the CIE pointers of the FDEs that are kept to where their CIEs are now.
-    fn point_to_cies(&self, bytes: &mut [u8], starts: &HashMap<u64, u64>) {
-        for record in self.all {
-            if let (Kind::Fde { cie, .. }, Some(start)) = (record.kind, starts.get(&(record.offset as u64))) {
-                let size = record.offset_size();
-                let at = *start as usize + record.body - record.offset;
-                let mut pointer = Vec::with_capacity(8);
-                self.target.push(&mut pointer, starts.get(&cie).copied().unwrap_or(cie), size);
-                if let Some(field) = bytes.get_mut(at..at + usize::from(size)) {
-                    field.copy_from_slice(&pointer);
-                }
-            }
-        }
-    }
-
-    /// Where the parts of the shorter section come from. `starts` maps the offset of each record
-    /// that is kept to its new offset.
-    fn places(&self, starts: &HashMap<u64, u64>) -> Places {
-        let moved = |offset: u64| {
-            let next = self.old.places.records.partition_point(|record| record.bridged <= offset);
-            let record = self.old.places.records.get(next.checked_sub(1)?)?.bridged;
-            Some(starts.get(&record)? + (offset - record))
-        };
-        let records = self.old.places.records.iter().filter_map(|record| {
-            let bridged = moved(record.bridged)?;
-            Some(Record { bridged, ..record.clone() })
-        });
-        let pairs = self.old.places.pairs.iter().filter_map(|pair| {
-            let bridged = moved(u64::from(pair.bridged))?;
-            Some(Pair { bridged: bridged as u32, source: pair.source })
-        });
-        Places { records: records.collect(), pairs: pairs.collect() }
-    }
 }

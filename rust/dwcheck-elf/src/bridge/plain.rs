@@ -3,7 +3,7 @@
 use super::places::{Pair, Places, Record, RecordKind};
 use super::{Bridged, Counts};
 use crate::cfi::with_nops;
-use crate::debug_frame::{self, negations, Kind};
+use crate::debug_frame::{self, Harmless, Kind};
 use crate::target::Target;
 use std::collections::HashMap;
 
@@ -12,8 +12,9 @@ use std::collections::HashMap;
 const NOWHERE: u64 = 0xffff_fffe;
 
 /// Copies a `.debug_frame` section for `dwcheck`, without the records of length 0 and without FDEs
-/// that are exact copies of earlier ones. On aarch64, `DW_CFA_AARCH64_negate_ra_state` becomes
-/// `DW_CFA_nop`. `machine` is the machine's number (`e_machine`).
+/// that are exact copies of earlier ones. `DW_CFA_GNU_args_size`, and on aarch64
+/// `DW_CFA_AARCH64_negate_ra_state`, become `DW_CFA_nop`. `machine` is the machine's number
+/// (`e_machine`).
 ///
 /// Some linkers leave records of length 0, which DWARF doesn't have. If the section has nothing of
 /// all this, its bytes are copied unchanged. Bytes after the last record that can be read are always
@@ -21,9 +22,10 @@ const NOWHERE: u64 = 0xffff_fffe;
 ///
 /// `None` if the section has 2^32 bytes or more.
 pub fn plain(section: &[u8], target: Target, machine: u16) -> Option<Bridged> {
-    let negated = negations(section, target, machine);
-    let bridged = without_empty_records(&with_nops(section, &negated), target)?;
-    Some(Bridged { negated, ..bridged }.without_copies(target))
+    let harmless = Harmless::of(section, target, machine);
+    let mut bridged = without_empty_records(&with_nops(section, &harmless.bytes()), target)?;
+    bridged.counts.args_sizes = harmless.args_sizes.len();
+    Some(Bridged { negated: harmless.negations, ..bridged }.without_copies(target))
 }
 
 /// Copies a section without the records of length 0. `None` if it has 2^32 bytes or more.
@@ -52,8 +54,7 @@ fn without_empty_records(section: &[u8], target: Target) -> Option<Bridged> {
         copy.bytes.extend_from_slice(section.get(rest..).unwrap_or(&[]));
     }
     let Copy { bytes, counts, .. } = copy;
-    let (mended, negated, letters) = (Vec::new(), Vec::new(), Vec::new());
-    Some(Bridged { bytes, places, counts, mended, negated, letters, signed: Vec::new(), copies: Vec::new() })
+    Some(Bridged { bytes, places, counts, ..Bridged::default() })
 }
 
 /// Maps the offset of each record in the section to its offset in the copy. Records of length 0

@@ -40,6 +40,22 @@ pub(super) struct Bridge<'a> {
     signed: Vec<Range<u64>>,
     places: Places,
     cies: Vec<CieParts>,
+    refused: Vec<BridgeError>,
+    left_out: Vec<u64>,
+    /// The offsets in `.eh_frame` of the CIEs that were left out, ascending.
+    lost_cies: Vec<usize>,
+}
+
+/// How much was written before a record.
+struct Mark {
+    bytes: usize,
+    pairs: usize,
+    records: usize,
+    cies: usize,
+    signed: usize,
+    /// The instructions that were mended or negated, and the letters of augmentations.
+    noted: [usize; 3],
+    counts: Counts,
 }
 
 /// The offset of a field in `.eh_frame`, and why the field can't be rewritten. The caller adds the
@@ -59,19 +75,85 @@ impl<'a> Bridge<'a> {
             signed: Vec::new(),
             places: Places::default(),
             cies: Vec::new(),
+            refused: Vec::new(),
+            left_out: Vec::new(),
+            lost_cies: Vec::new(),
         }
     }
 
-    /// Rewrites all CIEs and FDEs.
+    /// Rewrites all CIEs and FDEs but those that have no counterpart. The only error is that there are
+    /// too many bytes.
     pub fn run(mut self) -> Result<Bridged, BridgeError> {
         if u32::try_from(self.section.bytes.len()).is_err() {
             return Err(Reason::TooLong.at(0, 0));
         }
         let mut cursor = Cursor::new(self.section.bytes, self.section.target);
         while !cursor.is_at_end() {
-            self.next(&mut cursor)?;
+            let (mark, after) = (self.mark(), after_record(&cursor));
+            match self.next(&mut cursor) {
+                Ok(()) => continue,
+                Err(error) if error.reason == Reason::TooLong => return Err(error),
+                Err(error) => {
+                    self.return_to(&mark);
+                    self.refuse(error);
+                }
+            }
+            match after {
+                Some(after) => cursor = after,
+                None => break,
+            }
         }
         Ok(self.finished())
+    }
+
+    fn mark(&self) -> Mark {
+        Mark {
+            bytes: self.bytes.len(),
+            pairs: self.places.pairs.len(),
+            records: self.places.records.len(),
+            cies: self.cies.len(),
+            signed: self.signed.len(),
+            noted: [self.mended.len(), self.negated.len(), self.letters.len()],
+            counts: self.counts,
+        }
+    }
+
+    /// Drops everything that was written since a mark.
+    fn return_to(&mut self, mark: &Mark) {
+        self.bytes.truncate(mark.bytes);
+        self.places.pairs.truncate(mark.pairs);
+        self.places.records.truncate(mark.records);
+        self.cies.truncate(mark.cies);
+        self.signed.truncate(mark.signed);
+        for (noted, count) in [&mut self.mended, &mut self.negated, &mut self.letters].into_iter().zip(mark.noted) {
+            noted.truncate(count);
+        }
+        self.counts = mark.counts;
+    }
+
+    /// Stores that a record is left out. An FDE whose CIE is left out has no error of its own.
+    fn refuse(&mut self, error: BridgeError) {
+        let start = error.record as usize;
+        self.left_out.push(error.record);
+        match self.head(start) {
+            Some((_, 0)) => self.lost_cies.push(start),
+            Some((body, pointer)) if error.reason == Reason::NoSuchCie => {
+                let cie = body.checked_sub(pointer as usize);
+                if cie.map_or(false, |cie| self.lost_cies.binary_search(&cie).is_ok()) {
+                    return;
+                }
+            }
+            _ => {}
+        }
+        self.refused.push(error);
+    }
+
+    /// The offset at which the body of a record begins, and the number there, which is 0 in a CIE.
+    fn head(&self, start: usize) -> Option<(usize, u64)> {
+        let mut cursor = Cursor::new(self.section.bytes, self.section.target);
+        cursor.take(start as u64).ok()?;
+        length(&mut cursor).ok()?;
+        Some((cursor.at(), cursor.number(4).ok()?))
     }
 
     /// Rewrites a CIE and one of its FDEs, which are at these offsets.
@@ -94,8 +176,8 @@ impl<'a> Bridge<'a> {
     }
 
     fn finished(self) -> Bridged {
-        let Bridge { bytes, places, counts, mended, negated, letters, signed, .. } = self;
-        Bridged { bytes, places, counts, mended, negated, letters, signed, copies: Vec::new() }
+        let Bridge { bytes, places, counts, mended, negated, letters, signed, refused, left_out, .. } = self;
+        Bridged { bytes, places, counts, mended, negated, letters, signed, refused, left_out, copies: Vec::new() }
     }
 
     /// Stores that the bytes that are written next come from the bytes at the offset `source` of
@@ -236,4 +318,12 @@ impl<'a> Bridge<'a> {
         self.counts.signal_frames += usize::from(signal);
         Ok(RecordKind::Fde { begin, size, signal })
     }
+}
+
+/// The cursor after the next record. `None` if its length can't be read, or is more than there is.
+fn after_record<'a>(cursor: &Cursor<'a>) -> Option<Cursor<'a>> {
+    let mut after = cursor.clone();
+    let length = length(&mut after).ok()?;
+    after.take(length).ok()?;
+    Some(after)
 }

@@ -2,7 +2,7 @@
 
 use crate::bridge::{bridge_one, FdeHeader, Options};
 use crate::cfi::{with_nops, REMEMBER_STATE, RESTORE_STATE};
-use crate::debug_frame::{self, instructions, Kind};
+use crate::debug_frame::{self, instructions, Harmless, Kind};
 use crate::frames::{FrameSection, Name};
 use crate::pieces::{Piece, Pieces};
 use crate::program::Program;
@@ -68,12 +68,12 @@ impl<'a> SectionTable<'a> {
             return Ok(OneFde { bytes: bridged.bytes().to_vec(), target, is_signal_frame, signed });
         }
         let bytes = debug_one(&source.bytes, header, target).ok_or("its CIE or it can't be read")?;
-        let negated = debug_frame::negations(&bytes, target, *machine);
+        let harmless = Harmless::of(&bytes, target, *machine);
         let signed = match debug_frame::records(&bytes, target).as_slice() {
-            [cie, fde] if !negated.is_empty() => debug_frame::signed(&bytes, cie, fde, target),
+            [cie, fde] if !harmless.negations.is_empty() => debug_frame::signed(&bytes, cie, fde, target),
             _ => Vec::new(),
         };
-        Ok(OneFde { bytes: with_nops(&bytes, &negated).into_owned(), target, is_signal_frame, signed })
+        Ok(OneFde { bytes: with_nops(&bytes, &harmless.bytes()).into_owned(), target, is_signal_frame, signed })
     }
 
     /// The line that says that an FDE can't be used.

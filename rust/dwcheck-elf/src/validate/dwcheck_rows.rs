@@ -111,7 +111,8 @@ impl<'a> RowSource<'a> for DwcheckRows<'a> {
 ///
 /// `process` has to be the result of [`Frames::process`] for the load address 0. If `dwcheck`
 /// refuses the section, there is no such process, and only [`validate`](super::validate) can
-/// compare.
+/// compare, or this function without what is refused
+/// ([`accepted_part`](crate::alone::accepted_part)).
 ///
 /// # Errors
 ///
@@ -168,9 +169,14 @@ where
         let mut given = debug_frame::records(self.frames.bytes(), source.target).into_iter();
         while let Some(offset) = next_record(&mut cursor) {
             let fail = |what| Difference { section: self.frames.name(), record: offset as u64, what };
+            if self.frames.bridged().is_left_out(offset as u64) {
+                continue;
+            }
             if self.frames.bridged().is_copy(offset as u64) {
-                // Its rows are those of the FDE that it is a copy of.
-                self.compare(offset, &mut room).map_err(fail)?;
+                // Its rows are those of the FDE that it is a copy of, which may be left out.
+                if self.frames.bridged().left_out().is_empty() {
+                    self.compare(offset, &mut room).map_err(fail)?;
+                }
                 continue;
             }
             let given = given.next().ok_or_else(|| fail(What::Missing))?;

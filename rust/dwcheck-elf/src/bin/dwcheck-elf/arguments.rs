@@ -86,7 +86,7 @@ pub struct CheckWords {
     /// ELF files: programs, libraries, unlinked objects, kernel modules
     #[arg(required = true)]
     pub programs: Vec<PathBuf>,
-    /// Don't stop at the first fault: check each FDE on its own, and list every one that is refused
+    /// List every CIE and FDE that is refused, not only the first one
     #[arg(long)]
     pub all: bool,
     /// Leave .debug_loclists out. Compilers write entries in it that are refused (see the manual page)

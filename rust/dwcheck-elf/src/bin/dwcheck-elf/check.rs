@@ -1,7 +1,7 @@
 //! The command `check`: checks the frame sections and the location lists of programs.
 
 use crate::arguments::CheckWords;
-use crate::end::{Done, Failure};
+use crate::end::{shown, Done, Failure};
 use crate::opened::{note, program, read, write_defect};
 use dwcheck_elf::bridge::{Bridged, Counts};
 use dwcheck_elf::debug_frame::{instructions, records, Kind};
@@ -53,13 +53,13 @@ fn check_one(words: &CheckWords, path: &Path, out: &mut impl Write) -> Result<Do
     };
     let mut done = Done::Accepted;
     if sections.is_empty() {
-        writeln!(out, "{}: no {}", path.display(), names)?;
+        writeln!(out, "{}: no {}", shown(path), names)?;
     }
     for section in &sections {
         match &section.verdict {
             Verdict::Refused(defects) => {
                 defects.iter().try_for_each(|defect| write_defect(out, path, defect))?;
-                done = done.max(Done::Refused);
+                done = done.max(write_rest(out, path, section)?);
             }
             Verdict::Unread(error) => {
                 out.flush()?;
@@ -68,7 +68,7 @@ fn check_one(words: &CheckWords, path: &Path, out: &mut impl Write) -> Result<Do
                 continue;
             }
             _ => {
-                writeln!(out, "{}: {}: accepted", path.display(), section.name)?;
+                writeln!(out, "{}: {}: accepted", shown(path), section.name)?;
                 write_accepted(out, &program, section)?;
             }
         }
@@ -89,6 +89,23 @@ fn write_accepted(out: &mut impl Write, program: &Program<'_>, section: &Inspect
             _ => Ok(()),
         },
         _ => Ok(()),
+    }
+}
+
+/// Writes how much of a refused frame section is left out, and what the rest holds.
+fn write_rest(out: &mut impl Write, path: &Path, section: &Inspected<'_>) -> io::Result<Done> {
+    match section.rest() {
+        Ok(Some(rest)) => {
+            writeln!(out, "{}: {}: {}", shown(path), section.name, rest.left_out())?;
+            write_frames(out, &rest.agreement, &rest.frames)?;
+            Ok(Done::Refused)
+        }
+        Ok(None) => Ok(Done::Refused),
+        Err(error) => {
+            out.flush()?;
+            note(path, error);
+            Ok(Done::Unread)
+        }
     }
 }
 

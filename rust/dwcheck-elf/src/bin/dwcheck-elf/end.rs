@@ -1,6 +1,7 @@
 //! How a run of the program ends, and its exit status.
 
 use dwcheck_elf::inspect::InspectError;
+use dwcheck_elf::text::Plain;
 use std::fmt;
 use std::io;
 use std::path::Path;
@@ -49,7 +50,7 @@ impl Failure {
 
     /// The failure for a file whose sections can't be checked.
     pub fn judging(path: &Path, error: &InspectError) -> Self {
-        Failure::File(format!("{}: {}", path.display(), error))
+        Failure::File(format!("{}: {}", shown(path), error))
     }
 }
 
@@ -66,4 +67,9 @@ impl fmt::Display for Failure {
             Failure::Output => f.write_str("cannot write"),
         }
     }
+}
+
+/// A path as it is shown: with escapes for control characters, which a hostile name may have.
+pub fn shown(path: &Path) -> String {
+    Plain(&path.to_string_lossy()).to_string()
 }

@@ -1,7 +1,7 @@
 //! The command `locs`: looks up an address in a location list.
 
 use crate::arguments::LocsWords;
-use crate::end::{Done, Failure};
+use crate::end::{shown, Done, Failure};
 use crate::opened::{address, number_argument, program, read, write_defect};
 use crate::walks::state_file;
 use dwcheck::{evaluate, locations, Error, ExpressionKind, Lookup, Span};
@@ -26,7 +26,7 @@ pub fn locs(words: &LocsWords, out: &mut impl Write) -> Result<Done, Failure> {
     let address = address(&words.address, target, &functions, 0)?;
     let state = words.state.as_ref().map_or(Ok(StateFile::default()), |path| state_file(path, target))?;
     let lists =
-        program.debug_loclists().map_err(|error| Failure::File(format!("{}: {}", words.program.display(), error)))?;
+        program.debug_loclists().map_err(|error| Failure::File(format!("{}: {}", shown(&words.program), error)))?;
     let bytes = lists.as_ref().map_or(&[][..], |lists| &lists.bytes);
     let found = match locations(bytes, target.into(), &Lookup { list, base, address }) {
         Ok(found) => found,
@@ -34,7 +34,7 @@ pub fn locs(words: &LocsWords, out: &mut impl Write) -> Result<Done, Failure> {
             write_defect(out, &words.program, &Defect::of_lists(bytes, fault, target))?;
             return Ok(Done::Refused);
         }
-        Err(error) => return Err(Failure::File(format!("{}: .debug_loclists: {}", words.program.display(), error))),
+        Err(error) => return Err(Failure::File(format!("{}: .debug_loclists: {}", shown(&words.program), error))),
     };
     match found.as_deref() {
         None => writeln!(out, "no list")?,

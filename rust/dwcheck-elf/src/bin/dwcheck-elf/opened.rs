@@ -1,13 +1,13 @@
 //! What the commands share: they read files and addresses, choose frame sections, and write faults
 //! and names.
 
-use crate::end::Failure;
+use crate::end::{shown, Done, Failure};
 use dwcheck::Process;
 use dwcheck_elf::bridge::Options;
-use dwcheck_elf::fault::Defect;
+use dwcheck_elf::fault::{Defect, Within};
 use dwcheck_elf::frames::{Frames, Name};
 use dwcheck_elf::functions::Functions;
-use dwcheck_elf::inspect::{inspect_frame_sections, Check, InspectError, Verdict};
+use dwcheck_elf::inspect::{inspect_frame_sections, Check, InspectError, LeftOut, Rest, Verdict};
 use dwcheck_elf::mapped::Bytes;
 use dwcheck_elf::names::Spot;
 use dwcheck_elf::program::Program;
@@ -20,7 +20,7 @@ use std::path::Path;
 
 /// Opens an ELF file, which may also be a pipe or another file that isn't regular.
 pub fn read(path: &Path) -> Result<Bytes, Failure> {
-    Bytes::of_elf(path).map_err(|error| Failure::File(format!("cannot read {}: {}", path.display(), error)))
+    Bytes::of_elf(path).map_err(|error| Failure::File(format!("cannot read {}: {}", shown(path), error)))
 }
 
 /// Reads a text to its end, even if it is a pipe or another file that isn't regular.
@@ -30,56 +30,82 @@ pub fn read_text(path: &Path) -> Result<Vec<u8>, Failure> {
         File::open(path)?.read_to_end(&mut bytes)?;
         Ok(bytes)
     };
-    content().map_err(|error| Failure::File(format!("cannot read {}: {}", path.display(), error)))
+    content().map_err(|error| Failure::File(format!("cannot read {}: {}", shown(path), error)))
 }
 
 /// Reads the headers of an ELF file.
 pub fn program<'data>(path: &Path, data: &'data [u8]) -> Result<Program<'data>, Failure> {
-    Program::read(data).map_err(|error| Failure::File(format!("{}: {}", path.display(), error)))
+    Program::read(data).map_err(|error| Failure::File(format!("{}: {}", shown(path), error)))
 }
 
-/// Checks the frame sections of a program, and returns those in which rows are then looked up. If
-/// all are accepted, it returns all. If `.debug_frame` is refused or can't be read, and `.eh_frame`
-/// is accepted, it returns only `.eh_frame`, and says so on standard error. In any other case, the
-/// inner error is the fault of the first section that is refused. If a section had to be rewritten
-/// for `dwcheck`, as `.eh_frame` is, its rows are also compared with gimli's, and a difference is an
-/// outer error.
-pub fn accepted_frames<'data>(
-    path: &Path,
-    program: &Program<'data>,
-    options: Options,
-) -> Result<Result<Vec<Frames<'data>>, Defect>, Failure> {
-    let check = Check { bridge: options, all: false };
-    let mut accepted = Vec::new();
-    let mut refused = Vec::new();
-    let mut unread = Vec::new();
-    for section in inspect_frame_sections(program, check) {
-        match section.verdict {
-            Verdict::Refused(mut defects) => refused.push(defects.swap_remove(0)),
-            Verdict::Unread(error) => unread.push((section.name, error)),
-            _ => accepted.extend(section.frames),
+/// The frame sections of a program, without the CIEs and FDEs that are refused.
+pub struct Opened<'data> {
+    /// The sections that have FDEs.
+    pub frames: Vec<Frames<'data>>,
+    /// What is refused of each section, and how many records are therefore left out.
+    pub refused: Vec<(Vec<Defect>, Option<LeftOut>)>,
+}
+
+impl<'data> Opened<'data> {
+    /// Checks the frame sections of a program. If a section had to be rewritten for `dwcheck`, as
+    /// `.eh_frame` is, its rows are also compared with gimli's, and a difference is a failure. A
+    /// `.debug_frame` that can't be read is left out, if there is an `.eh_frame`, and a note on standard
+    /// error says so.
+    pub fn read(path: &Path, program: &Program<'data>, options: Options) -> Result<Self, Failure> {
+        let mut opened = Opened { frames: Vec::new(), refused: Vec::new() };
+        let mut unread = Vec::new();
+        for section in inspect_frame_sections(program, Check { bridge: options, all: true }) {
+            let rest = section.rest().map_err(|error| Failure::judging(path, &error))?;
+            match section.verdict {
+                Verdict::Refused(defects) => {
+                    opened.refused.push((defects, rest.as_ref().map(Rest::left_out)));
+                    opened.frames.extend(rest.map(|rest| rest.frames).filter(|frames| frames.has_fdes()));
+                }
+                Verdict::Unread(error) => unread.push((section.name, error)),
+                _ => opened.frames.extend(section.frames),
+            }
+        }
+        for (name, error) in unread {
+            if name != Name::DebugFrame || opened.frames.is_empty() {
+                return Err(Failure::judging(path, &error));
+            }
+            note(path, format_args!("{}; .eh_frame is used", error));
+        }
+        Ok(opened)
+    }
+
+    /// Says on standard error how many records of each section are left out, and why: each fault, or only
+    /// the first one.
+    pub fn note_refused(&self, path: &Path, all: bool) {
+        for (defects, left_out) in &self.refused {
+            if let (Some(first), Some(left_out)) = (defects.first(), left_out) {
+                note(path, format_args!("{}: {}", first.section, left_out));
+            }
+            let shown = if all { defects.len() } else { 1 };
+            defects.iter().take(shown).for_each(|defect| note(path, defect));
         }
     }
-    for (name, error) in unread {
-        if name != Name::DebugFrame || accepted.is_empty() {
-            return Err(Failure::judging(path, &error));
-        }
-        note(path, format_args!("{}; .eh_frame is used", error));
+
+    /// The fault of the FDE that covers an address, if it is refused.
+    pub fn refused_at(&self, address: u64) -> Option<&Defect> {
+        let covers = |defect: &&Defect| matches!(&defect.record, Some(Within::Fde(range)) if range.contains(&address));
+        self.refused.iter().flat_map(|(defects, _)| defects).find(covers)
     }
-    match refused.into_iter().next() {
-        None => Ok(Ok(accepted)),
-        Some(defect) if defect.section == Name::DebugFrame && !accepted.is_empty() => {
-            note(path, format_args!(".debug_frame is refused, so .eh_frame is used: {}", defect));
-            Ok(Ok(accepted))
+
+    /// How a run ends that gives an answer.
+    pub fn done(&self) -> Done {
+        if self.refused.is_empty() {
+            Done::Accepted
+        } else {
+            Done::Refused
         }
-        Some(defect) => Ok(Err(defect)),
     }
 }
 
 /// Writes a fault in two lines. The first says where it is, such as in which FDE, and gives its
 /// name. The second has its offset, the rule that it breaks, and the hint if there is one.
 pub fn write_defect(out: &mut impl Write, path: &Path, defect: &Defect) -> io::Result<()> {
-    writeln!(out, "{}: {}", path.display(), defect)?;
+    writeln!(out, "{}: {}", shown(path), defect)?;
     write!(out, "    at {:#x}: {}", defect.offset, defect.rule)?;
     match defect.hint {
         Some(hint) => writeln!(out, "; {}", hint),
@@ -96,7 +122,7 @@ pub fn process(path: &Path, frames: &Frames<'_>) -> Result<Process, Failure> {
 /// Writes a note on standard error.
 pub fn note(path: &Path, text: impl fmt::Display) {
     // If standard error is closed, nobody can read the note, so it doesn't matter that this fails.
-    let _ = writeln!(io::stderr(), "dwcheck-elf: {}: {}", path.display(), text);
+    let _ = writeln!(io::stderr(), "dwcheck-elf: {}: {}", shown(path), text);
 }
 
 /// The name of the function that contains an address, in parentheses after a space. Empty if the

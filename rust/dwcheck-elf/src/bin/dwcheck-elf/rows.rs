@@ -3,7 +3,7 @@
 use crate::arguments::{RowWords, RowsWords};
 use crate::check::write_notes;
 use crate::end::{Done, Failure};
-use crate::opened::{accepted_frames, address, named, number_argument, process, program, read, write_defect};
+use crate::opened::{address, named, number_argument, process, program, read, write_defect, Opened};
 use dwcheck::Process;
 use dwcheck_elf::debug_frame::{records, Kind, Record};
 use dwcheck_elf::frames::Frames;
@@ -15,20 +15,14 @@ use dwcheck_elf::validate::{DwcheckRows, RowSource};
 use std::collections::HashMap;
 use std::io::Write;
 
-/// Shows all FDEs and rows of a program.
+/// Shows all FDEs and rows of a program, but those of FDEs that are refused, whose faults are shown on
+/// standard error.
 pub fn rows(words: &RowsWords, out: &mut impl Write) -> Result<Done, Failure> {
     let data = read(&words.program)?;
     let program = program(&words.program, &data)?;
-    let accepted = accepted_frames(&words.program, &program, words.reading.options())?;
-    let accepted = match accepted {
-        Ok(accepted) => accepted,
-        Err(defect) => {
-            write_defect(out, &words.program, &defect)?;
-            return Ok(Done::Refused);
-        }
-    };
+    let opened = Opened::read(&words.program, &program, words.reading.options())?;
     let functions = program.functions();
-    for frames in &accepted {
+    for frames in &opened.frames {
         let process = process(&words.program, frames)?;
         writeln!(out, "section {}", frames.name())?;
         write_section(out, frames, &process, &functions)?;
@@ -36,7 +30,9 @@ pub fn rows(words: &RowsWords, out: &mut impl Write) -> Result<Done, Failure> {
             write_notes(out, frames.name(), frames.bridged())?;
         }
     }
-    Ok(Done::Accepted)
+    out.flush()?;
+    opened.note_refused(&words.program, true);
+    Ok(opened.done())
 }
 
 fn write_section(
@@ -77,8 +73,8 @@ fn write_rows(out: &mut impl Write, frames: &Frames<'_>, mut rows: DwcheckRows<'
     Ok(())
 }
 
-/// Shows the row of an address, from the first section that has such a row. Shows `none` if no
-/// section has one.
+/// Shows the row of an address, from the first section that has such a row. If no section has one,
+/// shows the fault of the FDE that covers the address and is refused, or `none`.
 pub fn row(words: &RowWords, out: &mut impl Write) -> Result<Done, Failure> {
     let data = read(&words.program)?;
     let program = program(&words.program, &data)?;
@@ -87,14 +83,8 @@ pub fn row(words: &RowWords, out: &mut impl Write) -> Result<Done, Failure> {
     let load = number_argument(&words.load, target)?;
     let loaded = address(&words.address, target, &functions, load)?;
     let linked = target.wrap(loaded.wrapping_sub(load));
-    let accepted = match accepted_frames(&words.program, &program, words.reading.options())? {
-        Ok(accepted) => accepted,
-        Err(defect) => {
-            write_defect(out, &words.program, &defect)?;
-            return Ok(Done::Refused);
-        }
-    };
-    for frames in &accepted {
+    let opened = Opened::read(&words.program, &program, words.reading.options())?;
+    for frames in &opened.frames {
         let process = process(&words.program, frames)?;
         if process.row(linked).is_some() {
             let mut row = Row::default();
@@ -103,9 +93,16 @@ pub fn row(words: &RowWords, out: &mut impl Write) -> Result<Done, Failure> {
             found.map_err(Failure::File)?;
             writeln!(out, "section {}", frames.name())?;
             writeln!(out, "{}{}", RowLine(target, &row), named(&functions, linked))?;
-            return Ok(Done::Accepted);
+            opened.note_refused(&words.program, false);
+            return Ok(opened.done());
         }
     }
-    writeln!(out, "none")?;
-    Ok(Done::Accepted)
+    match opened.refused_at(linked) {
+        Some(defect) => write_defect(out, &words.program, defect)?,
+        None => {
+            opened.note_refused(&words.program, false);
+            writeln!(out, "none")?;
+        }
+    }
+    Ok(opened.done())
 }

@@ -3,7 +3,7 @@
 mod report;
 
 use crate::arguments::StackWords;
-use crate::end::{Done, Failure};
+use crate::end::{shown, Done, Failure};
 use crate::opened::read;
 use dwcheck_elf::core_file::{CoreError, CoreFile, Files, MappedFile};
 use dwcheck_elf::live::Snapshot;
@@ -56,12 +56,12 @@ fn of_core(words: &StackWords, program: Option<&PathBuf>, path: &Path, out: &mut
             warnings.push(other_program(program.unwrap_or(&given.path), files.program(&core)));
         }
         None if core.mappings().is_empty() => {
-            warnings.push(format!("{} names no files: give its program, as in PROGRAM CORE", path.display()));
+            warnings.push(format!("{} names no files: give its program, as in PROGRAM CORE", shown(path)));
         }
         _ => {}
     }
     if core.is_cut() {
-        warnings.push(format!("{} ends before the memory that it should hold", path.display()));
+        warnings.push(format!("{} ends before the memory that it should hold", shown(path)));
     }
     print(words, &core, (&mut stacks, None), warnings, out)
 }
@@ -98,7 +98,7 @@ fn print(
 
 fn given(program: &Path) -> Result<Given, Failure> {
     let path = program.canonicalize();
-    let path = path.map_err(|error| Failure::File(format!("cannot read {}: {}", program.display(), error)))?;
+    let path = path.map_err(|error| Failure::File(format!("cannot read {}: {}", shown(program), error)))?;
     Ok(Given { bytes: read(&path)?, path })
 }
 
@@ -108,7 +108,7 @@ fn unread(path: &Path, error: &CoreError) -> Failure {
         CoreError::NotCore(_) => "; the order is PROGRAM CORE",
         _ => "",
     };
-    Failure::File(format!("{}: {}{}", path.display(), error, hint))
+    Failure::File(format!("{}: {}{}", shown(path), error, hint))
 }
 
 /// Whether the process had a file loaded, which may be inside the folder `root`.
@@ -120,9 +120,9 @@ fn has_program(stacks: &Stacks<'_>, program: &Path, root: &Path) -> bool {
 
 /// The warning if PROGRAM isn't used. `file` is the program's file at its path in the core.
 fn other_program(program: &Path, file: Option<&MappedFile>) -> String {
-    let warning = format!("{} isn't the program of this core file", program.display());
+    let warning = format!("{} isn't the program of this core file", shown(program));
     match file.filter(|file| file.bytes.is_ok()) {
-        Some(file) => format!("{}: {} is used", warning, file.path.display()),
+        Some(file) => format!("{}: {} is used", warning, shown(&file.path)),
         None => warning,
     }
 }

@@ -2,8 +2,8 @@
 //! memory in a state file.
 
 use crate::arguments::{BacktraceWords, UnwindWords};
-use crate::end::{Done, Failure};
-use crate::opened::{accepted_frames, address, note, number_argument, program, read, read_text, write_defect};
+use crate::end::{shown, Done, Failure};
+use crate::opened::{address, note, number_argument, program, read, read_text, write_defect, Opened};
 use dwcheck::{Answer, Error, Frame};
 use dwcheck_elf::fault::Defect;
 use dwcheck_elf::functions::Functions;
@@ -13,11 +13,14 @@ use dwcheck_elf::names::Spot;
 use dwcheck_elf::program::Program;
 use dwcheck_elf::state_file::{short, StateFile};
 use dwcheck_elf::target::Target;
-use dwcheck_elf::text::{Address, Known};
+use dwcheck_elf::text::{Address, Known, Plain};
 use std::ffi::OsStr;
 use std::io::Write;
 use std::os::unix::ffi::OsStrExt;
 use std::path::{Path, PathBuf};
+
+/// The most bytes of a bad line of a state file that are shown.
+const LONGEST_LINE: usize = 80;
 
 /// A module that the command line names: its file, and where it is loaded.
 struct Given {
@@ -32,9 +35,18 @@ struct Loaded<'a> {
     target: Target,
     /// The functions of each module, and the module's load address.
     functions: Vec<(Functions<'a>, u64)>,
+    /// The frame sections of each file, with the file's path and load address.
+    opened: Vec<(&'a Path, u64, Opened<'a>)>,
 }
 
 impl<'a> Loaded<'a> {
+    /// The fault of the FDE that covers an address, if it is refused, and its file.
+    fn refused_at(&self, address: u64) -> Option<(&'a Path, &Defect)> {
+        self.opened.iter().find_map(|(path, load, opened)| {
+            Some((*path, opened.refused_at(self.target.wrap(address.wrapping_sub(*load)))?))
+        })
+    }
+
     /// The name of the function that contains an address in the process, in parentheses after a
     /// space. It comes from the first module that has a name for the address. Empty if no module
     /// has one. `is_after_call` says that the address is a return address. Then the name is that of
@@ -72,28 +84,23 @@ fn given(words: &UnwindWords, target: Target, data: Bytes) -> Result<Vec<Given>,
     Ok(all)
 }
 
-/// Checks all modules and puts them into a process. If a module is refused, the inner error is the
-/// module's file and the fault. If something of a module isn't used, such as all of it if its addresses
-/// overlap those of an earlier module, a note on standard error says so.
-fn loaded<'a>(
-    words: &UnwindWords,
-    given: &'a [Given],
-    target: Target,
-) -> Result<Result<Loaded<'a>, (PathBuf, Defect)>, Failure> {
+/// Checks all modules and puts them into a process. If something of a module isn't used, such as what
+/// is refused, or all of it if its addresses overlap those of an earlier module, a note on standard error
+/// says so.
+fn loaded<'a>(words: &UnwindWords, given: &'a [Given], target: Target) -> Result<Loaded<'a>, Failure> {
     let options = words.modules.reading.options();
-    let mut all = Loaded { modules: Modules::new(target), target, functions: Vec::new() };
+    let mut all = Loaded { modules: Modules::new(target), target, functions: Vec::new(), opened: Vec::new() };
     for Given { path, load, data } in given {
         let program = program(path, data)?;
         if program.target() != target {
-            return Err(Failure::File(format!("{}: another byte order or address size", path.display())));
+            return Err(Failure::File(format!("{}: another byte order or address size", shown(path))));
         }
-        let frames = match accepted_frames(path, &program, options)? {
-            Ok(frames) => frames,
-            Err(defect) => return Ok(Err((path.clone(), defect))),
-        };
-        let sections: Vec<_> = frames.iter().map(|one| one.bytes().into()).collect();
+        let opened = Opened::read(path, &program, options)?;
+        opened.note_refused(path, false);
+        let sections: Vec<_> = opened.frames.iter().map(|one| one.bytes().into()).collect();
         let added = all.modules.add(path, &program, &sections, *load);
-        let lost = added.map_err(|error| Failure::File(format!("{}: {}", path.display(), error)))?;
+        all.opened.push((path, *load, opened));
+        let lost = added.map_err(|error| Failure::File(format!("{}: {}", shown(path), error)))?;
         if let Some(lost) = &lost {
             note(path, lost);
         }
@@ -103,7 +110,7 @@ fn loaded<'a>(
         }
         all.functions.push((program.functions(), *load));
     }
-    Ok(Ok(all))
+    Ok(all)
 }
 
 /// What `unwind` and `backtrace` share: reads and checks all files, and calls `ask`, which writes
@@ -114,41 +121,42 @@ fn run<W: Write>(
     ask: impl FnOnce(&Loaded<'_>, u64, &StateFile, &mut W) -> Result<(), Failure>,
 ) -> Result<Done, Failure> {
     let data = read(&words.program)?;
-    let target = Program::read(&data)
-        .map_err(|error| Failure::File(format!("{}: {}", words.program.display(), error)))?
-        .target();
+    let target =
+        Program::read(&data).map_err(|error| Failure::File(format!("{}: {}", shown(&words.program), error)))?.target();
     let given = given(words, target, data)?;
     let state = state_file(&words.state, target)?;
-    let loaded = match loaded(words, &given, target)? {
-        Ok(loaded) => loaded,
-        Err((path, defect)) => {
-            write_defect(out, &path, &defect)?;
-            return Ok(Done::Refused);
-        }
-    };
+    let loaded = loaded(words, &given, target)?;
     let (functions, load) = &loaded.functions[0];
     let address = address(&words.address, target, functions, *load)?;
     ask(&loaded, address, &state, out)?;
-    Ok(Done::Accepted)
+    Ok(loaded.opened.iter().map(|(.., opened)| opened.done()).max().unwrap_or(Done::Accepted))
 }
 
 /// Reads a state file.
 pub fn state_file(path: &Path, target: Target) -> Result<StateFile, Failure> {
-    StateFile::parse(&read_text(path)?, target).map_err(|line| Failure::Argument(format!("state line {}", line)))
+    let text = read_text(path)?;
+    StateFile::parse(&text, target).map_err(|number| {
+        let line = text.split(|byte| *byte == b'\n').nth((number - 1) as usize).unwrap_or(&[]);
+        let line = String::from_utf8_lossy(&line[..line.len().min(LONGEST_LINE)]);
+        Failure::Argument(format!("{}: state line {}: {}", shown(path), number, Plain(&line)))
+    })
 }
 
 fn no_answer(error: Error) -> Failure {
     Failure::File(error.to_string())
 }
 
-/// Shows the caller of the frame at an address. Shows `none` if no module has a row for the
-/// address.
+/// Shows the caller of the frame at an address. If no module has a row for the address, shows the fault of
+/// the FDE that covers the address and is refused, or `none`.
 pub fn unwind(words: &UnwindWords, out: &mut impl Write) -> Result<Done, Failure> {
     run(words, out, |loaded, address, file, out| {
         let blocks = file.blocks();
         let target = loaded.target;
         match loaded.modules.process().unwind(address, &file.state(&blocks)).map_err(no_answer)? {
-            None => writeln!(out, "none")?,
+            None => match loaded.refused_at(address) {
+                Some((path, defect)) => write_defect(out, path, defect)?,
+                None => writeln!(out, "none")?,
+            },
             Some(caller) => {
                 writeln!(out, "cfa {}", Known(target, caller.cfa))?;
                 for (register, answer) in &caller.registers {
