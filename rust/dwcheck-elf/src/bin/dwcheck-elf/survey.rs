@@ -5,7 +5,7 @@ mod json;
 mod totals;
 
 use crate::arguments::SurveyWords;
-use crate::end::{Done, Failure};
+use crate::end::{shown, Done, Failure};
 use crate::opened::{note, write_defect};
 use dwcheck_elf::bridge::Counts;
 use dwcheck_elf::fault::Defect;
@@ -16,8 +16,11 @@ use dwcheck_elf::validate::Agreement;
 use files::{content, Files};
 use indicatif::{ProgressBar, ProgressStyle};
 use rayon::prelude::*;
+use std::collections::HashMap;
 use std::io::{self, Write};
 use std::path::PathBuf;
+use std::sync::mpsc::{self, Receiver};
+use std::thread;
 use totals::Totals;
 
 /// The number of bytes of each thread's stack: more than gimli and `dwcheck` need.
@@ -70,23 +73,50 @@ pub fn survey(words: &SurveyWords, out: &mut impl Write) -> Result<Done, Failure
     let files = pool.install(|| Files::once_each(&words.paths));
     let bar = progress(files.paths.len() as u64);
     let check = words.reading.check(words.all);
-    let surveyed: Vec<_> = pool.install(|| {
-        let each = files.paths.par_iter().with_max_len(1).map(|path| {
-            let surveyed = inspected(path.clone(), check, words.lists);
-            bar.inc(1);
-            surveyed
-        });
-        each.collect()
-    });
-    bar.finish_and_clear();
-    let totals = Totals::of(&files, &surveyed);
+    let mut totals = Totals::of(&files);
     if words.json {
-        json::write(out, &files, &surveyed, &totals)?;
+        json::write_unread(out, &files)?;
     } else {
-        write_refused(out, &files, &surveyed)?;
+        note_unread(&files);
+    }
+    let (sender, surveyed) = mpsc::channel();
+    // Files are checked in their order, as far as several at once allow, and written in it.
+    let check_all = || {
+        let each = files.paths.iter().enumerate().par_bridge();
+        each.try_for_each_with(sender, |sender, (number, path)| {
+            sender.send((number, inspected(path.clone(), check, words.lists)))
+        })
+    };
+    thread::scope(|scope| {
+        // It ends early if the results can't be written.
+        scope.spawn(|| pool.install(check_all).is_ok());
+        in_order(surveyed, |one| {
+            bar.inc(1);
+            totals.count(&one);
+            bar.suspend(|| if words.json { json::write_file(out, &one) } else { write_refused(out, &one) })
+        })
+    })?;
+    bar.finish_and_clear();
+    if words.json {
+        json::write_totals(out, &totals)?;
+    } else {
         totals.write(out, words.notes.notes)?;
     }
     Ok(totals.done())
+}
+
+/// Calls `take` with the results in the order of their numbers, each as soon as those before it are there.
+fn in_order<T>(results: Receiver<(usize, T)>, mut take: impl FnMut(T) -> io::Result<()>) -> io::Result<()> {
+    let mut waiting = HashMap::new();
+    let mut next = 0;
+    for (number, result) in results {
+        waiting.insert(number, result);
+        while let Some(result) = waiting.remove(&next) {
+            take(result)?;
+            next += 1;
+        }
+    }
+    Ok(())
 }
 
 /// A progress bar on standard error. It is shown only if standard error is a terminal.
@@ -144,21 +174,29 @@ impl Section {
     }
 }
 
-/// Writes two lines for each fault. Also writes, on standard error, a line for each file that can't
-/// be read or checked.
-fn write_refused(out: &mut impl Write, files: &Files, surveyed: &[Surveyed]) -> io::Result<()> {
+/// Says on standard error which files and folders can't be read.
+fn note_unread(files: &Files) {
     for (path, error) in &files.unread {
-        let _ = writeln!(io::stderr(), "dwcheck-elf: cannot read {}: {}", path.display(), error);
+        let _ = writeln!(io::stderr(), "dwcheck-elf: cannot read {}: {}", shown(path), error);
     }
-    for Surveyed { path, outcome, .. } in surveyed {
-        match outcome {
-            Ok(sections) => {
-                let mut defects = sections.iter().flat_map(|section| &section.defects);
-                defects.try_for_each(|defect| write_defect(out, path, defect))?;
-                sections.iter().filter_map(|section| section.error.as_ref()).for_each(|error| note(path, error));
-            }
-            Err(error) => note(path, error),
+}
+
+/// Writes two lines for each fault of a file. Also writes, on standard error, why the file or a section
+/// can't be read or checked.
+fn write_refused(out: &mut impl Write, surveyed: &Surveyed) -> io::Result<()> {
+    let Surveyed { path, outcome, .. } = surveyed;
+    let sections = match outcome {
+        Ok(sections) => sections,
+        Err(error) => {
+            note(path, error);
+            return Ok(());
         }
+    };
+    let mut defects = sections.iter().flat_map(|section| &section.defects).peekable();
+    if defects.peek().is_some() {
+        defects.try_for_each(|defect| write_defect(out, path, defect))?;
+        out.flush()?;
     }
+    sections.iter().filter_map(|section| section.error.as_ref()).for_each(|error| note(path, error));
     Ok(())
 }

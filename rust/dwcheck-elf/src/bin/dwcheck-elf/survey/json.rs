@@ -1,4 +1,4 @@
-//! Writes the results of a survey as lines of JSON.
+//! Writes the results of a survey as lines of JSON, each of which is an object.
 
 use super::files::Files;
 use super::totals::Totals;
@@ -7,14 +7,19 @@ use dwcheck_elf::fault::{Defect, Within};
 use serde_json::{json, Map, Value};
 use std::io::{self, Write};
 
-/// Writes one JSON object on each line: first one for each file, then one for the totals.
-pub fn write(out: &mut impl Write, files: &Files, surveyed: &[Surveyed], totals: &Totals) -> io::Result<()> {
-    for (path, error) in &files.unread {
-        writeln!(out, "{}", json!({ "file": path.to_string_lossy(), "error": error }))?;
-    }
-    for one in surveyed {
-        writeln!(out, "{}", file(one))?;
-    }
+/// Writes an object for each file and folder that can't be read.
+pub fn write_unread(out: &mut impl Write, files: &Files) -> io::Result<()> {
+    let mut unread = files.unread.iter();
+    unread.try_for_each(|(path, error)| writeln!(out, "{}", json!({ "file": path.to_string_lossy(), "error": error })))
+}
+
+/// Writes the object for a file.
+pub fn write_file(out: &mut impl Write, surveyed: &Surveyed) -> io::Result<()> {
+    writeln!(out, "{}", file(surveyed))
+}
+
+/// Writes the last object.
+pub fn write_totals(out: &mut impl Write, totals: &Totals) -> io::Result<()> {
     let counts: Map<_, _> = totals.named().iter().map(|(name, count)| (name.to_string(), json!(count))).collect();
     writeln!(out, "{}", json!({ "totals": counts }))
 }

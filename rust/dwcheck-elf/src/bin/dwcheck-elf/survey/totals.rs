@@ -45,13 +45,16 @@ pub struct Totals {
 }
 
 impl Totals {
-    /// Counts the files and their sections.
-    pub fn of(files: &Files, surveyed: &[Surveyed]) -> Self {
-        let unread = files.unread.len() + surveyed.iter().filter(|one| one.is_unread()).count();
-        let mut totals = Totals { files: surveyed.len(), repeated: files.repeated, unread, ..Totals::default() };
-        let sections = surveyed.iter().filter_map(|one| one.outcome.as_ref().ok()).flatten();
-        sections.for_each(|section| totals.add(section));
-        totals
+    /// Totals that count only what can't be read or is repeated.
+    pub fn of(files: &Files) -> Self {
+        Totals { repeated: files.repeated, unread: files.unread.len(), ..Totals::default() }
+    }
+
+    /// Counts a file and its sections.
+    pub fn count(&mut self, surveyed: &Surveyed) {
+        self.files += 1;
+        self.unread += usize::from(surveyed.is_unread());
+        surveyed.outcome.iter().flatten().for_each(|section| self.add(section));
     }
 
     fn add(&mut self, section: &Section) {
