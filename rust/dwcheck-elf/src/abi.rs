@@ -26,6 +26,9 @@ pub struct Abi {
     /// The DWARF number of the register in which a call leaves the return address. `None` if a call
     /// writes it to the stack.
     pub link_register: Option<u16>,
+    /// The DWARF number of the register that has the address of the thread's own data, which C libraries
+    /// put above the thread's stack. `None` if debuggers don't get it with the general registers.
+    pub thread_pointer: Option<u16>,
 }
 
 const X86_64: Abi = Abi {
@@ -37,6 +40,8 @@ const X86_64: Abi = Abi {
     program_counter: 16,
     frame_pointer: 6,
     link_register: None,
+    // fs_base
+    thread_pointer: Some(58),
 };
 
 const I386: Abi = Abi {
@@ -48,6 +53,7 @@ const I386: Abi = Abi {
     program_counter: 8,
     frame_pointer: 5,
     link_register: None,
+    thread_pointer: None,
 };
 
 const AARCH64: Abi = Abi {
@@ -59,6 +65,7 @@ const AARCH64: Abi = Abi {
     program_counter: 32,
     frame_pointer: 29,
     link_register: Some(30),
+    thread_pointer: None,
 };
 
 /// The calling convention of a machine (`e_machine`) with this address size. `None` if the two

@@ -129,23 +129,32 @@ impl Snapshot {
         };
         let registers = stopped.registers(self.target, self.abi);
         let stack = registers.as_ref().and_then(|registers| self.stack(registers));
-        let first = if tid == self.process.id { self.first_stack(stack.as_ref()) } else { None };
+        let own = registers.as_ref().and_then(|registers| self.own_stack(tid, registers, stack.as_ref()));
         self.pac_mask = self.pac_mask.or_else(|| stopped.pac_mask());
         self.longest = self.longest.max(stopped.resume());
         if let Some(registers) = registers {
-            self.blocks.extend(stack.into_iter().chain(first));
+            self.blocks.extend(stack.into_iter().chain(own));
             let name = self.process.thread_name(tid);
             self.threads.push(Thread { id: tid, name, signal: 0, registers });
         }
     }
 
-    /// The stack with which the process's first thread began, if the thread now runs on another one, such
-    /// as that of a signal handler.
-    fn first_stack(&self, used: Option<&(u64, Vec<u8>)>) -> Option<(u64, Vec<u8>)> {
-        let map = self.process.maps.iter().find(|map| map.path == b"[stack]")?;
-        let is_used = used.map_or(false, |(begin, _)| (map.begin..map.end).contains(begin));
+    /// The stack with which a thread began, if the thread now runs on another one, such as that of a signal
+    /// handler: that of the process's first thread, or what has the thread's own data.
+    fn own_stack(&self, tid: u32, registers: &[(u16, u64)], used: Option<&(u64, Vec<u8>)>) -> Option<(u64, Vec<u8>)> {
+        let has = |map: &&Map, address: u64| (map.begin..map.end).contains(&address);
+        let map = if tid == self.process.id {
+            self.process.maps.iter().find(|map| map.path == b"[stack]")?
+        } else {
+            let wanted = self.abi.thread_pointer?;
+            let (_, pointer) = registers.iter().find(|(number, _)| *number == wanted)?;
+            self.process.maps.iter().find(|map| has(map, *pointer))?
+        };
+        if used.map_or(true, |(begin, _)| has(&map, *begin)) {
+            return None;
+        }
         let size = (map.end - map.begin).min(STACK_LIMIT);
-        Some((map.end - size, self.process.memory(map.end - size, size)?)).filter(|_| !is_used)
+        Some((map.end - size, self.process.memory(map.end - size, size)?))
     }
 
     /// The used part of the stack of a thread with these registers.

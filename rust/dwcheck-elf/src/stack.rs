@@ -14,7 +14,6 @@ mod tables;
 mod text;
 mod walker;
 
-pub(crate) use crate::alone::accepted;
 pub use crate::lines::SourceLine;
 pub use instruction::Instruction;
 pub use names::{Inlined, NameOptions, Place};
@@ -84,6 +83,9 @@ pub enum FoundBy {
     Call,
     /// A guess: no row covers the frame that it called, whose frame pointer leads to the caller.
     FramePointer,
+    /// A guess: a signal interrupted it, and the code to which the handler returns has no row that says
+    /// so, but is that by which handlers return to the kernel (x86-64, aarch64).
+    SignalReturn,
 }
 
 /// A frame of a stack.
@@ -96,7 +98,8 @@ pub struct Frame {
     pub is_after_call: bool,
     /// How the frame was found.
     pub found_by: FoundBy,
-    /// Whether it is the frame in which the kernel called a signal handler.
+    /// Whether it is the frame in which the kernel called a signal handler, or Go's `runtime.sigpanic`,
+    /// which its signal handler calls in the place of the interrupted code.
     pub is_signal_frame: bool,
     /// The canonical frame address (CFA): the stack pointer before the call of this frame. `None` if
     /// it isn't known.
@@ -158,7 +161,7 @@ impl Default for WalkOptions {
 impl FoundBy {
     /// Whether the frame is a guess.
     pub fn is_guess(self) -> bool {
-        matches!(self, FoundBy::Call | FoundBy::FramePointer)
+        matches!(self, FoundBy::Call | FoundBy::FramePointer | FoundBy::SignalReturn)
     }
 }
 
@@ -287,6 +290,7 @@ impl fmt::Display for FoundBy {
             FoundBy::Row => "row",
             FoundBy::Call => "call",
             FoundBy::FramePointer => "frame pointer",
+            FoundBy::SignalReturn => "signal return",
         })
     }
 }

@@ -3,6 +3,7 @@
 
 mod common;
 
+use common::cores::{addresses, by_eu_stack, by_gdb, frames, stop};
 use common::run::dwcheck_elf;
 use common::{has, skipped, Folder};
 
@@ -52,48 +53,11 @@ int main(int c, char **v) {
 }
 "#;
 
-/// Says the addresses of all frames that gdb finds by unwinding.
-const FRAMES: &str = "set backtrace past-main on
-python
-frame = gdb.newest_frame()
-while frame is not None:
-    if frame.type() not in (gdb.INLINE_FRAME, gdb.TAILCALL_FRAME):
-        print('frame', '%#018x' % frame.pc())
-    frame = frame.older()
-end
-";
-
-/// The lines of frames that `dwcheck-elf stack` writes, without the numbers.
-fn frames(out: &str) -> Vec<&str> {
-    out.lines().filter_map(|line| line.strip_prefix('#')?.split_once(' ')).map(|(_, rest)| rest).collect()
-}
-
-/// The addresses of lines of frames.
-fn addresses<'a>(frames: &[&'a str]) -> Vec<&'a str> {
-    frames.iter().map(|frame| frame.split(' ').next().unwrap()).collect()
-}
-
-fn stop(out: &str) -> &str {
-    out.lines().last().unwrap()
-}
-
 /// Builds the program `crash`. Returns false if a tool isn't installed.
 fn build(folder: &Folder, flags: &str) -> bool {
     folder.write("crash.c", CRASH);
     folder.run(&format!("gcc -O1 {} crash.c -o crash", flags));
     ["gdb", "eu-stack"].iter().all(|tool| has(tool))
-}
-
-fn by_gdb(folder: &Folder, program: &str) -> Vec<String> {
-    folder.write("frames.gdb", FRAMES);
-    let shown = folder.run(&format!("gdb --batch -x frames.gdb {} core | sed -n 's/^frame //p'", program));
-    shown.lines().map(str::to_string).collect()
-}
-
-fn by_eu_stack(folder: &Folder, program: &str) -> Vec<String> {
-    let shown = folder.run(&format!("eu-stack --core core -e {} 2> /dev/null || true", program));
-    let frames = shown.lines().filter(|line| line.starts_with('#'));
-    frames.map(|line| line.split_whitespace().nth(1).unwrap().to_string()).collect()
 }
 
 /// A call to an address where no code is: the caller is found by the return address on the stack, and
@@ -205,6 +169,43 @@ fn a_handler_on_another_stack() {
             ran.out
         );
     }
+}
+
+/// A handler returns to code of the program's own that no row covers. gdb knows this code by its name and
+/// its instructions.
+const OWN_RETURN: &str = r#"
+#include <signal.h>
+#include <stdlib.h>
+#include <sys/syscall.h>
+#include <unistd.h>
+struct action { void (*handler)(int); unsigned long flags; void (*restorer)(void); unsigned long mask; };
+void own__sigaction(void);
+asm(".text\n nop\n.globl own__sigaction\n.type own__sigaction, @function\n"
+    "own__sigaction: mov $15, %rax\n syscall\n.size own__sigaction, . - own__sigaction\n");
+static void handler(int n) { if (n) abort(); }
+__attribute__((noinline)) static int faulty(volatile int *address) { return *address + 1; }
+int main(int c, char **v) {
+    struct action action = { handler, SA_RESTORER, own__sigaction, 0 };
+    syscall(SYS_rt_sigaction, SIGSEGV, &action, 0, 8);
+    return faulty((volatile int *)(long)c) + 1;
+}
+"#;
+
+#[test]
+fn a_handler_that_returns_to_code_without_rows() {
+    let folder = Folder::new("crash-own-return");
+    if !has("gdb") {
+        return;
+    }
+    folder.write("a.c", OWN_RETURN);
+    folder.run("gcc -O1 -DSA_RESTORER=0x04000000 a.c -o own");
+    folder.make_core("./own");
+    let ran = dwcheck_elf(&folder, "stack --no-inline --no-source core");
+    let shown = frames(&ran.out);
+    assert_eq!(addresses(&shown), by_gdb(&folder, "own"), "{}", ran.out);
+    let at = shown.iter().position(|line| line.contains(" own__sigaction (")).unwrap();
+    assert!(shown[at + 1].contains(" faulty") && shown[at + 1].ends_with(" guess: signal return"), "{}", ran.out);
+    assert_eq!(ran.out.matches(" guess: ").count(), 1);
 }
 
 /// A return address that isn't code isn't a frame. gdb shows frames with what it finds on the stack.

@@ -65,22 +65,28 @@ fn addresses(out: &str) -> Vec<String> {
 }
 
 const HANDLES: &str = "
+#include <pthread.h>
 #include <signal.h>
 #include <stdio.h>
 #include <unistd.h>
 static char other[1 << 16];
 static void handler(int number) { if (number) puts(\"ready\"); fflush(stdout); for (;;) pause(); }
 __attribute__((noinline)) static int faulty(volatile int *address) { return *address + 1; }
-int main(void) {
+__attribute__((noinline)) static void *run(void *unused) {
     stack_t stack = {.ss_sp = other, .ss_size = sizeof other};
     sigaltstack(&stack, NULL);
     struct sigaction action = {.sa_handler = handler, .sa_flags = SA_ONSTACK};
     sigaction(SIGSEGV, &action, NULL);
-    return faulty((volatile int *)16) + 1;
+    return (void *)(faulty((volatile int *)16) + 1L);
+}
+int main(void) {
+    pthread_t thread;
+    if (IN_THREAD && pthread_create(&thread, NULL, run, NULL) == 0) for (;;) pause();
+    return run(NULL) == NULL;
 }
 ";
 
-/// The first thread, in a signal handler on another stack.
+/// The first thread or another one, in a signal handler on another stack.
 #[test]
 fn a_handler_on_another_stack() {
     let folder = Folder::new("live-handler");
@@ -88,13 +94,17 @@ fn a_handler_on_another_stack() {
         return;
     }
     folder.write("waits.c", HANDLES);
-    folder.run("gcc -O1 waits.c -o waits");
-    let process = Waiting::start(&folder);
-    let pid = process.0.id();
-    let ran = dwcheck_elf(&folder, &format!("stack --no-inline --no-source --pid {}", pid));
-    let theirs = folder.run(&format!("eu-stack -p {} 2> /dev/null || true", pid));
-    assert_eq!(addresses(&ran.out), addresses(&theirs), "{}{}", ran.out, theirs);
-    assert!(ran.out.contains(" handler+") && ran.out.contains(" faulty") && ran.out.contains(" main+"), "{}", ran.out);
+    for in_thread in 0..2 {
+        folder.run(&format!("gcc -O1 -DIN_THREAD={} waits.c -o waits -pthread", in_thread));
+        let process = Waiting::start(&folder);
+        let pid = process.0.id();
+        let ran = dwcheck_elf(&folder, &format!("stack --no-inline --no-source --pid {}", pid));
+        let theirs = folder.run(&format!("eu-stack -p {} 2> /dev/null || true", pid));
+        assert_eq!(addresses(&ran.out), addresses(&theirs), "{}{}", ran.out, theirs);
+        for name in [" handler+", " faulty", " run+", " main+"] {
+            assert!(ran.out.contains(name), "{}", ran.out);
+        }
+    }
 }
 
 /// The stacks of a process are those of eu-stack, also after its file was removed. The process goes

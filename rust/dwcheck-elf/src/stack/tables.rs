@@ -17,14 +17,24 @@ pub(super) struct Tables<'a> {
     modules: Vec<Module<'a>>,
     /// Where which module's code is, in ascending order.
     code: Vec<Code>,
-    /// The frame sections of each file that was needed so far, `.debug_frame` first.
-    files: HashMap<FileKey, Vec<SectionTable<'a>>>,
+    /// What was read of each file that was needed so far.
+    files: HashMap<FileKey, FileTables<'a>>,
     process: Process,
     /// What is known of the FDEs in `process`, by their cookies.
     compiled: Vec<Compiled>,
     /// The FDEs that can't be used: the file, the index of its section, and that of the FDE.
     refused: HashSet<(FileKey, usize, usize)>,
     problems: Vec<(PathBuf, String)>,
+}
+
+/// The frame sections of a file.
+#[derive(Default)]
+struct FileTables<'a> {
+    /// `.debug_frame` first.
+    sections: Vec<SectionTable<'a>>,
+    /// The address of Go's function `runtime.sigpanic`. Go's signal handler makes it look as if the
+    /// interrupted code had called it.
+    sigpanic: Option<u64>,
 }
 
 /// What tells files apart: the index of a mapped file, or that it is the program or the vDSO. A file
@@ -50,6 +60,7 @@ struct Wanted {
 /// An FDE that `dwcheck` has accepted.
 struct Compiled {
     is_signal_frame: bool,
+    is_signal_return: bool,
     /// The addresses in the process at which the return address is signed.
     signed: Vec<Range<u64>>,
 }
@@ -59,6 +70,8 @@ pub(super) struct Found {
     pub caller: Caller,
     /// Whether the frame is a signal frame, whose caller was interrupted and didn't call.
     pub is_signal_frame: bool,
+    /// Whether it is a signal frame to which a handler returns, which didn't call either.
+    pub is_signal_return: bool,
     /// Whether the return address is signed.
     pub is_signed: bool,
 }
@@ -125,6 +138,7 @@ impl<'a> Tables<'a> {
         Ok(compiled.zip(caller).map(|(compiled, caller)| Found {
             caller,
             is_signal_frame: compiled.is_signal_frame,
+            is_signal_return: compiled.is_signal_return,
             is_signed: compiled.signed.iter().any(|range| range.contains(&address)),
         }))
     }
@@ -139,12 +153,12 @@ impl<'a> Tables<'a> {
         let file = key(module);
         let linked = self.target.wrap(address.wrapping_sub(module.bias));
         let problems = &mut self.problems;
-        let sections = self.files.entry(file).or_insert_with(|| {
-            let (sections, unread) = read(module);
+        let tables = self.files.entry(file).or_insert_with(|| {
+            let (tables, unread) = read(module);
             problems.extend(unread.into_iter().map(|problem| (module.path.clone(), problem)));
-            sections
+            tables
         });
-        let count = sections.len();
+        let count = tables.sections.len();
         let wanted = Wanted { address, linked, file, code };
         for section in 0..count {
             if self.compile_in(section, &wanted)? {
@@ -158,7 +172,8 @@ impl<'a> Tables<'a> {
     /// added.
     fn compile_in(&mut self, section: usize, wanted: &Wanted) -> Result<bool, Error> {
         let module = &self.modules[wanted.code.module];
-        let table = &self.files[&wanted.file][section];
+        let FileTables { sections, sigpanic } = &self.files[&wanted.file];
+        let table = &sections[section];
         let piece = match table.find(wanted.linked) {
             Some(piece) if !self.refused.contains(&(wanted.file, section, piece.fde)) => piece,
             _ => return Ok(false),
@@ -176,7 +191,8 @@ impl<'a> Tables<'a> {
                 let move_by =
                     |range: &Range<u64>| range.start.wrapping_add(module.bias)..range.end.wrapping_add(module.bias);
                 let signed = one.signed.iter().map(move_by).collect();
-                self.compiled.push(Compiled { is_signal_frame: one.is_signal_frame, signed });
+                let is_signal_frame = one.is_signal_frame || *sigpanic == Some(piece.range.start);
+                self.compiled.push(Compiled { is_signal_frame, is_signal_return: one.is_signal_frame, signed });
                 return Ok(true);
             }
             Ok((Err(Error::Refused(fault)), _)) => fault.name().to_string(),
@@ -198,10 +214,15 @@ fn key(module: &Module<'_>) -> FileKey {
 }
 
 /// Reads the frame sections of a module, and says which can't be used.
-fn read<'a>(module: &Module<'a>) -> (Vec<SectionTable<'a>>, Vec<String>) {
+fn read<'a>(module: &Module<'a>) -> (FileTables<'a>, Vec<String>) {
     match Program::read(module.image.bytes()) {
-        Ok(program) => SectionTable::all(&program),
-        Err(error) => (Vec::new(), vec![error.to_string()]),
+        Ok(program) => {
+            let (sections, problems) = SectionTable::all(&program);
+            let functions = program.has_section(".gopclntab").then(|| program.functions());
+            let sigpanic = functions.and_then(|functions| functions.address_of("runtime.sigpanic").ok());
+            (FileTables { sections, sigpanic }, problems)
+        }
+        Err(error) => (FileTables::default(), vec![error.to_string()]),
     }
 }
 

@@ -58,16 +58,30 @@ impl Walker<'_, '_> {
     fn caller(&mut self, frame: &mut Frame, registers: &Registers) -> Result<Caller, Error> {
         let abi = self.core.abi();
         let state = State { registers, memory: self.blocks, abi: Abi::new(abi.kept, Some(abi.stack_pointer)) };
-        match self.tables.caller(frame.looked_up(), &state)? {
+        let found = self.tables.caller(frame.looked_up(), &state)?;
+        // No call is before the code to which a signal handler returns, so a row of what is before it
+        // doesn't count.
+        let is_signal_frame = found.as_ref().map_or(false, |found| found.is_signal_frame);
+        let guesser = Guesser { core: self.core, memory: self.memory, registers };
+        if frame.is_after_call && !is_signal_frame && guesser.is_signal_return(frame.address) {
+            let guess = guesser.by_signal_return().filter(|_| !self.options.is_strict);
+            (frame.is_after_call, frame.is_signal_frame) = (false, true);
+            return Ok(self.by_guess(frame, guess));
+        }
+        match found {
             Some(found) => Ok(self.by_row(frame, found)),
-            None => Ok(self.by_guess(frame, registers)),
+            None => {
+                let guess = self.guess(frame, &guesser);
+                Ok(self.by_guess(frame, guess))
+            }
         }
     }
 
     fn by_row(&mut self, frame: &mut Frame, found: Found) -> Caller {
-        let Found { caller, is_signal_frame, is_signed } = found;
+        let Found { caller, is_signal_frame, is_signal_return, is_signed } = found;
         frame.cfa = caller.cfa.value();
         frame.is_signal_frame = is_signal_frame;
+        frame.is_after_call &= !is_signal_return;
         if let Some(stop) = self.stop_at(frame) {
             return Caller::None(stop);
         }
@@ -86,14 +100,17 @@ impl Walker<'_, '_> {
         Caller::Frame(next, caller.known())
     }
 
-    fn by_guess(&mut self, frame: &mut Frame, registers: &Registers) -> Caller {
-        let guesser = Guesser { core: self.core, memory: self.memory, registers };
-        let guess = match (self.options.is_strict, self.core.is_executable(frame.address)) {
+    /// The caller of a frame that no row covers.
+    fn guess(&self, frame: &Frame, guesser: &Guesser<'_>) -> Option<Guess> {
+        match (self.options.is_strict, self.core.is_executable(frame.address)) {
             (true, _) => None,
             (_, true) => guesser.by_frame_pointer(),
             (_, false) if !frame.is_after_call => guesser.by_call(),
             _ => None,
-        };
+        }
+    }
+
+    fn by_guess(&mut self, frame: &mut Frame, guess: Option<Guess>) -> Caller {
         let Guess { found_by, address, registers, cfa } = match guess {
             Some(guess) => guess,
             None => return Caller::None(Stop::NotCovered),
@@ -101,7 +118,10 @@ impl Walker<'_, '_> {
         frame.cfa = Some(cfa);
         match self.stop_at(frame) {
             Some(stop) => Caller::None(stop),
-            None => Caller::Frame(Frame::caller(address, found_by), registers),
+            None => {
+                let is_after_call = !frame.is_signal_frame;
+                Caller::Frame(Frame { is_after_call, ..Frame::caller(address, found_by) }, registers)
+            }
         }
     }
 

@@ -1,6 +1,7 @@
 //! What the tests share: temporary folders, runs of other tools, and source code to compile.
 #![allow(dead_code)]
 
+pub mod cores;
 pub mod run;
 
 use std::path::{Path, PathBuf};
