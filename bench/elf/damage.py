@@ -1,19 +1,22 @@
 #!/usr/bin/env python3
 """Runs dwcheck-elf on ELF files and core files whose bytes were changed at random.
 
-    bench/elf/damage.py DWCHECK_ELF COUNT SEED [--jobs N] [--kinds elf,core]
+    bench/elf/damage.py DWCHECK_ELF COUNT SEED [--jobs N] [--kinds elf,core,program]
 
-gcc makes a few ELF files, and gdb a core file. From these, COUNT files of each kind are made: bytes
+gcc makes a few ELF files, and gdb core files. From these, COUNT files of each kind are made: bytes
 are changed in headers, in sections and anywhere, and some files are cut short. `survey` is run on
 folders of 250 ELF files, and `check`, `rows`, `row` and `locs` on every 50th file. `stack` is run
-on each core file. Each run must end within 60 seconds, with an exit status that dwcheck-elf
-documents, and without a panic. A survey must write a line of JSON for each different file that
-still begins as an ELF file does, and one line of totals. This needs gcc, gdb and binutils.
+on each core file, and, for the kind `program`, on a core file that isn't changed with its program,
+which is: its tables, symbols, debug information and .gnu_debugdata. Each run must end within 60
+seconds, in 1 GB of address space, with an exit status that dwcheck-elf documents, and without a
+panic. A survey must write a line of JSON for each different file that still begins as an ELF file
+does, and one line of totals. This needs gcc, gdb, binutils and xz.
 """
 import argparse
 import json
 import os
 import random
+import resource
 import shutil
 import subprocess
 import sys
@@ -34,14 +37,17 @@ int main(int argc, char **argv) { return deep(argc + 3); }
 # Flags with which gcc writes no location list entries of the kinds that dwcheck refuses.
 PLAIN = "-O2 -g -gdwarf-5 -gno-variable-location-views -fno-var-tracking-assignments -fvar-tracking -fno-var-tracking-uninit"
 IN_A_FOLDER = 250
+# How many bytes of address space a run may take.
+MEMORY = 1 << 30
 ODD = [0, 1, 0x7F, 0x80, 0xFF, 0xFE, 0x10, 0x9B, 0x2E, 0x0D]
 
 
 def run(words, folder, statuses, timeout=60):
     """Runs a command. Returns the finished run, and a text that says what is wrong with how it
     ended, or None. The run is None if it took too long."""
+    limit = lambda: resource.setrlimit(resource.RLIMIT_AS, (MEMORY, MEMORY))
     try:
-        ran = subprocess.run(words, cwd=folder, capture_output=True, timeout=timeout)
+        ran = subprocess.run(words, cwd=folder, capture_output=True, timeout=timeout, preexec_fn=limit)
     except subprocess.TimeoutExpired:
         return None, "no end"
     if ran.returncode not in statuses or b"panicked" in ran.stderr:
@@ -50,7 +56,8 @@ def run(words, folder, statuses, timeout=60):
 
 
 def made(folder):
-    """Makes the files from which the changed files are made: ELF files, and a core file."""
+    """Makes the files from which the changed files are made: ELF files, a core file, and the program of
+    another core file."""
     with open(os.path.join(folder, "a.c"), "w") as file:
         file.write(SOURCE)
     lines = [
@@ -59,6 +66,10 @@ def made(folder):
         f"gcc {PLAIN} -c a.c -o object.o",
         "gcc -O2 -static -Wl,-s a.c -o crash",
         "gdb --batch -ex 'set startup-with-shell off' -ex run -ex 'gcore core' ./crash < /dev/null",
+        "gcc -O2 -g -gz a.c -o program",
+        # The symbols as distributions pack them, which is whole programs here.
+        "xz -k linked && objcopy --add-section .gnu_debugdata=linked.xz program",
+        "gdb --batch -ex 'set startup-with-shell off' -ex run -ex 'gcore program.core' ./program < /dev/null",
     ]
     for line in lines:
         subprocess.run(line, shell=True, cwd=folder, check=True, capture_output=True)
@@ -68,7 +79,9 @@ def made(folder):
             elf[name] = file.read()
     with open(os.path.join(folder, "core"), "rb") as file:
         core = file.read()
-    return elf, core
+    with open(os.path.join(folder, "program"), "rb") as file:
+        program = file.read()
+    return {"elf": elf, "core": core, "program": program}
 
 
 def sections(bytes_of_file):
@@ -164,20 +177,41 @@ def core_files(program, core, work, seed, count):
     return came, problems
 
 
+def programs(program, original, work, seed, count):
+    """Runs dwcheck-elf on a core file with `count` changed programs, one after another. Returns the same
+    as elf_files()."""
+    numbers = random.Random(seed)
+    # The first page, with the headers, tells whether the program is that of the core file.
+    ranges = [(max(begin, 4096), end) for begin, end in sections(original) if end > 4096]
+    problems, came = [], Counter()
+    path = os.path.join(work, f"program-{seed}")
+    for number in range(count):
+        with open(path, "wb") as file:
+            file.write(changed(numbers, original, ranges))
+        ran, wrong = run([program, "stack", "--limit", "100", path, "program.core"], work, (0, 3))
+        if wrong:
+            problems.append(f"seed {seed}: program {number}: {wrong}")
+            shutil.copy(path, f"{path}-{number}")
+        came["names" if ran and b" deep" in ran.stdout else "no names"] += 1
+    os.remove(path)
+    return came, problems
+
+
 def main():
     words = argparse.ArgumentParser()
     words.add_argument("program")
     words.add_argument("count", type=int)
     words.add_argument("seed", type=int)
     words.add_argument("--jobs", type=int, default=1)
-    words.add_argument("--kinds", default="elf,core")
+    words.add_argument("--kinds", default="elf,core,program")
     words = words.parse_args()
     program = os.path.abspath(words.program)
     work = tempfile.mkdtemp()
-    elf, core = made(work)
+    originals = made(work)
     problems = []
+    tasks_of = {"elf": elf_files, "core": core_files, "program": programs}
     for kind in words.kinds.split(","):
-        task, given = (elf_files, elf) if kind == "elf" else (core_files, core)
+        task, given = tasks_of[kind], originals[kind]
         starts = range(0, words.count, IN_A_FOLDER)
         with ThreadPoolExecutor(words.jobs) as pool:
             tasks = [
