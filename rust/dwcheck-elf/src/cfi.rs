@@ -82,40 +82,13 @@ fn block(cursor: &mut Cursor<'_>) -> Result<usize, ReadError> {
 /// section 7.24, or a vendor's. Vendors use some codes for different instructions; `machine`
 /// (`e_machine`) then decides which one is meant. `None` if the code has no name.
 pub(crate) fn name_of(code: u8, machine: u16) -> Option<&'static str> {
-    Some(match code {
-        0x40..=0x7f => "advance_loc",
-        0x80..=0xbf => "offset",
-        0xc0..=0xff => "restore",
-        0x00 => "nop",
-        SET_LOC => "set_loc",
-        0x02 => "advance_loc1",
-        0x03 => "advance_loc2",
-        0x04 => "advance_loc4",
-        0x05 => "offset_extended",
-        0x06 => "restore_extended",
-        0x07 => "undefined",
-        0x08 => "same_value",
-        0x09 => "register",
-        REMEMBER_STATE => "remember_state",
-        RESTORE_STATE => "restore_state",
-        DEF_CFA => "def_cfa",
-        DEF_CFA_REGISTER => "def_cfa_register",
-        DEF_CFA_OFFSET => "def_cfa_offset",
-        DEF_CFA_EXPRESSION => "def_cfa_expression",
-        0x10 => "expression",
-        0x11 => "offset_extended_sf",
-        DEF_CFA_SF => "def_cfa_sf",
-        DEF_CFA_OFFSET_SF => "def_cfa_offset_sf",
-        0x14 => "val_offset",
-        0x15 => "val_offset_sf",
-        0x16 => "val_expression",
-        0x1d => "MIPS_advance_loc8",
-        NEGATE_RA_STATE if machine == EM_AARCH64 => "AARCH64_negate_ra_state",
-        0x2d => "GNU_window_save",
-        GNU_ARGS_SIZE => "GNU_args_size",
-        0x2f => "GNU_negative_offset_extended",
-        _ => return None,
-    })
+    // The two highest bits alone are the code of an instruction that has an operand in the others.
+    let code = if code & 0xc0 == 0 { code } else { code & 0xc0 };
+    match gimli::DwCfa(code) {
+        gimli::DW_CFA_lo_user | gimli::DW_CFA_hi_user => None,
+        _ if code == NEGATE_RA_STATE && machine == EM_AARCH64 => Some("AARCH64_negate_ra_state"),
+        named => named.static_string()?.strip_prefix("DW_CFA_"),
+    }
 }
 
 /// A section in which the bytes at these offsets, which are those of whole instructions, are `DW_CFA_nop`.

@@ -22,7 +22,7 @@ const DEFECTS: [(&str, &str, &str, &str); 13] = [
     ("window", ".cfi_escape 0x2d", "UnknownInstruction", "GNU_window_save"),
     ("underflow", ".cfi_escape 0x0f, 1, 0x22", "Underflow", "DW_OP_plus of def_cfa_expression"),
     ("in_frame", ".cfi_escape 0x10, 3, 2, 0x9c, 0x96", "NotInFrame", "DW_OP_call_frame_cfa of expression"),
-    ("operation", ".cfi_escape 0x16, 3, 1, 0xe0", "UnknownOperation", "operation 0xe0 of val_expression"),
+    ("operation", ".cfi_escape 0x16, 3, 1, 0xe0", "UnknownOperation", "DW_OP_GNU_push_tls_address of val_expression"),
     ("ends_empty", ".cfi_escape 0x0f, 0", "EndsEmpty", "def_cfa_expression"),
     (
         "offset",
