@@ -213,3 +213,22 @@ fn a_panic_of_go() {
     assert!(signal < panics && panics + 1 == place("main.inner") && panics + 2 == place("main.outer"), "{}", of_thread);
     assert_eq!(of_thread.matches(" guess: ").count(), 1, "{}", of_thread);
 }
+
+/// qemu's own code, to which handlers return, has no row. The frames are those that the source implies.
+#[test]
+fn a_handler_of_aarch64() {
+    let folder = Folder::new("edge-aarch64");
+    if !["aarch64-linux-gnu-gcc", "qemu-aarch64"].iter().all(|tool| has(tool)) {
+        return;
+    }
+    folder.write("main.c", HANDLED.replace("SIGILL", "SIGSEGV"));
+    folder.write("f.c", "int f(void) { return *(volatile int *)16 + 1; }\n");
+    folder.run("aarch64-linux-gnu-gcc -O1 -static main.c f.c -o program");
+    folder.run("ulimit -c unlimited; qemu-aarch64 ./program 2> /dev/null || mv qemu_program_*.core core");
+    let ran = dwcheck_elf(&folder, "stack program core");
+    let shown = frames(&ran.out);
+    let handler = shown.iter().position(|line| line.contains(" handler+")).unwrap_or_else(|| panic!("{}", ran.out));
+    assert!(shown[handler + 2].contains(" f+0x4 ") && shown[handler + 2].ends_with(" guess: signal return"), "{}", ran.out);
+    assert!(shown[handler + 3].contains(" calls+") && shown[handler + 4].contains(" main+"), "{}", ran.out);
+    assert_eq!(ran.out.matches(" guess: ").count(), 1, "{}", ran.out);
+}
