@@ -73,31 +73,37 @@ fn swept(all: &[Piece]) -> Vec<Piece> {
     pieces
 }
 
-/// Finds the least of numbers that are next to each other: the numbers, the lesser one of each two that
-/// are neighbors, the least one of each four, and so on.
-struct Least(Vec<Vec<usize>>);
+/// Finds the least of numbers that are next to each other. It is a tree whose leaves are the numbers, and
+/// whose other nodes have the lesser one of two: node n has the nodes 2 n and 2 n + 1 below it.
+struct Least(Vec<usize>);
 
 impl Least {
     fn of(numbers: Vec<usize>) -> Self {
-        let mut levels = vec![numbers];
-        for width in (0..).map(|level| 1 << level) {
-            let last: &[usize] = levels.last().map_or(&[], |last| last);
-            let next: Vec<_> = last.iter().zip(last.iter().skip(width)).map(|(one, other)| *one.min(other)).collect();
-            if next.is_empty() {
-                break;
-            }
-            levels.push(next);
+        let count = numbers.len();
+        let mut tree = vec![usize::MAX; count];
+        tree.extend(numbers);
+        for node in (1..count).rev() {
+            tree[node] = tree[2 * node].min(tree[2 * node + 1]);
         }
-        Least(levels)
+        Least(tree)
     }
 
     /// The least number in a range of places. `None` if the range is empty.
     fn among(&self, places: Range<usize>) -> Option<usize> {
-        let count = places.end.checked_sub(places.start).filter(|count| *count > 0)?;
-        let level = usize::BITS - 1 - count.leading_zeros();
-        let least = self.0.get(level as usize)?;
-        let (first, last) = (least.get(places.start)?, least.get(places.end - (1 << level))?);
-        Some(*first.min(last))
+        let count = self.0.len() / 2;
+        let (mut begin, mut end) = (places.start + count, places.end + count);
+        let mut least = usize::MAX;
+        while begin < end {
+            // A node counts itself if the node above it has a place outside of the range too.
+            if begin % 2 == 1 {
+                least = least.min(self.0[begin]);
+            }
+            if end % 2 == 1 {
+                least = least.min(self.0[end - 1]);
+            }
+            (begin, end) = ((begin + 1) / 2, end / 2);
+        }
+        Some(least).filter(|_| !places.is_empty())
     }
 }
 

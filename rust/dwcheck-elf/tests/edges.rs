@@ -228,7 +228,11 @@ fn a_handler_of_aarch64() {
     let ran = dwcheck_elf(&folder, "stack program core");
     let shown = frames(&ran.out);
     let handler = shown.iter().position(|line| line.contains(" handler+")).unwrap_or_else(|| panic!("{}", ran.out));
-    assert!(shown[handler + 2].contains(" f+0x4 ") && shown[handler + 2].ends_with(" guess: signal return"), "{}", ran.out);
+    assert!(
+        shown[handler + 2].contains(" f+0x4 ") && shown[handler + 2].ends_with(" guess: signal return"),
+        "{}",
+        ran.out
+    );
     assert!(shown[handler + 3].contains(" calls+") && shown[handler + 4].contains(" main+"), "{}", ran.out);
     assert_eq!(ran.out.matches(" guess: ").count(), 1, "{}", ran.out);
 }
