@@ -1,6 +1,7 @@
 //! The check of an `.eh_frame` section.
 
 ghost use Rattle.std.specs.Prelude.{◌≡◌, ◌<◌, ◌^◌, IfOk, length};
+ghost use Rattle.dw_eh_frame.specs.Rewriting.{IsRewritten};
 ghost use Rattle.dw_rows.specs.Section.{IsChecked};
 ghost use Rattle.dw_eh_rows.specs.Checked.{EhAnswers, HasEhRows};
 ghost use Rattle.dw_eh_rows.specs.Faults.{eh_section_fault};
@@ -12,7 +13,7 @@ use std::alloc::Global;
 
 /// Checks a section of fewer than 2^32 bytes: that its records can be read, and that the CIE of each FDE
 /// is one of the records before it; then the programs of the CIEs, those of the FDEs, and that no
-/// address is covered by two FDEs. `bases` says where the section is, and `is_aarch64` whether its
+/// address is covered by two FDEs, except by exact copies of one. `bases` says where the section is, and `is_aarch64` whether its
 /// programs are for aarch64. What is looked up in the result is kept in `room`, whose bytes are replaced.
 ///
 /// The error is the first fault in that order, with its offset in the section. `SectionTooLong` (61) at 0
@@ -31,6 +32,8 @@ pub fn check_eh_frame<'a>(
     ensures target { IfOk result (λ frame. frame.target ≡ target) }
     ensures checked { IfOk result IsChecked }
     ensures rows { IfOk result (HasEhRows is_aarch64 bases section.now) }
+    ensures written { IfOk result
+        (λ frame. IsRewritten is_aarch64 bases frame.target section.now frame.section) }
 {
     crate::laws::exact_eh_rows();
     let made = rewrite(alloc, section, target, bases, is_aarch64)?;

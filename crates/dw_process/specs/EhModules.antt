@@ -7,7 +7,8 @@ use Rattle.dw_bytes.specs.declared.target.Target.{Target}
 use Rattle.dw_eh_frame.specs.Refused.{too_long}
 use Rattle.dw_eh_rows.specs.Checked.{HasEhRows}
 use Rattle.dw_eh_rows.specs.Faults.{eh_section_fault}
-use Rattle.dw_rows.specs.Section.{FrameSection}
+use Rattle.dw_eh_frame.specs.Rewriting.{IsRewritten}
+use Rattle.dw_rows.specs.Section.{FrameSection, IsChecked}
 use Rattle.dw_process.specs.Processes.{IsAddedWith, ProcessState}
 use Rattle.dw_process.specs.Refusals.{IsRefusedWith}
 use Rattle.dw_process.specs.declared.address_range.AddressRange.{AddressRange}
@@ -22,10 +23,13 @@ first_fault_of s target = eh_section_fault s.is_aarch64 s.bases target s.bytes.n
 
 -- The rows that are looked up in `frame` are those of the section, which has no fault: each address
 -- that one of its FDEs covers has exactly one row, the one that the definitions give (`HasEhRows`).
+-- `frame` is checked, and has the section's records and nothing else (`IsRewritten`).
 pub record IsFrameOf (s : EhSection) (target : Target) (frame : FrameSection) : Type 0 where
   pub accepted : first_fault_of s target ≡ None
   pub target_is : frame.target ≡ target
   pub rows : HasEhRows s.is_aarch64 s.bases s.bytes.now frame
+  pub checked : IsChecked frame
+  pub written : IsRewritten s.is_aarch64 s.bases frame.target s.bytes.now frame.section
 
 -- A module with the rows of the section is added.
 pub record IsEhAdded (s : EhSection) (load_address : ℕ) (given : Option AddressRange) (cookie room : ℕ) (old : ProcessState) (id : ℕ)

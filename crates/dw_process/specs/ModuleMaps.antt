@@ -42,6 +42,10 @@ pub record IsPlaceFor (range : AddressRange) (modules : List LoadedModule) (plac
   pub below : (k : ℕ) (d : LoadedModule) → k < place → IsBelow (slice_index_or modules k d).range range
   pub above : (k : ℕ) (d : LoadedModule) → place ≤ k → k < length modules → IsBelow range (slice_index_or modules k d).range
 
+-- no module has an address of the range: it may be inserted at some index
+abbrev pub IsFree : AddressRange → List LoadedModule → Type 0
+IsFree range modules = (place : ℕ) × IsPlaceFor range modules place
+
 -- the two ranges have an address in common
 abbrev pub Overlaps : AddressRange → AddressRange → Type 0
 Overlaps r s = (r.first ≤ s.last) × (s.first ≤ r.last)

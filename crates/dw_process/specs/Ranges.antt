@@ -18,10 +18,13 @@ pub record IsSpanOf (fdes : List Fde) (range : AddressRange) : Type 0 where
   pub begins : (f : Fde) × Contains fdes f × Covers f range.first
   pub ends : (f : Fde) × Contains fdes f × Covers f range.last
 
--- the range begins and ends, as linked, with the first and the last address that an FDE covers
+-- The range begins and ends, as linked, with the first and the last address that an FDE covers. As
+-- loaded these are addresses below 2^w.
 pub record IsLoadedSpan (frame : FrameSection) (load_address : ℕ) (range : AddressRange) : Type 0 where
   pub linked : AddressRange
   pub span : IsSpanOf frame.fdes linked
+  pub first_fits : range.first < 2 ^ width_of frame.target.address_size
+  pub last_fits : range.last < 2 ^ width_of frame.target.address_size
   pub first : as_linked frame.target load_address range.first ≡ linked.first
   pub last : as_linked frame.target load_address range.last ≡ linked.last
 

@@ -4,7 +4,7 @@ use Rattle.dw_bytes.specs.declared.target.Target.{Target}
 use Rattle.dw_bytes.specs.Answers.{memory}
 use Rattle.dw_rows.specs.Section.{FrameSection, frame_of, section_fault}
 use Rattle.dw_rows.specs.UnwindTables.{table_bytes}
-use Rattle.dw_process.specs.ModuleMaps.{IsTaken}
+use Rattle.dw_process.specs.ModuleMaps.{IsFree, IsTaken}
 use Rattle.dw_process.specs.Ranges.{HasNoRange, IsRangeFor}
 use Rattle.dw_process.specs.declared.address_range.AddressRange.{AddressRange}
 use Rattle.dw_process.specs.declared.loaded_module.LoadedModule.{LoadedModule}
@@ -13,10 +13,12 @@ use Rattle.dw_process.specs.declared.refusal.Refusal.TheVariants.{Section, Room,
 
 -- Why a module with the rows of a checked section isn't added. `Section`: memory ran out. `Range`:
 -- the module has no range. `Overlaps id`: its range shares an address with the range of the module
--- with that id. `Room`: the compiled table may need more than `room` bytes.
+-- with that id. `Room`: it has a range that no module has an address of, and the compiled table may
+-- need more than `room` bytes.
 abbrev pub IsRefusedWith : FrameSection → ℕ → Option AddressRange → ℕ → List LoadedModule → Refusal → Type 0
 IsRefusedWith frame load_address given room modules (Section fault) = fault ≡ memory
-IsRefusedWith frame load_address given room modules Room = room < table_bytes frame
+IsRefusedWith frame load_address given room modules Room =
+    (room < table_bytes frame) × (range : AddressRange) × IsRangeFor frame load_address given range × IsFree range modules
 IsRefusedWith frame load_address given room modules Range = HasNoRange frame load_address given
 IsRefusedWith frame load_address given room modules (Overlaps id) =
     (range : AddressRange) × IsRangeFor frame load_address given range × IsTaken range modules id

@@ -1,6 +1,6 @@
 use Rattle.std.proofs.Common.{ℕ, List, Some, length, sym, ap, subst, ◌∙◌, arith, inl, inr}
 use Rattle.std.proofs.lemmas.Result.{err_from_is_err_and}
-use Rattle.dw_rows.specs.Section.{section_fault}
+use Rattle.dw_rows.specs.Section.{FrameSection, section_fault}
 use Rattle.dw_eh_frame.specs.Rewriting.{IsRewritten}
 use Rattle.dw_eh_frame.specs.declared.places.RecordPlace.{RecordPlace}
 use Rattle.dw_eh_frame.specs.Places.{original_of}
@@ -32,6 +32,12 @@ returns-in-Ok-clause-rows c =
     c.as_slice.result.now c.in-Ok.frame c.in-Ok.ensures.frame
     (subst (λ (made : List ℕ). IsRewritten c.args.is_aarch64 c.args.bases c.args.target c.args.section.now made) (sym c.as_slice.ensures.value)
     c.in_ok-made.ensures.rewritten.rewritten) c.in-Ok.ensures.answer
+
+pub returns-in-Ok-clause-written : goal.returns-in-Ok-clause-written
+returns-in-Ok-clause-written c =
+    subst (λ (s : FrameSection). IsRewritten c.args.is_aarch64 c.args.bases s.target c.args.section.now s.section) (sym c.in-Ok.ensures.frame)
+    (subst (λ (made : List ℕ). IsRewritten c.args.is_aarch64 c.args.bases c.args.target c.args.section.now made) (sym c.as_slice.ensures.value)
+    c.in_ok-made.ensures.rewritten.rewritten)
 
 pub returns-clause-answer : goal.returns-clause-answer
 returns-clause-answer c =
