@@ -14,20 +14,19 @@ struct memory {
     size_t count;
 };
 
-/* Asks for a word; if the memory ends before its end, for as much as an address takes. */
+/* Asks for a word; where the memory ends before the word does, for a shorter one. */
 static bool fetch(struct memory *memory, uint64_t address) {
+    const dwcheck_reader *reader = memory->reader;
     if (memory->count == MOST_BLOCKS) return false;
     for (size_t i = 0; i < memory->count; i++)
         if (memory->blocks[i].base == address) return true;
     uint8_t *word = memory->words[memory->count];
-    size_t length = WORD;
-    const dwcheck_reader *reader = memory->reader;
-    if (!reader->read(reader->data, address, word, length)) {
-        length = reader->address_size;
-        if (length >= WORD || !reader->read(reader->data, address, word, length)) return false;
-    }
-    memory->blocks[memory->count++] = (dwcheck_block){address, word, length};
-    return true;
+    for (size_t length = WORD; length > 0; length /= 2)
+        if (reader->read(reader->data, address, word, length)) {
+            memory->blocks[memory->count++] = (dwcheck_block){address, word, length};
+            return true;
+        }
+    return false;
 }
 
 /* The highest address, 2^w - 1. */

@@ -134,24 +134,66 @@ static int set_range(dwcheck_module *module, const struct dl_phdr_info *info) {
     return module->has_range != 0;
 }
 
+static uint64_t sum_of(uint64_t sum, const void *bytes, size_t length) {
+    for (size_t i = 0; i < length; i++) sum = (sum ^ ((const unsigned char *)bytes)[i]) * 0x100000001b3;
+    return sum;
+}
+
+uint64_t dwcheck_dl_checksum(const struct dl_phdr_info *info) {
+    enum { MOST = 4096 };
+    uint64_t sum = sum_of(0xcbf29ce484222325, info->dlpi_phdr, info->dlpi_phnum * sizeof *info->dlpi_phdr);
+    for (size_t i = 0; i < info->dlpi_phnum; i++) {
+        const ElfW(Phdr) *segment = &info->dlpi_phdr[i];
+        uintptr_t first = info->dlpi_addr + segment->p_vaddr, end = end_of_segment(info, first);
+        if (segment->p_type == PT_NOTE && end != 0 && segment->p_filesz <= end - first)
+            sum = sum_of(sum, (const void *)first, segment->p_filesz < MOST ? segment->p_filesz : MOST);
+    }
+    struct bytes section = eh_frame(info);
+    sum = sum_of(sum, section.first, section.length < MOST ? section.length : MOST);
+    return sum_of(sum, info->dlpi_name, strlen(info->dlpi_name));
+}
+
+/* Whether a file is the one that was loaded: its segments and its notes are those in memory. */
+static int is_loaded(struct bytes file, const struct dl_phdr_info *info) {
+    const ElfW(Ehdr) *header = (const void *)file.first;
+    size_t size = info->dlpi_phnum * sizeof *info->dlpi_phdr;
+    if (file.length < sizeof *header || header->e_phnum != info->dlpi_phnum || !is_inside(file, header->e_phoff, size)
+        || memcmp(file.first + header->e_phoff, info->dlpi_phdr, size) != 0)
+        return 0;
+    for (size_t i = 0; i < info->dlpi_phnum; i++) {
+        const ElfW(Phdr) *segment = &info->dlpi_phdr[i];
+        uintptr_t first = info->dlpi_addr + segment->p_vaddr, end = end_of_segment(info, first);
+        if (segment->p_type == PT_NOTE && end != 0 && segment->p_filesz <= end - first
+            && (!is_inside(file, segment->p_offset, segment->p_filesz)
+                || memcmp(file.first + segment->p_offset, (const void *)first, segment->p_filesz) != 0))
+            return 0;
+    }
+    return 1;
+}
+
+/* Adds the module with this section, which is .debug_frame if its address is 0. */
+static uint32_t add_section(dwcheck_process *process, dwcheck_module *module, struct bytes section, uint64_t address, uint64_t *id) {
+    dwcheck_fault fault;
+    if (section.length == 0) return DWCHECK_NONE;
+    module->kind = address == 0 ? DWCHECK_DEBUG_FRAME : DWCHECK_EH_FRAME;
+    module->section_address = address;
+    module->frame = section.first;
+    module->frame_length = section.length;
+    return dwcheck_process_add(process, module, id, &fault);
+}
+
 uint32_t dwcheck_dl_add(dwcheck_process *process, const struct dl_phdr_info *info, const char *name, uint64_t *id) {
     dwcheck_module module = {.load_address = info->dlpi_addr, .cookie = (uintptr_t)name, .room = SIZE_MAX,
                              .order = DWCHECK_LITTLE, .address_size = sizeof(void *)};
     if (!set_range(&module, info)) return DWCHECK_NONE;
     struct bytes section = eh_frame(info), file = {NULL, 0}, other = {NULL, 0};
+    uint64_t address = (uintptr_t)section.first - info->dlpi_addr;
     if (info->dlpi_name[0] == 0) file = map_file(DWCHECK_DL_PROGRAM);
     else if (name[0] == '/') file = map_file(name); /* the vDSO has no file, and its name no folder */
-    if (file.first != NULL) other = debug_frame(file);
-    if (other.length > section.length) {
-        section = other;
-    } else {
-        module.kind = DWCHECK_EH_FRAME;
-        module.section_address = (uintptr_t)section.first - info->dlpi_addr;
-    }
-    module.frame = section.first;
-    module.frame_length = section.length;
-    dwcheck_fault fault;
-    uint32_t status = section.length > 0 ? dwcheck_process_add(process, &module, id, &fault) : DWCHECK_NONE;
+    if (file.first != NULL && is_loaded(file, info)) other = debug_frame(file);
+    uint32_t status = DWCHECK_REFUSED;
+    if (other.length > section.length) status = add_section(process, &module, other, 0, id);
+    if (status == DWCHECK_REFUSED) status = add_section(process, &module, section, address, id);
     if (file.first != NULL) munmap((void *)file.first, file.length);
     return status;
 }

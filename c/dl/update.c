@@ -94,17 +94,8 @@ static const char *name_of(const struct dl_phdr_info *info) {
     return kept_name(program);
 }
 
-/* A number that differs, in all likelihood, between two files that are loaded at the same place. */
-static uint64_t checksum_of(const struct dl_phdr_info *info) {
-    uint64_t sum = 0xcbf29ce484222325;
-    const unsigned char *bytes = (const void *)info->dlpi_phdr;
-    for (size_t i = 0; i < info->dlpi_phnum * sizeof *info->dlpi_phdr; i++) sum = (sum ^ bytes[i]) * 0x100000001b3;
-    for (const char *name = info->dlpi_name; *name; name++) sum = (sum ^ (unsigned char)*name) * 0x100000001b3;
-    return sum;
-}
-
 static struct seen *find_seen(const struct dl_phdr_info *info) {
-    uint64_t checksum = checksum_of(info);
+    uint64_t checksum = dwcheck_dl_checksum(info);
     for (size_t i = 0; i < seen_count; i++)
         if (seen[i].address == info->dlpi_addr && seen[i].segments == info->dlpi_phdr && seen[i].checksum == checksum)
             return &seen[i];
@@ -126,7 +117,9 @@ struct update {
    others can be removed before new ones are added at their addresses. */
 static int look(struct dl_phdr_info *info, size_t size, void *data) {
     struct update *update = data;
-    if (size >= offsetof(struct dl_phdr_info, dlpi_subs) + sizeof info->dlpi_subs)
+    /* If a module comes or goes between the two looks, the counts of the first one are old, and the next
+       update looks again. */
+    if (update->is_first_look && size >= offsetof(struct dl_phdr_info, dlpi_subs) + sizeof info->dlpi_subs)
         update->adds = info->dlpi_adds, update->subs = info->dlpi_subs;
     struct seen *old = find_seen(info);
     if (old) old->is_there = 1;
@@ -139,7 +132,7 @@ static int look(struct dl_phdr_info *info, size_t size, void *data) {
         return 1;
     }
     struct seen *new = &seen[seen_count];
-    *new = (struct seen){info->dlpi_addr, checksum_of(info), 0, info->dlpi_phdr, 0, 1};
+    *new = (struct seen){info->dlpi_addr, dwcheck_dl_checksum(info), 0, info->dlpi_phdr, 0, 1};
     uint32_t status = dwcheck_dl_add(update->process, info, name, &new->id);
     if (status == DWCHECK_NO_MEMORY) {
         update->status = status;

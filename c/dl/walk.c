@@ -16,13 +16,10 @@
 /* DWARF's numbers on x86-64: 0 to 15 for the general-purpose registers, 16 for the return address. */
 enum { RBX = 3, RBP = 6, RSP = 7, R12 = 12, R13 = 13, R14 = 14, R15 = 15, RIP = 16, REGISTERS = 17 };
 
-/* ---- the stack */
+/* ---- which memory can be read. Nothing of it is remembered from one walk to the next, since a program may
+   unmap what was a stack. */
 
-enum { PAGE = 4096, RED_ZONE = 128, MOST_PAGES = 65536, COUNT_BITS = 19 };
-
-/* Pages in a row, without a gap, that can be read: the number of the first one, and in the lowest bits
-   how many there are. Both are written at once, since a signal handler may read and change them. */
-static _Thread_local __attribute__((tls_model("initial-exec"))) volatile uint64_t known_pages;
+enum { PAGE = 4096, RED_ZONE = 128, FIRST_PAGES = 2, MORE_PAGES = 16, MOST_PAGES = 2048 };
 
 /* Whether the page with this number can be read. The kernel reads the new mask before it finds that the
    first argument is none that it knows. So nothing changes, and the error says whether it could read. */
@@ -35,48 +32,108 @@ static int is_readable(uint64_t page) {
     return !is_fault;
 }
 
-dwcheck_block dwcheck_dl_stack(uint64_t address) {
-    uint64_t known = known_pages, first = known >> COUNT_BITS, end = first + (known & ((1 << COUNT_BITS) - 1));
-    uint64_t page = address / PAGE;
-    if (page < first || page >= end) {
-        uint64_t next = page;
-        while (next - page < MOST_PAGES && next != first && is_readable(next)) next++;
-        /* Where the pages go on to those that are known, they end where these end. */
-        if (next != first || end - page > MOST_PAGES) end = next;
-        known_pages = page << COUNT_BITS | (end - page);
+/* How many pages from `page` on can be read, at most `most`. */
+static uint64_t count_readable(uint64_t page, uint64_t most) {
+    uint64_t count = 0;
+    while (count < most && is_readable(page + count)) count++;
+    return count;
+}
+
+/* The memory from an address on, of at most so many pages. */
+static dwcheck_block block_at(uint64_t address, uint64_t most) {
+    static const uint8_t nothing;
+    uint64_t count = count_readable(address / PAGE, most);
+    if (count == 0) return (dwcheck_block){address, &nothing, 0};
+    return (dwcheck_block){address, (const uint8_t *)(uintptr_t)address, (address / PAGE + count) * PAGE - address};
+}
+
+dwcheck_block dwcheck_dl_stack(uint64_t address) { return block_at(address, MOST_PAGES); }
+
+static uint64_t end_of(const dwcheck_block *block) { return block->base + block->length; }
+
+/* The memory of a frame with this stack pointer, with the red zone if it may have one. After an overflow
+   the stack pointer is in pages that can't be read, and the frame's caller is above them. */
+static dwcheck_block stack_from(uint64_t pointer, uint64_t red_zone) {
+    enum { OVERFLOW_PAGES = 256 };
+    dwcheck_block block = block_at(pointer - red_zone, FIRST_PAGES);
+    if (end_of(&block) <= pointer) block = block_at(pointer, FIRST_PAGES);
+    for (uint64_t page = pointer / PAGE + 1, i = 0; block.length == 0 && i < OVERFLOW_PAGES; i++)
+        block = block_at((page + i) * PAGE, FIRST_PAGES);
+    return block;
+}
+
+/* Makes a block longer, so that it has what lies below this canonical frame address, or if that isn't known,
+   by some pages. Returns whether it is longer now. */
+static int extend(dwcheck_block *block, const dwcheck_answer *cfa) {
+    uint64_t end = end_of(block), pages = MORE_PAGES;
+    if (cfa->kind == DWCHECK_ANSWER_VALUE) {
+        if (cfa->value <= end) return 0;
+        pages = (cfa->value - end) / PAGE + FIRST_PAGES;
     }
-    return (dwcheck_block){address, (const uint8_t *)(uintptr_t)address, end > page ? end * PAGE - address : 0};
+    if (end % PAGE != 0 || pages > MOST_PAGES) return 0;
+    uint64_t count = count_readable(end / PAGE, pages);
+    block->length += count * PAGE;
+    return count != 0;
 }
 
 /* ---- walks */
 
-/* Whether a frame at this address, which a row covers, is where a signal handler returns to: the code
-   that makes the system call rt_sigreturn. The frame after it was interrupted, and isn't at a call. */
-static int is_signal_frame(const dwcheck_frame *frame) {
+/* Whether a frame is where a signal handler returns to: the code that makes the system call rt_sigreturn.
+   The frame after it was interrupted, and isn't at a call. The row of such code has an expression for the
+   CFA, so that is asked first. The code may have been unmapped since the last update. */
+static int is_signal_frame(const dwcheck_process *process, const dwcheck_frame *frame) {
     static const unsigned char code[] = {0x48, 0xc7, 0xc0, 0x0f, 0, 0, 0, 0x0f, 0x05}; /* mov $15, %rax; syscall */
-    return frame->cfa.kind == DWCHECK_ANSWER_VALUE && memcmp((const void *)(uintptr_t)frame->address, code, sizeof code) == 0;
+    uint64_t page = frame->address / PAGE, last = (frame->address + sizeof code - 1) / PAGE;
+    dwcheck_row row;
+    return frame->cfa.kind == DWCHECK_ANSWER_VALUE && dwcheck_row_at(process, frame->address, &row, NULL, 0) == DWCHECK_DONE
+           && row.cfa.kind == DWCHECK_RULE_VAL_EXPRESSION && is_readable(page) && (last == page || is_readable(last))
+           && memcmp((const void *)(uintptr_t)frame->address, code, sizeof code) == 0;
+}
+
+/* A walk: where it is, and the memory that it may read. */
+struct walk {
+    dwcheck_cursor cursor;
+    dwcheck_state state;
+    dwcheck_block stack;
+};
+
+/* Takes a step. If the return address can't be read, which may be because the memory goes on after the
+   block, tries again with more memory: then the cursor has stayed where it was. */
+static uint32_t step(struct walk *walk, const dwcheck_process *process, dwcheck_frame *frame) {
+    for (;;) {
+        uint32_t stage = walk->cursor.stage, status = dwcheck_cursor_step(process, &walk->cursor, &walk->state, frame);
+        if (status != DWCHECK_DONE || walk->cursor.stage != DWCHECK_STOP_RETURN_UNREADABLE + 1 || !extend(&walk->stack, &frame->cfa))
+            return status;
+        walk->cursor.stage = stage;
+    }
+}
+
+/* Prepares for the frame after this one, whose stack pointer may be on another stack: a signal handler may
+   run on a stack of its own, and what it interrupted may have a red zone. */
+static void prepare(struct walk *walk, const dwcheck_process *process, const dwcheck_frame *frame) {
+    int is_signal = is_signal_frame(process, frame);
+    uint64_t pointer = walk->cursor.contents[RSP];
+    if (is_signal && walk->cursor.stage == DWCHECK_CURSOR_CALLER) walk->cursor.stage = DWCHECK_CURSOR_EXACT;
+    if (is_signal || pointer < walk->stack.base || pointer > end_of(&walk->stack))
+        walk->stack = stack_from(pointer, is_signal ? RED_ZONE : 0);
 }
 
 /* Walks from the frame with these registers, of which those are known that have a bit in `known`. Leaves
    out the first `skipped` frames, and writes the addresses of the others. */
-static int walk(const uint64_t registers[REGISTERS], const uint8_t known[3], int skipped, void **addresses, int size) {
+static int walk_from(const uint64_t registers[REGISTERS], const uint8_t known[3], int skipped, void **addresses, int size) {
     static const uint16_t kept[] = {RBX, RBP, R12, R13, R14, R15};
-    dwcheck_block stack = dwcheck_dl_stack(registers[RSP] - RED_ZONE);
-    if (stack.length == 0) stack = dwcheck_dl_stack(registers[RSP]);
-    dwcheck_state state = {.contents = registers, .contents_length = REGISTERS, .known = known, .known_length = 3,
-                           .blocks = &stack, .blocks_length = 1, .kept = kept, .kept_length = sizeof kept / sizeof *kept,
-                           .stack_pointer = RSP, .has_stack_pointer = 1};
-    dwcheck_cursor cursor;
+    struct walk walk;
+    walk.stack = stack_from(registers[RSP], RED_ZONE);
+    walk.state = (dwcheck_state){.contents = registers, .contents_length = REGISTERS, .known = known, .known_length = 3,
+                                 .blocks = &walk.stack, .blocks_length = 1, .kept = kept,
+                                 .kept_length = sizeof kept / sizeof *kept, .stack_pointer = RSP, .has_stack_pointer = 1};
     dwcheck_frame frame;
     dwcheck_fault fault;
     int count = 0;
     const dwcheck_process *process = dwcheck_dl_begin();
-    if (dwcheck_cursor_init(&cursor, registers[RIP], &state, 1, &fault) == DWCHECK_DONE)
-        while (count < size && dwcheck_cursor_step(process, &cursor, &state, &frame) == DWCHECK_DONE) {
-            /* A signal handler may run on a stack of its own. */
-            uint64_t top = cursor.contents[RSP];
-            if (top - stack.base >= stack.length) stack = dwcheck_dl_stack(top);
-            if (is_signal_frame(&frame) && cursor.stage == DWCHECK_CURSOR_CALLER) cursor.stage = DWCHECK_CURSOR_EXACT;
+    if (dwcheck_cursor_init(&walk.cursor, registers[RIP], &walk.state, 1, &fault) == DWCHECK_DONE)
+        while (count < size && step(&walk, process, &frame) == DWCHECK_DONE) {
+            if (walk.cursor.stage <= DWCHECK_CURSOR_CALLER) prepare(&walk, process, &frame);
             if (skipped > 0) skipped--;
             else addresses[count++] = (void *)(uintptr_t)frame.address;
         }
@@ -91,7 +148,7 @@ int dwcheck_dl_backtrace_from(const void *context, void **addresses, int size) {
     const ucontext_t *interrupted = context;
     uint64_t registers[REGISTERS];
     for (int i = 0; i < REGISTERS; i++) registers[i] = (uint64_t)interrupted->uc_mcontext.gregs[places[i]];
-    return walk(registers, known, 0, addresses, size);
+    return walk_from(registers, known, 0, addresses, size);
 }
 
 /* It isn't inlined, so that its own frame is the one that is left out. */
@@ -111,7 +168,7 @@ __attribute__((noinline)) int dwcheck_dl_backtrace(void **addresses, int size) {
                      :
                      : "r"(registers)
                      : "rax", "memory");
-    int count = walk(registers, known, 1, addresses, size);
+    int count = walk_from(registers, known, 1, addresses, size);
     __asm__ volatile("" ::: "memory"); /* so that the call above isn't a jump */
     return count;
 }

@@ -1,14 +1,15 @@
 /* dwcheck-dl: walks the stacks of the running process with the library dwcheck. It finds the modules
-   that the loader has mapped (the program, its libraries, the vDSO) and their tables, and notices
-   which modules have come and gone. It is plain C over the calls of dwcheck.h, for x86-64 Linux with
+   that the loader has mapped (the program, its libraries, the vDSO; not those of other namespaces, which
+   dlmopen makes) and their tables, and notices which modules have come and gone. It is plain C over the calls of dwcheck.h, for x86-64 Linux with
    glibc. It is tested and not proved.
 
    A program calls dwcheck_dl_update once at its beginning, and again after dlopen and dlclose. From
    then on any thread may walk at any time, also in a signal handler, and also while another thread
    updates.
 
-   Of each module the .eh_frame section is used, which lies in memory. If the file has a .debug_frame
-   section that is longer, that one is used instead. It is read from the file.
+   Of each module the .eh_frame section is used, which lies in memory. If the module's file is still the
+   one that was loaded, and has a .debug_frame section that is longer and isn't refused, that one is used
+   instead.
 
    To link: cc .. -ldwcheck-dl -ldwcheck */
 #ifndef DWCHECK_DL_H
@@ -25,14 +26,14 @@ typedef struct dwcheck_dl_counts { uint32_t modules, added, removed, left_out; }
 
 /* Adds the modules that the loader has mapped since the last call, and removes those that are gone.
    If none came or went, the call returns at once. `counts` may be NULL. Returns DWCHECK_DONE; or
-   DWCHECK_NO_MEMORY, and then the modules are those of before. The call takes a lock and allocates, so
-   neither a signal handler nor the child of a fork in a program with threads may make it. A module
-   that walks may meet must not be unmapped during a call. */
+   DWCHECK_NO_MEMORY: then some may have been added or removed, and the next update does the rest. The
+   call takes a lock and allocates, so neither a signal handler nor the child of a fork in a program with
+   threads may make it. The loader keeps its modules while the call looks at them. */
 uint32_t dwcheck_dl_update(dwcheck_dl_counts *counts);
 
 /* The modules of the last update, for the calls of dwcheck.h that read a process. They are valid until
    the same thread calls dwcheck_dl_end. Each dwcheck_dl_begin needs one dwcheck_dl_end, or else no
-   table is freed any more. Before the first update there are no modules. Signal handlers may make
+   table is freed any more; so a walk mustn't be left by siglongjmp. Before the first update there are no modules. Signal handlers may make
    both calls. The cookie of a module is a pointer to the name of its file, which is never freed. */
 const dwcheck_process *dwcheck_dl_begin(void);
 void dwcheck_dl_end(void);
@@ -46,10 +47,10 @@ int dwcheck_dl_backtrace(void **addresses, int size);
    its handler. The first address is that of the interrupted instruction. */
 int dwcheck_dl_backtrace_from(const void *context, void **addresses, int size);
 
-/* The part of the calling thread's stack that may be read, from `address` up to the end of the pages
-   that are mapped without a gap, as a block for a walk. It has length 0 if the address can't be read.
-   The end is remembered for each thread, so only the first call takes time. Nothing may unmap that
-   memory during a walk. Signal handlers may make the call. */
+/* The memory that can be read from `address` on, as a block for a walk: up to the end of the pages without
+   a gap, at most 2,048 of them (8 MB). It has length 0 if the address can't be read. Takes a system call
+   for each page. Nothing may unmap that memory before the walk is done. Signal handlers may make the
+   call. */
 dwcheck_block dwcheck_dl_stack(uint64_t address);
 
 #ifdef __cplusplus

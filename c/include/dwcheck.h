@@ -367,7 +367,7 @@ typedef struct dwcheck_reader {
 /* Steps as dwcheck_cursor_step does, but asks `reader` for the words that the step needs: of another
    process, a core file, a target behind a protocol. The blocks of `state` aren't used. This call is C
    over the proved ones, which see the bytes that were read (c/read.c). In a rule whose expression has
-   branches, only what is read before the first branch is asked for. `read` may leave the call by
+   branches or over 256 bytes, only what is read before the first branch, or nothing, is asked for. `read` may leave the call by
    longjmp, and then the cursor is as it was. The call allocates only as dwcheck_evaluate does. */
 uint32_t dwcheck_cursor_step_with(const dwcheck_process *process, dwcheck_cursor *cursor, const dwcheck_state *state,
                                   const dwcheck_reader *reader, dwcheck_frame *frame);

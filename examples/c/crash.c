@@ -78,7 +78,9 @@ static void on_crash(int signal, siginfo_t *why, void *context) {
         registers[16] = *(const uint64_t *)(uintptr_t)registers[7];
         registers[7] += 8;
     }
-    stack = dwcheck_dl_stack(registers[7] - RED_ZONE);
+    /* After an overflow the stack pointer is in a page that can't be read. */
+    uint64_t at = registers[7] - RED_ZONE;
+    for (int i = 0; i < 256 && (stack = dwcheck_dl_stack(at)).length == 0; i++) at = (at | 4095) + 1;
     state = state_of(registers, &stack);
     size_t count = 0;
     uint32_t stop;

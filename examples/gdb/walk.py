@@ -102,11 +102,12 @@ def frames(path):
                   stack_pointer=STACK_POINTER, has_stack_pointer=1)
     reader, cursor, frame = Reader(read=READ(read), order=LITTLE, address_size=8), Cursor(), Frame()
     library.dwcheck_cursor_init(c.byref(cursor), u64(contents[16]), c.byref(state), 1, c.byref(Fault()))
-    step = (c.byref(x) for x in (process, cursor, state, reader, frame))
-    step = list(step)
-    while library.dwcheck_cursor_step_with(*step) == DONE:
-        yield frame.address, frame.cfa
-    library.dwcheck_process_close(c.byref(process))
+    step = [c.byref(x) for x in (process, cursor, state, reader, frame)]
+    try:
+        while library.dwcheck_cursor_step_with(*step) == DONE:
+            yield frame.address, frame.cfa
+    finally:
+        library.dwcheck_process_close(c.byref(process))
 
 
 class Dwcheck(gdb.Command):
