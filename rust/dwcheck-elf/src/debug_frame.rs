@@ -8,6 +8,7 @@ use crate::bytes::Cursor;
 use crate::cfi::{name_of, operands, skip, Signing, GNU_ARGS_SIZE, NEGATE_RA_STATE};
 use crate::target::Target;
 use object::elf::EM_AARCH64;
+use std::collections::HashMap;
 use std::ops::Range;
 
 /// A CIE, an FDE, or a record of length 0, as far as it can be read.
@@ -223,22 +224,36 @@ fn args_size(section: &[u8], offset: usize, target: Target) -> Option<Range<u64>
     Some(offset as u64..cursor.at() as u64)
 }
 
-/// The ranges of addresses at which the return address is signed, for an FDE of aarch64.
-pub(crate) fn signed(section: &[u8], cie: &Record, fde: &Record, target: Target) -> Vec<Range<u64>> {
-    let (begin, size) = match fde.kind {
-        Kind::Fde { range: Some(range), .. } => range,
-        _ => return Vec::new(),
+/// The ranges of addresses at which the return address is signed, for all FDEs of a section of aarch64, in
+/// the order of the FDEs. This takes time in proportion to the section's length.
+pub(crate) fn signed(section: &[u8], target: Target) -> Vec<Range<u64>> {
+    let records = records(section, target);
+    let is_cie = |record: &&Record| matches!(record.kind, Kind::Cie { .. });
+    let initial = |cie: &Record| {
+        let factor = code_factor(section, cie, target).unwrap_or(0);
+        let signing = followed(section, Signing::new(0, factor, false), cie, target);
+        (cie.offset as u64, (factor, signing.is_signed()))
     };
-    let follow = |mut signing: Signing, record: &Record| {
-        let program = record.program.clone().unwrap_or(0..0);
-        for one in instructions(section, program, target) {
-            signing.step(one.code, section.get(one.offset + 1..).unwrap_or(&[]), target);
-        }
-        signing
+    let cies: HashMap<u64, (u64, bool)> = records.iter().filter(is_cie).map(initial).collect();
+    let of_fde = |fde: &Record| {
+        let (cie, (begin, size)) = match fde.kind {
+            Kind::Fde { cie, range: Some(range) } => (cie, range),
+            _ => return None,
+        };
+        let (factor, is_signed) = *cies.get(&cie)?;
+        let signing = followed(section, Signing::new(begin, factor, is_signed), fde, target);
+        Some(signing.ranges(begin.saturating_add(size)))
     };
-    let factor = code_factor(section, cie, target).unwrap_or(0);
-    let is_signed = follow(Signing::new(0, factor, false), cie).is_signed();
-    follow(Signing::new(begin, factor, is_signed), fde).ranges(begin.saturating_add(size)).collect()
+    records.iter().filter_map(of_fde).flatten().collect()
+}
+
+/// Follows the instructions of a CIE or an FDE.
+fn followed(section: &[u8], mut signing: Signing, record: &Record, target: Target) -> Signing {
+    let program = record.program.clone().unwrap_or(0..0);
+    for one in instructions(section, program, target) {
+        signing.step(one.code, section.get(one.offset + 1..).unwrap_or(&[]), target);
+    }
+    signing
 }
 
 /// The code alignment factor of a CIE.

@@ -4,7 +4,7 @@
 //! [`Module`](dwcheck_lint::module::Module), which [`dwcheck_lint::lint`] judges.
 
 use crate::alone::accepted;
-use crate::bridge::{EhFrame, Options};
+use crate::bridge::{Options, RecordKind};
 use crate::frames::{Frames, Name};
 use crate::functions::Functions;
 use crate::image::{Image, Part};
@@ -17,7 +17,9 @@ use dwcheck_lint::module::{Convention, Module, Segment};
 use dwcheck_lint::table::{Cfa, Fde, Row, Rows, Rule};
 use gimli::{CallFrameInstruction, CieOrFde, EndianSlice, Pointer, RunTimeEndian, UnwindSection};
 use std::cell::RefCell;
+use std::collections::HashSet;
 use std::fmt;
+use std::ops::Range;
 
 type Bytes<'a> = EndianSlice<'a, RunTimeEndian>;
 type Header<'a> = gimli::FrameDescriptionEntry<Bytes<'a>>;
@@ -117,17 +119,44 @@ fn convention(program: &Program<'_>, functions: &Functions<'_>) -> Convention {
 
 /// The FDEs of a section.
 fn fdes(frames: &Frames<'_>, module: &Module<'_>) -> Vec<Fde> {
+    let signs = Signs::of(frames.bridged().signed());
     if frames.name() == Name::EhFrame {
-        return eh_frame_fdes(&frames.eh_frame(), module);
+        return eh_frame_fdes(frames, module, &signs);
     }
     let ranges = frames.bridged().records().iter().filter_map(|record| record.kind.range());
-    ranges.map(|range| Fde { begin: range.start, end: range.end, ..Fde::default() }).collect()
+    ranges
+        .map(|Range { start: begin, end }| Fde { begin, end, signed: signs.of_fde(begin, end), ..Fde::default() })
+        .collect()
+}
+
+/// The ranges of addresses at which the return address is signed, in all FDEs of a section, ascending.
+struct Signs(Vec<Range<u64>>);
+
+impl Signs {
+    fn of(ranges: &[Range<u64>]) -> Self {
+        let mut ranges = ranges.to_vec();
+        ranges.sort_by_key(|range| range.start);
+        Signs(ranges)
+    }
+
+    /// Those in an FDE.
+    fn of_fde(&self, begin: u64, end: u64) -> Vec<Range<u64>> {
+        let first = self.0.partition_point(|range| range.start < begin);
+        self.0[first..].iter().take_while(|range| range.start < end).cloned().collect()
+    }
 }
 
 /// The FDEs of `.eh_frame`, with what only their headers have.
-fn eh_frame_fdes(section: &EhFrame<'_>, module: &Module<'_>) -> Vec<Fde> {
+fn eh_frame_fdes(frames: &Frames<'_>, module: &Module<'_>, signs: &Signs) -> Vec<Fde> {
+    let (section, bridged) = (frames.eh_frame(), frames.bridged());
+    let signals = bridged.records().iter().filter_map(|record| match record.kind {
+        RecordKind::Fde { begin, signal: true, .. } => Some(begin),
+        _ => None,
+    });
+    let signals: HashSet<u64> = signals.collect();
+    let bytes = bridged.comparable(section.bytes);
     let bases = section.bases();
-    let mut read = gimli::EhFrame::new(section.bytes, section.target.gimli_order());
+    let mut read = gimli::EhFrame::new(&bytes, section.target.gimli_order());
     read.set_address_size(section.target.address_size.bytes());
     let mut entries = read.entries(&bases);
     let mut fdes = Vec::new();
@@ -144,8 +173,9 @@ fn eh_frame_fdes(section: &EhFrame<'_>, module: &Module<'_>) -> Vec<Fde> {
                 _ => Vec::new(),
             };
             let argument_bytes = argument_bytes(&header, header.instructions(&read, &bases));
-            let end = begin.saturating_add(header.len());
-            fdes.push(Fde { begin, end, is_signal: header.is_signal_trampoline(), landings, argument_bytes });
+            let (end, is_signal) = (begin.saturating_add(header.len()), signals.contains(&begin));
+            let signed = signs.of_fde(begin, end);
+            fdes.push(Fde { begin, end, is_signal, landings, argument_bytes, signed });
         }
     }
     fdes

@@ -90,8 +90,7 @@ fn signed_return_addresses() {
         let program = Program::read(&bytes).unwrap();
         let frames = Frames::all(&program, Options::default()).next().unwrap().unwrap();
         assert_eq!(frames.name(), name);
-        let expected = if name == Name::EhFrame { vec![0x1004..0x100c, 0x1010..0x1014] } else { Vec::new() };
-        assert_eq!(frames.bridged().signed(), expected);
+        assert_eq!(frames.bridged().signed(), [0x1004..0x100c, 0x1010..0x1014]);
     }
 }
 

@@ -255,6 +255,80 @@ fn code_for_aarch64() {
     assert_eq!((unlinked.status, linked.status), (1, 1));
 }
 
+/// A function for aarch64 whose rows say nothing of its signature, and one with right rows and the other key.
+const SIGNED: &str = ".text
+.globl wrong
+.type wrong, @function
+wrong: .cfi_startproc
+ paciasp
+ stp x29, x30, [sp, #-16]!
+ .cfi_def_cfa_offset 16
+ .cfi_offset x29, -16
+ .cfi_offset x30, -8
+ mov x0, #1
+ ldp x29, x30, [sp], #16
+ .cfi_restore x29
+ .cfi_restore x30
+ .cfi_def_cfa_offset 0
+ autiasp
+ ret
+ .cfi_endproc
+.size wrong, .-wrong
+right: .cfi_startproc
+ .cfi_b_key_frame
+ pacibsp
+ .cfi_negate_ra_state
+ mov x0, #2
+ cbz x1, 1f
+ .cfi_remember_state
+ autibsp
+ .cfi_negate_ra_state
+ ret
+1: .cfi_restore_state
+ autibsp
+ .cfi_negate_ra_state
+ ret
+ .cfi_endproc
+";
+
+/// The return address is signed after `paciasp`, and no row says so.
+#[test]
+fn return_addresses_that_are_signed() {
+    if !has("aarch64-linux-gnu-gcc") {
+        return;
+    }
+    let folder = Folder::new("lint-signed");
+    for section in [".eh_frame", ".debug_frame"] {
+        folder.write("a.s", format!(".cfi_sections {}\n{}", section, SIGNED));
+        folder.run("aarch64-linux-gnu-gcc -c a.s && aarch64-linux-gnu-gcc -nostdlib -shared a.s -o a.so");
+        for (file, place) in [("a.o", ".text+0x4"), ("a.so", "0x")] {
+            let ran = dwcheck_elf(&folder, &format!("lint {}", file));
+            let lines = ran.lines();
+            let expected = format!("{}: return address signing at wrong+0x4 ({}", file, place);
+            assert!(lines[0].starts_with(&expected), "{}", ran.out);
+            let what = ": backtrace broken: the row says that the return address isn't signed, 4 addresses";
+            assert!(lines[0].ends_with(what), "{}", ran.out);
+            assert_eq!(lines[4].trim(), "code: x30=x30 signed; right would be: .cfi_negate_ra_state");
+            assert_eq!(lines[5..], [format!("{}: fdes 2 instructions 13 judged 13", file)], "{}", ran.out);
+        }
+    }
+}
+
+/// What gcc writes with return addresses that are signed.
+#[test]
+fn nothing_is_found_in_programs_that_sign() {
+    if !has("aarch64-linux-gnu-gcc") {
+        return;
+    }
+    let folder = Folder::new("lint-signs");
+    folder.write("a.c", C);
+    for options in ["-O0 -mbranch-protection=standard", "-O2 -mbranch-protection=pac-ret+leaf+b-key"] {
+        folder.run(&format!("aarch64-linux-gnu-gcc -w {0} a.c -o a && aarch64-linux-gnu-gcc -w {0} -c a.c", options));
+        let ran = dwcheck_elf(&folder, "lint a a.o");
+        assert_eq!((ran.status, ran.error.as_str()), (0, ""), "{}{}", options, ran.out);
+    }
+}
+
 #[test]
 fn code_of_other_machines_is_not_read() {
     if !has("arm-linux-gnueabihf-gcc") {

@@ -4,6 +4,7 @@
 //! highest and lowest bits, as the architecture's manual numbers them.
 
 mod memory;
+mod signing;
 mod text;
 
 use crate::instruction::{Condition, Effect, Instruction, Scale, Target};
@@ -254,13 +255,14 @@ impl Word {
         }
     }
 
-    /// Hints, among which are the signing and the authentication of the return address, which don't
-    /// change it for an unwinder; and registers of the system.
+    /// Hints, among which are the signing and the authentication of the return address, and registers of the
+    /// system.
     fn system(self) -> Effect {
         match self.0 {
             0xd503_201f => Effect::Padding,
             // `dsb sy`, `isb` and `sb`, which hand-written code has after each return.
             0xd503_3f9f | 0xd503_3fdf | 0xd503_30ff => Effect::Padding,
+            _ if self.bits(31, 12) == 0xd5032 && self.bits(4, 0) == 0b11111 => self.hint(),
             _ if self.bit(21) => written(self.general(0)),
             _ => Effect::Nothing,
         }
@@ -276,8 +278,7 @@ impl Word {
             (0b11010, 0b000) if self.bits(15, 10) != 0 => Effect::Nothing,
             (0b11010, 0b010) => Effect::Nothing,
             (0b11010, 0b100) => self.select(),
-            // The signing and the authentication of addresses.
-            (0b11010, 0b110) if self.bit(30) && self.bits(20, 16) == 1 => Effect::Nothing,
+            (0b11010, 0b110) if self.bit(30) && self.bits(20, 16) == 1 => self.signing(),
             _ => written(to),
         }
     }

@@ -5,7 +5,7 @@ use crate::machine::Machine;
 use crate::register::Register;
 use crate::state::State;
 use crate::stores::Stores;
-use crate::table::{Cfa, Row, Rule};
+use crate::table::{Cfa, Fde, Row, Rule};
 use crate::value::{Base, Value};
 
 /// The state at the entry of a function that is called.
@@ -27,11 +27,13 @@ pub fn entered(machine: &Machine, row: &Row<'_>) -> State {
     state
 }
 
-/// The state in which a row is right, at an offset in its function. Nothing else is known in it.
-pub fn assumed(machine: &Machine, row: &Row<'_>, offset: u32, address: u64) -> State {
+/// The state in which a row is right at an address, which is at an offset in its FDE. Nothing else is known
+/// in it.
+pub fn assumed(machine: &Machine, row: &Row<'_>, fde: &Fde, offset: u32) -> State {
+    let address = fde.begin.wrapping_add(u64::from(offset));
     let mut assumption = Assumption { machine, offset, state: State::unknown(true) };
     assumption.assume_cfa(row, address);
-    assumption.assume_registers(row);
+    assumption.assume_registers(row, fde.is_signed(address));
     if assumption.state.get(machine.stack_pointer) == Value::Unknown {
         assumption.base_of(machine.stack_pointer);
     }
@@ -83,10 +85,11 @@ impl Assumption<'_> {
         self.state.set(pointer, distance.map_or(Value::Unknown, |distance| Value::from_cfa(distance.wrapping_neg())));
     }
 
-    fn assume_registers(&mut self, row: &Row<'_>) {
+    fn assume_registers(&mut self, row: &Row<'_>, is_signed: bool) {
         let kept = self.machine.kept.iter().copied();
         for register in kept.chain([self.machine.return_address]) {
-            let value = Value::Entry(register);
+            let is_return_address = register == self.machine.return_address;
+            let value = if is_signed && is_return_address { Value::SignedReturn } else { Value::Entry(register) };
             match row.rule(register) {
                 None | Some(Rule::Same) => {
                     let is_free = self.state.get(register) == Value::Unknown;

@@ -164,7 +164,7 @@ impl<'m, 'c> Flow<'m, 'c> {
         match (self.rows.first(), brought.get(&self.fde.begin)) {
             (Some(row), _) if is_called(row) => entered(machine, row),
             (_, Some(state)) => state.clone(),
-            (Some(row), None) => assumed(machine, row, 0, self.fde.begin),
+            (Some(row), None) => assumed(machine, row, self.fde, 0),
             (None, None) => State::unknown(true),
         }
     }
@@ -205,10 +205,9 @@ impl<'m, 'c> Flow<'m, 'c> {
     }
 
     fn assume(&mut self, offset: u32) {
-        let address = self.code.address(offset);
-        if let Some(row) = row_at(&self.rows, address) {
+        if let Some(row) = row_at(&self.rows, self.code.address(offset)) {
             self.region += 1;
-            let state = assumed(self.module.machine, &self.rows[row], offset, address);
+            let state = assumed(self.module.machine, &self.rows[row], self.fde, offset);
             self.follow(offset, &state);
         }
     }
@@ -276,7 +275,16 @@ impl<'m, 'c> Flow<'m, 'c> {
     /// Compares a row with a state.
     pub fn verdict(&self, row: &Row<'_>, state: &State, address: u64) -> Verdict {
         let (machine, convention) = (self.module.machine, self.module.convention);
-        Judge { machine, convention, state, stores: &self.stores, said: self.said }.verdict(row, address)
+        let is_signed = self.is_signed(address);
+        Judge { machine, convention, state, stores: &self.stores, said: self.said, is_signed }.verdict(row, address)
+    }
+
+    /// Whether the return address is signed at an address of this FDE or of another, as they say.
+    pub fn is_signed(&self, address: u64) -> bool {
+        match self.fde.contains(address) {
+            true => self.fde.is_signed(address),
+            false => self.module.is_signed(address),
+        }
     }
 
     /// What a row that is judged says wrongly of a state. Empty if the row isn't judged.

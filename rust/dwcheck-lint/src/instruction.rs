@@ -141,6 +141,13 @@ pub enum Effect {
     /// Sets a register to the bits of another one that are in a mask, which rounds it down if it is an
     /// address. The mask is `None` if it isn't known.
     Align { to: Register, from: Register, mask: Option<i64> },
+    /// Signs the address in a register by the value of another one, which the stack pointer has to be for a
+    /// return address. `by` is `None` if it is something else.
+    Sign { to: Register, by: Option<Register> },
+    /// Takes the signature off an address, and checks that it is the one of the value of another register.
+    Authenticate { to: Register, by: Option<Register> },
+    /// Takes the signature off an address, if it has one.
+    Strip { to: Register },
     /// Loads a whole register.
     Load { to: Register, from: Place },
     /// Loads an entry of a table: at `offset` plus the base, if there is one, plus an index times the
@@ -253,6 +260,9 @@ impl Effect {
             | Effect::Derive { to, .. }
             | Effect::Align { to, .. }
             | Effect::Insert { to, .. }
+            | Effect::Sign { to, .. }
+            | Effect::Authenticate { to, .. }
+            | Effect::Strip { to }
             | Effect::Load { to, .. }
             | Effect::LoadEntry { to, .. }
             | Effect::Pop { to } => Registers::of(&[to.0]),

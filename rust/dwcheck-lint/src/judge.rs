@@ -93,6 +93,9 @@ pub enum WrongRule {
     Overwritten,
     /// The value is elsewhere.
     Elsewhere,
+    /// The return address is there, and it is signed though the row says that it isn't, or the other way
+    /// around.
+    Signing,
 }
 
 /// The result of comparing a row with what is known.
@@ -104,6 +107,8 @@ pub struct Verdict {
     pub unknown: Facts,
     /// How the CFA is wrong.
     pub cfa: Option<WrongCfa>,
+    /// How the rule of the return address is wrong.
+    pub return_address: Option<WrongRule>,
     /// How the rules of the registers are wrong.
     pub rules: [Option<WrongRule>; MOST_KEPT],
 }
@@ -168,6 +173,8 @@ pub struct Judge<'a> {
     pub stores: &'a Stores,
     /// What the rows of the FDE speak of.
     pub said: Said,
+    /// Whether the row says that the return address is signed.
+    pub is_signed: bool,
 }
 
 impl Judge<'_> {
@@ -236,7 +243,10 @@ impl Judge<'_> {
         match known {
             Ok(Some(())) => {}
             Ok(None) => verdict.unknown.add(Facts::RETURN_ADDRESS),
-            Err(_) => verdict.wrong.add(Facts::RETURN_ADDRESS),
+            Err(wrong) => {
+                verdict.wrong.add(Facts::RETURN_ADDRESS);
+                verdict.return_address = Some(wrong);
+            }
         }
     }
 
@@ -263,8 +273,8 @@ impl Judge<'_> {
     /// Whether a rule gives a register's entry value. `Ok(None)` if that isn't known.
     fn judge_rule(&self, register: Register, rule: Rule<'_>, context: &Context<'_>) -> Result<Option<()>, WrongRule> {
         match rule {
-            Rule::Same => is_entry(self.state.get(register), register, WrongRule::Changed),
-            Rule::Register(other) => is_entry(self.state.get(other), register, WrongRule::Elsewhere),
+            Rule::Same => self.is_entry(self.state.get(register), register, WrongRule::Changed),
+            Rule::Register(other) => self.is_entry(self.state.get(other), register, WrongRule::Elsewhere),
             Rule::Offset(offset) => self.judge_slot(Value::from_cfa(offset), register),
             Rule::Expression(expression) => {
                 let cfa = Value::from_cfa(0);
@@ -278,20 +288,25 @@ impl Judge<'_> {
         match address {
             Value::Unknown => Ok(None),
             Value::Address { base, offset } => match self.state.slot(base, offset) {
-                Some(value) => is_entry(value, register, WrongRule::Overwritten),
+                Some(value) => self.is_entry(value, register, WrongRule::Overwritten),
                 None if self.state.is_partial(base) || base.is_assumed() || self.stores.has(base, offset) => Ok(None),
                 None => Err(WrongRule::NeverSaved),
             },
             _ => Err(WrongRule::Elsewhere),
         }
     }
-}
 
-/// Whether a value is a register's entry value. `Ok(None)` if that isn't known.
-fn is_entry(value: Value, register: Register, wrong: WrongRule) -> Result<Option<()>, WrongRule> {
-    match value {
-        Value::Unknown => Ok(None),
-        Value::Entry(other) if other == register => Ok(Some(())),
-        _ => Err(wrong),
+    /// Whether a value is a register's entry value, which for the return address may be signed. `Ok(None)`
+    /// if that isn't known.
+    fn is_entry(&self, value: Value, register: Register, wrong: WrongRule) -> Result<Option<()>, WrongRule> {
+        let is_signed = self.is_signed && register == self.machine.return_address;
+        match value {
+            Value::Unknown => Ok(None),
+            Value::Entry(other) if other == register && is_signed => Err(WrongRule::Signing),
+            Value::Entry(other) if other == register => Ok(Some(())),
+            Value::SignedReturn if register == self.machine.return_address && is_signed => Ok(Some(())),
+            Value::SignedReturn if register == self.machine.return_address => Err(WrongRule::Signing),
+            _ => Err(wrong),
+        }
     }
 }

@@ -58,6 +58,8 @@ struct Current {
     row: Option<usize>,
     end: u64,
     unjudged: Option<Unjudged>,
+    /// Whether the FDE says that the return address is signed.
+    is_signed: bool,
     /// The registers on which the verdict depends. `None` if it depends on all.
     watched: Option<Registers>,
     verdict: Verdict,
@@ -103,7 +105,8 @@ impl<'m, 'x> Judging<'m, 'x> {
 
     /// Sets the row of the instruction at an address.
     fn set_row(&mut self, flow: &Flow<'_, '_>, address: u64) {
-        self.current = Current { row: row_at(&flow.rows, address), ..Current::default() };
+        let (row, is_signed) = (row_at(&flow.rows, address), flow.fde.is_signed(address));
+        self.current = Current { row, is_signed, ..Current::default() };
         if let Some(row) = self.current.row.map(|index| &flow.rows[index]) {
             self.current.end = row.end;
             self.current.unjudged = unjudged(flow.module.machine, row);
@@ -218,7 +221,8 @@ impl<'m> Visitor<'m> for Judging<'m, '_> {
         let address = flow.code.address(at);
         self.coverage.instructions += 1;
         self.coverage.assumed += u32::from(state.is_assumed);
-        let is_other_row = before.is_none() || address >= self.current.end;
+        let is_same_row = address < self.current.end && flow.fde.is_signed(address) == self.current.is_signed;
+        let is_other_row = before.is_none() || !is_same_row;
         if is_other_row {
             self.set_row(flow, address);
         }

@@ -55,6 +55,8 @@ kinds! {
     WrongCfa = "wrong CFA",
     /// The return address isn't where the row says.
     ReturnAddress = "return address",
+    /// The row says that the return address is signed where it isn't, or that it isn't where it is.
+    ReturnAddressSigning = "return address signing",
     /// The row says that a register has its value, and it was overwritten.
     RegisterOverwritten = "register overwritten",
     /// The register was never saved where the row says.
@@ -72,6 +74,8 @@ impl Kind {
         let wrong = group.mark.verdict.wrong;
         if wrong.has(Facts::CFA) {
             Kind::of_cfa(module, group)
+        } else if group.mark.verdict.return_address == Some(WrongRule::Signing) {
+            Kind::ReturnAddressSigning
         } else if wrong.has(Facts::RETURN_ADDRESS) {
             Kind::ReturnAddress
         } else if wrong.without(lost).is_empty() {

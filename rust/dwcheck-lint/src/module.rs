@@ -49,6 +49,11 @@ pub struct Module<'a> {
 }
 
 impl<'a> Module<'a> {
+    /// Whether the return address is signed at an address, as the FDEs say.
+    pub fn is_signed(&self, address: u64) -> bool {
+        self.fde_at(address).map_or(false, |fde| self.fdes[fde].is_signed(address))
+    }
+
     /// The bytes from an address to the end of what the file has there. Empty if it has none.
     pub fn bytes_at(&self, address: u64) -> &'a [u8] {
         let count = self.segments.partition_point(|segment| segment.address <= address);

@@ -4,6 +4,7 @@ use crate::coverage::{Coverage, REASONS};
 use crate::finding::Finding;
 use crate::judge::{Facts, WrongCfa};
 use crate::judging::Way;
+use crate::kinds::Kind;
 use crate::machine::Machine;
 use crate::module::Module;
 use crate::register::Register;
@@ -83,6 +84,10 @@ impl Finding<'_> {
             Some(WrongCfa::Clobbered) => "the register of the row's CFA has been overwritten".to_string(),
             Some(WrongCfa::Restored) => "the register of the row's CFA has the caller's value".to_string(),
             Some(WrongCfa::Number) => "the row's CFA is a number".to_string(),
+            None if self.kind == Kind::ReturnAddressSigning => match self.mark.truth.return_address {
+                Some((_, true)) => "the row says that the return address isn't signed".to_string(),
+                _ => "the row says that the return address is signed".to_string(),
+            },
             None => "the row's return address is wrong".to_string(),
         }
     }
@@ -95,13 +100,21 @@ impl Finding<'_> {
                 None => "no register has a known distance from the CFA".to_string(),
             };
         }
-        let kept = machine.kept.iter().enumerate().filter(|(index, _)| self.wrong.has(Facts::kept(*index)));
-        let places = kept.map(|(index, register)| match self.mark.truth.kept.get(index).copied().flatten() {
-            Some(Location::Register(other)) => format!("{}={}", machine.name(*register), machine.name(other)),
-            Some(Location::Slot(offset)) => format!("{}=[c{:+}]", machine.name(*register), offset),
-            None => format!("{} is lost", machine.name(*register)),
-        });
-        places.collect::<Vec<_>>().join(" ")
+        let place = |register, location| match location {
+            Some(Location::Register(other)) => format!("{}={}", machine.name(register), machine.name(other)),
+            Some(Location::Slot(offset)) => format!("{}=[c{:+}]", machine.name(register), offset),
+            None => format!("{} is lost", machine.name(register)),
+        };
+        let truth = &self.mark.truth;
+        let kept = machine.kept.iter().zip(&truth.kept).enumerate();
+        let wrong = kept.filter(|(index, _)| self.wrong.has(Facts::kept(*index)));
+        let mut places: Vec<_> = wrong.map(|(_, (register, location))| place(*register, *location)).collect();
+        if self.mark.verdict.wrong.has(Facts::RETURN_ADDRESS) {
+            let text = place(machine.return_address, truth.return_address.map(|(location, _)| location));
+            let is_signed = truth.return_address.map_or(false, |(_, is_signed)| is_signed);
+            places.insert(0, if is_signed { text + " signed" } else { text });
+        }
+        places.join(" ")
     }
 
     /// The directive that would have made the row right, if one would.
@@ -113,6 +126,7 @@ impl Finding<'_> {
                 }
                 Some(format!(".cfi_def_cfa {}, {}", other.0, offset))
             }
+            _ if self.kind == Kind::ReturnAddressSigning => Some(".cfi_negate_ra_state".to_string()),
             _ => None,
         }
     }

@@ -103,8 +103,9 @@ pub fn is_default_of_switch(code: &Code<'_>, after: u32) -> bool {
 /// the frame that they describe never ends, by no later row that says what the first one of a function does.
 /// LLVM up to 14 writes such for aarch64.
 pub fn has_rows_for_calls(module: &Module<'_>, rows: &[Row<'_>]) -> bool {
-    let mut is_entry = rows.iter().map(|row| is_entry_row(module, row));
-    let has_frame = is_entry.next() == Some(false) || rows.len() > 1;
+    // A function that signs its return address begins with two rows without a frame.
+    let mut is_entry = rows.iter().map(|row| is_entry_row(module, row)).skip_while(|is_entry| *is_entry);
+    let has_frame = is_entry.next().is_some();
     module.machine.has_rows_for_calls && has_frame && !is_entry.any(|is_entry| is_entry)
 }
 

@@ -58,6 +58,11 @@ impl Step<'_> {
             Effect::SubtractRegister { to, from, by } => self.subtract_register(to, from, by),
             Effect::Derive { to, from } => self.derive(to, self.state.get(from)),
             Effect::Align { to, from, mask } => self.align(to, from, mask),
+            Effect::Sign { to, by } => self.sign(to, by, (self.return_address(), Value::SignedReturn)),
+            Effect::Authenticate { to, by } => self.sign(to, by, (Value::SignedReturn, self.return_address())),
+            Effect::Strip { to } if self.state.get(to) == Value::SignedReturn => {
+                self.state.set(to, self.return_address());
+            }
             Effect::Load { to, from } => {
                 let value = self.stores.load(self.state, from);
                 self.set_loaded(to, value);
@@ -107,6 +112,22 @@ impl Step<'_> {
         self.machine.call_writes.iter().for_each(|register| self.state.set(register, Value::Clobbered));
         if let Value::Address { base, offset } = self.state.get(self.machine.stack_pointer) {
             self.state.overwrite_below(base, offset);
+        }
+    }
+
+    fn return_address(&self) -> Value {
+        Value::Entry(self.machine.return_address)
+    }
+
+    /// Signs the return address, which changes the first of these values to the second, or authenticates it.
+    /// Unwinders take the CFA as the number that it is signed by, so the stack pointer has to be there. What
+    /// else becomes of a return address isn't known, and other addresses aren't followed.
+    fn sign(&mut self, to: Register, by: Option<Register>, (before, after): (Value, Value)) {
+        let by_cfa = by.map(|by| self.state.get(by)) == Some(Value::from_cfa(0));
+        match self.state.get(to) {
+            value if value == before && by_cfa => self.state.set(to, after),
+            Value::Entry(_) | Value::SignedReturn => self.state.set(to, Value::Unknown),
+            _ => {}
         }
     }
 

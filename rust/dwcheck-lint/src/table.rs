@@ -1,6 +1,7 @@
 //! Unwind tables, as the lint takes them.
 
 use crate::register::Register;
+use std::ops::Range;
 
 /// A frame description entry: a range of code that has rows.
 #[derive(Clone, Debug, Default, PartialEq, Eq)]
@@ -16,6 +17,8 @@ pub struct Fde {
     /// From which address on how many bytes of arguments are on the stack
     /// (`DW_CFA_GNU_args_size`), ascending.
     pub argument_bytes: Vec<(u64, u64)>,
+    /// At which addresses the return address is signed (`DW_CFA_AARCH64_negate_ra_state`), ascending.
+    pub signed: Vec<Range<u64>>,
 }
 
 /// A range of code whose calls go on at a landing pad if they throw.
@@ -93,6 +96,12 @@ impl Fde {
     /// Whether an address is in the FDE.
     pub fn contains(&self, address: u64) -> bool {
         (self.begin..self.end).contains(&address)
+    }
+
+    /// Whether the return address is signed at an address, as the FDE says.
+    pub fn is_signed(&self, address: u64) -> bool {
+        let count = self.signed.partition_point(|range| range.start <= address);
+        count.checked_sub(1).map_or(false, |last| address < self.signed[last].end)
     }
 
     /// The landing pad of a call at an address.

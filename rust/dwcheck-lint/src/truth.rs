@@ -20,6 +20,8 @@ pub enum Location {
 pub struct Truth {
     /// The CFA, as a register plus an offset, if a register has a known distance from it.
     pub cfa: Option<(Register, i64)>,
+    /// Where the return address is, as far as is known, and whether it is signed there.
+    pub return_address: Option<(Location, bool)>,
     /// Where the entry value of each register is that a function has to give back, as far as is known.
     pub kept: [Option<Location>; MOST_KEPT],
 }
@@ -34,13 +36,18 @@ impl Truth {
         let registers = || machine.followed();
         let preferred = of_row.into_iter().chain([machine.stack_pointer, machine.frame_pointer]).chain(registers());
         let distance = |register| Some((register, state.get(register).cfa_offset()?.checked_neg()?));
+        let find = |register: Register, value: Value| {
+            let holds = |other: &Register| state.get(*other) == value;
+            let in_register = Some(register).filter(holds).or_else(|| registers().find(holds));
+            in_register.map(Location::Register).or_else(|| state.place_of(Base::CFA, value).map(Location::Slot))
+        };
         let mut kept = [None; MOST_KEPT];
         for (place, register) in kept.iter_mut().zip(machine.kept) {
-            let holds = |other: &Register| state.get(*other) == Value::Entry(*register);
-            let in_register = Some(*register).filter(holds).or_else(|| registers().find(holds));
-            let in_slot = || state.place_of(Base::CFA, Value::Entry(*register));
-            *place = in_register.map(Location::Register).or_else(|| in_slot().map(Location::Slot));
+            *place = find(*register, Value::Entry(*register));
         }
-        Truth { cfa: preferred.filter_map(distance).next(), kept }
+        let (address, plain) = (machine.return_address, Value::Entry(machine.return_address));
+        let signed = || find(address, Value::SignedReturn).map(|place| (place, true));
+        let return_address = find(address, plain).map(|place| (place, false)).or_else(signed);
+        Truth { cfa: preferred.filter_map(distance).next(), return_address, kept }
     }
 }

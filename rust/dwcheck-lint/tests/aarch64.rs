@@ -3,7 +3,7 @@
 mod common;
 
 use common::programs::{C, LEVELS};
-use common::{has, kinds, kinds_by, module, Folder};
+use common::{has, kinds, kinds_by, module, readable, Folder};
 use dwcheck_lint::coverage::Reason;
 use dwcheck_lint::lint::lint;
 use dwcheck_lint::machine::Machine;
@@ -296,13 +296,18 @@ fn c_by_clang() {
         case 2: return g(held, 3) * 5; case 3: return 9; case 4: return g(held, 4); default: __builtin_trap(); } }";
     folder.write("a.c", text);
     for level in LEVELS {
-        let line = "clang --target=aarch64-linux-gnu -fuse-ld=lld -nostdlib -shared -funwind-tables -o out a.c";
-        folder.run(&format!("{} -Wno-unused-command-line-argument {}", line, level));
-        let data = folder.bytes("out");
-        let module = module(&data);
-        let report = lint(&module);
-        assert_eq!(kinds(&report), [""; 0], "{}", level);
-        assert!(report.coverage.judged > 0 && report.coverage.skipped(Reason::CallsOnly) > 0, "{}", report.coverage);
+        for option in ["", "-mbranch-protection=standard", "-mbranch-protection=pac-ret+leaf"] {
+            let compiler = "clang --target=aarch64-linux-gnu -Wno-unused-command-line-argument -fPIC";
+            folder.run(&format!("{} -funwind-tables -S {} {} a.c", compiler, level, option));
+            folder.write("a.s", &readable(&String::from_utf8(folder.bytes("a.s")).unwrap()));
+            folder.run(&format!("{} -fuse-ld=lld -nostdlib -shared -o out a.s", compiler));
+            let data = folder.bytes("out");
+            let module = module(&data);
+            let report = lint(&module);
+            let judged = (report.coverage.judged, report.coverage.skipped(Reason::CallsOnly));
+            assert_eq!(kinds(&report), [""; 0], "{} {}", level, option);
+            assert!(judged.0 > 0 && judged.1 > 0, "{} {}: {}", level, option, report.coverage);
+        }
     }
 }
 
@@ -354,4 +359,144 @@ fn text_is_what_objdump_writes() {
         count += 1;
     }
     assert_eq!(count, text.lines().count());
+}
+
+/// A function that signs its return address, and authenticates it before it returns.
+const SIGNS: &str = "paciasp
+    RIGHT .cfi_negate_ra_state
+    stp x29, x30, [sp, #-16]!
+    .cfi_def_cfa_offset 16
+    .cfi_offset x29, -16
+    .cfi_offset x30, -8
+    WRONG .cfi_negate_ra_state
+    blr x1
+    ldp x29, x30, [sp], #16
+    .cfi_restore x29
+    .cfi_restore x30
+    .cfi_def_cfa_offset 0
+    autiasp
+    .cfi_negate_ra_state
+    ret";
+
+/// The row after `paciasp` says that the return address isn't signed.
+#[test]
+fn a_late_row_of_a_signature() {
+    planted("signed", "return address signing", SIGNS);
+}
+
+/// The row after `autiasp` says that it is still signed; and with another key.
+#[test]
+fn a_late_row_of_an_authentication() {
+    let text = SIGNS.replace("WRONG .cfi_negate_ra_state\n", "").replace("RIGHT ", "");
+    let text = text.replace("autiasp\n    .cfi", "autiasp\n    RIGHT .cfi");
+    planted("authenticated", "return address signing", &text);
+    planted("key", "return address signing", &text.replace("iasp", "ibsp").replace("autiasp", "autibsp"));
+}
+
+/// No row speaks of the signature.
+#[test]
+fn a_signature_without_a_row() {
+    let text = SIGNS.replace("WRONG .cfi_negate_ra_state\n", "").replace("    .cfi_neg", "    RIGHT .cfi_neg");
+    planted("unsaid", "return address signing", &text);
+}
+
+/// `retaa` authenticates and returns, so no row follows; and a copy of the signed address is signed.
+#[test]
+fn signatures_that_last_until_the_return() {
+    let text = SIGNS.replace("WRONG .cfi_negate_ra_state\n", "").replace("RIGHT ", "");
+    let text = text.replace("    autiasp\n    .cfi_negate_ra_state\n    ret", "    retaa");
+    quiet("retaa", &format!(".arch armv8.3-a\n{}", text));
+    let copied = "paciasp
+        .cfi_negate_ra_state
+        mov x9, x30
+        .cfi_register x30, x9
+        mov x30, x1
+        mov x30, x9
+        .cfi_restore x30
+        xpaclri
+        .cfi_negate_ra_state
+        mov x0, x30
+        ret";
+    quiet("copied", copied);
+    planted("copied-wrong", "return address signing", &copied.replacen(".cfi_neg", "RIGHT .cfi_neg", 2));
+}
+
+/// What a return address is signed by, if that isn't the CFA, isn't judged; nor are signatures of other
+/// addresses.
+#[test]
+fn signatures_by_other_numbers() {
+    let other = "sub sp, sp, #16
+        .cfi_def_cfa_offset 16
+        paciasp
+        .cfi_negate_ra_state
+        autiasp
+        .cfi_negate_ra_state
+        add sp, sp, #16
+        .cfi_def_cfa_offset 0
+        ret";
+    quiet("by-other", other);
+    quiet("pointer", "mov x17, x1\nmov x16, x2\npacia1716\nstr x17, [x0]\nautia1716\nbr x17");
+}
+
+/// Code that signs, in parts that only jumps reach, and in parts that nothing is seen to reach.
+#[test]
+fn signatures_in_other_parts() {
+    let text = "paciasp
+        .cfi_negate_ra_state
+        stp x29, x30, [sp, #-16]!
+        .cfi_def_cfa_offset 16
+        .cfi_offset x29, -16
+        .cfi_offset x30, -8
+        cbz x0, f.cold
+        ldp x29, x30, [sp], #16
+        .cfi_restore x29
+        .cfi_restore x30
+        .cfi_def_cfa_offset 0
+        autiasp
+        .cfi_negate_ra_state
+        ret
+        nop
+        .cfi_negate_ra_state
+        mov x0, x2
+        autiasp
+        .cfi_negate_ra_state
+        ret
+        .cfi_endproc
+        .section .text.unlikely, \"ax\"
+        nop
+        .cfi_startproc
+        .cfi_def_cfa_offset 16
+        .cfi_offset x29, -16
+        .cfi_offset x30, -8
+        RIGHT .cfi_negate_ra_state
+        f.cold: blr x1
+        brk #1";
+    planted("signed-part", "return address signing", text);
+}
+
+/// What gcc writes with return addresses that are signed.
+#[test]
+fn c_with_signed_return_addresses() {
+    if !has(GCC) {
+        return;
+    }
+    let folder = Folder::new("aarch64-signed");
+    folder.write("a.c", C);
+    for level in LEVELS {
+        for option in
+            ["=standard", "=pac-ret+leaf", "=pac-ret+b-key", "=pac-ret+leaf -march=armv8.3-a -fomit-frame-pointer"]
+        {
+            folder.run(&format!("{} -w {} -mbranch-protection{} -S a.c -o out.s", GCC, level, option));
+            let text = String::from_utf8(folder.bytes("out.s")).unwrap();
+            let readable = readable(&text).replace(".cfi_b_key_frame", "");
+            assert!(readable != text, "{} {}", level, option);
+            folder.write("out.s", &readable);
+            folder.run(&format!("{} out.s -o out", GCC));
+            let data = folder.bytes("out");
+            let module = module(&data);
+            let report = lint(&module);
+            assert_eq!(kinds(&report), [""; 0], "{} {}", level, option);
+            assert!(report.coverage.partly == 0, "{} {}: {:?}", level, option, report.coverage);
+        }
+    }
 }

@@ -25,7 +25,8 @@ pub fn plain(section: &[u8], target: Target, machine: u16) -> Option<Bridged> {
     let harmless = Harmless::of(section, target, machine);
     let mut bridged = without_empty_records(&with_nops(section, &harmless.bytes()), target)?;
     bridged.counts.args_sizes = harmless.args_sizes.len();
-    Some(Bridged { negated: harmless.negations, ..bridged }.without_copies(target))
+    let signed = if harmless.negations.is_empty() { Vec::new() } else { debug_frame::signed(section, target) };
+    Some(Bridged { negated: harmless.negations, signed, ..bridged }.without_copies(target))
 }
 
 /// Copies a section without the records of length 0. `None` if it has 2^32 bytes or more.

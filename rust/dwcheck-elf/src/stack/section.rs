@@ -69,10 +69,7 @@ impl<'a> SectionTable<'a> {
         }
         let bytes = debug_one(&source.bytes, header, target).ok_or("its CIE or it can't be read")?;
         let harmless = Harmless::of(&bytes, target, *machine);
-        let signed = match debug_frame::records(&bytes, target).as_slice() {
-            [cie, fde] if !harmless.negations.is_empty() => debug_frame::signed(&bytes, cie, fde, target),
-            _ => Vec::new(),
-        };
+        let signed = if harmless.negations.is_empty() { Vec::new() } else { debug_frame::signed(&bytes, target) };
         Ok(OneFde { bytes: with_nops(&bytes, &harmless.bytes()).into_owned(), target, is_signal_frame, signed })
     }
 

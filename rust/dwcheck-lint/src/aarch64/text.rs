@@ -8,9 +8,17 @@ const CONDITIONS: [&str; 16] =
     ["eq", "ne", "cs", "cc", "mi", "pl", "vs", "vc", "hi", "ls", "ge", "lt", "gt", "le", "al", "nv"];
 
 /// Hints by the number in them.
-const HINTS: [(u32, &str); 11] = [
+const HINTS: [(u32, &str); 19] = [
     (0, "nop"),
     (7, "xpaclri"),
+    (8, "pacia1716"),
+    (10, "pacib1716"),
+    (12, "autia1716"),
+    (14, "autib1716"),
+    (24, "paciaz"),
+    (26, "pacibz"),
+    (28, "autiaz"),
+    (30, "autibz"),
     (25, "paciasp"),
     (27, "pacibsp"),
     (29, "autiasp"),
@@ -106,6 +114,8 @@ impl Word {
             }
             Effect::JumpIf { target, .. } => Some(self.test_text(target)),
             Effect::Return if self.0 == 0xd65f_03c0 => Some("ret".to_string()),
+            Effect::Return if self.0 == 0xd65f_0bff => Some("retaa".to_string()),
+            Effect::Return if self.0 == 0xd65f_0fff => Some("retab".to_string()),
             Effect::Jump { .. } if self.bits(23, 10) == 0x7c0 => Some(format!("br {}", self.x(5))),
             Effect::Call { .. } if self.bits(23, 10) == 0xfc0 => Some(format!("blr {}", self.x(5))),
             Effect::System { .. } => Some(format!("svc #{:#x}", self.bits(20, 5))),

@@ -16,6 +16,7 @@ use gimli::{
 use object::read::{Object, ObjectSection, ObjectSegment, ObjectSymbol, ObjectSymbolTable, RelocationTarget};
 use std::cell::RefCell;
 use std::collections::HashMap;
+use std::ops::Range;
 use std::path::PathBuf;
 use std::process::Command;
 
@@ -140,10 +141,47 @@ fn argument_bytes<'a>(header: &Header<'a>, section: &EhFrame<Bytes<'a>>, bases: 
             CallFrameInstruction::AdvanceLoc { delta } => {
                 address += u64::from(delta) * header.cie().code_alignment_factor();
             }
-            CallFrameInstruction::ArgsSize { size } => found.push((address, size)),
+            CallFrameInstruction::ArgsSize { size } if size != NEGATE => found.push((address, size)),
             _ => {}
         }
     }
+    found
+}
+
+/// What assembly for tests has in place of `DW_CFA_AARCH64_negate_ra_state`, which gimli can't read: a number of
+/// bytes of arguments that no code has.
+pub const NEGATE: u64 = 125;
+
+/// A program with `.cfi_negate_ra_state`, which gcc writes by the name that sparc has for it, as gimli can read it.
+pub fn readable(text: &str) -> String {
+    let escape = format!(".cfi_escape 0x2e, {}", NEGATE);
+    text.replace(".cfi_negate_ra_state", &escape).replace(".cfi_window_save", &escape)
+}
+
+/// At which addresses the return address is signed.
+fn signed<'a>(header: &Header<'a>, section: &EhFrame<Bytes<'a>>, bases: &BaseAddresses) -> Vec<Range<u64>> {
+    let (mut found, mut remembered) = (Vec::new(), Vec::new());
+    let (mut instructions, mut address) = (header.instructions(section, bases), header.initial_address());
+    let mut since = None;
+    while let Ok(Some(instruction)) = instructions.next() {
+        let now = match instruction {
+            CallFrameInstruction::AdvanceLoc { delta } => {
+                address += u64::from(delta) * header.cie().code_alignment_factor();
+                continue;
+            }
+            CallFrameInstruction::RememberState => {
+                remembered.push(since.is_some());
+                continue;
+            }
+            CallFrameInstruction::RestoreState => remembered.pop().unwrap(),
+            CallFrameInstruction::ArgsSize { size: NEGATE } => since.is_none(),
+            _ => continue,
+        };
+        found.extend(since.filter(|_| !now).map(|since| since..address));
+        since = since.or(Some(address)).filter(|_| now);
+    }
+    found.extend(since.map(|since| since..header.initial_address() + header.len()));
+    found.retain(|range: &Range<u64>| range.start < range.end);
     found
 }
 
@@ -197,7 +235,8 @@ pub fn module(data: &[u8]) -> Module<'_> {
             _ => Vec::new(),
         };
         let argument_bytes = argument_bytes(header, &frames, &bases);
-        Fde { begin, end: begin + header.len(), is_signal: header.is_signal_trampoline(), landings, argument_bytes }
+        let (end, is_signal) = (begin + header.len(), header.is_signal_trampoline());
+        Fde { begin, end, is_signal, landings, argument_bytes, signed: signed(header, &frames, &bases) }
     };
     let fdes = headers.iter().map(fde).collect();
     let machine = Machine::numbered(u16::from_le_bytes([data[18], data[19]])).unwrap();
@@ -233,7 +272,7 @@ pub fn kinds_of_assembly(folder: &Folder, text: &str) -> Vec<String> {
 
 /// Assembles a program by a compiler, and lints it.
 pub fn kinds_by(folder: &Folder, compiler: &str, text: &str) -> Vec<String> {
-    folder.write("text.s", text);
+    folder.write("text.s", &readable(text));
     folder.run(&format!("{} -nostdlib -shared -o text.so text.s", compiler));
     let data = folder.bytes("text.so");
     let module = module(&data);
