@@ -143,8 +143,7 @@ wrong: .cfi_startproc
 fn sections_of_unlinked_objects_have_addresses_of_their_own() {
     let folder = Folder::new("lint-object");
     for call in ["call abort@PLT", "call *abort@GOTPCREL(%rip)"] {
-        folder.write("a.s", OBJECT.replace("CALL", call));
-        folder.run("gcc -c a.s");
+        folder.assemble("gcc", OBJECT.replace("CALL", call));
         let ran = dwcheck_elf(&folder, "lint a.o");
         let lines = ran.lines();
         let expected = "a.o: push without row at wrong+0x1 (.text.wrong+0x1): backtrace broken: \
@@ -162,8 +161,7 @@ fn sections_of_unlinked_objects_have_addresses_of_their_own() {
 #[test]
 fn debug_frame_of_unlinked_objects() {
     let folder = Folder::new("lint-debug-frame");
-    folder.write("a.s", format!(".cfi_sections .debug_frame\n{}", OBJECT.replace("CALL", "call abort")));
-    folder.run("gcc -c a.s");
+    folder.assemble("gcc", format!(".cfi_sections .debug_frame\n{}", OBJECT.replace("CALL", "call abort")));
     let ran = dwcheck_elf(&folder, "lint a.o");
     assert_eq!((ran.status, ran.lines().len()), (1, 6), "{}", ran.out);
     assert!(ran.out.contains("push without row at wrong+0x1 (.text.wrong+0x1)"), "{}", ran.out);
@@ -239,8 +237,7 @@ fn code_for_aarch64() {
         return;
     }
     let folder = Folder::new("lint-aarch64");
-    folder.write("a.s", AARCH64);
-    folder.run("aarch64-linux-gnu-gcc -c a.s && aarch64-linux-gnu-gcc -nostdlib -shared a.s -o a.so");
+    folder.assemble("aarch64-linux-gnu-gcc", AARCH64);
     let unlinked = dwcheck_elf(&folder, "lint a.o");
     let lines = unlinked.lines();
     assert!(lines[0].starts_with("a.o: push without row at wrong+0x4 (.text.wrong+0x4): "), "{}", unlinked.out);
@@ -299,8 +296,7 @@ fn return_addresses_that_are_signed() {
     }
     let folder = Folder::new("lint-signed");
     for section in [".eh_frame", ".debug_frame"] {
-        folder.write("a.s", format!(".cfi_sections {}\n{}", section, SIGNED));
-        folder.run("aarch64-linux-gnu-gcc -c a.s && aarch64-linux-gnu-gcc -nostdlib -shared a.s -o a.so");
+        folder.assemble("aarch64-linux-gnu-gcc", format!(".cfi_sections {}\n{}", section, SIGNED));
         for (file, place) in [("a.o", ".text+0x4"), ("a.so", "0x")] {
             let ran = dwcheck_elf(&folder, &format!("lint {}", file));
             let lines = ran.lines();

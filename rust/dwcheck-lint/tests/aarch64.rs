@@ -2,45 +2,15 @@
 
 mod common;
 
+use common::assembly::AARCH64;
+use common::gimli_rows::readable;
 use common::programs::{C, LEVELS};
-use common::{has, kinds, kinds_by, module, readable, Folder};
+use common::{found, has, Folder, Found};
 use dwcheck_lint::coverage::Reason;
-use dwcheck_lint::lint::lint;
 use dwcheck_lint::machine::Machine;
 
-const GCC: &str = "aarch64-linux-gnu-gcc";
-
-/// A function with its body.
-fn function(body: &str) -> String {
-    format!(
-        ".text\n.globl f\n.type f, @function\nf:\n.cfi_startproc\n{}\n.cfi_endproc\n\
-         .section .note.GNU-stack,\"\",@progbits\n",
-        body
-    )
-}
-
-/// The defect is found, by its kind and nothing else, and nothing is found without it. `WRONG text` is there
-/// only with the defect, and `RIGHT text` only without it.
-fn planted(name: &str, kind: &str, text: &str) {
-    if !has(GCC) {
-        return;
-    }
-    let folder = Folder::new(&format!("aarch64-{}", name));
-    let variant = |kept: &str, dropped: &str| {
-        let lines = text.lines().filter(|line| !line.trim_start().starts_with(dropped));
-        function(&lines.map(|line| line.replacen(kept, "", 1)).collect::<Vec<_>>().join("\n"))
-    };
-    assert_eq!(kinds_by(&folder, GCC, &variant("WRONG", "RIGHT")), [kind], "{}", text);
-    assert_eq!(kinds_by(&folder, GCC, &variant("RIGHT", "WRONG")), [""; 0], "{}", text);
-}
-
-/// Nothing is found in a function.
-fn quiet(name: &str, body: &str) {
-    if has(GCC) {
-        let folder = Folder::new(&format!("aarch64-{}", name));
-        assert_eq!(kinds_by(&folder, GCC, &function(body)), [""; 0], "{}", body);
-    }
-}
+/// The compiler.
+const GCC: &str = AARCH64.0;
 
 #[test]
 fn a_push_of_a_pair_with_a_late_row() {
@@ -58,7 +28,7 @@ fn a_push_of_a_pair_with_a_late_row() {
         .cfi_restore x30
         .cfi_def_cfa_offset 0
         ret";
-    planted("late", "late push", text);
+    AARCH64.planted("late", "late push", text);
 }
 
 #[test]
@@ -77,7 +47,7 @@ fn a_pop_of_a_pair_without_a_row() {
         WRONG .cfi_restore x30
         WRONG .cfi_def_cfa_offset 0
         ret";
-    planted("pop", "pop without row", text);
+    AARCH64.planted("pop", "pop without row", text);
 }
 
 #[test]
@@ -95,7 +65,7 @@ fn registers_in_the_slots_of_others() {
         .cfi_restore x20
         .cfi_def_cfa_offset 0
         ret";
-    planted("slot", "slot overwritten", text);
+    AARCH64.planted("slot", "slot overwritten", text);
 }
 
 /// Registers that rows speak of: the halves of vectors that a function has to give back are judged where the
@@ -115,9 +85,9 @@ fn vectors_that_rows_speak_of() {
         .cfi_restore 73
         .cfi_def_cfa_offset 0
         ret";
-    planted("vector", "register overwritten", text);
+    AARCH64.planted("vector", "register overwritten", text);
     let silent = text.lines().filter(|line| !line.contains(" 72") && !line.contains(" 73")).collect::<Vec<_>>();
-    quiet("silent", &silent.join("\n"));
+    AARCH64.quiet("silent", &silent.join("\n"), "");
 }
 
 /// The return address is in x30, until a call or a move overwrites it.
@@ -133,7 +103,7 @@ fn the_return_address_is_in_its_register() {
         g: .cfi_startproc
         mov x0, #1
         ret";
-    planted("link", "return address", text);
+    AARCH64.planted("link", "return address", text);
 }
 
 #[test]
@@ -149,7 +119,7 @@ fn large_frames_by_a_register() {
         .cfi_def_cfa_offset 0
         ret";
     // Such a subtraction has no name of its own.
-    planted("large", "wrong CFA", text);
+    AARCH64.planted("large", "wrong CFA", text);
 }
 
 /// Rows for calls: what LLVM 14 writes. Only calls are judged.
@@ -167,7 +137,7 @@ fn rows_that_are_meant_for_calls() {
         ldp x29, x30, [sp, #16]
         add sp, sp, #32
         ret";
-    planted("calls", "return address", text);
+    AARCH64.planted("calls", "return address", text);
 }
 
 /// Alignment: the stack pointer is a multiple of 16, so rounding it down to one changes nothing.
@@ -181,13 +151,13 @@ fn stack_pointers_that_are_aligned_already() {
         add sp, sp, #32
         .cfi_def_cfa_offset 0
         ret";
-    quiet("aligned", body);
+    AARCH64.quiet("aligned", body, "");
 }
 
 /// Jump targets: the rows describe the frame that `longjmp` goes to.
 #[test]
 fn rows_of_a_jump_to_another_frame() {
-    quiet("jump", ".cfi_def_cfa x0, 0\n.cfi_offset x19, 0\n.cfi_offset x30, 8\nldp x19, x30, [x0]\nldr x4, [x0, #16]\nmov sp, x4\nbr x30");
+    AARCH64.quiet("jump", ".cfi_def_cfa x0, 0\n.cfi_offset x19, 0\n.cfi_offset x30, 8\nldp x19, x30, [x0]\nldr x4, [x0, #16]\nmov sp, x4\nbr x30", "");
 }
 
 /// Exception returns: the stack pointer of another frame is set at the end.
@@ -212,7 +182,7 @@ fn functions_that_return_to_a_handler() {
         add sp, sp, x4
         ret";
     // The call overwrites x30, of which these rows don't speak.
-    quiet("handler", &body.replace("blr x5\n", ""));
+    AARCH64.quiet("handler", &body.replace("blr x5\n", ""), "");
 }
 
 /// Tables of jumps with entries of one and of two bytes, which count instructions.
@@ -248,14 +218,8 @@ fn tables_of_short_entries() {
     let bytes = body.replace("LOAD", "ldrb w1, [x1, w0, uxtw]").replace("ADD", "add x1, x0, w1, sxtb #2");
     let halves = body.replace("LOAD", "ldrh w1, [x1, w0, uxtw #1]").replace("ADD", "add x1, x0, w1, sxth #2");
     for (name, body) in [("bytes", bytes.replace("DATA", "byte")), ("halves", halves.replace("DATA", "hword"))] {
-        if has(GCC) {
-            let folder = Folder::new(&format!("aarch64-table-{}", name));
-            folder.write("text.s", &function(&body));
-            folder.run(&format!("{} -nostdlib -shared -o text.so text.s", GCC));
-            let data = folder.bytes("text.so");
-            let module = module(&data);
-            let report = lint(&module);
-            assert_eq!((kinds(&report).len(), report.coverage.assumed), (0, 0), "{}", body);
+        if let Some(found) = AARCH64.found(name, &body, "") {
+            assert_eq!((found.kinds.len(), found.coverage.assumed), (0, 0), "{}", body);
         }
     }
 }
@@ -271,14 +235,10 @@ fn c_by_gcc() {
         for option in
             ["", "-fomit-frame-pointer", "-fstack-clash-protection", "-fno-shrink-wrap", "-mno-outline-atomics"]
         {
-            folder.run(&format!("{} -w {} {} a.c -o out", GCC, level, option));
-            let data = folder.bytes("out");
-            let module = module(&data);
-            let report = lint(&module);
-            assert_eq!(kinds(&report), [""; 0], "{} {}", level, option);
-            let unjudged = report.coverage.instructions - report.coverage.judged;
-            let others = report.coverage.skipped(Reason::Outermost) + report.coverage.skipped(Reason::CallsOnly);
-            assert_eq!(unjudged, others, "{} {}: {}", level, option, report.coverage);
+            let Found { kinds, coverage } = found(&folder, &format!("{} -w {} {} a.c -o out", GCC, level, option));
+            assert_eq!(kinds, [""; 0], "{} {}", level, option);
+            let others = coverage.skipped(Reason::Outermost) + coverage.skipped(Reason::CallsOnly);
+            assert_eq!(coverage.instructions - coverage.judged, others, "{} {}: {}", level, option, coverage);
         }
     }
 }
@@ -299,14 +259,12 @@ fn c_by_clang() {
         for option in ["", "-mbranch-protection=standard", "-mbranch-protection=pac-ret+leaf"] {
             let compiler = "clang --target=aarch64-linux-gnu -Wno-unused-command-line-argument -fPIC";
             folder.run(&format!("{} -funwind-tables -S {} {} a.c", compiler, level, option));
-            folder.write("a.s", &readable(&String::from_utf8(folder.bytes("a.s")).unwrap()));
-            folder.run(&format!("{} -fuse-ld=lld -nostdlib -shared -o out a.s", compiler));
-            let data = folder.bytes("out");
-            let module = module(&data);
-            let report = lint(&module);
-            let judged = (report.coverage.judged, report.coverage.skipped(Reason::CallsOnly));
-            assert_eq!(kinds(&report), [""; 0], "{} {}", level, option);
-            assert!(judged.0 > 0 && judged.1 > 0, "{} {}: {}", level, option, report.coverage);
+            folder.write("a.s", &readable(&folder.text("a.s")));
+            let line = format!("{} -fuse-ld=lld -nostdlib -shared -o out a.s", compiler);
+            let Found { kinds, coverage } = found(&folder, &line);
+            assert_eq!(kinds, [""; 0], "{} {}", level, option);
+            let has_both = coverage.judged > 0 && coverage.skipped(Reason::CallsOnly) > 0;
+            assert!(has_both, "{} {}: {}", level, option, coverage);
         }
     }
 }
@@ -347,7 +305,7 @@ fn text_is_what_objdump_writes() {
     folder.write("text.s", text);
     folder.run(&format!("{} -c text.s && aarch64-linux-gnu-objdump -d text.o > listing", GCC));
     let machine = Machine::numbered(183).unwrap();
-    let listing = String::from_utf8(folder.bytes("listing")).unwrap();
+    let listing = folder.text("listing");
     let mut count = 0;
     for line in listing.lines().filter(|line| line.starts_with("  ")) {
         let mut fields = line.split('\t');
@@ -381,7 +339,7 @@ const SIGNS: &str = "paciasp
 /// The row after `paciasp` says that the return address isn't signed.
 #[test]
 fn a_late_row_of_a_signature() {
-    planted("signed", "return address signing", SIGNS);
+    AARCH64.planted("signed", "return address signing", SIGNS);
 }
 
 /// The row after `autiasp` says that it is still signed; and with another key.
@@ -389,15 +347,15 @@ fn a_late_row_of_a_signature() {
 fn a_late_row_of_an_authentication() {
     let text = SIGNS.replace("WRONG .cfi_negate_ra_state\n", "").replace("RIGHT ", "");
     let text = text.replace("autiasp\n    .cfi", "autiasp\n    RIGHT .cfi");
-    planted("authenticated", "return address signing", &text);
-    planted("key", "return address signing", &text.replace("iasp", "ibsp").replace("autiasp", "autibsp"));
+    AARCH64.planted("authenticated", "return address signing", &text);
+    AARCH64.planted("key", "return address signing", &text.replace("iasp", "ibsp").replace("autiasp", "autibsp"));
 }
 
 /// No row speaks of the signature.
 #[test]
 fn a_signature_without_a_row() {
     let text = SIGNS.replace("WRONG .cfi_negate_ra_state\n", "").replace("    .cfi_neg", "    RIGHT .cfi_neg");
-    planted("unsaid", "return address signing", &text);
+    AARCH64.planted("unsaid", "return address signing", &text);
 }
 
 /// `retaa` authenticates and returns, so no row follows; and a copy of the signed address is signed.
@@ -405,7 +363,7 @@ fn a_signature_without_a_row() {
 fn signatures_that_last_until_the_return() {
     let text = SIGNS.replace("WRONG .cfi_negate_ra_state\n", "").replace("RIGHT ", "");
     let text = text.replace("    autiasp\n    .cfi_negate_ra_state\n    ret", "    retaa");
-    quiet("retaa", &format!(".arch armv8.3-a\n{}", text));
+    AARCH64.quiet("retaa", &format!(".arch armv8.3-a\n{}", text), "");
     let copied = "paciasp
         .cfi_negate_ra_state
         mov x9, x30
@@ -417,8 +375,8 @@ fn signatures_that_last_until_the_return() {
         .cfi_negate_ra_state
         mov x0, x30
         ret";
-    quiet("copied", copied);
-    planted("copied-wrong", "return address signing", &copied.replacen(".cfi_neg", "RIGHT .cfi_neg", 2));
+    AARCH64.quiet("copied", copied, "");
+    AARCH64.planted("copied-wrong", "return address signing", &copied.replacen(".cfi_neg", "RIGHT .cfi_neg", 2));
 }
 
 /// What a return address is signed by, if that isn't the CFA, isn't judged; nor are signatures of other
@@ -434,8 +392,8 @@ fn signatures_by_other_numbers() {
         add sp, sp, #16
         .cfi_def_cfa_offset 0
         ret";
-    quiet("by-other", other);
-    quiet("pointer", "mov x17, x1\nmov x16, x2\npacia1716\nstr x17, [x0]\nautia1716\nbr x17");
+    AARCH64.quiet("by-other", other, "");
+    AARCH64.quiet("pointer", "mov x17, x1\nmov x16, x2\npacia1716\nstr x17, [x0]\nautia1716\nbr x17", "");
 }
 
 /// Code that signs, in parts that only jumps reach, and in parts that nothing is seen to reach.
@@ -471,7 +429,7 @@ fn signatures_in_other_parts() {
         RIGHT .cfi_negate_ra_state
         f.cold: blr x1
         brk #1";
-    planted("signed-part", "return address signing", text);
+    AARCH64.planted("signed-part", "return address signing", text);
 }
 
 /// What gcc writes with return addresses that are signed.
@@ -487,16 +445,12 @@ fn c_with_signed_return_addresses() {
             ["=standard", "=pac-ret+leaf", "=pac-ret+b-key", "=pac-ret+leaf -march=armv8.3-a -fomit-frame-pointer"]
         {
             folder.run(&format!("{} -w {} -mbranch-protection{} -S a.c -o out.s", GCC, level, option));
-            let text = String::from_utf8(folder.bytes("out.s")).unwrap();
+            let text = folder.text("out.s");
             let readable = readable(&text).replace(".cfi_b_key_frame", "");
             assert!(readable != text, "{} {}", level, option);
             folder.write("out.s", &readable);
-            folder.run(&format!("{} out.s -o out", GCC));
-            let data = folder.bytes("out");
-            let module = module(&data);
-            let report = lint(&module);
-            assert_eq!(kinds(&report), [""; 0], "{} {}", level, option);
-            assert!(report.coverage.partly == 0, "{} {}: {:?}", level, option, report.coverage);
+            let Found { kinds, coverage } = found(&folder, &format!("{} out.s -o out", GCC));
+            assert_eq!((kinds.len(), coverage.partly), (0, 0), "{} {}: {:?}", level, option, coverage);
         }
     }
 }

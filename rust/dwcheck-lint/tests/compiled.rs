@@ -4,22 +4,17 @@
 mod common;
 
 use common::programs::{C, CXX, LEVELS};
-use common::{has, kinds, module, Folder};
-use dwcheck_lint::lint::lint;
+use common::{found, has, Folder, Found};
 
 /// Nothing is found in a program, and all of it is judged but its first instructions.
 fn quiet(folder: &Folder, line: &str) {
-    folder.run(line);
-    let data = folder.bytes("out");
-    let module = module(&data);
-    let report = lint(&module);
-    let mut kinds = kinds(&report);
+    let Found { mut kinds, coverage } = found(folder, line);
     // GCC 12 writes wrong rows at the end of each function that realigns its stack.
     if line.starts_with('g') {
         kinds.retain(|kind| kind != "DRAP epilogue");
     }
     assert_eq!(kinds, [""; 0], "{}", line);
-    let (judged, all) = (report.coverage.judged, report.coverage.instructions);
+    let (judged, all) = (coverage.judged, coverage.instructions);
     // The first instructions of a program are in the outermost frame.
     assert!(all - judged <= 12, "{}: {} of {}", line, judged, all);
 }
@@ -70,10 +65,7 @@ fn c_by_gcc_with_options_of_its_own() {
 fn realigned_stacks_by_gcc() {
     let folder = Folder::new("realigned");
     folder.write("a.c", C);
-    folder.run("gcc -w -O0 a.c -o out");
-    let data = folder.bytes("out");
-    let module = module(&data);
-    assert_eq!(kinds(&lint(&module)), ["DRAP epilogue"]);
+    assert_eq!(found(&folder, "gcc -w -O0 a.c -o out").kinds, ["DRAP epilogue"]);
 }
 
 /// LLVM moves the addition at the end of two blocks up over the conditional jump to them, and leaves its
@@ -119,10 +111,7 @@ fn what_compilers_write_wrongly() {
         ("gcc -O2 -mavx2 -frename-registers realigned.c", "CFA register overwritten"),
     ];
     for (line, kind) in cases.iter().filter(|(line, _)| has(&line[..line.find(' ').unwrap()])) {
-        folder.run(&format!("{} -w -o out", line));
-        let data = folder.bytes("out");
-        let module = module(&data);
-        assert_eq!(kinds(&lint(&module)), [*kind], "{}", line);
+        assert_eq!(found(&folder, &format!("{} -w -o out", line)).kinds, [*kind], "{}", line);
     }
 }
 

@@ -1,30 +1,8 @@
-//! Programs in assembly with one planted defect of each kind, and the same programs with right rows.
-//!
-//! In a program, `WRONG text` is there only in the program with the defect, and `RIGHT text` only in the
-//! other one.
+//! Functions in assembly with one planted defect of each kind, and the same functions with right rows.
 
 mod common;
 
-use common::{kinds_of_assembly, Folder};
-
-/// The program with or without its defect.
-fn variant(text: &str, is_wrong: bool) -> String {
-    let (kept, dropped) = if is_wrong { ("WRONG", "RIGHT") } else { ("RIGHT", "WRONG") };
-    let lines = text.lines().filter(|line| !line.trim_start().starts_with(dropped));
-    let body: Vec<_> = lines.map(|line| line.replacen(kept, "", 1)).collect();
-    format!(
-        ".text\n.globl f\n.type f, @function\nf:\n.cfi_startproc\n{}\n.cfi_endproc\n\
-         .section .note.GNU-stack,\"\",@progbits\n",
-        body.join("\n")
-    )
-}
-
-/// The defect is found, by its kind and nothing else, and nothing is found without it.
-fn planted(name: &str, kind: &str, text: &str) {
-    let folder = Folder::new(name);
-    assert_eq!(kinds_of_assembly(&folder, &variant(text, true)), [kind], "{}", text);
-    assert_eq!(kinds_of_assembly(&folder, &variant(text, false)), [""; 0], "{}", text);
-}
+use common::assembly::X86_64;
 
 #[test]
 fn push_without_row() {
@@ -38,7 +16,7 @@ fn push_without_row() {
         RIGHT .cfi_adjust_cfa_offset -8
         RIGHT .cfi_restore rbx
         ret";
-    planted("push", "push without row", text);
+    X86_64.planted("push", "push without row", text);
 }
 
 #[test]
@@ -51,7 +29,7 @@ fn late_push() {
         pop %rcx
         .cfi_adjust_cfa_offset -8
         ret";
-    planted("late", "late push", text);
+    X86_64.planted("late", "late push", text);
 }
 
 #[test]
@@ -63,7 +41,7 @@ fn pop_without_row() {
         RIGHT .cfi_adjust_cfa_offset -8
         add %rcx, %rax
         ret";
-    planted("pop", "pop without row", text);
+    X86_64.planted("pop", "pop without row", text);
 }
 
 /// An addition was moved up over a conditional jump, and its row stayed on both ways.
@@ -84,7 +62,7 @@ fn moved_epilogue() {
         WRONG .cfi_adjust_cfa_offset -8
         dec %eax
         ret";
-    planted("moved", "moved epilogue", text);
+    X86_64.planted("moved", "moved epilogue", text);
 }
 
 /// The sign of a number is wrong, as in OpenSSL's x25519.
@@ -97,7 +75,7 @@ fn adjustment_with_the_wrong_sign() {
         WRONG .cfi_adjust_cfa_offset 88
         RIGHT .cfi_adjust_cfa_offset -88
         ret";
-    planted("sign", "moved epilogue", text);
+    X86_64.planted("sign", "moved epilogue", text);
 }
 
 #[test]
@@ -110,7 +88,7 @@ fn moved_prologue() {
         add $24, %rsp
         .cfi_adjust_cfa_offset -24
         ret";
-    planted("prologue", "moved prologue", text);
+    X86_64.planted("prologue", "moved prologue", text);
 }
 
 #[test]
@@ -121,7 +99,7 @@ fn subtraction_without_row() {
         add $264, %rsp
         RIGHT .cfi_adjust_cfa_offset -264
         ret";
-    planted("subtraction", "subtraction without row", text);
+    X86_64.planted("subtraction", "subtraction without row", text);
 }
 
 #[test]
@@ -138,7 +116,7 @@ fn wrong_row_at_jmp() {
         add $8, %rsp
         .cfi_adjust_cfa_offset -8
         ret";
-    planted("jmp", "wrong row at jmp", text);
+    X86_64.planted("jmp", "wrong row at jmp", text);
 }
 
 /// What GCC 12 writes for a realigned stack: after the frame pointer is popped, the rows still find
@@ -169,7 +147,7 @@ fn drap_epilogue() {
         .cfi_restore rbp
         .cfi_def_cfa rsp, 8
         ret";
-    planted("drap", "DRAP epilogue", text);
+    X86_64.planted("drap", "DRAP epilogue", text);
 }
 
 #[test]
@@ -186,7 +164,7 @@ fn moved_stack_pointer() {
         .cfi_restore rbp
         .cfi_def_cfa rsp, 8
         ret";
-    planted("dynamic", "moved stack pointer", text);
+    X86_64.planted("dynamic", "moved stack pointer", text);
 }
 
 #[test]
@@ -198,7 +176,7 @@ fn cfa_register_overwritten() {
         mov %r11, %rax
         .cfi_def_cfa rsp, 8
         ret";
-    planted("overwritten", "CFA register overwritten", text);
+    X86_64.planted("overwritten", "CFA register overwritten", text);
 }
 
 #[test]
@@ -213,7 +191,7 @@ fn cfa_register_restored() {
         .cfi_restore rbp
         RIGHT .cfi_def_cfa rsp, 8
         ret";
-    planted("restored", "CFA register restored", text);
+    X86_64.planted("restored", "CFA register restored", text);
 }
 
 #[test]
@@ -229,7 +207,7 @@ fn wrong_row_at_a_join() {
         WRONG .cfi_adjust_cfa_offset -8
         1: inc %ecx
         ret";
-    planted("join", "wrong row at a join", text);
+    X86_64.planted("join", "wrong row at a join", text);
 }
 
 #[test]
@@ -250,7 +228,7 @@ fn wrong_row_in_another_part() {
         f.cold:
         call *%rsi
         ud2";
-    planted("part", "wrong row in another part", text);
+    X86_64.planted("part", "wrong row in another part", text);
 }
 
 #[test]
@@ -263,7 +241,7 @@ fn return_address() {
         .cfi_adjust_cfa_offset -8
         .cfi_offset rip, -8
         ret";
-    planted("return", "return address", text);
+    X86_64.planted("return", "return address", text);
 }
 
 #[test]
@@ -276,7 +254,7 @@ fn register_overwritten() {
         mov %r8, %rbx
         RIGHT .cfi_same_value rbx
         ret";
-    planted("changed", "register overwritten", text);
+    X86_64.planted("changed", "register overwritten", text);
 }
 
 #[test]
@@ -291,7 +269,7 @@ fn register_never_saved() {
         .cfi_adjust_cfa_offset -8
         .cfi_restore rbx
         ret";
-    planted("never", "register never saved", text);
+    X86_64.planted("never", "register never saved", text);
 }
 
 #[test]
@@ -313,7 +291,7 @@ fn slot_overwritten() {
         .cfi_adjust_cfa_offset -8
         .cfi_restore rbx
         ret";
-    planted("slot", "slot overwritten", text);
+    X86_64.planted("slot", "slot overwritten", text);
 }
 
 /// A flag push in a frame whose CFA is in memory at the stack pointer, as in OpenSSL's Camellia.
@@ -332,7 +310,7 @@ fn push_under_an_expression_over_the_stack_pointer() {
         mov %rax, %rsp
         .cfi_def_cfa rsp, 8
         ret";
-    planted("flags", "CFA register overwritten", text);
+    X86_64.planted("flags", "CFA register overwritten", text);
 }
 
 /// A register in a frame that is rounded down from the CFA, as in glibc's libmvec: it is at
@@ -357,5 +335,5 @@ fn expressions_over_an_aligned_frame() {
         .cfi_restore rbp
         .cfi_def_cfa rsp, 8
         ret";
-    planted("expression", "register never saved", text);
+    X86_64.planted("expression", "register never saved", text);
 }

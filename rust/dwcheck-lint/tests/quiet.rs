@@ -3,37 +3,11 @@
 
 mod common;
 
-use common::{kinds, kinds_of_assembly, module, Folder};
+use common::assembly::{function, X86_64};
+use common::gimli_rows::module;
+use common::{kinds, Folder};
 use dwcheck_lint::lint::lint;
 use dwcheck_lint::module::Convention;
-
-/// A function, and further text after it.
-fn function(body: &str, after: &str) -> String {
-    format!(
-        ".text\n.globl f\n.type f, @function\nf:\n.cfi_startproc\n{}\n.cfi_endproc\n{}\n\
-         .section .note.GNU-stack,\"\",@progbits\n",
-        body, after
-    )
-}
-
-/// Nothing is found in a function.
-fn quiet(name: &str, body: &str, after: &str) {
-    let folder = Folder::new(name);
-    let text = function(body, after);
-    assert_eq!(kinds_of_assembly(&folder, &text), [""; 0], "{}", text);
-}
-
-/// Nothing is found in a function, and all of it is judged.
-fn judged(name: &str, body: &str, after: &str) {
-    let folder = Folder::new(name);
-    let text = function(body, after);
-    folder.write("text.s", &text);
-    folder.run("gcc -nostdlib -shared -o text.so text.s");
-    let data = folder.bytes("text.so");
-    let module = module(&data);
-    let report = lint(&module);
-    assert_eq!((kinds(&report).len(), report.coverage.judged), (0, report.coverage.instructions), "{}", text);
-}
 
 /// A function that loses its stack pointer, and then calls. If the call returned, the stack pointer
 /// wouldn't be known after it.
@@ -60,13 +34,13 @@ fn loses_its_stack(call: &str) -> String {
 #[test]
 fn calls_that_never_return_by_their_code() {
     let after = "ends:\n.cfi_startproc\ntest %edi, %edi\nje ends\nud2\n.cfi_endproc\n";
-    judged("ends", &loses_its_stack("call ends"), after);
+    X86_64.judged("ends", &loses_its_stack("call ends"), after);
 }
 
 /// Calls that don't return: by the name, through a pointer of the global offset table.
 #[test]
 fn calls_that_never_return_by_their_name() {
-    judged("abort", &loses_its_stack("call *abort@GOTPCREL(%rip)"), "");
+    X86_64.judged("abort", &loses_its_stack("call *abort@GOTPCREL(%rip)"), "");
 }
 
 /// Row changes after the call.
@@ -80,14 +54,14 @@ fn a_row_that_changes_after_a_call() {
         .cfi_adjust_cfa_offset -8
         1: mov %edi, %eax
         ret";
-    quiet("changes", body, "");
+    X86_64.quiet("changes", body, "");
     let unreached = "push %rax
         .cfi_adjust_cfa_offset 8
         call *%rsi
         .cfi_adjust_cfa_offset -8
         mov %edi, %eax
         ret";
-    quiet("changes-unreached", unreached, "");
+    X86_64.quiet("changes-unreached", unreached, "");
 }
 
 /// Padding: after a call that doesn't return.
@@ -102,7 +76,7 @@ fn padding_after_a_call() {
         .cfi_adjust_cfa_offset -8
         1: mov %edi, %eax
         ret";
-    quiet("padding", body, "");
+    X86_64.quiet("padding", body, "");
 }
 
 /// Padding: code after it that nothing reaches is taken up from its own row.
@@ -116,7 +90,7 @@ fn code_after_padding() {
         add $8, %rsp
         .cfi_adjust_cfa_offset -8
         ret";
-    quiet("after-padding", body, "");
+    X86_64.quiet("after-padding", body, "");
 }
 
 /// Padding: a cold part that begins with a nop, which nothing reaches.
@@ -141,7 +115,7 @@ fn a_cold_part_that_begins_with_padding() {
         f.cold: call *%rsi
         ud2
         .cfi_endproc";
-    quiet("cold", body, after);
+    X86_64.quiet("cold", body, after);
 }
 
 /// Soft edges: what a call leads to, if it returns, doesn't change what is known from a jump.
@@ -160,7 +134,7 @@ fn a_jump_counts_more_than_a_call() {
         .cfi_restore rbp
         .cfi_def_cfa rsp, 8
         ret";
-    judged("soft", body, "");
+    X86_64.judged("soft", body, "");
 }
 
 /// Exits: system calls that don't return.
@@ -175,7 +149,7 @@ fn system_calls_that_end_the_program() {
         .cfi_adjust_cfa_offset -8
         1: mov %edi, %eax
         ret";
-    quiet("exit", body, "");
+    X86_64.quiet("exit", body, "");
 }
 
 /// Bounded tables: the entries after the bound belong to something else. Their rows fit, but what is known
@@ -215,7 +189,7 @@ fn tables_end_at_the_bound() {
         .cfi_restore rbp
         ret";
     let after = ".section .rodata\ntable: .long 1b-table, 2b-table, 4b-table, 4b-table\n";
-    judged("bound", body, after);
+    X86_64.judged("bound", body, after);
 }
 
 /// Bounded tables: without a bound, the table ends where an entry doesn't fit.
@@ -237,7 +211,7 @@ fn entries_that_do_not_fit_are_past_the_end() {
         .cfi_adjust_cfa_offset -8
         ret";
     let after = ".section .rodata\ntable: .long 1b-table, 2b-table, 4b-table, 4b-table\n";
-    quiet("unbound", body, after);
+    X86_64.quiet("unbound", body, after);
 }
 
 /// Default of a switch: the jump out of the function isn't taken.
@@ -266,7 +240,7 @@ fn the_default_of_a_switch_can_lead_anywhere() {
         ret
         .cfi_endproc
         .section .rodata\ntable: .long 1b-table, 2b-table\n";
-    quiet("default", body, after);
+    X86_64.quiet("default", body, after);
 }
 
 /// Unreachable end: a jump to where the next function begins, because nothing is there.
@@ -283,7 +257,7 @@ fn jumps_to_the_end_of_a_function() {
         .cfi_restore rbx
         ret";
     let after = "next:\n.cfi_startproc\nmov %edi, %eax\nret\n.cfi_endproc";
-    quiet("end", body, after);
+    X86_64.quiet("end", body, after);
 }
 
 /// Registers that the callee leaves alone: the caller makes use of what the callee doesn't write.
@@ -297,7 +271,7 @@ fn registers_that_a_callee_does_not_write() {
         .cfi_def_cfa rsp, 8
         ret";
     let after = "leaf:\n.cfi_startproc\nmov %edi, %eax\nret\n.cfi_endproc";
-    judged("callee", body, after);
+    X86_64.judged("callee", body, after);
 }
 
 /// Loops that probe the stack: the comparison at the end says where the stack pointer is.
@@ -313,7 +287,7 @@ fn a_comparison_that_ends_a_loop() {
         add $32768, %rsp
         .cfi_def_cfa_offset 8
         ret";
-    judged("probe", body, "");
+    X86_64.judged("probe", body, "");
 }
 
 /// Two ways bring different stack pointers, as in the loops of OpenSSL that touch each page of a large frame.
@@ -341,11 +315,22 @@ fn frames_after_ways_that_bring_different_stack_pointers() {
         lea (%rsi), %rsp
         .cfi_def_cfa_register rsp
         ret";
-    judged("joined", body, "");
+    X86_64.judged("joined", body, "");
 }
 
+/// A table of exceptions for the calls from `begin` to `end`, which go on at `pad`.
+const AREA: &str = "personality: ret
+    .section .gcc_except_table, \"a\"
+    area: .byte 0xff, 0xff, 1
+    .uleb128 sites_end - sites
+    sites: .uleb128 begin - f
+    .uleb128 end - begin
+    .uleb128 pad - f
+    .uleb128 0
+    sites_end:";
+
 /// A function with a call that throws to a landing pad, with an argument on the stack.
-fn throws(directive: &str) -> (String, String) {
+fn throws(directive: &str) -> String {
     let body = "sub $8, %rsp
         .cfi_personality 0x1b, personality
         .cfi_lsda 0x1b, area
@@ -361,30 +346,44 @@ fn throws(directive: &str) -> (String, String) {
         pad: mov %rax, %rdi
         call *%rsi
         ud2";
-    let after = "personality: ret
-        .section .gcc_except_table, \"a\"
-        area: .byte 0xff, 0xff, 1
-        .uleb128 sites_end - sites
-        sites: .uleb128 begin - f
-        .uleb128 end - begin
-        .uleb128 pad - f
-        .uleb128 0
-        sites_end:";
-    (body.replace("DIRECTIVE", directive), after.to_string())
+    body.replace("DIRECTIVE", directive)
 }
 
 /// Calls that can't throw: the landing pad doesn't know of the argument.
 #[test]
 fn landing_pads_of_calls_that_cannot_throw() {
-    let (body, after) = throws("");
-    quiet("no-throw", &body, &after);
+    X86_64.quiet("no-throw", &throws(""), AREA);
 }
 
 /// The table says how many bytes of arguments are on the stack, and the landing pad is entered without them.
 #[test]
 fn arguments_of_calls_that_throw() {
-    let (body, after) = throws(".cfi_escape 0x2e, 8");
-    judged("arguments", &body, &after);
+    X86_64.judged("arguments", &throws(".cfi_escape 0x2e, 8"), AREA);
+}
+
+/// Calls that can't throw: the landing pad's row is right for the first call, before rbx is saved, and wrong for
+/// the second one.
+#[test]
+fn landing_pads_that_fit_another_call() {
+    let body = "sub $24, %rsp
+        .cfi_personality 0x1b, personality
+        .cfi_lsda 0x1b, area
+        .cfi_adjust_cfa_offset 24
+        begin: call *%rsi
+        mov %rbx, 8(%rsp)
+        .cfi_offset rbx, -24
+        mov %rdi, %rbx
+        call *%rsi
+        end: mov 8(%rsp), %rbx
+        .cfi_restore rbx
+        add $24, %rsp
+        .cfi_adjust_cfa_offset -24
+        ret
+        .cfi_adjust_cfa_offset 24
+        pad: mov %rax, %rdi
+        call *%rsi
+        ud2";
+    X86_64.quiet("other-call", body, AREA);
 }
 
 /// Parts that fit: a jump for which the row of a part is wrong isn't taken, if it is right for another.
@@ -406,7 +405,7 @@ fn parts_that_fit_one_jump() {
         f.cold: call *%rsi
         ud2
         .cfi_endproc";
-    quiet("fits", body, after);
+    X86_64.quiet("fits", body, after);
 }
 
 /// Assumptions: what is taken up from a row doesn't merge into code that was reached.
@@ -426,7 +425,7 @@ fn assumptions_stay_apart() {
         .cfi_restore_state
         inc %edi
         jmp 1b";
-    judged("regions", body, "");
+    X86_64.judged("regions", body, "");
 }
 
 /// Moved frame: the return address is copied elsewhere, as in libffi, and so is the frame.
@@ -439,7 +438,7 @@ fn frames_that_are_moved() {
         mov %rsi, %rax
         .cfi_def_cfa rsp, 8
         ret";
-    quiet("moved-frame", body, "");
+    X86_64.quiet("moved-frame", body, "");
 }
 
 /// Data in code: bytes between instructions of a function that was written by hand.
@@ -457,15 +456,19 @@ fn data_between_instructions() {
         .byte 0x06
         .cfi_adjust_cfa_offset 24
         .byte 0x0e";
-    quiet("data", body, "");
+    X86_64.quiet("data", body, "");
 }
 
 /// What isn't judged: where `longjmp` goes to, `__builtin_eh_return`, the outermost frame.
 #[test]
 fn rows_that_are_not_judged() {
-    quiet("longjmp", "mov %rdi, %rsp\n.cfi_def_cfa rdi, 0\n.cfi_offset rsp, 8\nmov (%rdi), %rbp\njmp *8(%rdi)", "");
-    quiet("outermost", ".cfi_undefined rip\npop %rdi\nxor %ebp, %ebp\ncall *%rsi\nhlt", "");
-    quiet("eh-return", ".cfi_offset rax, -16\n.cfi_offset rdx, -24\npush %rax\nmov %rcx, %rsp\njmp *%rdx", "");
+    X86_64.quiet(
+        "longjmp",
+        "mov %rdi, %rsp\n.cfi_def_cfa rdi, 0\n.cfi_offset rsp, 8\nmov (%rdi), %rbp\njmp *8(%rdi)",
+        "",
+    );
+    X86_64.quiet("outermost", ".cfi_undefined rip\npop %rdi\nxor %ebp, %ebp\ncall *%rsi\nhlt", "");
+    X86_64.quiet("eh-return", ".cfi_offset rax, -16\n.cfi_offset rdx, -24\npush %rax\nmov %rcx, %rsp\njmp *%rdx", "");
 }
 
 /// Functions that keep no register: only the CFA and the return address are judged in code of OCaml.
@@ -474,8 +477,8 @@ fn conventions_without_kept_registers() {
     let body = "mov %rbx, %r8\nxor %ebx, %ebx\nmov %r8, %rbx\nret";
     let folder = Folder::new("convention");
     folder.write("text.s", &function(body, ""));
-    folder.run("gcc -nostdlib -shared -o text.so text.s");
-    let data = folder.bytes("text.so");
+    folder.run("gcc -nostdlib -shared -o out text.s");
+    let data = folder.bytes("out");
     let mut module = module(&data);
     assert_eq!(kinds(&lint(&module)), ["register overwritten"]);
     module.convention = Convention::KeepsNone;
@@ -485,6 +488,6 @@ fn conventions_without_kept_registers() {
 /// Private: a function that never gives a register back, by a convention of its own.
 #[test]
 fn registers_that_are_never_given_back() {
-    quiet("private", "xor %ebx, %ebx\nadd %rdi, %rbx\nret", "");
-    quiet("private-saved", "mov %rbx, %r8\nxor %ebx, %ebx\nadd %r8, %rbx\nret", "");
+    X86_64.quiet("private", "xor %ebx, %ebx\nadd %rdi, %rbx\nret", "");
+    X86_64.quiet("private-saved", "mov %rbx, %r8\nxor %ebx, %ebx\nadd %r8, %rbx\nret", "");
 }

@@ -43,6 +43,12 @@ impl Folder {
         String::from_utf8_lossy(&output.stdout).into_owned()
     }
 
+    /// Assembles a program by a compiler: the object `a.o`, and the library `a.so`.
+    pub fn assemble(&self, compiler: &str, text: impl AsRef<[u8]>) {
+        self.write("a.s", text);
+        self.run(&format!("{0} -c a.s && {0} -nostdlib -shared a.s -o a.so", compiler));
+    }
+
     /// Runs a program that a signal ends, and makes its core file `core`.
     pub fn make_core(&self, words: &str) {
         self.run(&format!("{}/../../tools/make_core.sh {}", env!("CARGO_MANIFEST_DIR"), words));

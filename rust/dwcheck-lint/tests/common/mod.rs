@@ -1,27 +1,15 @@
-//! What the tests share: programs that are assembled or compiled, and rows that gimli reads.
+//! What the tests share: programs that are assembled or compiled, and what is found in them.
 #![allow(dead_code)]
 
+pub mod assembly;
+pub mod gimli_rows;
 pub mod programs;
 
-use dwcheck_lint::finding::Finding;
-use dwcheck_lint::landings::landings;
+use dwcheck_lint::coverage::Coverage;
 use dwcheck_lint::lint::{lint, Report};
-use dwcheck_lint::machine::Machine;
-use dwcheck_lint::module::{Convention, Module, Segment};
-use dwcheck_lint::table::{Cfa, Fde, Row, Rows, Rule};
-use gimli::{
-    BaseAddresses, CallFrameInstruction, CfaRule, CieOrFde, EhFrame, EndianSlice, LittleEndian, Pointer, RegisterRule,
-    UnwindContext, UnwindSection,
-};
-use object::read::{Object, ObjectSection, ObjectSegment, ObjectSymbol, ObjectSymbolTable, RelocationTarget};
-use std::cell::RefCell;
-use std::collections::HashMap;
-use std::ops::Range;
+use gimli_rows::module;
 use std::path::PathBuf;
 use std::process::Command;
-
-type Bytes<'a> = EndianSlice<'a, LittleEndian>;
-type Header<'a> = gimli::FrameDescriptionEntry<Bytes<'a>>;
 
 /// A temporary folder for one test, which is removed when the test ends.
 pub struct Folder(PathBuf);
@@ -46,209 +34,15 @@ impl Folder {
     pub fn bytes(&self, name: &str) -> Vec<u8> {
         std::fs::read(self.0.join(name)).unwrap()
     }
+
+    pub fn text(&self, name: &str) -> String {
+        String::from_utf8(self.bytes(name)).unwrap()
+    }
 }
 
 impl Drop for Folder {
     fn drop(&mut self) {
         let _ = std::fs::remove_dir_all(&self.0);
-    }
-}
-
-/// The rows of `.eh_frame`, as gimli reads them.
-struct GimliRows<'a> {
-    machine: &'static Machine,
-    section: EhFrame<Bytes<'a>>,
-    bases: BaseAddresses,
-    headers: Vec<Header<'a>>,
-    context: RefCell<UnwindContext<Bytes<'a>>>,
-}
-
-impl<'a> GimliRows<'a> {
-    fn header(&self, address: u64) -> Option<&Header<'a>> {
-        let index = self.headers.partition_point(|header| header.initial_address() <= address).checked_sub(1)?;
-        self.headers.get(index).filter(|header| header.contains(address))
-    }
-
-    fn all(&self, header: &Header<'a>) -> Result<Vec<Row<'a>>, String> {
-        let mut context = self.context.borrow_mut();
-        let failed = |error: gimli::Error| error.to_string();
-        let mut table = header.rows(&self.section, &self.bases, &mut context).map_err(failed)?;
-        let mut rows = Vec::new();
-        while let Some(row) = table.next_row().map_err(failed)? {
-            let numbered = |register: gimli::Register| (self.machine.register)(register.0);
-            let rule =
-                |(register, rule): &(gimli::Register, RegisterRule<Bytes<'a>>)| (numbered(*register), self.rule(rule));
-            let mut rules: Vec<_> = row.registers().map(rule).collect();
-            // gimli leaves out rules that say that a register is undefined, such as the return address of
-            // the outermost frame.
-            let address = self.machine.return_address;
-            let has_rule = rules.iter().any(|(register, _)| *register == address);
-            if !has_rule && (self.machine.return_slot.is_some() || ends_the_stack(header, &self.section, &self.bases)) {
-                rules.push((address, Rule::Undefined));
-            }
-            rules.sort_by_key(|(register, _)| *register);
-            let cfa = match row.cfa() {
-                CfaRule::RegisterAndOffset { register, offset } => Cfa::Offset(numbered(*register), *offset),
-                CfaRule::Expression(expression) => Cfa::Expression(expression.0.slice()),
-            };
-            rows.push(Row { begin: row.start_address(), end: row.end_address(), cfa, rules });
-        }
-        rows.retain(|row| row.begin < row.end);
-        Ok(rows)
-    }
-
-    fn rule(&self, rule: &RegisterRule<Bytes<'a>>) -> Rule<'a> {
-        match rule {
-            RegisterRule::Undefined => Rule::Undefined,
-            RegisterRule::SameValue => Rule::Same,
-            RegisterRule::Offset(offset) => Rule::Offset(*offset),
-            RegisterRule::Register(register) => Rule::Register((self.machine.register)(register.0)),
-            RegisterRule::Expression(expression) => Rule::Expression(expression.0.slice()),
-            _ => Rule::Value,
-        }
-    }
-}
-
-/// Whether an FDE says that there is no return address.
-fn ends_the_stack<'a>(header: &Header<'a>, section: &EhFrame<Bytes<'a>>, bases: &BaseAddresses) -> bool {
-    let mut instructions = header.instructions(section, bases);
-    while let Ok(Some(instruction)) = instructions.next() {
-        let return_address = header.cie().return_address_register();
-        if matches!(instruction, CallFrameInstruction::Undefined { register } if register == return_address) {
-            return true;
-        }
-    }
-    false
-}
-
-impl<'a> Rows for GimliRows<'a> {
-    fn rows(&self, fde: &Fde) -> Result<Vec<Row<'_>>, String> {
-        self.all(self.header(fde.begin).ok_or("no such FDE")?)
-    }
-
-    fn row(&self, address: u64) -> Option<Row<'_>> {
-        let rows = self.all(self.header(address)?).ok()?;
-        rows.into_iter().find(|row| (row.begin..row.end).contains(&address))
-    }
-}
-
-/// From which address on how many bytes of arguments are on the stack.
-fn argument_bytes<'a>(header: &Header<'a>, section: &EhFrame<Bytes<'a>>, bases: &BaseAddresses) -> Vec<(u64, u64)> {
-    let mut found = Vec::new();
-    let (mut instructions, mut address) = (header.instructions(section, bases), header.initial_address());
-    while let Ok(Some(instruction)) = instructions.next() {
-        match instruction {
-            CallFrameInstruction::AdvanceLoc { delta } => {
-                address += u64::from(delta) * header.cie().code_alignment_factor();
-            }
-            CallFrameInstruction::ArgsSize { size } if size != NEGATE => found.push((address, size)),
-            _ => {}
-        }
-    }
-    found
-}
-
-/// What assembly for tests has in place of `DW_CFA_AARCH64_negate_ra_state`, which gimli can't read: a number of
-/// bytes of arguments that no code has.
-pub const NEGATE: u64 = 125;
-
-/// A program with `.cfi_negate_ra_state`, which gcc writes by the name that sparc has for it, as gimli can read it.
-pub fn readable(text: &str) -> String {
-    let escape = format!(".cfi_escape 0x2e, {}", NEGATE);
-    text.replace(".cfi_negate_ra_state", &escape).replace(".cfi_window_save", &escape)
-}
-
-/// At which addresses the return address is signed.
-fn signed<'a>(header: &Header<'a>, section: &EhFrame<Bytes<'a>>, bases: &BaseAddresses) -> Vec<Range<u64>> {
-    let (mut found, mut remembered) = (Vec::new(), Vec::new());
-    let (mut instructions, mut address) = (header.instructions(section, bases), header.initial_address());
-    let mut since = None;
-    while let Ok(Some(instruction)) = instructions.next() {
-        let now = match instruction {
-            CallFrameInstruction::AdvanceLoc { delta } => {
-                address += u64::from(delta) * header.cie().code_alignment_factor();
-                continue;
-            }
-            CallFrameInstruction::RememberState => {
-                remembered.push(since.is_some());
-                continue;
-            }
-            CallFrameInstruction::RestoreState => remembered.pop().unwrap(),
-            CallFrameInstruction::ArgsSize { size: NEGATE } => since.is_none(),
-            _ => continue,
-        };
-        found.extend(since.filter(|_| !now).map(|since| since..address));
-        since = since.or(Some(address)).filter(|_| now);
-    }
-    found.extend(since.map(|since| since..header.initial_address() + header.len()));
-    found.retain(|range: &Range<u64>| range.start < range.end);
-    found
-}
-
-/// The FDEs of `.eh_frame`, ascending, each address once.
-fn headers<'a>(section: &EhFrame<Bytes<'a>>, bases: &BaseAddresses) -> Vec<Header<'a>> {
-    let mut entries = section.entries(bases);
-    let mut headers = Vec::new();
-    while let Ok(Some(entry)) = entries.next() {
-        if let CieOrFde::Fde(partial) = entry {
-            headers.extend(partial.parse(EhFrame::cie_from_offset));
-        }
-    }
-    headers.retain(|header| header.initial_address() != 0 && header.len() != 0);
-    headers.sort_by_key(|header| header.initial_address());
-    headers.dedup_by_key(|header| header.initial_address());
-    headers
-}
-
-/// The names of functions of other modules, by the addresses of the pointers to them.
-fn imports<'a>(file: &object::File<'a>) -> HashMap<u64, &'a str> {
-    let symbols = file.dynamic_symbol_table();
-    let relocations = file.dynamic_relocations().into_iter().flatten();
-    let named = relocations.filter_map(|(address, relocation)| match relocation.target() {
-        RelocationTarget::Symbol(index) => Some((address, symbols.as_ref()?.symbol_by_index(index).ok()?.name().ok()?)),
-        _ => None,
-    });
-    named.collect()
-}
-
-/// The module in an ELF file. Only `.eh_frame` is read.
-pub fn module(data: &[u8]) -> Module<'_> {
-    let file = object::File::parse(data).unwrap();
-    let mut segments: Vec<_> = file
-        .segments()
-        .map(|segment| Segment { address: segment.address(), bytes: segment.data().unwrap(), is_executable: true })
-        .collect();
-    segments.sort_by_key(|segment| segment.address);
-    let section = file.section_by_name(".eh_frame").unwrap();
-    let bases = BaseAddresses::default().set_eh_frame(section.address());
-    let mut frames = EhFrame::new(section.data().unwrap(), LittleEndian);
-    frames.set_address_size(8);
-    let headers = headers(&frames, &bases);
-    let area = |address: u64| {
-        let segment = segments.iter().rev().find(|segment| segment.address <= address).unwrap();
-        segment.bytes.get((address - segment.address) as usize..).unwrap_or(&[])
-    };
-    let fde = |header: &Header<'_>| {
-        let begin = header.initial_address();
-        let landings = match header.lsda() {
-            Some(Pointer::Direct(address)) => landings(area(address), begin),
-            _ => Vec::new(),
-        };
-        let argument_bytes = argument_bytes(header, &frames, &bases);
-        let (end, is_signal) = (begin + header.len(), header.is_signal_trampoline());
-        Fde { begin, end, is_signal, landings, argument_bytes, signed: signed(header, &frames, &bases) }
-    };
-    let fdes = headers.iter().map(fde).collect();
-    let machine = Machine::numbered(u16::from_le_bytes([data[18], data[19]])).unwrap();
-    let rows = GimliRows { machine, section: frames, bases, headers, context: RefCell::default() };
-    Module {
-        machine,
-        segments,
-        sections: Vec::new(),
-        fdes,
-        imports: imports(&file),
-        convention: Convention::KeepsRegisters,
-        rows: Box::new(rows),
     }
 }
 
@@ -261,20 +55,23 @@ pub fn has(tool: &str) -> bool {
 
 /// The kinds of the findings, except private ones.
 pub fn kinds(report: &Report<'_>) -> Vec<String> {
-    let kinds = report.findings.iter().map(|finding: &Finding<'_>| finding.kind.to_string());
+    let kinds = report.findings.iter().map(|finding| finding.kind.to_string());
     kinds.filter(|kind| kind != "private").collect()
 }
 
-/// Assembles a program, and lints it.
-pub fn kinds_of_assembly(folder: &Folder, text: &str) -> Vec<String> {
-    kinds_by(folder, "gcc", text)
+/// What is found in a program.
+pub struct Found {
+    /// The kinds of the findings, except private ones.
+    pub kinds: Vec<String>,
+    /// What was judged.
+    pub coverage: Coverage,
 }
 
-/// Assembles a program by a compiler, and lints it.
-pub fn kinds_by(folder: &Folder, compiler: &str, text: &str) -> Vec<String> {
-    folder.write("text.s", &readable(text));
-    folder.run(&format!("{} -nostdlib -shared -o text.so text.s", compiler));
-    let data = folder.bytes("text.so");
+/// Runs a command line that makes the program `out`, and lints that.
+pub fn found(folder: &Folder, line: &str) -> Found {
+    folder.run(line);
+    let data = folder.bytes("out");
     let module = module(&data);
-    kinds(&lint(&module))
+    let report = lint(&module);
+    Found { kinds: kinds(&report), coverage: report.coverage }
 }
