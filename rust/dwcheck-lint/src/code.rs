@@ -6,6 +6,9 @@ use crate::machine::Machine;
 /// No instruction was decoded at an offset.
 const NONE: u32 = u32::MAX;
 
+/// How many bytes an instruction has that is rather short, so that nearly all code has fewer instructions.
+const SHORT: usize = 3;
+
 /// The instructions of a range of code. Offsets are relative to its first address.
 pub struct Code<'a> {
     machine: &'a Machine,
@@ -22,7 +25,8 @@ impl<'a> Code<'a> {
     /// from the landing pads, and then what is between.
     pub fn decode(machine: &'a Machine, begin: u64, bytes: &'a [u8], pads: impl Iterator<Item = u64>) -> Code<'a> {
         let (at, leaders) = (vec![NONE; bytes.len()], vec![false; bytes.len()]);
-        let mut code = Code { machine, begin, bytes, instructions: Vec::new(), at, leaders };
+        let instructions = Vec::with_capacity(bytes.len() / SHORT);
+        let mut code = Code { machine, begin, bytes, instructions, at, leaders };
         code.lead(0);
         for offset in pads.filter_map(|pad| code.offset(pad)).collect::<Vec<_>>() {
             code.lead(offset);

@@ -251,8 +251,9 @@ impl Judge<'_> {
     }
 
     fn judge_registers(&self, row: &Row<'_>, context: &Context<'_>, verdict: &mut Verdict) {
+        let silent = self.machine.kept_if_said.without(self.said.registers);
         for (index, register) in self.machine.kept.iter().enumerate() {
-            let is_silent = self.machine.kept_if_said.without(self.said.registers).contains(*register);
+            let is_silent = silent.contains(*register);
             let known = match row.rule(*register) {
                 Some(Rule::Undefined) => continue,
                 // Rule "registers that rows speak of": most code for aarch64 leaves vector registers out.

@@ -3,7 +3,7 @@
 use crate::coverage::{Coverage, Reason};
 use crate::crossing::Crossing;
 use crate::flow::{is_entry_row, Flow};
-use crate::instruction::{Effect, Transfer};
+use crate::instruction::{Effect, Place, Transfer};
 use crate::judge::{unjudged, Facts, Unjudged, Verdict};
 use crate::register::{Register, Registers};
 use crate::rules::is_unreachable_end;
@@ -114,10 +114,17 @@ impl<'m, 'x> Judging<'m, 'x> {
         }
     }
 
-    /// Whether an instruction can change the verdict on the row.
-    fn matters(&self, effect: &Effect) -> bool {
+    /// Whether an instruction, after which this is known, can change the verdict on the row.
+    fn matters(&self, effect: &Effect, state: &State) -> bool {
+        // Memory that isn't at a known place of the stack isn't followed.
+        let is_followed = |place: &Place| matches!(state.get(place.base), Value::Address { .. });
         match effect {
-            Effect::Write { stored: Some(_), .. } => true,
+            Effect::Store { to, .. } => to.as_ref().map_or(false, is_followed),
+            Effect::Write { stored: Some((place, _)), registers }
+                if is_followed(place) || registers.contains(place.base) =>
+            {
+                true
+            }
             Effect::Write { .. }
             | Effect::System { .. }
             | Effect::Set { .. }
@@ -236,7 +243,7 @@ impl<'m> Visitor<'m> for Judging<'m, '_> {
             return self.coverage.skip(Reason::CallsOnly);
         }
         let is_other_row = is_other_row || flow.is_for_calls;
-        if is_other_row || before.map_or(true, |before| self.matters(&flow.code.effect(before))) {
+        if is_other_row || before.map_or(true, |before| self.matters(&flow.code.effect(before), state)) {
             self.current.verdict = flow.verdict(row, state, address);
         }
         self.count(row, flow.module.machine.stack_pointer);

@@ -3,12 +3,17 @@
 use crate::machine::MOST_FOLLOWED;
 use crate::register::Register;
 use crate::value::{Base, Value};
+use smallvec::SmallVec;
 
 /// How many registers are kept without allocating. x86-64 has no more.
 const FEW: usize = 16;
 
 /// The most slots of the stack that are followed.
 const MOST_SLOTS: usize = 28;
+
+/// How many slots are kept without allocating: as many as x86-64's callee-saved registers and the return address
+/// need, and one more.
+const FEW_SLOTS: usize = 8;
 
 /// The number of bytes of a slot.
 const WORD: i64 = 8;
@@ -22,12 +27,12 @@ struct Slot {
 }
 
 /// What is known at a place in the code.
-#[derive(Clone, Debug, PartialEq, Eq)]
+#[derive(Debug, PartialEq, Eq)]
 pub struct State {
     registers: [Value; FEW],
     /// Further registers. Those after the last one are unknown.
     others: Vec<Value>,
-    slots: Vec<Slot>,
+    slots: SmallVec<[Slot; FEW_SLOTS]>,
     /// Whether it comes of a row that was taken as an assumption, so that nothing is known of slots
     /// that aren't listed. Otherwise it was followed from the function's entry, and a slot to which
     /// the function never stores an entry value holds none.
@@ -36,11 +41,18 @@ pub struct State {
     is_full: bool,
 }
 
+impl Clone for State {
+    fn clone(&self) -> State {
+        let State { registers, is_assumed, is_full, .. } = *self;
+        State { registers, others: self.others.clone(), slots: SmallVec::from_slice(&self.slots), is_assumed, is_full }
+    }
+}
+
 impl State {
     /// A state in which nothing is known of any register.
     pub fn unknown(is_assumed: bool) -> State {
         let registers = [Value::Unknown; FEW];
-        State { registers, others: Vec::new(), slots: Vec::new(), is_assumed, is_full: false }
+        State { registers, others: Vec::new(), slots: SmallVec::new(), is_assumed, is_full: false }
     }
 
     /// What a register holds.
@@ -115,18 +127,20 @@ impl State {
     /// Reduces this state to what is also known in the other, where two ways meet at an offset in the
     /// function. Returns whether it changed.
     pub fn merge(&mut self, other: &State, at: u32) -> bool {
-        let mut has_changed = false;
-        let mut joins = Vec::new();
-        for (register, one) in self.registers_mut() {
-            let other = other.get(register);
-            let merged = if *one == other { other } else { one.joined(other, at, register) };
-            if let Value::Address { base, offset: 0 } = merged {
-                if base == Base::joined(at, register) {
-                    joins.push(Join { base, one: *one, other });
-                }
+        let (mut has_changed, mut joins) = (false, Vec::new());
+        let others = other.registers.iter().chain(&other.others).chain(std::iter::repeat(&Value::Unknown));
+        for ((register, value), other) in self.registers_mut().zip(others) {
+            let one = *value;
+            if one != *other {
+                *value = one.joined(*other, at, register);
+                has_changed |= *value != one;
             }
-            has_changed |= merged != *one;
-            *one = merged;
+            match *value {
+                Value::Address { base, offset: 0 } if base == Base::joined(at, register) => {
+                    joins.push(Join { base, one, other: *other });
+                }
+                _ => {}
+            }
         }
         has_changed |= self.merge_slots(other, at, &joins);
         has_changed |= other.is_full && !self.is_full || other.is_assumed && !self.is_assumed;
@@ -142,7 +156,10 @@ impl State {
             |slot: &Slot| !slot.base.is_joined_at(at) && other.slot(slot.base, slot.offset) == Some(slot.value);
         if joins.is_empty() {
             let count = self.slots.len();
-            self.slots.retain(is_kept);
+            // Mostly, both states have the same slots.
+            if self.slots != other.slots || self.slots.iter().any(|slot| slot.base.is_joined_at(at)) {
+                self.slots.retain(|slot| is_kept(slot));
+            }
             return self.slots.len() < count;
         }
         let renamed = |join: &Join| self.slots.iter().filter_map(|slot| join.renamed(slot, other)).collect::<Vec<_>>();

@@ -1,9 +1,12 @@
 //! x86-64: its calling convention, and its decoder over Zydis.
 
+mod remembered;
+
 use crate::instruction::{Condition, Effect, Entry, Instruction, Place, Scale, Target};
 use crate::machine::Machine;
 use crate::register::{Register, Registers};
 use crate::zydis::{decoded, text, Decoded, Mnemonic, Operand, OperandKind, NO_REGISTER, RIP};
+use remembered::remembered;
 
 const NAMES: [&str; 17] = [
     "rax", "rdx", "rcx", "rbx", "rsi", "rdi", "rbp", "rsp", "r8", "r9", "r10", "r11", "r12", "r13", "r14", "r15", "ra",
@@ -49,10 +52,39 @@ pub static X86_64: Machine = Machine {
 const SYSTEM: Registers = Registers::of(&[0, 2, 11]);
 
 fn decode(bytes: &[u8], address: u64) -> Instruction {
+    direct_jump(bytes, address).unwrap_or_else(|| remembered(bytes, || by_zydis(bytes, address)))
+}
+
+/// The instruction at the first byte, and whether its address is part of what it does.
+fn by_zydis(bytes: &[u8], address: u64) -> (Instruction, bool) {
     match decoded(bytes, address) {
-        Some(found) => Instruction { length: found.length, effect: effect(&found).unwrap_or_else(|| write(&found)) },
-        None => Instruction { length: 1, effect: Effect::Invalid },
+        Some(found) => {
+            let effect = effect(&found).unwrap_or_else(|| write(&found));
+            let is_relative = |operand: &Operand| operand.kind() == OperandKind::Target || operand.base == RIP;
+            (Instruction { length: found.length, effect }, found.operands.iter().any(is_relative))
+        }
+        None => (Instruction { length: 1, effect: Effect::Invalid }, true),
     }
+}
+
+/// Direct jumps and calls without prefixes, which are a fifth of all instructions: an opcode, and the distance
+/// of the target from the next instruction. `None` for any other instruction.
+fn direct_jump(bytes: &[u8], address: u64) -> Option<Instruction> {
+    let (length, distance) = match *bytes {
+        [0xeb | 0x70..=0x7f, distance, ..] => (2, i64::from(distance as i8)),
+        [0xe8 | 0xe9, a, b, c, d, ..] => (5, i64::from(i32::from_le_bytes([a, b, c, d]))),
+        [0x0f, 0x80..=0x8f, a, b, c, d, ..] => (6, i64::from(i32::from_le_bytes([a, b, c, d]))),
+        _ => return None,
+    };
+    let target = address.wrapping_add(u64::from(length)).wrapping_add(distance as u64);
+    let effect = match bytes[usize::from(length == 6)] {
+        0xe8 => Effect::Call { target: Target::Code(target) },
+        0xe9 | 0xeb => Effect::Jump { target: Target::Code(target) },
+        0x74 | 0x84 => Effect::JumpIf { target, condition: Condition::Equal },
+        0x75 | 0x85 => Effect::JumpIf { target, condition: Condition::NotEqual },
+        _ => Effect::JumpIf { target, condition: Condition::Other },
+    };
+    Some(Instruction { length, effect })
 }
 
 /// The register with this number in instructions.

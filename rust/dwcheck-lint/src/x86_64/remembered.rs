@@ -1,0 +1,102 @@
+//! Remembers what instructions do that were decoded before, by their bytes.
+//!
+//! Code repeats itself: most of its instructions have the same bytes as one not far before. An instruction is
+//! decoded by its own bytes alone, so the same bytes do the same, unless the address is part of what they say.
+
+use crate::instruction::{Effect, Instruction};
+use std::cell::RefCell;
+
+/// The most bytes of an instruction that is remembered.
+const LONGEST: usize = 8;
+
+/// How many instructions are remembered, as a power of 2.
+const ENTRIES: u32 = 15;
+
+/// For how many beginnings of instructions a length is remembered, as a power of 2.
+const LENGTHS: u32 = 14;
+
+/// An instruction, and its bytes, above which the word has zeros.
+#[derive(Clone, Copy)]
+struct Entry {
+    word: u64,
+    instruction: Instruction,
+}
+
+struct Remembered {
+    entries: Vec<Entry>,
+    /// How long the last instruction was that begins with the same bytes, or with some that share its place.
+    lengths: Vec<u8>,
+}
+
+thread_local! {
+    static REMEMBERED: RefCell<Remembered> = RefCell::new(Remembered::new());
+}
+
+/// The instruction at the first byte, as `decode` gives it together with whether its address matters.
+pub(super) fn remembered(bytes: &[u8], decode: impl FnOnce() -> (Instruction, bool)) -> Instruction {
+    let word = match bytes.get(..LONGEST).and_then(|bytes| bytes.try_into().ok()) {
+        Some(word) => u64::from_le_bytes(word),
+        None => return decode().0,
+    };
+    REMEMBERED.with(|remembered| {
+        let mut remembered = remembered.borrow_mut();
+        remembered.find(word).unwrap_or_else(|| {
+            let (instruction, has_address) = decode();
+            if !has_address && usize::from(instruction.length) <= LONGEST {
+                remembered.add(word, instruction);
+            }
+            instruction
+        })
+    })
+}
+
+impl Remembered {
+    fn new() -> Self {
+        let none = Entry { word: 0, instruction: Instruction { length: 0, effect: Effect::Invalid } };
+        Remembered { entries: vec![none; 1 << ENTRIES], lengths: vec![0; 1 << LENGTHS] }
+    }
+
+    fn find(&self, word: u64) -> Option<Instruction> {
+        let length = self.lengths[place(word & 0xff_ffff, LENGTHS)];
+        let word = first(word, length);
+        let entry = &self.entries[place(word, ENTRIES)];
+        Some(entry.instruction).filter(|found| length > 0 && found.length == length && entry.word == word)
+    }
+
+    fn add(&mut self, word: u64, instruction: Instruction) {
+        self.lengths[place(word & 0xff_ffff, LENGTHS)] = instruction.length;
+        let word = first(word, instruction.length);
+        self.entries[place(word, ENTRIES)] = Entry { word, instruction };
+    }
+}
+
+/// The first bytes of a word.
+fn first(word: u64, length: u8) -> u64 {
+    word & u64::MAX.checked_shr(64 - 8 * u32::from(length)).unwrap_or(0)
+}
+
+/// The place of a word in a table, by the golden ratio, which spreads words that are alike.
+fn place(word: u64, bits: u32) -> usize {
+    (word.wrapping_mul(0x9e37_79b9_7f4a_7c15) >> (64 - bits)) as usize
+}
+
+#[cfg(test)]
+mod tests {
+    use super::*;
+
+    #[test]
+    fn bytes_that_follow_do_not_matter() {
+        let push = Instruction { length: 1, effect: Effect::PushFlags };
+        let decoded = |bytes: [u8; 8], effect| {
+            let mut is_decoded = false;
+            let found = remembered(&bytes, || {
+                is_decoded = true;
+                (Instruction { effect, ..push }, false)
+            });
+            (found, is_decoded)
+        };
+        assert_eq!(decoded([0x9c, 1, 2, 0, 0, 0, 0, 0], Effect::PushFlags), (push, true));
+        assert_eq!(decoded([0x9c, 1, 2, 9, 9, 9, 9, 9], Effect::Stop), (push, false));
+        assert!(decoded([0x9d, 1, 2, 9, 9, 9, 9, 9], Effect::Stop).1);
+    }
+}
