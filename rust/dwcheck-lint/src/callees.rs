@@ -181,6 +181,21 @@ impl Callees {
     }
 }
 
+/// Whether the code at an address only jumps to a function of another module, as the entries of procedure linkage
+/// tables do.
+pub fn leads_elsewhere(module: &Module<'_>, address: u64) -> bool {
+    let first = module.instruction_at(address);
+    let jump = match first.effect {
+        Effect::Nothing => module.instruction_at(address.wrapping_add(u64::from(first.length))),
+        _ => first,
+    };
+    let pointer = match jump.effect {
+        Effect::Jump { target: Target::Pointer(pointer) } => Some(pointer),
+        _ => (module.machine.stub)(module.bytes_at(address), address),
+    };
+    pointer.map_or(false, |pointer| module.imports.contains_key(&pointer))
+}
+
 /// Reads the code from an address along all ways, each instruction once. Returns false if there is
 /// too much of it, or some isn't in the file.
 fn read(

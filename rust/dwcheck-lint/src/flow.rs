@@ -1,7 +1,7 @@
 //! Follows the flow of control through an FDE's code until nothing new is found.
 
 use crate::assume::{assumed, entered};
-use crate::callees::Callees;
+use crate::callees::{leads_elsewhere, Callees};
 use crate::code::Code;
 use crate::instruction::Effect;
 use crate::judge::{unjudged, Judge, Said, Verdict};
@@ -293,6 +293,11 @@ impl<'m, 'c> Flow<'m, 'c> {
             Some(_) => Verdict::default(),
             None => self.verdict(row, state, address),
         }
+    }
+
+    /// Whether a call of the code at an address is one of a function of another module, as far as it matters.
+    pub fn is_elsewhere(&self, address: u64) -> bool {
+        self.module.stands_for_import(address) || self.needs_callees && leads_elsewhere(self.module, address)
     }
 
     /// The registers that a call of the code at an address may change.

@@ -108,7 +108,7 @@ impl<'m> Flow<'m, '_> {
     fn called(&mut self, target: Target) -> Called {
         match target {
             // Code of the same module may follow a convention of its own.
-            Target::Code(address) if !self.module.stands_for_import(address) => {
+            Target::Code(address) if !self.is_elsewhere(address) => {
                 Called { changed: self.changed_by(address), value: Value::Unknown }
             }
             _ => Called { changed: self.module.machine.changeable, value: Value::Clobbered },

@@ -179,6 +179,31 @@ fn cfa_register_overwritten() {
     X86_64.planted("overwritten", "CFA register overwritten", text);
 }
 
+/// What GCC 12 writes with -frename-registers: the row has r10, and the code has rax. The call, of a function of
+/// another module, overwrites r10.
+#[test]
+fn cfa_register_overwritten_by_a_call() {
+    let text = "lea 8(%rsp), %r10
+        .cfi_def_cfa r10, 0
+        and $-32, %rsp
+        push -8(%r10)
+        push %rbp
+        mov %rsp, %rbp
+        .cfi_escape 0x10, 6, 2, 0x76, 0
+        push %r10
+        .cfi_escape 0x0f, 3, 0x76, 0x78, 6
+        call g@PLT
+        mov -8(%rbp), %rax
+        WRONG .cfi_def_cfa r10, 0
+        RIGHT .cfi_def_cfa rax, 0
+        leave
+        .cfi_restore rbp
+        lea -8(%rax), %rsp
+        .cfi_def_cfa rsp, 8
+        ret";
+    X86_64.planted("renamed", "CFA register overwritten", text);
+}
+
 #[test]
 fn cfa_register_restored() {
     let text = "push %rbp
