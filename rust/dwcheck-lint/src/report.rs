@@ -179,7 +179,7 @@ impl fmt::Display for Json<'_, '_> {
             write!(f, ",\"function\":{}", Quoted(&name))?;
         }
         if let Some((before, _)) = mark.before {
-            write!(f, ",\"before\":{}", Quoted(&text(before)))?;
+            write!(f, ",\"before\":{},\"before-address\":{}", Quoted(&text(before)), before)?;
         }
         write!(f, ",\"instruction\":{}", Quoted(&text(mark.address)))?;
         write!(f, ",\"row\":{}", Quoted(&RowText(machine, &mark.row).to_string()))?;
