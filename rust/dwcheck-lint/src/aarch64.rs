@@ -357,14 +357,29 @@ impl Word {
         }
     }
 
-    /// The scalable vector extension. Which registers its instructions write isn't told apart, but for
-    /// those that move the stack pointer.
+    /// Whether an instruction of the scalable vector extension writes a general register: those that count elements,
+    /// or take one out of a vector.
+    fn is_scalable_to_general(self) -> bool {
+        let (group, is_count) = (self.bits(31, 24), self.bits(15, 14) == 0b10);
+        match (group, self.bits(21, 19)) {
+            (0x04, 0b100..=0b111) => matches!(self.bits(15, 12), 0b0101 | 0b1110 | 0b1111),
+            (0x05, _) => matches!(self.bits(21, 17), 0b10000 | 0b11000) && self.bits(15, 13) == 0b101,
+            (0x25, 0b100) => is_count,
+            (0x25, 0b101) => self.bits(15, 11) == 0b10001,
+            _ => false,
+        }
+    }
+
+    /// The scalable vector extension. Which vectors and predicates its instructions write isn't told apart.
     fn scalable(self) -> Effect {
         if self.bits(31, 23) == 0b0_0000_1000 && self.bit(21) && self.bits(15, 12) == 0b0101 {
             return Effect::Derive { to: self.general_or_sp(0), from: self.general_or_sp(16) };
         }
+        if self.is_scalable_to_general() {
+            return written(self.general(0));
+        }
         let mut registers = Registers::NONE;
-        self.general(0).into_iter().chain(self.vector(0)).for_each(|register| registers.insert(register));
+        self.vector(0).into_iter().for_each(|register| registers.insert(register));
         Effect::MayWrite { registers }
     }
 }

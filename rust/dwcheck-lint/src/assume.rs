@@ -89,7 +89,7 @@ impl Assumption<'_> {
         let kept = self.machine.kept.iter().copied();
         for register in kept.chain([self.machine.return_address]) {
             let is_return_address = register == self.machine.return_address;
-            let value = if is_signed && is_return_address { Value::SignedReturn } else { Value::Entry(register) };
+            let value = if is_signed && is_return_address { Value::SIGNED_BY_CFA } else { Value::Entry(register) };
             match row.rule(register) {
                 None | Some(Rule::Same) => {
                     let is_free = self.state.get(register) == Value::Unknown;

@@ -118,8 +118,8 @@ pub struct Verdict {
 pub enum Unjudged {
     /// The frame is the outermost one: the row says that there is no return address.
     Outermost,
-    /// The row has a rule for the stack pointer, or finds the return address of a callee above the CFA:
-    /// it describes where a jump such as `longjmp` goes to.
+    /// The row has a rule for the stack pointer, or, where a call leaves the return address in a register, finds a
+    /// register above the CFA: it describes where a jump such as `longjmp` goes to.
     JumpTarget,
     /// The row has rules for the registers of exception data: the function replaces its own return
     /// address, by `__builtin_eh_return`.
@@ -129,7 +129,7 @@ pub enum Unjudged {
 /// Why a row isn't judged, if it isn't.
 pub fn unjudged(machine: &Machine, row: &Row<'_>) -> Option<Unjudged> {
     let mut data = machine.exception_data.iter();
-    let is_above = matches!(row.rule(machine.return_address), Some(Rule::Offset(offset)) if offset >= 0);
+    let is_above = row.rules.iter().any(|(_, rule)| matches!(rule, Rule::Offset(offset) if *offset >= 0));
     if row.rule(machine.stack_pointer).is_some() || is_above && machine.return_slot.is_none() {
         Some(Unjudged::JumpTarget)
     } else if data.all(|register| row.rule(register).is_some()) {
@@ -305,8 +305,10 @@ impl Judge<'_> {
             Value::Unknown => Ok(None),
             Value::Entry(other) if other == register && is_signed => Err(WrongRule::Signing),
             Value::Entry(other) if other == register => Ok(Some(())),
-            Value::SignedReturn if register == self.machine.return_address && is_signed => Ok(Some(())),
-            Value::SignedReturn if register == self.machine.return_address => Err(WrongRule::Signing),
+            // No table says that a return address is signed by something else than the CFA.
+            Value::SignedReturn { by } if by != 0 => Ok(None),
+            Value::SIGNED_BY_CFA if register == self.machine.return_address && is_signed => Ok(Some(())),
+            Value::SIGNED_BY_CFA if register == self.machine.return_address => Err(WrongRule::Signing),
             _ => Err(wrong),
         }
     }

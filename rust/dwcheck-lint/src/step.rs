@@ -58,9 +58,9 @@ impl Step<'_> {
             Effect::SubtractRegister { to, from, by } => self.subtract_register(to, from, by),
             Effect::Derive { to, from } => self.derive(to, self.state.get(from)),
             Effect::Align { to, from, mask } => self.align(to, from, mask),
-            Effect::Sign { to, by } => self.sign(to, by, (self.return_address(), Value::SignedReturn)),
-            Effect::Authenticate { to, by } => self.sign(to, by, (Value::SignedReturn, self.return_address())),
-            Effect::Strip { to } if self.state.get(to) == Value::SignedReturn => {
+            Effect::Sign { to, by } => self.sign(to, by, true),
+            Effect::Authenticate { to, by } => self.sign(to, by, false),
+            Effect::Strip { to } if matches!(self.state.get(to), Value::SignedReturn { .. }) => {
                 self.state.set(to, self.return_address());
             }
             Effect::Load { to, from } => {
@@ -119,14 +119,15 @@ impl Step<'_> {
         Value::Entry(self.machine.return_address)
     }
 
-    /// Signs the return address, which changes the first of these values to the second, or authenticates it.
-    /// Unwinders take the CFA as the number that it is signed by, so the stack pointer has to be there. What
-    /// else becomes of a return address isn't known, and other addresses aren't followed.
-    fn sign(&mut self, to: Register, by: Option<Register>, (before, after): (Value, Value)) {
-        let by_cfa = by.map(|by| self.state.get(by)) == Some(Value::from_cfa(0));
+    /// Signs or authenticates the return address. What it is signed by has to be at a known distance from the CFA,
+    /// as the stack pointer is where a function begins. Other addresses aren't followed.
+    fn sign(&mut self, to: Register, by: Option<Register>, is_signing: bool) {
+        let by = by.and_then(|by| self.state.get(by).cfa_offset());
+        let (plain, signed) = (self.return_address(), by.map(|by| Value::SignedReturn { by }));
+        let (before, after) = if is_signing { (Some(plain), signed) } else { (signed, Some(plain)) };
         match self.state.get(to) {
-            value if value == before && by_cfa => self.state.set(to, after),
-            Value::Entry(_) | Value::SignedReturn => self.state.set(to, Value::Unknown),
+            value if Some(value) == before => self.state.set(to, after.unwrap_or(Value::Unknown)),
+            Value::Entry(_) | Value::SignedReturn { .. } => self.state.set(to, Value::Unknown),
             _ => {}
         }
     }

@@ -111,7 +111,7 @@ impl Stores {
     fn escape(&mut self, return_address: Register, value: Value) {
         match value {
             Value::Entry(register) if register == return_address => self.moves_return_address = true,
-            Value::SignedReturn => self.moves_return_address = true,
+            Value::SignedReturn { .. } => self.moves_return_address = true,
             Value::Entry(_) if !self.has_escaped => {
                 self.has_escaped = true;
                 self.is_outdated |= self.denied_escape;
@@ -123,7 +123,7 @@ impl Stores {
 
 /// Whether a value is worth a slot.
 fn is_kept(value: Value) -> bool {
-    matches!(value, Value::Entry(_) | Value::SignedReturn)
+    matches!(value, Value::Entry(_) | Value::SignedReturn { .. })
         || value.cfa_offset().map_or(false, |offset| NEAR_CFA.contains(&offset))
 }
 

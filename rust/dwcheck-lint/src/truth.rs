@@ -46,7 +46,7 @@ impl Truth {
             *place = find(*register, Value::Entry(*register));
         }
         let (address, plain) = (machine.return_address, Value::Entry(machine.return_address));
-        let signed = || find(address, Value::SignedReturn).map(|place| (place, true));
+        let signed = || find(address, Value::SIGNED_BY_CFA).map(|place| (place, true));
         let return_address = find(address, plain).map(|place| (place, false)).or_else(signed);
         Truth { cfa: preferred.filter_map(distance).next(), return_address, kept }
     }

@@ -23,8 +23,8 @@ pub enum Value {
     Clobbered,
     /// The value that a register had when the function was entered.
     Entry(Register),
-    /// The return address that the function was entered with, signed by the CFA.
-    SignedReturn,
+    /// The return address that the function was entered with, signed by the CFA plus a number.
+    SignedReturn { by: i64 },
     /// An address: a base plus an offset.
     Address { base: Base, offset: i64 },
     /// A number, or an address in the program.
@@ -89,6 +89,9 @@ impl Base {
 }
 
 impl Value {
+    /// The return address as tables say that it is signed: by the CFA.
+    pub const SIGNED_BY_CFA: Value = Value::SignedReturn { by: 0 };
+
     /// An address relative to the CFA.
     pub fn from_cfa(offset: i64) -> Value {
         Value::Address { base: Base::CFA, offset }
@@ -140,8 +143,9 @@ impl Value {
     /// What is known of a value that is one of two.
     #[must_use]
     pub fn merged(self, other: Value) -> Value {
-        let can_be_entry =
-            |value| matches!(value, Value::Unknown | Value::Entry(_) | Value::SignedReturn | Value::Address { .. });
+        let can_be_entry = |value| {
+            matches!(value, Value::Unknown | Value::Entry(_) | Value::SignedReturn { .. } | Value::Address { .. })
+        };
         match (self, other) {
             (one, other) if one == other => one,
             (one, other) if can_be_entry(one) || can_be_entry(other) => Value::Unknown,

@@ -160,6 +160,23 @@ fn rows_of_a_jump_to_another_frame() {
     AARCH64.quiet("jump", ".cfi_def_cfa x0, 0\n.cfi_offset x19, 0\n.cfi_offset x30, 8\nldp x19, x30, [x0]\nldr x4, [x0, #16]\nmov sp, x4\nbr x30", "");
 }
 
+/// Jump targets: a call on the way there, for which the return address is in another register.
+#[test]
+fn calls_on_the_way_to_another_frame() {
+    let body = "mov x13, x30
+        .cfi_def_cfa x0, 0
+        .cfi_offset x19, 0
+        .cfi_register x30, x13
+        bl g
+        mov x30, x13
+        .cfi_same_value x30
+        ldp x19, x30, [x0]
+        ldr x4, [x0, #16]
+        mov sp, x4
+        br x30";
+    AARCH64.quiet("way", body, "g: .cfi_startproc\nmov x1, #1\nret\n.cfi_endproc");
+}
+
 /// Exception returns: the stack pointer of another frame is set at the end.
 #[test]
 fn functions_that_return_to_a_handler() {
@@ -394,6 +411,57 @@ fn signatures_by_other_numbers() {
         ret";
     AARCH64.quiet("by-other", other, "");
     AARCH64.quiet("pointer", "mov x17, x1\nmov x16, x2\npacia1716\nstr x17, [x0]\nautia1716\nbr x17", "");
+}
+
+/// A return address that is signed by the stack pointer in a frame, as in glibc's calls for thread-local storage, is
+/// the same again after it was authenticated by that.
+#[test]
+fn signatures_in_a_frame() {
+    let body = "stp x1, x2, [sp, #-32]!
+        .cfi_def_cfa_offset 32
+        paciasp
+        .cfi_negate_ra_state
+        stp x29, x30, [sp, #-16]!
+        .cfi_def_cfa_offset 48
+        .cfi_offset x29, -48
+        .cfi_offset x30, -40
+        blr x1
+        ldp x29, x30, [sp], #16
+        .cfi_restore x29
+        .cfi_restore x30
+        .cfi_def_cfa_offset 32
+        autiasp
+        .cfi_negate_ra_state
+        ldp x1, x2, [sp], #32
+        .cfi_def_cfa_offset 0
+        ret";
+    AARCH64.quiet("in-frame", body, "");
+    let text = body.replace("        autiasp\n        .cfi", "        autiasp\n        RIGHT .cfi");
+    AARCH64.planted("in-frame-wrong", "return address signing", &text);
+}
+
+/// Instructions of the scalable vector extension whose vectors have the numbers of x29 and x30, and one that
+/// counts elements in x30.
+#[test]
+fn scalable_vectors_are_not_general_registers() {
+    let text = ".arch armv8.2-a+sve
+        mov z29.d, #0x10
+        fmul z30.d, p0/m, z30.d, z29.d
+        cmphs p1.d, p0/z, z30.d, z29.d
+        stp x29, x30, [sp, #-16]!
+        .cfi_def_cfa_offset 16
+        .cfi_offset x29, -16
+        .cfi_offset x30, -8
+        mov z30.d, x2
+        cntd x30
+        ldp x29, x30, [sp], #16
+        .cfi_restore x29
+        .cfi_restore x30
+        .cfi_def_cfa_offset 0
+        WRONG cntp x30, p0, p1.d
+        cntp x0, p0, p1.d
+        ret";
+    AARCH64.planted("scalable", "return address", text);
 }
 
 /// Code that signs, in parts that only jumps reach, and in parts that nothing is seen to reach.
