@@ -227,8 +227,13 @@ def walk(process, bias, task):
 
 # What gdb runs at the place: it prints where the frame is, the return address and the caller's registers.
 IN_GDB = r"""
-import gdb, json, re
-frame = gdb.execute("info frame", to_string=True)
+import gdb, json, re, sys
+try:
+    frame = gdb.execute("info frame", to_string=True)
+except gdb.error as error:
+    print("SAYS " + json.dumps({"cannot": str(error)}))
+    gdb.execute("kill")
+    sys.exit()
 at, said = re.search(r"frame at (0x[0-9a-f]+):", frame), re.search(r"saved rip = (0x[0-9a-f]+)", frame)
 saved = dict(re.findall(r"(\w+) at (0x[0-9a-f]+)", frame.partition("Saved registers:")[2]))
 def caller(name):
@@ -275,6 +280,18 @@ def by_row(process, row):
     return {"cfa": cfa, "rip": slot("ra") if "ra" in rules else None, "registers": values}
 
 
+def differences(says, cfa, truth):
+    """What gdb or a row says that isn't so."""
+    if "cannot" in says:
+        return [f"the frame isn't found: {says['cannot']}"]
+    wrong = [f"{name} is wrong" for name, value in truth.items() if says["registers"][name] != value]
+    if says["cfa"] != cfa:
+        wrong.insert(0, f"the frame is off by {'?' if says['cfa'] is None else says['cfa'] - cfa}")
+    elif says["rip"] != RETURNS:
+        wrong.insert(0, "the return address is wrong")
+    return wrong
+
+
 def run(path, linked, task, folder):
     """Whether a finding is true by a run, and how that was seen."""
     process = Process(path)
@@ -284,11 +301,7 @@ def run(path, linked, task, folder):
         says = by_row(process, task["row"]) if is_return else by_gdb(process, folder)
     finally:
         process.end()
-    wrong = [f"{name} is wrong" for name, value in truth.items() if says["registers"][name] != value]
-    if says["cfa"] != cfa:
-        wrong.insert(0, f"the frame is off by {'?' if says['cfa'] is None else says['cfa'] - cfa}")
-    elif says["rip"] != RETURNS:
-        wrong.insert(0, "the return address is wrong")
+    wrong = differences(says, cfa, truth)
     how = f"run of {len(task['places']) - 1} steps, {faults} faults, by {'the row' if is_return else 'gdb'}: "
     return bool(wrong), how + (", ".join(wrong) or "all is right")
 
