@@ -1,18 +1,19 @@
 #!/usr/bin/env python3
 """Draws findings of `dwcheck-elf lint` at random, and confirms each by a run, or by reading.
 
-    bench/elf/confirm_lint.py FINDINGS [--count 200] [--seed 1] [--control]
+    bench/elf/confirm_lint.py FINDINGS [--count 200] [--seed 1] [--per-file 40] [--control]
 
 FINDINGS has the output of `dwcheck-elf lint --json PATH..`. Only findings in programs and libraries for
-x86-64 are drawn, no private ones; needed are gdb, objdump and readelf.
+x86-64 are drawn, no private ones, and of each file at most 40 take part, so that no file outweighs all
+others. Needed are gdb, objdump and readelf.
 
 By a run: the kernel maps the file as a program, and the function is run alone, step by step, from its
 first instruction to the place of the finding, on the shortest way. Each register that a function has to
 give back begins with a value of its own, and the return address is another. Calls are passed over, and
 overwrite what they may; jumps on the way are taken as the way goes; an instruction that faults is passed
 over. At the place, gdb is asked where the frame is, and what the caller's registers are. If the frame's
-address, the return address and all registers are right, the finding is refuted. At a plain `ret`, gdb
-doesn't ask the table; there, the row is evaluated that the finding shows.
+address, the return address and all registers are right, the finding is refuted. At a `ret`, gdb doesn't
+ask the table, so a `nop` is written over it first.
 
 By reading, if no way is seen from the first instruction, or the function is a part of another: the rows
 before and at the place are read by readelf, and the instruction between them by objdump. If it moves the
@@ -44,6 +45,7 @@ import tempfile
 TRUTH = {name: 0x1111111111110000 + at for at, name in enumerate(["rbx", "rbp", "r12", "r13", "r14", "r15"])}
 ABOVE = 0x800
 RETURNS = 0x2222222222220000
+NOP = b"\x90"
 OVERWRITTEN = ["rax", "rcx", "rdx", "rsi", "rdi", "r8", "r9", "r10", "r11"]
 JUMP = re.compile(r"^(?:bnd |notrack )?j\w+\s+(?:0x)?([0-9a-f]+)\b")
 ENDS = ("ret", "repz ret", "bnd ret", "ud2", "hlt", "jmp", "bnd jmp", "notrack jmp", "int3")
@@ -54,12 +56,17 @@ def output(*words):
     return subprocess.run(words, stdout=subprocess.PIPE, stderr=subprocess.DEVNULL, text=True, errors="replace").stdout
 
 
-def drawn(path, count, seed):
+def drawn(path, count, seed, per_file):
     """Some findings, and how many there are."""
+    chance, files, taking_part = random.Random(seed), collections.defaultdict(list), []
     with open(path) as lines:
-        all_of_them = [one for one in map(json.loads, lines) if "kind" in one and usable(one)]
-    chosen = random.Random(seed).sample(all_of_them, min(count, len(all_of_them)))
-    return sorted(chosen, key=lambda one: (one["file"], one["address"])), len(all_of_them)
+        for one in map(json.loads, lines):
+            if "kind" in one and usable(one):
+                files[one["file"]].append(one)
+    for _, here in sorted(files.items()):
+        taking_part += chance.sample(here, min(per_file, len(here)))
+    chosen = chance.sample(taking_part, min(count, len(taking_part)))
+    return sorted(chosen, key=lambda one: (one["file"], one["address"])), sum(map(len, files.values()))
 
 
 def usable(finding):
@@ -135,7 +142,7 @@ def task(code, finding):
     if len(places) > LONGEST_WAY:
         return "the way is long"
     texts = [instructions.get(place, ("",))[0] for place in places]
-    return {"places": places, "texts": texts, "address": address, "row": finding["row"]}
+    return {"places": places, "texts": texts}
 
 
 class Registers(ctypes.Structure):
@@ -263,25 +270,8 @@ def by_gdb(process, folder):
     return json.loads(said[1])
 
 
-def by_row(process, row):
-    """What a row says, as a finding shows it: `cfa=rsp+16 rbx=[c-16] ra=[c-8]`."""
-    registers = process.registers()
-    match = re.match(r"cfa=(\w+)([+-]\d+)", row)
-    if not match:
-        raise OSError("the row has an expression")
-    cfa = getattr(registers, match[1]) + int(match[2])
-    rules = {name: int(offset) for name, offset in re.findall(r"(\w+)=\[c([+-]\d+)\]", row)}
-
-    def slot(name):
-        process.memory.seek(cfa + rules[name])
-        return int.from_bytes(process.memory.read(8), "little")
-
-    values = {name: slot(name) if name in rules else getattr(registers, name) for name in TRUTH}
-    return {"cfa": cfa, "rip": slot("ra") if "ra" in rules else None, "registers": values}
-
-
 def differences(says, cfa, truth):
-    """What gdb or a row says that isn't so."""
+    """What gdb says that isn't so."""
     if "cannot" in says:
         return [f"the frame isn't found: {says['cannot']}"]
     wrong = [f"{name} is wrong" for name, value in truth.items() if says["registers"][name] != value]
@@ -297,12 +287,13 @@ def run(path, linked, task, folder):
     process = Process(path)
     try:
         cfa, truth, faults = walk(process, process.first - linked, task)
-        is_return = task["texts"][-1] in ("ret", "retq")
-        says = by_row(process, task["row"]) if is_return else by_gdb(process, folder)
+        if task["texts"][-1] in ("ret", "retq"):
+            process.write(process.registers().rip, NOP)
+        says = by_gdb(process, folder)
     finally:
         process.end()
     wrong = differences(says, cfa, truth)
-    how = f"run of {len(task['places']) - 1} steps, {faults} faults, by {'the row' if is_return else 'gdb'}: "
+    how = f"run of {len(task['places']) - 1} steps, {faults} faults, by gdb: "
     return bool(wrong), how + (", ".join(wrong) or "all is right")
 
 
@@ -365,9 +356,10 @@ def main():
     parser.add_argument("findings")
     parser.add_argument("--count", type=int, default=200)
     parser.add_argument("--seed", default="1")
+    parser.add_argument("--per-file", type=int, default=40)
     parser.add_argument("--control", action="store_true")
     words = parser.parse_args()
-    findings, all_of_them = drawn(words.findings, words.count, words.seed)
+    findings, all_of_them = drawn(words.findings, words.count, words.seed, words.per_file)
     if words.control:
         findings = [dict(one, address=one["before-address"]) for one in findings if "before-address" in one]
     counts = collections.Counter()

@@ -44,7 +44,7 @@ def main():
     rows = defaultdict(Counter)
     for file, coverage in files.items():
         row = rows[", ".join(compilers(file))]
-        row.update(files=1, wrong=bool(kinds[file]), instructions=coverage["instructions"], judged=coverage["judged"])
+        row.update(files=1, wrong=int(bool(kinds[file])), instructions=coverage["instructions"], judged=coverage["judged"])
         row.update({f"kind {kind}": count for kind, count in kinds[file].items()})
     print("| Compiler | Files | Instructions | Judged | Files with findings | Findings |\n|---|---|---|---|---|---|")
     for name, row in sorted(rows.items(), key=lambda item: -item[1]["instructions"]):

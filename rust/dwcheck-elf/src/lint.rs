@@ -73,7 +73,7 @@ impl<'data> Sections<'data> {
             sections: parts.iter().filter_map(section).collect(),
             fdes: Vec::new(),
             imports: self.image.imports.iter().copied().collect(),
-            convention: convention(program, functions),
+            convention: convention(program, functions, &self.image),
             rows: Box::new(SectionRows::of(self, machine)),
         };
         module.fdes = self.fdes(&module);
@@ -106,11 +106,12 @@ fn used(frames: Frames<'_>) -> Result<(Frames<'_>, Process, Option<String>), Str
 }
 
 /// What the functions of a program do with registers: those of Go and OCaml keep none.
-fn convention(program: &Program<'_>, functions: &Functions<'_>) -> Convention {
+fn convention(program: &Program<'_>, functions: &Functions<'_>, image: &Image<'_>) -> Convention {
     let is_caml = |name: &str| matches!(name, "caml_call_gc" | "caml_start_program");
+    let is_defined = functions.all().iter().any(|function| is_caml(&function.name));
     if program.has_section(".gopclntab") || program.has_section(".go.buildinfo") {
         Convention::Go
-    } else if functions.all().iter().any(|function| is_caml(&function.name)) {
+    } else if is_defined || image.imports.iter().any(|(_, name)| is_caml(name)) {
         Convention::KeepsNone
     } else {
         Convention::KeepsRegisters
@@ -123,10 +124,14 @@ fn fdes(frames: &Frames<'_>, module: &Module<'_>) -> Vec<Fde> {
     if frames.name() == Name::EhFrame {
         return eh_frame_fdes(frames, module, &signs);
     }
+    // What has `.eh_frame` in a program of Go is in C.
+    let is_called = module.convention == Convention::Go;
     let ranges = frames.bridged().records().iter().filter_map(|record| record.kind.range());
-    ranges
-        .map(|Range { start: begin, end }| Fde { begin, end, signed: signs.of_fde(begin, end), ..Fde::default() })
-        .collect()
+    let fde = |Range { start: begin, end }| {
+        let signed = signs.of_fde(begin, end);
+        Fde { begin, end, is_called, signed, ..Fde::default() }
+    };
+    ranges.map(fde).collect()
 }
 
 /// The ranges of addresses at which the return address is signed, in all FDEs of a section, ascending.
@@ -175,7 +180,7 @@ fn eh_frame_fdes(frames: &Frames<'_>, module: &Module<'_>, signs: &Signs) -> Vec
             let argument_bytes = argument_bytes(&header, header.instructions(&read, &bases));
             let (end, is_signal) = (begin.saturating_add(header.len()), signals.contains(&begin));
             let signed = signs.of_fde(begin, end);
-            fdes.push(Fde { begin, end, is_signal, landings, argument_bytes, signed });
+            fdes.push(Fde { begin, end, is_signal, is_called: false, landings, argument_bytes, signed });
         }
     }
     fdes

@@ -325,6 +325,61 @@ fn nothing_is_found_in_programs_that_sign() {
     }
 }
 
+/// A function that keeps rbx in another register for a while.
+const KEEPER: &str = ".globl f
+.type f, @function
+f: .cfi_startproc
+ mov %rbx, %r8
+ xor %ebx, %ebx
+ mov %r8, %rbx
+ ret
+ .cfi_endproc
+";
+
+/// Functions of OCaml keep no register; a plugin finds the collector in the program.
+#[test]
+fn plugins_of_ocaml_keep_no_register() {
+    let folder = Folder::new("lint-plugin");
+    for (more, status) in [("", 1), (".globl g\ng: jmp caml_call_gc@PLT\n", 0)] {
+        folder.assemble("gcc", format!("{}{}", KEEPER, more));
+        let (object, linked) = (dwcheck_elf(&folder, "lint a.o"), dwcheck_elf(&folder, "lint a.so"));
+        assert_eq!((object.status, linked.status), (status, status), "{}{}", object.out, linked.out);
+    }
+}
+
+/// A program of Go with code in C: its parts that were split off aren't functions that are called.
+#[test]
+fn code_in_c_of_programs_of_go() {
+    let folder = Folder::new("lint-cgo");
+    let text = ".section .gopclntab, \"a\"
+ .byte 0
+.text
+f: .cfi_startproc
+ push %rbp
+ .cfi_adjust_cfa_offset 8
+ .cfi_offset rbp, -16
+ mov %rsp, %rbp
+ .cfi_def_cfa_register rbp
+ test %edi, %edi
+ je f.cold
+ pop %rbp
+ .cfi_restore rbp
+ .cfi_def_cfa rsp, 8
+ ret
+ .cfi_endproc
+.section .text.unlikely, \"ax\"
+f.cold: .cfi_startproc
+ .cfi_def_cfa rbp, 16
+ .cfi_offset rbp, -16
+ call *%rsi
+ ud2
+ .cfi_endproc
+";
+    folder.assemble("gcc", text);
+    let ran = dwcheck_elf(&folder, "lint a.so");
+    assert_eq!((ran.status, ran.error.as_str()), (0, ""), "{}", ran.out);
+}
+
 #[test]
 fn code_of_other_machines_is_not_read() {
     if !has("arm-linux-gnueabihf-gcc") {

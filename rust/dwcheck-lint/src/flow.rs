@@ -5,7 +5,7 @@ use crate::callees::{leads_elsewhere, Callees};
 use crate::code::Code;
 use crate::instruction::Effect;
 use crate::judge::{unjudged, Judge, Said, Verdict};
-use crate::module::{Convention, Module};
+use crate::module::Module;
 use crate::register::Registers;
 use crate::rules::{has_rows_for_calls, is_only_padding};
 use crate::state::State;
@@ -160,7 +160,7 @@ impl<'m, 'c> Flow<'m, 'c> {
     /// The state at the FDE's first address.
     fn start(&self, brought: &BTreeMap<u64, State>) -> State {
         let machine = self.module.machine;
-        let is_called = |row| is_entry_row(self.module, row) || self.module.convention == Convention::Go;
+        let is_called = |row| is_entry_row(self.module, row) || self.fde.is_called;
         match (self.rows.first(), brought.get(&self.fde.begin)) {
             (Some(row), _) if is_called(row) => entered(machine, row),
             (_, Some(state)) => state.clone(),

@@ -23,8 +23,7 @@ pub enum Convention {
     KeepsRegisters,
     /// No function keeps a register, as in OCaml: only the CFA and the return address are judged.
     KeepsNone,
-    /// No function keeps a register, and each FDE is entered with the CFA just above the return
-    /// address, as in Go.
+    /// The same, and each FDE of `.debug_frame` is that of a function, as in Go.
     Go,
 }
 

@@ -12,6 +12,8 @@ pub struct Fde {
     pub end: u64,
     /// Whether its frame is one that a signal interrupted.
     pub is_signal: bool,
+    /// Whether a function that is called begins with it, whatever its first row says.
+    pub is_called: bool,
     /// Where calls that throw go on, ascending.
     pub landings: Vec<Landing>,
     /// From which address on how many bytes of arguments are on the stack

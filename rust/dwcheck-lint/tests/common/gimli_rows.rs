@@ -198,7 +198,8 @@ pub fn module(data: &[u8]) -> Module<'_> {
         };
         let argument_bytes = argument_bytes(header, &frames, &bases);
         let (end, is_signal) = (begin + header.len(), header.is_signal_trampoline());
-        Fde { begin, end, is_signal, landings, argument_bytes, signed: signed(header, &frames, &bases) }
+        let signed = signed(header, &frames, &bases);
+        Fde { begin, end, is_signal, is_called: false, landings, argument_bytes, signed }
     };
     let fdes = headers.iter().map(fde).collect();
     let machine = Machine::numbered(u16::from_le_bytes([data[18], data[19]])).unwrap();
