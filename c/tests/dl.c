@@ -6,7 +6,9 @@
 
 #include <dlfcn.h>
 #include <execinfo.h>
+#include <limits.h>
 #include <pthread.h>
+#include <setjmp.h>
 #include <signal.h>
 #include <stdatomic.h>
 #include <stdio.h>
@@ -62,6 +64,7 @@ static void on_signal(int signal, siginfo_t *info, void *context) {
     int our_count = dwcheck_dl_backtrace_from(context, ours, FRAMES), their_count = backtrace(theirs, FRAMES), i = 0;
     uint64_t interrupted = (uint64_t)((ucontext_t *)context)->uc_mcontext.gregs[REG_RIP];
     while (i < their_count && (uint64_t)(uintptr_t)theirs[i] != interrupted) i++;
+    if (their_count == FRAMES) our_count -= i; /* there are more frames than fit */
     IS(i < their_count, 1);
     IS(our_count, their_count - i);
     if (our_count == their_count - i) IS(memcmp(ours, theirs + i, (size_t)our_count * sizeof *ours), 0);
@@ -75,6 +78,12 @@ static void raise_signal(void) { raise(SIGUSR1); }
 __asm__(".pushsection .text\n.type traps, @function\n.globl traps\ntraps:\n.cfi_startproc\nud2\nret\n.cfi_endproc\n.size traps, . - traps\n.popsection");
 void traps(void);
 
+/* A function that a signal interrupts where the caller's rbp, by its row, is below the stack pointer. */
+__asm__(".pushsection .text\n.type pops, @function\n.globl pops\npops:\n.cfi_startproc\npush %rbp\n.cfi_def_cfa_offset 16\n"
+        ".cfi_offset %rbp, -16\nmov %rsp, %rbp\n.cfi_def_cfa_register %rbp\npop %rbp\n.cfi_def_cfa %rsp, 8\nud2\nret\n"
+        ".cfi_endproc\n.size pops, . - pops\n.popsection");
+void pops(void);
+
 static void on_trap(int signal, siginfo_t *info, void *context) {
     on_signal(signal, info, context);
     ((ucontext_t *)context)->uc_mcontext.gregs[REG_RIP] += 2;
@@ -82,7 +91,7 @@ static void on_trap(int signal, siginfo_t *info, void *context) {
 
 static void test_signals(void) {
     struct sigaction action = {.sa_sigaction = on_signal, .sa_flags = SA_SIGINFO | SA_ONSTACK};
-    struct sigaction trap = {.sa_sigaction = on_trap, .sa_flags = SA_SIGINFO};
+    struct sigaction trap = {.sa_sigaction = on_trap, .sa_flags = SA_SIGINFO | SA_ONSTACK};
     sigaction(SIGUSR1, &action, NULL);
     sigaction(SIGILL, &trap, NULL);
     deep(DEPTH, raise_signal);
@@ -90,9 +99,43 @@ static void test_signals(void) {
     stack_t alternate = {.ss_sp = malloc(1 << 16), .ss_size = 1 << 16}, before;
     sigaltstack(&alternate, &before);
     deep(DEPTH, raise_signal);
+    deep(DEPTH, pops);
     sigaltstack(&before, NULL);
     free(alternate.ss_sp);
     compare();
+}
+
+/* ---- a stack that overflows */
+
+static sigjmp_buf after_overflow;
+
+static void on_overflow(int signal, siginfo_t *info, void *context) {
+    on_signal(signal, info, context);
+    siglongjmp(after_overflow, 1);
+}
+
+__attribute__((noinline)) static int without_end(int depth) {
+    volatile char bytes[200];
+    bytes[depth % 200] = 1;
+    return depth == atomic_load(&walks) + INT_MAX / 2 ? 0 : without_end(depth + 1) + bytes[0];
+}
+
+static void *overflow(void *unused) {
+    stack_t alternate = {.ss_sp = malloc(1 << 16), .ss_size = 1 << 16}, before;
+    sigaltstack(&alternate, &before);
+    if (sigsetjmp(after_overflow, 1) == 0) without_end(0);
+    sigaltstack(&before, NULL);
+    free(alternate.ss_sp);
+    return unused;
+}
+
+static void test_overflow(void) {
+    struct sigaction action = {.sa_sigaction = on_overflow, .sa_flags = SA_SIGINFO | SA_ONSTACK}, before;
+    pthread_t thread;
+    sigaction(SIGSEGV, &action, &before);
+    pthread_create(&thread, NULL, overflow, NULL);
+    pthread_join(thread, NULL);
+    sigaction(SIGSEGV, &before, NULL);
 }
 
 /* ---- libraries that come and go */
@@ -110,7 +153,12 @@ static void come_and_go(void) {
     IS(dwcheck_dl_update(&counts), DWCHECK_DONE);
     IS(counts.added, 1);
     call_back(compare);
+    ucontext_t inside;
+    void *addresses[FRAMES];
+    getcontext(&inside);
+    inside.uc_mcontext.gregs[REG_RIP] = (long long)(uintptr_t)call_back;
     dlclose(library);
+    IS(dwcheck_dl_backtrace_from(&inside, addresses, FRAMES) > 0, 1); /* its code isn't mapped any more */
     IS(dwcheck_dl_update(&counts), DWCHECK_DONE);
     IS(counts.removed, 1);
     IS(counts.left_out, 0);
@@ -146,7 +194,10 @@ static void test_stack(void) {
     IS(dwcheck_dl_stack(first + 3 * PAGE).length, 0);
     IS(dwcheck_dl_stack(0).length, 0);
     IS(dwcheck_dl_stack((uint64_t)1 << 63).length, 0);
-    munmap(pages, 4 * PAGE);
+    IS(dwcheck_dl_stack(0).bytes != NULL, 1);
+    munmap(pages + 2 * PAGE, 2 * PAGE);
+    IS(dwcheck_dl_stack(first + PAGE).length, PAGE);
+    munmap(pages, 2 * PAGE);
     compare();
 }
 
@@ -169,6 +220,7 @@ int main(int count, char **arguments) {
     pthread_create(&thread, NULL, in_a_thread, NULL);
     pthread_join(thread, NULL);
     test_signals();
+    test_overflow();
     test_stack();
     come_and_go();
     test_threads();

@@ -44,7 +44,7 @@ readers() { # PROGRAM: builds the tests of calls that read one process at once, 
 dl() { # builds the tests of dwcheck-dl, and runs them with a library that comes and goes
     printf 'void call_back(void (*f)(void)); void call_back(void (*f)(void)) { f(); __asm__ volatile(""); }\n' |
         cc -O2 -fPIC -shared -x c - -o "$out/called.so" &&
-        cc -std=gnu11 $strict -O2 -g -fno-optimize-sibling-calls "$top/c/tests/dl.c" "$dl_library" "$library" -o "$out/dl" \
+        cc -std=gnu11 $strict -O2 -g -fno-optimize-sibling-calls -fno-omit-frame-pointer "$top/c/tests/dl.c" "$dl_library" "$library" -o "$out/dl" \
             -pthread -ldl && "$out/dl" "$out/called.so"
 }
 
