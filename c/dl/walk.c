@@ -4,7 +4,6 @@
 
 #include <errno.h>
 #include <signal.h>
-#include <string.h>
 #include <sys/syscall.h>
 #include <ucontext.h>
 #include <unistd.h>
@@ -78,18 +77,6 @@ static int extend(dwcheck_block *block, const dwcheck_answer *cfa) {
 
 /* ---- walks */
 
-/* Whether a frame is where a signal handler returns to: the code that makes the system call rt_sigreturn.
-   The frame after it was interrupted, and isn't at a call. The row of such code has an expression for the
-   CFA, so that is asked first. The code may have been unmapped since the last update. */
-static int is_signal_frame(const dwcheck_process *process, const dwcheck_frame *frame) {
-    static const unsigned char code[] = {0x48, 0xc7, 0xc0, 0x0f, 0, 0, 0, 0x0f, 0x05}; /* mov $15, %rax; syscall */
-    uint64_t page = frame->address / PAGE, last = (frame->address + sizeof code - 1) / PAGE;
-    dwcheck_row row;
-    return frame->cfa.kind == DWCHECK_ANSWER_VALUE && dwcheck_row_at(process, frame->address, &row, NULL, 0) == DWCHECK_DONE
-           && row.cfa.kind == DWCHECK_RULE_VAL_EXPRESSION && is_readable(page) && (last == page || is_readable(last))
-           && memcmp((const void *)(uintptr_t)frame->address, code, sizeof code) == 0;
-}
-
 /* A walk: where it is, and the memory that it may read. */
 struct walk {
     dwcheck_cursor cursor;
@@ -111,7 +98,8 @@ static uint32_t step(struct walk *walk, const dwcheck_process *process, dwcheck_
 /* Prepares for the frame after this one, whose stack pointer may be on another stack: a signal handler may
    run on a stack of its own, and what it interrupted may have a red zone. */
 static void prepare(struct walk *walk, const dwcheck_process *process, const dwcheck_frame *frame) {
-    int is_signal = is_signal_frame(process, frame);
+    uint32_t is_signal = 0;
+    dwcheck_is_signal_frame(process, frame->address, &is_signal);
     uint64_t pointer = walk->cursor.contents[RSP];
     if (is_signal && walk->cursor.stage == DWCHECK_CURSOR_CALLER) walk->cursor.stage = DWCHECK_CURSOR_EXACT;
     if (is_signal || pointer < walk->stack.base || pointer > end_of(&walk->stack))

@@ -63,9 +63,8 @@
 extern "C" {
 #endif
 
-/* The version of the interface: 65536 * major + minor. DWCHECK_VERSION is that of this header,
-   and dwcheck_version gives that of the library. A program keeps working with a library that has
-   the same major version and the same or a later minor version. */
+/* The version of the interface, 65536 * major + minor: of this header, and of the library. A program
+   keeps working with a library of the same major version and the same or a later minor version. */
 #define DWCHECK_VERSION 0x20000u
 uint32_t dwcheck_version(void);
 
@@ -125,8 +124,7 @@ typedef struct dwcheck_process { void *opaque; uint64_t opaque_open; } dwcheck_p
 #define DWCHECK_CLOSED ((dwcheck_process){0, 0}) /* a static process is closed without it */
 #endif
 
-/* What a module's section is (`kind`): .debug_frame of DWARF 5, or .eh_frame, in which aarch64 has
-   instructions of its own. */
+/* What a module's section is (`kind`); in .eh_frame aarch64 has instructions of its own. */
 enum { DWCHECK_DEBUG_FRAME = 0, DWCHECK_EH_FRAME = 1, DWCHECK_EH_FRAME_AARCH64 = 2 };
 
 /* A module to be added: the executable or a library of the process.
@@ -193,9 +191,9 @@ void dwcheck_process_close(dwcheck_process *process);
    as loaded, that it answers for. */
 typedef struct dwcheck_loaded { uint64_t id, cookie, load_address, first, last; } dwcheck_loaded;
 
-/* Writes the module that answers for `address`, an address as loaded. Returns DONE; or NONE if no
-   module does, and then nothing is written. The call takes O(log n) time among n modules. It
-   neither allocates nor frees. */
+/* Writes the module that answers for `address`, an address as loaded, in O(log n) time among n modules.
+   Returns DONE; or NONE if no module does, and then nothing is written. The call neither allocates
+   nor frees. */
 uint32_t dwcheck_module_at(const dwcheck_process *process, uint64_t address, dwcheck_loaded *module);
 
 /* ---- the row of an address ----------------------------------------------------------------------------------------- */
@@ -215,7 +213,6 @@ enum {
 typedef struct dwcheck_rule { int64_t offset; uint64_t length; uint16_t reg, source; uint32_t kind; } dwcheck_rule;
 
 #define DWCHECK_MAX_RULES 128
-
 /* A row of the module with this id, cookie and load address. The row covers the addresses as linked
    from `start` up to, but not including, `end`. If cfa.kind is DWCHECK_RULE_VAL_OFFSET, the CFA is the
    value of register cfa.reg plus cfa.offset. If it is DWCHECK_RULE_VAL_EXPRESSION, the CFA is the
@@ -233,6 +230,10 @@ typedef struct dwcheck_row {
    allocates nor frees. */
 uint32_t dwcheck_row_at(const dwcheck_process *process, uint64_t address, dwcheck_row *row, dwcheck_rule *rules,
                         size_t rules_length);
+
+/* Writes 1 to `is_signal_frame` if `address`, as loaded, is where a signal handler returns to, by the
+   module's .eh_frame, else 0. The address of that frame's caller is no return address. Returns DONE. */
+uint32_t dwcheck_is_signal_frame(const dwcheck_process *process, uint64_t address, uint32_t *is_signal_frame);
 
 /* Writes the bytes of a rule's expression to `bytes`, as many as fit, and their number to `size`. The
    rule is that of register `reg`, or of the CFA if `reg` is DWCHECK_CFA_RULE, in the row that
@@ -285,7 +286,6 @@ typedef struct dwcheck_register { uint64_t value; uint32_t kind, number; } dwche
 typedef struct dwcheck_caller { dwcheck_answer cfa, return_address; uint64_t count; } dwcheck_caller;
 
 #define DWCHECK_MAX_REGISTERS 256
-
 /* Writes the caller of the frame at `address`, an address as loaded, by the row that dwcheck_row_at
    gives for it. The address itself is looked up, so to find the caller's own caller, pass
    the caller's return address minus 1. The caller's registers go into `registers` in ascending

@@ -366,6 +366,10 @@ static void eh_frames(void) {
     m.kind = DWCHECK_EH_FRAME; m.section_address = 0x2000;
     IS(add_module(&p, m), DWCHECK_DONE);
     IS(dwcheck_row_at(&p, 0x11008, &row, rules, 4), DWCHECK_NONE);
+    uint32_t signal = 9;
+    IS(dwcheck_is_signal_frame(&p, 0x11008, &signal), DWCHECK_DONE); IS(signal, 0);
+    IS(dwcheck_is_signal_frame(&p, 0x1100b, &signal), DWCHECK_DONE); IS(signal, 1);
+    IS(dwcheck_is_signal_frame(&p, 0x1009, &signal), DWCHECK_DONE); IS(signal, 0);
     IS(dwcheck_row_at(&p, 0x11009, &row, rules, 4), DWCHECK_DONE); IS(row.start, 0x1009); IS(row.end, 0x100b); IS(row.count, 2);
     IS(row.cfa.kind, DWCHECK_RULE_VAL_EXPRESSION); IS(row.cfa.length, 3); IS(rules[0].reg, 3); IS(rules[0].length, 2);
     IS(dwcheck_rule_bytes(&p, 0x11009, DWCHECK_CFA_RULE, bytes, 4, &size), DWCHECK_DONE); IS(size, 3);

@@ -1,12 +1,14 @@
 -- A module whose rows come from an `.eh_frame` section: what adding it makes of a process, and why it
 -- isn't added.
 use Rattle.std.specs.Prelude.{◌≡◌, ◌⊎◌, ◌<◌, ◌^◌, ℕ, List, length, Option, Some, None}
-use Rattle.dw_bytes.specs.Answers.{memory}
+use Rattle.dw_bytes.specs.Answers.{memory, values_in}
 use Rattle.dw_bytes.specs.declared.fault.Fault.{Fault}
 use Rattle.dw_bytes.specs.declared.target.Target.{Target}
 use Rattle.dw_eh_frame.specs.Refused.{too_long}
 use Rattle.dw_eh_rows.specs.Checked.{HasEhRows}
 use Rattle.dw_eh_rows.specs.Faults.{eh_section_fault}
+use Rattle.dw_eh_rows.specs.Signals.{signal_frames}
+use Rattle.dw_eh_frame.specs.Records.{eh_entries_of}
 use Rattle.dw_eh_frame.specs.Rewriting.{IsRewritten}
 use Rattle.dw_rows.specs.Section.{FrameSection, IsChecked}
 use Rattle.dw_process.specs.Processes.{IsAddedWith, ProcessState}
@@ -31,12 +33,12 @@ pub record IsFrameOf (s : EhSection) (target : Target) (frame : FrameSection) : 
   pub checked : IsChecked frame
   pub written : IsRewritten s.is_aarch64 s.bases frame.target s.bytes.now frame.section
 
--- A module with the rows of the section is added.
+-- A module with the rows and the signal frames of the section is added.
 pub record IsEhAdded (s : EhSection) (load_address : ℕ) (given : Option AddressRange) (cookie room : ℕ) (old : ProcessState) (id : ℕ)
     (new : ProcessState) : Type 0 where
   pub frame : FrameSection
   pub is : IsFrameOf s old.target frame
-  pub rows : IsAddedWith frame load_address given cookie room old id new
+  pub rows : IsAddedWith frame (signal_frames (values_in (eh_entries_of s.bases old.target s.bytes.now))) load_address given cookie room old id new
 
 -- The fault is the first one of the section. The section may also be too long: it has more than 2^29
 -- bytes, and what is made of it in memory would have 2^32.

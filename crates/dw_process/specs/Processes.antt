@@ -1,9 +1,11 @@
 -- The modules of a process: how adding and removing changes them, and which row an address as
 -- loaded (in the running process) has.
-use Rattle.std.specs.Prelude.{◌≡◌, ◌≢◌, ℕ, ◌*◌, ◌==◌, ◌≤◌, ◌<◌, ◌+◌, if◌then◌else◌, List, [], ◌∷◌, All, AllPairs, length, true, Contains, Option, None, Some}
+use Rattle.std.specs.Prelude.{◌≡◌, ◌≢◌, ℕ, ◌*◌, ◌==◌, ◌≤◌, ◌<◌, ◌+◌, if◌then◌else◌, Bool, false, List, [], ◌∷◌, All, AllPairs, length, true, Contains, Option, None, Some}
 use Rattle.std.specs.List.{insert, sum_by}
 use Rattle.std.specs.Option.{option_and_then, option_map}
 use Rattle.dw_bytes.specs.declared.target.Target.{Target}
+use Rattle.dw_eh_rows.specs.Signals.{is_signal_at}
+use Rattle.dw_eh_rows.specs.declared.signals.AddressRange.{AddressRange as SignalRange}
 use Rattle.dw_rows.specs.Rules.{Row}
 use Rattle.dw_rows.specs.Section.{FrameSection, frame_of, section_fault}
 use Rattle.dw_rows.specs.UnwindTables.{IsRowUnder, IsTableOf, RowTable, expression_bytes, row_at}
@@ -55,13 +57,14 @@ pub record IsReady (frame : FrameSection) (load_address : ℕ) (given : Option A
   pub place : IsPlaceFor ready.range modules ready.place
 
 -- A table of the rows of a checked section is added, at some place, to the modules, which are in
--- order of address. The new module has the id `id`, which is counted up. What the table stores is at
--- most `room` bytes (`IsStored`).
-pub record IsAddedWith (frame : FrameSection) (load_address : ℕ) (given : Option AddressRange) (cookie room : ℕ) (old : ProcessState) (id : ℕ)
+-- order of address. The new module has the id `id`, which is counted up, and these signal frames. What
+-- the table stores is at most `room` bytes (`IsStored`).
+pub record IsAddedWith (frame : FrameSection) (signals : List SignalRange) (load_address : ℕ) (given : Option AddressRange) (cookie room : ℕ) (old : ProcessState) (id : ℕ)
     (new : ProcessState) : Type 0 where
   pub added : LoadedModule
   pub table : IsStored frame room added.rows
   pub range : IsRangeFor frame load_address given added.range
+  pub signals_are : added.signals ≡ signals
   pub load_address_is : added.load_address ≡ load_address
   pub cookie_is : added.cookie ≡ cookie
   pub id_is : added.id ≡ id
@@ -77,7 +80,7 @@ pub record IsAddedWith (frame : FrameSection) (load_address : ℕ) (given : Opti
 pub record IsAdded (section : List ℕ) (load_address : ℕ) (given : Option AddressRange) (cookie room : ℕ) (old : ProcessState) (id : ℕ)
     (new : ProcessState) : Type 0 where
   pub accepted : section_fault old.target section ≡ None
-  pub rows : IsAddedWith (frame_of old.target section) load_address given cookie room old id new
+  pub rows : IsAddedWith (frame_of old.target section) [] load_address given cookie room old id new
 
 -- the modules without the one with this id
 abbrev pub without : ℕ → List LoadedModule → List LoadedModule
@@ -98,6 +101,14 @@ row_of_module m address = row_at m.rows (as_linked m.rows.target m.load_address 
 -- the row of an address as loaded, from the module whose range contains the address
 abbrev pub row_in : ProcessState → ℕ → Option (Row × ℕ)
 row_in p address = option_and_then (λ m. row_of_module m address) (module_at p.modules address)
+
+-- whether an address as loaded is one of a signal frame of the module whose range contains it
+abbrev pub signal_in : Option LoadedModule → ℕ → Bool
+signal_in None address = false
+signal_in (Some m) address = is_signal_at m.signals (as_linked m.rows.target m.load_address address)
+
+abbrev pub is_signal_in : ProcessState → ℕ → Bool
+is_signal_in p address = signal_in (module_at p.modules address) address
 
 -- a row and its return address register, with what is known of their module, whose target is given
 abbrev pub found_with : Target → LoadedModule → Row × ℕ → FoundRow

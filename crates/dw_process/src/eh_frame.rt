@@ -6,8 +6,9 @@ ghost use Rattle.dw_process.specs.EhModules.{IsEhAdded, IsEhRefused};
 use crate::address_range::AddressRange;
 use crate::process::Process;
 use crate::refusal::Refusal;
+use dw_bytes::OUT_OF_MEMORY;
 use dw_eh_frame::Bases;
-use dw_eh_rows::check_eh_frame;
+use dw_eh_rows::{check_eh_frame, signal_frames};
 use std::alloc::Global;
 
 /// An `.eh_frame` section (LSB Core, section 10.6).
@@ -54,7 +55,11 @@ impl Process {
             section.is_aarch64,
             &mut made,
         )?;
-        match self.add_checked(alloc, &frame, load_address, range, cookie, room) {
+        // The section can be read, so only memory may lack.
+        let Ok(signals) = signal_frames(alloc, section.bytes, self.target(), section.bases) else {
+            return Err(Refusal::Section(OUT_OF_MEMORY));
+        };
+        match self.add_checked(alloc, &frame, signals, load_address, range, cookie, room) {
             Ok(id) => Ok(id),
             Err(why) => Err(why),
         }

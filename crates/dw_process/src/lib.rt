@@ -10,6 +10,7 @@ mod module_map;
 mod process;
 mod ranges;
 mod refusal;
+mod shared_signals;
 mod shared_table;
 
 pub use address_range::AddressRange;
@@ -18,4 +19,5 @@ pub use found_row::FoundRow;
 pub use loaded_module::LoadedModule;
 pub use process::Process;
 pub use refusal::Refusal;
+pub use shared_signals::SharedSignals;
 pub use shared_table::SharedTable;

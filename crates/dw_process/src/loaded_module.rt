@@ -1,6 +1,7 @@
 //! A module of a process, at its place in the process's memory.
 
 use crate::address_range::AddressRange;
+use crate::shared_signals::SharedSignals;
 use crate::shared_table::SharedTable;
 
 /// A module of a process, which is the executable or a library: its compiled table, and where it is
@@ -18,4 +19,6 @@ pub struct LoadedModule {
     pub range: AddressRange,
     /// The module's rows.
     pub rows: SharedTable,
+    /// The addresses, as linked, of the module's signal frames.
+    pub signals: SharedSignals,
 }

@@ -4,7 +4,7 @@ ghost use Rattle.std.specs.List.{list_any, position};
 ghost use Rattle.std.specs.Option.{option_map};
 ghost use Rattle.std.specs.Prelude.{◌==◌, ◌≡◌, ◌<◌, ◌^◌, All, IfErr, IfOk, IfSome, length};
 ghost use Rattle.dw_process.specs.ModuleMaps.{AreInOrder, module_at};
-ghost use Rattle.dw_process.specs.Processes.{AreDistinct, IsAdded, IsAddedWith, IsFoundIn, IsReady, found_at, no_modules, removed};
+ghost use Rattle.dw_process.specs.Processes.{AreDistinct, IsAdded, IsAddedWith, IsFoundIn, IsReady, found_at, is_signal_in, no_modules, removed};
 ghost use Rattle.dw_process.specs.Refusals.{IsRefused, IsRefusedWith};
 
 use crate::address_range::AddressRange;
@@ -13,8 +13,10 @@ use crate::loaded_module::LoadedModule;
 use crate::module_map::ModuleMap;
 use crate::ranges::range_for;
 use crate::refusal::Refusal;
+use crate::shared_signals::SharedSignals;
 use crate::shared_table::SharedTable;
 use dw_bytes::{OUT_OF_MEMORY, Target};
+use dw_eh_rows::AddressRange as SignalRange;
 use dw_rows::{CheckedFrame, UnwindRow, UnwindRows, check_frame};
 use dw_unwind::as_linked;
 use std::alloc::Global;
@@ -159,17 +161,20 @@ impl Process {
         ensures same { IfErr result (λ _. self.new ≡ self.old) }
     {
         let frame = check_frame(alloc, section, self.target)?;
-        match self.add_checked(alloc, &frame, load_address, range, cookie, room) {
+        let signals = Vec::new(alloc);
+        match self.add_checked(alloc, &frame, signals, load_address, range, cookie, room) {
             Ok(id) => Ok(id),
             Err(why) => Err(why),
         }
     }
 
-    /// Adds a module with the rows of a checked section. The other arguments are those of `add`.
+    /// Adds a module with the rows of a checked section, and with these signal frames. The other
+    /// arguments are those of `add`.
     pub(crate) fn add_checked(
         &mut self,
         alloc: Global,
         frame: &CheckedFrame<'_>,
+        signals: Vec<SignalRange>,
         load_address: u64,
         range: Option<AddressRange>,
         cookie: u64,
@@ -177,12 +182,16 @@ impl Process {
     ) -> Result<u64, Refusal>
         requires { frame.now.target ≡ self.old.target }
         ensures added { IfOk result
-            (λ id. IsAddedWith frame.now load_address range cookie room self.old id self.new) }
+            (λ id. IsAddedWith frame.now signals.items load_address range cookie room self.old id
+            self.new) }
         ensures refused { IfErr result
             (IsRefusedWith frame.now load_address range room self.old.modules) }
         ensures same { IfErr result (λ _. self.new ≡ self.old) }
     {
         let ready = prepare(alloc, &self.modules, frame, load_address, range, room)?;
+        let Some(signals) = SharedSignals::new(alloc, signals) else {
+            return Err(Refusal::Section(OUT_OF_MEMORY));
+        };
         let id = self.next_id;
         let Some(next_id) = id.checked_add(1) else {
             return Err(Refusal::Section(OUT_OF_MEMORY));
@@ -193,6 +202,7 @@ impl Process {
             load_address,
             range: ready.range,
             rows: ready.rows,
+            signals,
         };
         match self.modules.insert(ready.place, added) {
             Ok(()) => {
@@ -239,6 +249,22 @@ impl Process {
                 return_register,
             }),
             None => None,
+        }
+    }
+
+    /// Whether an address as loaded is one of a signal frame: a frame that a signal handler returns
+    /// to. Its caller was interrupted and made no call, so the caller's row is that of its own
+    /// address, and not that of the address before. Only `.eh_frame` says so.
+    pub fn is_signal_frame(&self, address: u64) -> bool
+        ensures { result ≡ is_signal_in self.now address }
+    {
+        match self.modules.at(address) {
+            Some(found) => {
+                let target = found.rows.rows_target();
+                let linked = as_linked(target, found.load_address, address);
+                found.signals.has(linked)
+            }
+            None => false,
         }
     }
 

@@ -13,5 +13,6 @@ pub mod Machine
 pub mod NotAdded
 pub mod Rows
 pub mod RuleBytes
+pub mod SignalFrames
 pub mod Slots
 pub mod Targets

@@ -23,6 +23,7 @@ mod processes;
 mod right;
 mod row;
 mod rule_bytes;
+mod signals;
 mod slots;
 mod stacks;
 mod state;

@@ -491,6 +491,14 @@ extern "C" {
         rules_length: usize,
     ) -> u32;
 
+    /// Writes 1 to `is_signal_frame` if `address`, as loaded, is where a signal handler returns to, by
+    /// the module's .eh_frame, else 0. Returns DONE.
+    pub fn dwcheck_is_signal_frame(
+        process: *const Process,
+        address: u64,
+        is_signal_frame: *mut u32,
+    ) -> u32;
+
     /// Writes the bytes of a rule's expression to `bytes`, as many as fit, and their number to `size`.
     /// The rule is that of register `reg`, or of the CFA if `reg` is CFA_RULE, in the row that
     /// dwcheck_row_at gives for `address`. Returns DONE; or NONE if there is no row, or if the rule has

@@ -71,8 +71,8 @@ pub struct Process {
 unsafe impl Send for Process {}
 
 // SAFETY: the calls that this crate makes with a `&Process` only read: `dwcheck_module_at`,
-// `dwcheck_row_at`, `dwcheck_rule_bytes`, `dwcheck_unwind`, `dwcheck_backtrace`,
-// `dwcheck_cursor_step` and `dwcheck_process_share` take the process by a pointer to const, and the
+// `dwcheck_row_at`, `dwcheck_is_signal_frame`, `dwcheck_rule_bytes`, `dwcheck_unwind`,
+// `dwcheck_backtrace`, `dwcheck_cursor_step` and `dwcheck_process_share` take the process by a pointer to const, and the
 // library allows any number of them at once, in any threads. The calls that change a process,
 // `dwcheck_process_add`, `_remove` and `_close`, are made with a `&mut Process`.
 unsafe impl Sync for Process {}
@@ -249,6 +249,16 @@ impl Process {
     /// allocate memory.
     pub fn rows(&self) -> Rows<'_> {
         Rows::new(self)
+    }
+
+    /// Whether an address, as loaded, is where a signal handler returns to, by the module's
+    /// `.eh_frame`. The caller of such a frame was interrupted at its address, which is no return
+    /// address: call [`Cursor::set_interrupted`](crate::Cursor::set_interrupted) before the next step.
+    pub fn is_signal_frame(&self, address: u64) -> bool {
+        let mut flag = 0;
+        // SAFETY: the process is only read, and `flag` is a local.
+        unsafe { ffi::dwcheck_is_signal_frame(&self.raw, address, &mut flag) };
+        flag != 0
     }
 
     /// The bytes of a rule's expression in the row that covers an address: the rule of this register,

@@ -14,10 +14,10 @@ invariant_of-self c =
     let next_id = c.self.inside.next_id in
     let ready = c.in_ok-ready.ready in
     let is = c.in_ok-ready.ensures.ready in
-    let m : LoadedModule = record { id = next_id; cookie = c.args.cookie; load_address = c.args.load_address; range = ready.range; rows = ready.rows } in
-    let next_is : next_id + 1 ≡ c.in-Some.next_id = omega arith in
+    let m : LoadedModule = record { id = next_id; cookie = c.args.cookie; load_address = c.args.load_address; range = ready.range; rows = ready.rows; signals = c.in-Some.signals } in
+    let next_is : next_id + 1 ≡ c.in-Some-checked_add.next_id = omega arith in
     let target_is : ready.rows.target ≡ target = is.table.is.target ∙ c.requires ∙ sym (ap (λ (p : ProcessState). p.target) c.self.view_is) in
-    subst (AreModulesOf target c.in-Some.next_id) (sym c.in-Ok.ensures.inserted)
+    subst (AreModulesOf target c.in-Some-checked_add.next_id) (sym c.in-Ok.ensures.inserted)
     (subst (λ (n : ℕ). AreModulesOf target n (insert modules ready.place m)) next_is
     (kept_of_more target next_id modules ready.place m refl target_is is.range.proper is.place c.self.invariant))
 
@@ -28,15 +28,16 @@ returns-in-Ok-clause-added c =
     let next_id = c.self.inside.next_id in
     let ready = c.in_ok-ready.ready in
     let is = c.in_ok-ready.ensures.ready in
-    let m : LoadedModule = record { id = next_id; cookie = c.args.cookie; load_address = c.args.load_address; range = ready.range; rows = ready.rows } in
+    let m : LoadedModule = record { id = next_id; cookie = c.args.cookie; load_address = c.args.load_address; range = ready.range; rows = ready.rows; signals = c.in-Some.signals } in
     let old : ProcessState = record { target = target; next_id = next_id; modules = modules } in
-    let new : ProcessState = record { target = target; next_id = c.in-Some.next_id; modules = c.insert.new.self } in
-    let next_is : c.in-Some.next_id ≡ next_id + 1 = omega arith in
-    subst (λ (p : ProcessState). IsAddedWith c.args.frame.now c.args.load_address c.args.range c.args.cookie c.args.room p next_id new) c.self.view_is
+    let new : ProcessState = record { target = target; next_id = c.in-Some-checked_add.next_id; modules = c.insert.new.self } in
+    let next_is : c.in-Some-checked_add.next_id ≡ next_id + 1 = omega arith in
+    subst (λ (p : ProcessState). IsAddedWith c.args.frame.now c.args.signals.items c.args.load_address c.args.range c.args.cookie c.args.room p next_id new) c.self.view_is
     (record {
       added = m;
       table = is.table;
       range = is.range;
+      signals_are = c.in-Some.ensures;
       load_address_is = refl;
       cookie_is = refl;
       id_is = refl;
