@@ -169,7 +169,8 @@ fn an_eh_frame_module_has_the_rows_that_readelf_prints() {
     assert_eq!(row.rules, [(6, Rule::Offset(-16)), (16, Rule::Offset(-8))]);
     assert_eq!(process.row(0x40_100c), None);
     // only the second function's CIE has the letter S
-    let signals = [0x1009, 0x40_1008, 0x40_1009, 0x40_100b, 0x40_100c].map(|a| process.is_signal_frame(a));
+    let signals =
+        [0x1009, 0x40_1008, 0x40_1009, 0x40_100b, 0x40_100c].map(|a| process.is_signal_frame(a));
     assert_eq!(signals, [false, false, true, true, false]);
 }
 
