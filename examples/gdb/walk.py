@@ -11,6 +11,7 @@ import struct
 import gdb
 
 DONE, EH_FRAME, LITTLE = 0, 1, 0
+EXACT, CALLER = 0, 1
 PT_LOAD, PT_GNU_EH_FRAME, PCREL_SDATA4, FRAMES = 1, 0x6474E550, 0x1B, 256
 # DWARF's numbers of registers on x86-64, and the names that gdb has for them
 NAMES = "rax rdx rcx rbx rsi rdi rbp rsp r8 r9 r10 r11 r12 r13 r14 r15 rip".split()
@@ -103,8 +104,13 @@ def frames(path):
     reader, cursor, frame = Reader(read=READ(read), order=LITTLE, address_size=8), Cursor(), Frame()
     library.dwcheck_cursor_init(c.byref(cursor), u64(contents[16]), c.byref(state), 1, c.byref(Fault()))
     step = [c.byref(x) for x in (process, cursor, state, reader, frame)]
+    is_signal = u32()
     try:
         while library.dwcheck_cursor_step_with(*step) == DONE:
+            # What a signal interrupted isn't at a call.
+            library.dwcheck_is_signal_frame(c.byref(process), u64(frame.address), c.byref(is_signal))
+            if is_signal and cursor.stage == CALLER:
+                cursor.stage = EXACT
             yield frame.address, frame.cfa
     finally:
         library.dwcheck_process_close(c.byref(process))
