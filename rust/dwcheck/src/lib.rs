@@ -1,8 +1,10 @@
-//! Checks `.debug_frame` and `.debug_loclists` sections of DWARF 5, and unwinds stacks with them.
+//! Checks `.debug_frame` and `.debug_loclists` sections of DWARF 5, and unwinds stacks with
+//! `.debug_frame` and `.eh_frame`.
 //!
 //! This is a safe wrapper over the C interface of `dwcheck`, a library whose every function is
 //! proved to meet its contract, to terminate, and to be safe on every input. The proofs cover the
-//! library. They don't cover this crate, which uses `unsafe` to declare and call the C interface.
+//! library, except for the C that [`Process::step_with`] runs over proved steps. They don't cover this
+//! crate, which uses `unsafe` to call the C interface.
 //!
 //! - [`check`] checks a frame section and location lists.
 //! - A [`Process`] has modules, each a frame section with a load address and a range of addresses.
