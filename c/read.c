@@ -1,11 +1,10 @@
 /* dwcheck_cursor_step_with: finds out which memory a step needs, asks for it, and makes the step. It isn't
    proved, but it makes each step by the proved dwcheck_cursor_step, over the bytes that it has got. */
 #include "dwcheck.h"
-#include <string.h>
 
 enum { WORD = 8, MOST_BLOCKS = 192, MOST_BYTES = 256 };
 
-/* What has been read so far, as blocks of one word or less, followed by the blocks of the caller. */
+/* What has been read so far, as blocks of one word or less. */
 struct memory {
     const dwcheck_reader *reader;
     const dwcheck_state *given;

@@ -38,7 +38,7 @@ static uint64_t count_readable(uint64_t page, uint64_t most) {
     return count;
 }
 
-/* The memory from an address on, of at most so many pages. */
+/* The memory from an address on, of at most `most` pages. */
 static dwcheck_block block_at(uint64_t address, uint64_t most) {
     static const uint8_t nothing;
     uint64_t count = count_readable(address / PAGE, most);

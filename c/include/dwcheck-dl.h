@@ -1,7 +1,7 @@
 /* dwcheck-dl: walks the stacks of the running process with the library dwcheck. It finds the modules
    that the loader has mapped (the program, its libraries, the vDSO; not those of other namespaces, which
-   dlmopen makes) and their tables, and notices which modules have come and gone. It is plain C over the calls of dwcheck.h, for x86-64 Linux with
-   glibc. It is tested and not proved.
+   dlmopen makes) and their tables, and notices which modules have come and gone. It is plain C over the
+   calls of dwcheck.h, for x86-64 Linux with glibc. It is tested and not proved.
 
    A program calls dwcheck_dl_update once at its beginning, and again after dlopen and dlclose. From
    then on any thread may walk at any time, also in a signal handler, and also while another thread
@@ -33,8 +33,9 @@ uint32_t dwcheck_dl_update(dwcheck_dl_counts *counts);
 
 /* The modules of the last update, for the calls of dwcheck.h that read a process. They are valid until
    the same thread calls dwcheck_dl_end. Each dwcheck_dl_begin needs one dwcheck_dl_end, or else no
-   table is freed any more; so a walk mustn't be left by siglongjmp. Before the first update there are no modules. Signal handlers may make
-   both calls. The cookie of a module is a pointer to the name of its file, which is never freed. */
+   table is freed any more; so a walk mustn't be left by siglongjmp. Before the first update there are
+   no modules. Signal handlers may make both calls. The cookie of a module is a pointer to the name of
+   its file, which is never freed. */
 const dwcheck_process *dwcheck_dl_begin(void);
 void dwcheck_dl_end(void);
 

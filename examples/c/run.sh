@@ -36,7 +36,7 @@ attached() { # the frames of a process that waits, beside gdb's
     sed -n 's/^gdb \(0x[0-9a-f]*\)$/\1/p' "$out/gdb" | diff "$out/ours" - && [ "$(wc -l < "$out/ours")" -ge 5 ]
 }
 
-compared() { # PROGRAM LEAST: its frames, of which there must be so many, are compared with gdb's
+compared() { # PROGRAM LEAST: its frames, at least LEAST of them, are compared with gdb's
     if [ -n "${DWCHECK_NO_PTRACE:-}" ]; then
         # gdb can't run programs on this machine, so only the number of frames is checked.
         "$out/$1" > "$out/frames" 2>&1 || [ "$1" = crash ]
