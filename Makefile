@@ -67,17 +67,17 @@ build/libdwcheck_c.a: build/library.stamp
 	@[ -f $@ ] || tools/build.sh library
 
 # The thin part in C: calls that allow NULL for empty arrays, each of which calls the proved one of the
-# same name, which libdwcheck.a has as proved_..; and a step that asks for memory.
+# same name, which libdwcheck.a has as proved_..; a step that asks for memory; and texts.
 build/%.o: c/%.c c/include/dwcheck.h | build
 	@$(CC) -std=gnu11 -O2 -fPIC -Wall -Wextra -Ic/include -c $< -o $@
 
 # libdwcheck.a joins the library that rt made, that part, and the kit's liblibc_c.a, a few lines of C
 # through which the library calls malloc and free.
-build/libdwcheck.a: build/libdwcheck_c.a build/null.o build/read.o c/null.c
+build/libdwcheck.a: build/libdwcheck_c.a build/null.o build/read.o build/texts.o c/null.c
 	@rm -f $@
 	@sed -n 's/^PROVED(\(dwcheck_[a-z_]*\));$$/\1 proved_\1/p' c/null.c >build/null.names
 	@$(OBJCOPY) --redefine-syms=build/null.names $< build/libdwcheck_proved.a
-	@printf 'create $@\naddlib build/libdwcheck_proved.a\naddmod build/null.o\naddmod build/read.o\naddlib $(kit)c/liblibc_c.a\nsave\nend\n' | \
+	@printf 'create $@\naddlib build/libdwcheck_proved.a\naddmod build/null.o\naddmod build/read.o\naddmod build/texts.o\naddlib $(kit)c/liblibc_c.a\nsave\nend\n' | \
 	    $(AR) -M
 
 build/libdwcheck.so.$(version): build/libdwcheck.a c/dwcheck.map

@@ -8,7 +8,6 @@ use crate::expression;
 use crate::frames::{Frames, Name};
 use crate::functions::Functions;
 use crate::names::Spot;
-use crate::rules::rule;
 use crate::target::Target;
 use dwcheck::{Fault, FaultKind};
 use std::fmt;
@@ -104,7 +103,7 @@ impl<'a> Terms<'a> {
             what,
             function: within.as_ref().and_then(|within| within.function(self.functions)),
             record: within,
-            rule: rule(fault.kind).to_string(),
+            rule: fault.kind.rule().to_string(),
             hint: None,
         }
     }
@@ -146,7 +145,7 @@ impl Defect {
             what,
             record: crate::loclists::table_of(lists, target, fault.offset as usize).map(Within::Record),
             function: None,
-            rule: rule(fault.kind).to_string(),
+            rule: fault.kind.rule().to_string(),
             hint: code.and_then(|code| list_hint(fault.kind, code)),
         }
     }

@@ -42,7 +42,6 @@ mod plt;
 pub mod program;
 pub mod relocate;
 pub mod row;
-pub mod rules;
 pub mod stack;
 pub mod state_file;
 pub mod target;

@@ -3,6 +3,7 @@
 use crate::ffi;
 use crate::module::ModuleId;
 use std::error;
+use std::ffi::CStr;
 use std::fmt;
 
 /// Defines `FaultKind`, and its conversions from a number, to a number and to a name.
@@ -178,6 +179,27 @@ fault_kinds! {
     CertState = 71,
 }
 
+impl FaultKind {
+    /// The rule that this kind of fault breaks, in one sentence. In parentheses is the section of
+    /// DWARF 5 with the rule, or `profile` if the standard leaves the point open and `dwcheck` decides
+    /// it (the project's `docs/PROFILE.md`). Empty if the library doesn't know the kind.
+    ///
+    /// ```
+    /// use dwcheck::FaultKind;
+    ///
+    /// assert!(FaultKind::CfaNotRegister.rule().contains("6.4.2.2"));
+    /// ```
+    pub fn rule(self) -> &'static str {
+        // SAFETY: the call has no preconditions.
+        let text = unsafe { ffi::dwcheck_fault_text(self.number()) };
+        if text.is_null() {
+            return "";
+        }
+        // SAFETY: the library's texts are constants that end with a NUL.
+        unsafe { CStr::from_ptr(text) }.to_str().unwrap_or("")
+    }
+}
+
 /// The kind's name. If this crate doesn't know the kind, the name comes from the library. If the
 /// library doesn't know the kind either, it is `Unknown`.
 impl fmt::Display for FaultKind {
@@ -225,7 +247,7 @@ pub enum Section {
 }
 
 impl Section {
-    fn from_number(number: u32) -> Section {
+    pub(crate) fn from_number(number: u32) -> Section {
         match number {
             ffi::IN_FRAME => Section::Frame,
             ffi::IN_LISTS => Section::Lists,
