@@ -36,6 +36,14 @@ uint32_t dwcheck_check(const uint8_t *frame, size_t frame_length, const uint8_t 
     return proved_dwcheck_check(OR_NOTHING(frame), frame_length, OR_NOTHING(lists), lists_length, order, address_size, fault);
 }
 
+PROVED(dwcheck_report);
+uint32_t dwcheck_report(const uint8_t *frame, size_t frame_length, const uint8_t *lists, size_t lists_length, uint32_t order,
+                        uint32_t address_size, dwcheck_counts *counts, dwcheck_expression *expressions, size_t expressions_length,
+                        dwcheck_fault *fault) {
+    return proved_dwcheck_report(OR_NOTHING(frame), frame_length, OR_NOTHING(lists), lists_length, order, address_size, counts,
+                                 OR_NO_PLACE(expressions), expressions_length, fault);
+}
+
 PROVED(dwcheck_process_add);
 uint32_t dwcheck_process_add(dwcheck_process *process, const dwcheck_module *module, uint64_t *id, dwcheck_fault *fault) {
     if (module->frame) return proved_dwcheck_process_add(process, module, id, fault);

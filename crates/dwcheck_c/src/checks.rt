@@ -15,7 +15,7 @@ use std::alloc::Global;
 
 /// The number that tells C which input the offset of a fault refers to: the frame section, the
 /// location lists, or the expression.
-fn within(section: Section) -> u32
+pub(crate) fn within(section: Section) -> u32
     ensures { result ≡ section_number section }
 {
     match section {

@@ -18,6 +18,15 @@ pub enum ExpressionKind {
 }
 
 impl ExpressionKind {
+    pub(crate) fn from_number(number: u32) -> Option<Self> {
+        match number {
+            ffi::EXPRESSION_CFA => Some(ExpressionKind::FrameCfa),
+            ffi::EXPRESSION_REGISTER => Some(ExpressionKind::FrameRegister),
+            ffi::EXPRESSION_LOCATION => Some(ExpressionKind::Location),
+            _ => None,
+        }
+    }
+
     fn number(self) -> u32 {
         match self {
             ExpressionKind::FrameCfa => ffi::EXPRESSION_CFA,

@@ -1,9 +1,11 @@
-//! Tests of `check`. Most sections and their faults are from docs/WORKED.md.
+//! Tests of `check` and `report`. Most sections and what they contain are from docs/WORKED.md.
 
 mod common;
 
 use common::*;
-use dwcheck::{check, DebugFrame, DebugLoclists, Error, FaultKind, Section, Target};
+use dwcheck::{
+    check, report, DebugFrame, DebugLoclists, Error, ExpressionKind, FaultKind, Section, Target,
+};
 
 fn frame(bytes: &[u8]) -> Option<(&'static str, u32)> {
     refusal(check(
@@ -214,4 +216,54 @@ fn each_small_change_has_an_answer() {
             }
         }
     }
+}
+
+#[test]
+fn a_report_has_the_counts_and_expressions_of_both_sections() {
+    let (frame, lists) = (x(), row_16());
+    let report = report(DebugFrame(&frame), DebugLoclists(&lists), Target::LITTLE_64).unwrap();
+    assert_eq!((report.cies, report.fdes, report.rows), (1, 1, 1));
+    assert_eq!((report.tables, report.lists), (1, 1));
+    let all: Vec<_> = report
+        .expressions
+        .iter()
+        .map(|e| (e.section, e.offset, e.length, e.kind, e.operations, e.depth))
+        .collect();
+    let (register, location) = (ExpressionKind::FrameRegister, ExpressionKind::Location);
+    assert_eq!(
+        all,
+        [
+            (Section::Frame, 0x33, 2, Some(register), 1, 1),
+            (Section::Frame, 0x38, 0, Some(register), 0, 1),
+            (Section::Lists, 0x10, 1, Some(location), 1, 0),
+            (Section::Lists, 0x13, 2, Some(location), 2, 1),
+        ]
+    );
+}
+
+#[test]
+fn a_report_has_all_of_many_expressions() {
+    // entries of one list, more than the first call has room for
+    let mut lists = hex("00000000 0500 08 00 00000000");
+    for entry in 0..1000u16 {
+        lists.extend([4, (entry & 0x7f) as u8, 0x7f, 1, 0x50]);
+    }
+    lists.push(0);
+    let length = (lists.len() - 4) as u32;
+    lists[..4].copy_from_slice(&length.to_le_bytes());
+    let report = report(DebugFrame(&[]), DebugLoclists(&lists), Target::LITTLE_64).unwrap();
+    let offsets: Vec<_> = report.expressions.iter().map(|e| e.offset).collect();
+    let want: Vec<_> = (0..1000).map(|entry| 12 + 5 * entry + 4).collect();
+    assert_eq!(offsets, want);
+}
+
+#[test]
+fn a_report_on_a_refused_section_is_its_fault() {
+    let refused = report(
+        DebugFrame(&row_1()[..24 + 4]),
+        DebugLoclists(&[]),
+        Target::LITTLE_64,
+    );
+    let fault = refused.unwrap_err().fault().unwrap();
+    assert_eq!((fault.kind, fault.offset), (FaultKind::Truncated, 28));
 }
