@@ -238,7 +238,7 @@ static void through_c(const LoadedSection *first, size_t count, const WalkStart 
     dwcheck_process process = DWCHECK_CLOSED;
     dwcheck_fault fault;
     dwcheck_block stack = {start->base, start->stack, start->stack_count};
-    dwcheck_state state = {start->contents, start->register_count, known, sizeof known, &stack, 1, kept, 6, 7, 1, 0};
+    dwcheck_state state = {start->contents, start->register_count, known, sizeof known, &stack, 1, kept, 6, 7, 1, 0, 0};
     size_t frame_count = 0;
     uint32_t stop;
     double time = 1e30;

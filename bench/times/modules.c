@@ -74,7 +74,7 @@ static void walk(void) {
     static const uint16_t kept[] = {3, 6, 12, 13, 14, 15};
     uint64_t registers[17] = {[6] = STACK, [7] = STACK};
     dwcheck_block block = {STACK, (const uint8_t *)words, sizeof words};
-    dwcheck_state state = {registers, 17, known, sizeof known, &block, 1, kept, 6, 7, 1, 0};
+    dwcheck_state state = {registers, 17, known, sizeof known, &block, 1, kept, 6, 7, 1, 0, 0};
     static dwcheck_frame frames[FRAMES];
     size_t count;
     uint32_t stop;

@@ -97,11 +97,9 @@ static uint32_t step(struct walk *walk, const dwcheck_process *process, dwcheck_
 
 /* Prepares for the frame after this one, whose stack pointer may be on another stack: a signal handler may
    run on a stack of its own, and what it interrupted may have a red zone. */
-static void prepare(struct walk *walk, const dwcheck_process *process, const dwcheck_frame *frame) {
-    uint32_t is_signal = 0;
-    dwcheck_is_signal_frame(process, frame->address, &is_signal);
+static void prepare(struct walk *walk) {
+    int is_signal = walk->cursor.stage == DWCHECK_CURSOR_EXACT;
     uint64_t pointer = walk->cursor.contents[RSP];
-    if (is_signal && walk->cursor.stage == DWCHECK_CURSOR_CALLER) walk->cursor.stage = DWCHECK_CURSOR_EXACT;
     if (is_signal || pointer < walk->stack.base || pointer > end_of(&walk->stack))
         walk->stack = stack_from(pointer, is_signal ? RED_ZONE : 0);
 }
@@ -121,7 +119,7 @@ static int walk_from(const uint64_t registers[REGISTERS], const uint8_t known[3]
     const dwcheck_process *process = dwcheck_dl_begin();
     if (dwcheck_cursor_init(&walk.cursor, registers[RIP], &walk.state, 1, &fault) == DWCHECK_DONE)
         while (count < size && step(&walk, process, &frame) == DWCHECK_DONE) {
-            if (walk.cursor.stage <= DWCHECK_CURSOR_CALLER) prepare(&walk, process, &frame);
+            if (walk.cursor.stage <= DWCHECK_CURSOR_CALLER) prepare(&walk);
             if (skipped > 0) skipped--;
             else addresses[count++] = (void *)(uintptr_t)frame.address;
         }

@@ -1,55 +1,49 @@
-/* dwcheck: checks the .debug_frame and .debug_loclists sections of DWARF 5, unwinds stacks, looks
-   up location lists, and evaluates expressions.
+/* dwcheck: checks the .debug_frame and .debug_loclists sections of DWARF 5, unwinds stacks, looks up location lists,
+   and evaluates expressions.
 
-   Each call is proved to meet its contract, which is written at the function of the same name in
-   crates/dwcheck_c/src; before that, a few lines of C replace NULL by an address (c/null.c). The
-   proof assumes that the caller follows the rules below, and the library doesn't check that.
+   Each call, but for the three that give texts and dwcheck_cursor_step_with, is proved to meet its contract, which is
+   written at the function of the same name in crates/dwcheck_c/src; before that, a few lines of C replace NULL by an
+   address (c/null.c). The proof assumes that the caller follows the rules below, and the library doesn't check that.
 
    Rules for the caller of every call:
-   - Each pointer points to a whole, aligned value of its type. No other thread writes that value
-     during the call. A value that a pointer without const points to overlaps no other argument.
-     Values that pointers to const point to may overlap each other. A pointer that comes with a
-     length points to that many elements. If the length is 0, it may be NULL, except for the `bytes`
-     of a dwcheck_block. Pointers without a length, such as `fault`, `count`, `stop`, `size`, `row`,
-     `state` and `context`, are never NULL.
-   - A call that takes a process by a pointer to const only reads it. Any number of calls may read a
-     process at once, in any threads. A call that takes a pointer without const changes the process,
-     and no other call may use that process meanwhile. So a call that changes it comes before or
-     after each call that reads it, and threads synchronize for that: by a lock, by an atomic of
-     memory_order_seq_cst, or by a thread's start or join.
-   - To add or remove modules while others read: (1) make another process by dwcheck_process_share,
-     which copies no table; (2) change that one; (3) publish a pointer to it by an atomic, from which
-     each reader takes the process that it reads next; (4) close the old process once all calls that
-     read it have returned. c/dl/update.c does so.
-   - To move a process, copy the structure and set the old one to DWCHECK_CLOSED; a move is a change.
-     A process has to be closed if a module was added to it, or if dwcheck_process_share made it from
-     an open process, even if its modules have been removed.
-   - malloc, realloc and free belong to one allocator, and the calling thread may call them. So
-     neither a signal handler nor the child of a fork in a program with several threads makes a call
-     that allocates or frees. Both may make the other calls that read a process, also one that the
-     interrupted code, or another thread at the time of the fork, may be reading but not changing.
-   - Those calls may be left by siglongjmp, since they hold no lock and no memory. What their
-     pointers without const point to is then unspecified.
-   - The proofs cover calls in threads, but not a call in a signal handler that interrupts another one
-     with the same process, nor in the child of a fork, nor one that is left, nor later changes of a
-     process on which a call was left. c/tests/readers.c tests all of these.
-   - The stack is large enough. As measured on x86-64, dwcheck_backtrace takes 3.2 KB of stack,
-     dwcheck_unwind 7 KB and dwcheck_cursor_step 0.7 KB; if a rule is an expression, 4.8, 8.6 and
-     3.9 KB. dwcheck_backtrace takes 41 KB if a register of 96 or more has a known content.
-     dwcheck_process_add takes 84 KB, dwcheck_check 41 KB, dwcheck_cursor_step_with 21 KB,
-     dwcheck_evaluate 12 KB, and every other call less than 4 KB. So a signal handler on an alternate
-     stack of the usual 8 KB can walk by dwcheck_backtrace or by a cursor.
+   - Each pointer points to a whole, aligned value of its type. No other thread writes that value during the call. A
+     value that a pointer without const points to overlaps no other argument. Values that pointers to const point to
+     may overlap each other. A pointer that comes with a length points to that many elements. If the length is 0, it
+     may be NULL, except for the `bytes` of a dwcheck_block. Pointers without a length, such as `fault`, `count`,
+     `stop`, `size`, `row`, `state` and `context`, are never NULL.
+   - A call that takes a process by a pointer to const only reads it. Any number of calls may read a process at once,
+     in any threads. A call that takes a pointer without const changes the process, and no other call may use that
+     process meanwhile. So a call that changes it comes before or after each call that reads it, and threads
+     synchronize for that: by a lock, by an atomic of memory_order_seq_cst, or by a thread's start or join.
+   - To add or remove modules while others read: (1) make another process by dwcheck_process_share, which copies no
+     table; (2) change that one; (3) publish a pointer to it by an atomic, from which each reader takes the process
+     that it reads next; (4) close the old process once all calls that read it have returned. c/dl/update.c does so.
+   - To move a process, copy the structure and set the old one to DWCHECK_CLOSED; a move is a change. A process has to
+     be closed if a module was added to it, or if dwcheck_process_share made it from an open process, even if its
+     modules have been removed.
+   - malloc, realloc and free belong to one allocator, and the calling thread may call them. So neither a signal
+     handler nor the child of a fork in a program with several threads makes a call that allocates or frees. Both may
+     make the other calls that read a process, also one that the interrupted code, or another thread at the time of
+     the fork, may be reading but not changing.
+   - Those calls may be left by siglongjmp, since they hold no lock and no memory. What their pointers without const
+     point to is then unspecified.
+   - The proofs cover calls in threads, but not a call in a signal handler that interrupts another one with the same
+     process, nor in the child of a fork, nor one that is left, nor later changes of a process on which a call was
+     left. c/tests/readers.c tests all of these.
+   - The stack is large enough. As measured on x86-64, dwcheck_backtrace takes 2.8 KB of stack, dwcheck_unwind 7.1 KB
+     and dwcheck_cursor_step 0.6 KB; if a rule is an expression, up to 4.7, 8.7 and 3.8 KB. dwcheck_backtrace takes 19
+     KB if a register of 96 or more has a known content. dwcheck_process_add takes 84 KB, dwcheck_check and
+     dwcheck_report 40 KB, dwcheck_cursor_step_with 21 KB, dwcheck_evaluate 12 KB, and every other call less than 4
+     KB. So a signal handler on an alternate stack of the usual 8 KB can walk by dwcheck_backtrace or by a cursor.
    - Fields called `reserved` are set to 0. A later version may give them a meaning.
 
-   A later version may add values to enumerations, so treat a value that you don't know as
-   "something else". It may add fields to structures, but only in place of fields named `reserved`.
-   Registers are given by their DWARF numbers. A target is a byte order and an address size of 4 or
-   8 bytes; w is the address size in bits. All modules of a process have the same target: that of the
-   first one, until the process is closed. An address as linked is an address in the module's file.
-   The address as loaded is where that place is in the process: the address as linked plus the
-   module's load address, modulo 2^w. Contents of registers and values of a context are modulo 2^w. In
-   all expressions, DW_OP_addr pushes an address as linked, while registers and memory contain
-   addresses as loaded.
+   A later version may add values to enumerations, so treat a value that you don't know as "something else". It may
+   add fields to structures, but only in place of fields named `reserved`. Registers are given by their DWARF numbers.
+   A target is a byte order and an address size of 4 or 8 bytes; w is the address size in bits. All modules of a
+   process have the same target: that of the first one, until the process is closed. An address as linked is an
+   address in the module's file. The address as loaded is where that place is in the process: the address as linked
+   plus the module's load address, modulo 2^w. Contents of registers and values of a context are modulo 2^w. In all
+   expressions, DW_OP_addr pushes an address as linked, while registers and memory contain addresses as loaded.
 
    To link: cc .. $(pkg-config --cflags --libs dwcheck), or name libdwcheck.a itself. */
 #ifndef DWCHECK_H
@@ -63,8 +57,8 @@
 extern "C" {
 #endif
 
-/* The version of the interface, 65536 * major + minor: of this header, and of the library. A program
-   keeps working with a library of the same major version and the same or a later minor version. */
+/* The version of the interface, 65536 * major + minor: of this header, and of the library. A program keeps working
+   with a library of the same major version and the same or a later minor version. */
 #define DWCHECK_VERSION 0x20000u
 uint32_t dwcheck_version(void);
 
@@ -94,29 +88,47 @@ enum {
     DWCHECK_IN_ABI = 3         /* elements of `kept`; kept_length stands for the stack pointer */
 };
 
-/* Why an input is refused. `number` says what is wrong (docs/PROFILE.md lists the numbers),
-   `offset` says where, and `within` says what the offset counts. */
+/* Why an input is refused. `number` says what is wrong (docs/PROFILE.md lists the numbers), `offset` says where, and
+   `within` says what the offset counts. */
 typedef struct dwcheck_fault { uint32_t number, offset, within, reserved; } dwcheck_fault;
 
-/* Writes the name of a fault, such as "NoSuchCie", to `text`, without a NUL at the end and as much
-   as fits. Writes the length of the whole name, at most 22, to `size`. Returns DONE; or NONE if no
-   fault has the number, and then nothing is written. The call neither allocates nor frees. */
+/* Writes the name of a fault, such as "NoSuchCie", to `text`, without a NUL at the end and as much as fits. Writes
+   the length of the whole name, at most 22, to `size`. Returns DONE; or NONE if no fault has the number, and then
+   nothing is written. The call neither allocates nor frees. */
 uint32_t dwcheck_fault_name(uint32_t number, uint8_t *text, size_t text_length, size_t *size);
+
+/* The text of a fault (the rule that it breaks, and where DWARF 5 or docs/PROFILE.md has it), of a status, and of the
+   reason why a walk ends. NULL for other numbers. */
+const char *dwcheck_fault_text(uint32_t number);
+const char *dwcheck_status_text(uint32_t status);
+const char *dwcheck_stop_text(uint32_t stop);
 
 /* ---- sections ------------------------------------------------------------------------------------------------------ */
 
-/* Checks a .debug_frame section and a .debug_loclists section, either of which may be empty.
-   Returns DONE if both are well formed; REFUSED, with the first fault in `fault`, if one isn't;
-   NO_MEMORY; or BAD_TARGET. A section of 2^32 bytes or more is refused with fault 61,
-   SectionTooLong. Checked are first the lengths, then the frame section, then the lists. The call
-   allocates memory in proportion to the sections, and frees it. */
+/* Checks a .debug_frame section and a .debug_loclists section, either of which may be empty. Returns DONE if both are
+   well formed; REFUSED, with the first fault in `fault`, if one isn't; NO_MEMORY; or BAD_TARGET. A section of 2^32
+   bytes or more is refused with fault 61, SectionTooLong. Checked are first the lengths, then the frame section, then
+   the lists. The call allocates memory in proportion to the sections, and frees it. */
 uint32_t dwcheck_check(const uint8_t *frame, size_t frame_length, const uint8_t *lists, size_t lists_length,
                        uint32_t order, uint32_t address_size, dwcheck_fault *fault);
 
+/* What two sections contain. A number of rows of 2^64 or more is shown as 2^64 - 1. */
+typedef struct dwcheck_counts { uint64_t cies, fdes, rows, frame_expressions, tables, lists, list_expressions; } dwcheck_counts;
+
+/* An expression of a section: where it begins, its length in bytes, its section (as in a fault), what it is used for
+   (DWCHECK_EXPRESSION_), its number of operations, and the greatest depth of its stack. */
+typedef struct dwcheck_expression { uint64_t offset, length; uint32_t within, kind, operations, depth; } dwcheck_expression;
+
+/* Checks as dwcheck_check does. DONE also writes what the sections contain to `counts`, and their expressions to
+   `expressions`, those of the frame section first, as many as fit. */
+uint32_t dwcheck_report(const uint8_t *frame, size_t frame_length, const uint8_t *lists, size_t lists_length,
+                        uint32_t order, uint32_t address_size, dwcheck_counts *counts, dwcheck_expression *expressions,
+                        size_t expressions_length, dwcheck_fault *fault);
+
 /* ---- processes ----------------------------------------------------------------------------------------------------- */
 
-/* A process: its modules, each a compiled .debug_frame or .eh_frame section with a load address. Its
-   fields are private. If its bytes are all 0, it is closed: it has no module, and calls accept it. */
+/* A process: its modules, each a compiled .debug_frame or .eh_frame section with a load address. Its fields are
+   private. If its bytes are all 0, it is closed: it has no module, and calls accept it. */
 typedef struct dwcheck_process { void *opaque; uint64_t opaque_open; } dwcheck_process;
 #ifdef __cplusplus
 #define DWCHECK_CLOSED dwcheck_process{}
@@ -128,27 +140,22 @@ typedef struct dwcheck_process { void *opaque; uint64_t opaque_open; } dwcheck_p
 enum { DWCHECK_DEBUG_FRAME = 0, DWCHECK_EH_FRAME = 1, DWCHECK_EH_FRAME_AARCH64 = 2 };
 
 /* A module to be added: the executable or a library of the process.
-   - `frame` and `frame_length` are the bytes of its section. They aren't needed after the module is
-     added. `kind` says what the section is.
-   - The other three fields at the end are for .eh_frame alone, and are addresses as linked.
-     `section_address` is that of the section's first byte. text_start and data_start are what pointers
-     relative to text and to data count from, or 0 if that isn't known: then a section with such a
-     pointer is refused. Compilers don't write them.
-   - `load_address` is what is added to an address as linked, modulo 2^w, to get the address as
-     loaded: for a position-independent module, the dlpi_addr that dl_iterate_phdr gives; for any
-     other module, 0.
-   - If has_range isn't 0, the module answers for the addresses as loaded from `first` up to and
-     including `last`, and for no others. Otherwise it answers for the addresses from the first to
-     the last one that its section covers.
-   - `cookie` is a number of the caller's own, such as a pointer. It is given back with the module's
-     rows.
-   - `room` bounds the number of bytes that the module's table stores; SIZE_MAX sets no bound. They
-     are counted as 16 for each row and for each gap after a row, 64 for each set of rules, 16 for
-     each register's rule in a set, and 24 for each expression and its length. A compiler's section
-     takes some 1.5 times its length, a hostile one 700 times or more. NO_ROOM may come although the
-     table would fit, since rows share their rules, but not if `room` is at least 80, plus 80 for each
-     FDE and each row, plus 16 for each register's rule in a row, plus 24 for each expression and its
-     length. `room` doesn't bound the memory that checking and compiling use. */
+   - `frame` and `frame_length` are the bytes of its section. They aren't needed after the module is added. `kind`
+     says what the section is.
+   - The other three fields at the end are for .eh_frame alone, and are addresses as linked. `section_address` is that
+     of the section's first byte. text_start and data_start are what pointers relative to text and to data count from,
+     or 0 if that isn't known: then a section with such a pointer is refused. Compilers don't write them.
+   - `load_address` is what is added to an address as linked, modulo 2^w, to get the address as loaded: for a
+     position-independent module, the dlpi_addr that dl_iterate_phdr gives; for any other module, 0.
+   - If has_range isn't 0, the module answers for the addresses as loaded from `first` up to and including `last`, and
+     for no others. Otherwise it answers for the addresses from the first to the last one that its section covers.
+   - `cookie` is a number of the caller's own, such as a pointer. It is given back with the module's rows.
+   - `room` bounds the number of bytes that the module's table stores; SIZE_MAX sets no bound. They are counted as 16
+     for each row and for each gap after a row, 64 for each set of rules, 16 for each register's rule in a set, and 24
+     for each expression and its length. A compiler's section takes some 1.5 times its length, a hostile one 700 times
+     or more. NO_ROOM may come although the table would fit, since rows share their rules, but not if `room` is at
+     least 80, plus 80 for each FDE and each row, plus 16 for each register's rule in a row, plus 24 for each
+     expression and its length. `room` doesn't bound the memory that checking and compiling use. */
 typedef struct dwcheck_module {
     const uint8_t *frame;
     size_t frame_length;
@@ -158,49 +165,45 @@ typedef struct dwcheck_module {
     uint64_t section_address, text_start, data_start;
 } dwcheck_module;
 
-/* Checks a module's section, compiles all its rows into a table, and adds the module to the process.
-   `id` becomes the module's id. Ids count up from 1, so a process doesn't give an id twice while it
-   is open, even if the module is removed. A process that dwcheck_process_share makes counts on from
-   the same number, so of two processes that share modules, only one should get new ones.
-   No two modules may answer for the same address. Returns DONE; or the first of these for which
-   there is a reason: TOO_LONG; BAD_KIND; BAD_TARGET; REFUSED with the first fault of the section;
-   BAD_RANGE; OVERLAPS, and then `id` becomes the id of a module whose range shares an address with
-   this one's; NO_ROOM. NO_MEMORY may come in place of any but the first three. BAD_RANGE means that `first` is
-   above `last` or `last` is 2^w or more; or that has_range is 0, and the section covers no address,
-   or covers addresses on both sides of the highest one, 2^w - 1, as loaded. Only DONE changes the
-   process, only DONE and OVERLAPS write `id`, and only REFUSED writes `fault`. The call takes
-   O(n log n) time, where n is the number of bytes of the section's programs and of its rows, and
-   moves the entries of the modules that lie at higher addresses. */
+/* Checks a module's section, compiles all its rows into a table, and adds the module to the process. `id` becomes the
+   module's id. Ids count up from 1, so a process doesn't give an id twice while it is open, even if the module is
+   removed. A process that dwcheck_process_share makes counts on from the same number, so of two processes that share
+   modules, only one should get new ones. No two modules may answer for the same address. Returns DONE; or the first
+   of these for which there is a reason: TOO_LONG; BAD_KIND; BAD_TARGET; REFUSED with the first fault of the section;
+   BAD_RANGE; OVERLAPS, and then `id` becomes the id of a module whose range shares an address with this one's;
+   NO_ROOM. NO_MEMORY may come in place of any but the first three. BAD_RANGE means that `first` is above `last` or
+   `last` is 2^w or more; or that has_range is 0, and the section covers no address, or covers addresses on both sides
+   of the highest one, 2^w - 1, as loaded. Only DONE changes the process, only DONE and OVERLAPS write `id`, and only
+   REFUSED writes `fault`. The call takes O(n log n) time, where n is the number of bytes of the section's programs
+   and of its rows, and moves the entries of the modules that lie at higher addresses. */
 uint32_t dwcheck_process_add(dwcheck_process *process, const dwcheck_module *module, uint64_t *id, dwcheck_fault *fault);
 
-/* Removes the module with this id. Returns DONE; or NONE if no module has it. The call allocates
-   nothing, and frees the module's table if no other process shares it. */
+/* Removes the module with this id. Returns DONE; or NONE if no module has it. The call allocates nothing, and frees
+   the module's table if no other process shares it. */
 uint32_t dwcheck_process_remove(dwcheck_process *process, uint64_t id);
 
-/* Makes `other` a process with the modules of `process`, after closing what `other` was before.
-   If `process` is closed, `other` is closed too. The modules keep their ids. The tables are shared,
-   not copied, and are freed with the last process that has them. Adding modules to one of the two
-   processes, or removing them, doesn't change the other. Returns DONE; or NO_MEMORY, and then `other`
-   is unchanged. */
+/* Makes `other` a process with the modules of `process`, after closing what `other` was before. If `process` is
+   closed, `other` is closed too. The modules keep their ids. The tables are shared, not copied, and are freed with
+   the last process that has them. Adding modules to one of the two processes, or removing them, doesn't change the
+   other. Returns DONE; or NO_MEMORY, and then `other` is unchanged. */
 uint32_t dwcheck_process_share(const dwcheck_process *process, dwcheck_process *other);
 
 /* Releases all modules and closes the process. A closed process may be closed again. */
 void dwcheck_process_close(dwcheck_process *process);
 
-/* A module of a process: its id, its cookie, its load address, and the first and the last address,
-   as loaded, that it answers for. */
+/* A module of a process: its id, its cookie, its load address, and the first and the last address, as loaded, that it
+   answers for. */
 typedef struct dwcheck_loaded { uint64_t id, cookie, load_address, first, last; } dwcheck_loaded;
 
-/* Writes the module that answers for `address`, an address as loaded, in O(log n) time among n modules.
-   Returns DONE; or NONE if no module does, and then nothing is written. The call neither allocates
-   nor frees. */
+/* Writes the module that answers for `address`, an address as loaded, in O(log n) time among n modules. Returns DONE;
+   or NONE if no module does, and then nothing is written. The call neither allocates nor frees. */
 uint32_t dwcheck_module_at(const dwcheck_process *process, uint64_t address, dwcheck_loaded *module);
 
 /* ---- the row of an address ----------------------------------------------------------------------------------------- */
 
-/* How to find the value of register `reg` in the caller. The values of `kind` are below. If `kind`
-   is one of the last two, the expression has `length` bytes, which dwcheck_rule_bytes gives. In a
-   .debug_frame section they begin at `offset`. */
+/* How to find the value of register `reg` in the caller. The values of `kind` are below. If `kind` is one of the last
+   two, the expression has `length` bytes, which dwcheck_rule_bytes gives. In a .debug_frame section they begin at
+   `offset`. */
 enum {
     DWCHECK_RULE_UNDEFINED = 1,     /* the value isn't available */
     DWCHECK_RULE_SAME_VALUE = 2,    /* the value that the register has now */
@@ -213,10 +216,9 @@ enum {
 typedef struct dwcheck_rule { int64_t offset; uint64_t length; uint16_t reg, source; uint32_t kind; } dwcheck_rule;
 
 #define DWCHECK_MAX_RULES 128
-/* A row of the module with this id, cookie and load address. The row covers the addresses as linked
-   from `start` up to, but not including, `end`. If cfa.kind is DWCHECK_RULE_VAL_OFFSET, the CFA is the
-   value of register cfa.reg plus cfa.offset. If it is DWCHECK_RULE_VAL_EXPRESSION, the CFA is the
-   value that an expression gives. */
+/* A row of the module with this id, cookie and load address. The row covers the addresses as linked from `start` up
+   to, but not including, `end`. If cfa.kind is DWCHECK_RULE_VAL_OFFSET, the CFA is the value of register cfa.reg plus
+   cfa.offset. If it is DWCHECK_RULE_VAL_EXPRESSION, the CFA is the value that an expression gives. */
 typedef struct dwcheck_row {
     uint64_t id, cookie, load_address, start, end;
     dwcheck_rule cfa;
@@ -224,21 +226,21 @@ typedef struct dwcheck_row {
     uint32_t count;      /* the number of registers that have a rule, at most DWCHECK_MAX_RULES */
 } dwcheck_row;
 
-/* Writes the row that covers `address`, an address as loaded, from the module that answers for the
-   address. The rules of registers go into `rules` in ascending order of registers, as many as fit.
-   Returns DONE; or NONE if there is no such row, and then nothing is written. The call neither
-   allocates nor frees. */
+/* Writes the row that covers `address`, an address as loaded, from the module that answers for the address. The rules
+   of registers go into `rules` in ascending order of registers, as many as fit. Returns DONE; or NONE if there is no
+   such row, and then nothing is written. The call neither allocates nor frees. */
 uint32_t dwcheck_row_at(const dwcheck_process *process, uint64_t address, dwcheck_row *row, dwcheck_rule *rules,
                         size_t rules_length);
 
-/* Writes 1 to `is_signal_frame` if `address`, as loaded, is where a signal handler returns to, by the
-   module's .eh_frame, else 0. The address of that frame's caller is no return address. Returns DONE. */
+/* Writes 1 to `is_signal_frame` if `address`, as loaded, is one of a signal frame, to which a signal handler returns,
+   by the module's .eh_frame, else 0. Walks ask so of the address that they look up for a frame, and look up the
+   caller of a signal frame, which was interrupted, at its own address. Returns DONE. */
 uint32_t dwcheck_is_signal_frame(const dwcheck_process *process, uint64_t address, uint32_t *is_signal_frame);
 
-/* Writes the bytes of a rule's expression to `bytes`, as many as fit, and their number to `size`. The
-   rule is that of register `reg`, or of the CFA if `reg` is DWCHECK_CFA_RULE, in the row that
-   dwcheck_row_at gives for `address`. Returns DONE; or NONE if there is no row, or if the rule has no
-   expression, and then nothing is written. The call neither allocates nor frees. */
+/* Writes the bytes of a rule's expression to `bytes`, as many as fit, and their number to `size`. The rule is that of
+   register `reg`, or of the CFA if `reg` is DWCHECK_CFA_RULE, in the row that dwcheck_row_at gives for `address`.
+   Returns DONE; or NONE if there is no row, or if the rule has no expression, and then nothing is written. The call
+   neither allocates nor frees. */
 #define DWCHECK_CFA_RULE 0x10000u
 uint32_t dwcheck_rule_bytes(const dwcheck_process *process, uint64_t address, uint32_t reg, uint8_t *bytes,
                             size_t bytes_length, size_t *size);
@@ -248,13 +250,14 @@ uint32_t dwcheck_rule_bytes(const dwcheck_process *process, uint64_t address, ui
 /* A block of memory that starts at address `base`. `bytes` is never NULL. */
 typedef struct dwcheck_block { uint64_t base; const uint8_t *bytes; size_t length; } dwcheck_block;
 
-/* The state of a stopped thread. The value of register n is contents[n] if contents[n] and
-   known[n / 8] exist and bit n % 8 of known[n / 8] is set (bit 0 is the least significant);
-   otherwise it isn't known. Memory is the bytes of the blocks; if two blocks contain an address,
-   the byte of the first block counts. The ABI is `kept` (the callee-saved registers, 127 at most)
-   and, if has_stack_pointer isn't 0, stack_pointer. The ABI applies to registers to which the row
-   gives no rule: in the caller, a register in `kept` has the value that it has now, the stack
-   pointer is the CFA, and any other register is undefined. The ABI names no register twice. */
+/* The state of a stopped thread. The value of register n is contents[n] if contents[n] and known[n / 8] exist and bit
+   n % 8 of known[n / 8] is set (bit 0 is the least significant); otherwise it isn't known. Memory is the bytes of the
+   blocks; if two blocks contain an address, the byte of the first block counts. The ABI is `kept` (the callee-saved
+   registers, 127 at most) and, if has_stack_pointer isn't 0, stack_pointer. The ABI applies to registers to which the
+   row gives no rule: in the caller, a register in `kept` has the value that it has now, the stack pointer is the CFA,
+   and any other register is undefined. The ABI names no register twice. `signed_bits` are the bits of a return
+   address that may have its signature (aarch64: the mask for code in NT_ARM_PAC_MASK). They are 0 in each address of
+   code, and walks leave them out of callers' addresses. */
 typedef struct dwcheck_state {
     const uint64_t *contents;
     size_t contents_length;
@@ -266,6 +269,7 @@ typedef struct dwcheck_state {
     size_t kept_length;
     uint16_t stack_pointer, has_stack_pointer;
     uint32_t reserved;
+    uint64_t signed_bits;
 } dwcheck_state;
 
 /* What is known of a CFA, a return address or a register. */
@@ -280,18 +284,17 @@ enum {
 typedef struct dwcheck_answer { uint64_t value; uint32_t kind, reserved; } dwcheck_answer;
 typedef struct dwcheck_register { uint64_t value; uint32_t kind, number; } dwcheck_register;
 
-/* A caller. `cfa` is the canonical frame address of the frame that was called. `return_address` is
-   where the caller continues, just after the call. `count` is the number of registers that have a
-   rule from the row or the ABI, at most DWCHECK_MAX_REGISTERS. */
+/* A caller. `cfa` is the canonical frame address of the frame that was called. `return_address` is where the caller
+   continues, just after the call. `count` is the number of registers that have a rule from the row or the ABI, at
+   most DWCHECK_MAX_REGISTERS. */
 typedef struct dwcheck_caller { dwcheck_answer cfa, return_address; uint64_t count; } dwcheck_caller;
 
 #define DWCHECK_MAX_REGISTERS 256
-/* Writes the caller of the frame at `address`, an address as loaded, by the row that dwcheck_row_at
-   gives for it. The address itself is looked up, so to find the caller's own caller, pass
-   the caller's return address minus 1. The caller's registers go into `registers` in ascending
-   order, as many as fit. Returns DONE; NONE if there is no row; or REFUSED if the ABI names too
-   many registers or names one twice. Only DONE writes `caller` and `registers`, and only REFUSED
-   writes `fault`. The call neither allocates nor frees. */
+/* Writes the caller of the frame at `address`, an address as loaded, by the row that dwcheck_row_at gives for it. The
+   address itself is looked up, so to find the caller's own caller, pass the caller's return address, without its
+   signed bits, minus 1. The caller's registers go into `registers` in ascending order, as many as fit. Returns DONE;
+   NONE if there is no row; or REFUSED if the ABI names too many registers or names one twice. Only DONE writes
+   `caller` and `registers`, and only REFUSED writes `fault`. The call neither allocates nor frees. */
 uint32_t dwcheck_unwind(const dwcheck_process *process, uint64_t address, const dwcheck_state *state, dwcheck_caller *caller,
                         dwcheck_register *registers, size_t registers_length, dwcheck_fault *fault);
 
@@ -310,27 +313,26 @@ enum {
     DWCHECK_STOP_RETURN_DIVISION_BY_ZERO = 4 /* or it is DWCHECK_ANSWER_DIVISION_BY_ZERO */
 };
 
-/* Walks up the stack from the frame at `address`, an address as loaded, and writes the frames to
-   `frames`, the innermost first, as many as fit. `count` becomes their number, and `stop` the
-   reason why there are no more. Frame 0 is looked up at its address, and each later frame at its
-   address minus 1. Returns DONE; or REFUSED if the ABI names too many registers or names one twice.
-   Only DONE writes `frames`, `count` and `stop`, and only REFUSED writes `fault`. The call neither
-   allocates nor frees. */
+/* Walks up the stack from the frame at `address`, an address as loaded, and writes the frames to `frames`, the
+   innermost first, as many as fit. `count` becomes their number, and `stop` the reason why there are no more. Frame 0
+   is looked up at its address, and each later frame at its address minus 1; but the caller of a signal frame
+   (dwcheck_is_signal_frame) at its address. Returns DONE; or REFUSED if the ABI names too many registers or names one
+   twice. Only DONE writes `frames`, `count` and `stop`, and only REFUSED writes `fault`. The call neither allocates
+   nor frees. */
 uint32_t dwcheck_backtrace(const dwcheck_process *process, uint64_t address, const dwcheck_state *state, dwcheck_frame *frames,
                            size_t frames_length, size_t *count, uint32_t *stop, dwcheck_fault *fault);
 
-/* The stages of a cursor. A greater stage means that the walk has ended: minus 1, it is the reason, a
-   DWCHECK_STOP_ number. */
+/* The stages of a cursor. A greater stage means that the walk has ended: minus 1, it is the reason, a DWCHECK_STOP_
+   number. */
 enum {
-    DWCHECK_CURSOR_EXACT = 0, /* the frame is looked up at its address */
+    DWCHECK_CURSOR_EXACT = 0, /* the frame is looked up at its address: it was interrupted, or is the first */
     DWCHECK_CURSOR_CALLER = 1 /* the frame is looked up at its address minus 1, inside of the call */
 };
 
-/* Where a walk up a stack is: the address of a frame, and its registers. The value of register n is
-   contents[n], if known[n] isn't 0; registers with numbers of 96 or more have no place. A cursor is
-   plain data of the caller's. It may be read, copied, changed and dropped at any time, and a walk may
-   be taken up again from a copy. Any bytes are a cursor. If the frame was interrupted by a signal,
-   so that its address isn't a return address, set `stage` to DWCHECK_CURSOR_EXACT before the step. */
+/* Where a walk up a stack is: the address of a frame, and its registers. The value of register n is contents[n], if
+   known[n] isn't 0; registers with numbers of 96 or more have no place. A cursor is plain data of the caller's. It
+   may be read, copied, changed and dropped at any time, and a walk may be taken up again from a copy. Any bytes are a
+   cursor. */
 typedef struct dwcheck_cursor {
     uint64_t contents[96];
     uint8_t known[96];
@@ -338,58 +340,55 @@ typedef struct dwcheck_cursor {
     uint32_t stage, reserved;
 } dwcheck_cursor;
 
-/* Places a cursor at the frame at `address`, an address as loaded, with the registers of `state`. The
-   frame is looked up at its address if `exact` isn't 0, as dwcheck_backtrace looks up its first frame,
-   and at its address minus 1 if it is. Returns DONE; REFUSED if the ABI names too many registers or
-   names one twice; or NO_PLACE if a register with a number of 96 or more is known. Only DONE writes
-   `cursor`, and only REFUSED writes `fault`. The call neither allocates nor frees. */
+/* Places a cursor at the frame at `address`, an address as loaded, with the registers of `state`. The frame is looked
+   up at its address if `exact` isn't 0, as dwcheck_backtrace looks up its first frame, and at its address minus 1 if
+   it is. Returns DONE; REFUSED if the ABI names too many registers or names one twice; or NO_PLACE if a register with
+   a number of 96 or more is known. Only DONE writes `cursor`, and only REFUSED writes `fault`. The call neither
+   allocates nor frees. */
 uint32_t dwcheck_cursor_init(dwcheck_cursor *cursor, uint64_t address, const dwcheck_state *state, uint32_t exact,
                              dwcheck_fault *fault);
 
-/* Writes the frame that a cursor is at to `frame`, and moves the cursor to the frame's caller. The
-   memory and the ABI are those of `state`, and the registers those of the cursor. Whether the ABI is
-   faulty isn't looked at: dwcheck_cursor_init has done that. If there is no caller, the cursor keeps
-   the frame's address and registers, and its stage says why. So n steps give what dwcheck_backtrace
-   writes to n frames. Returns DONE; NONE if the walk has ended; or NO_PLACE if a register of the
-   caller with a number of 96 or more would be known. Only DONE changes `cursor` and `frame`. The call
-   neither allocates nor frees. */
+/* Writes the frame that a cursor is at to `frame`, and moves the cursor to the frame's caller. The memory and the ABI
+   are those of `state`, and the registers those of the cursor. Whether the ABI is faulty isn't looked at:
+   dwcheck_cursor_init has done that. If there is no caller, the cursor keeps the frame's address and registers, and
+   its stage says why. So n steps give what dwcheck_backtrace writes to n frames. Returns DONE; NONE if the walk has
+   ended; or NO_PLACE if a register of the caller with a number of 96 or more has a rule. Only DONE changes `cursor`
+   and `frame`. The call neither allocates nor frees. */
 uint32_t dwcheck_cursor_step(const dwcheck_process *process, dwcheck_cursor *cursor, const dwcheck_state *state,
                              dwcheck_frame *frame);
 
-/* Reads `length` bytes of memory at `address` into `bytes`, and returns whether it could. `order` and
-   address_size are those of the process. */
+/* Reads `length` bytes of memory at `address` into `bytes`, and returns whether it could. `order` and address_size
+   are those of the process. */
 typedef struct dwcheck_reader {
     bool (*read)(void *data, uint64_t address, uint8_t *bytes, size_t length);
     void *data;
     uint32_t order, address_size;
 } dwcheck_reader;
 
-/* Steps as dwcheck_cursor_step does, but asks `reader` for the words that the step needs: of another
-   process, a core file, a target behind a protocol. The blocks of `state` aren't used. This call is C
-   over the proved ones, which see the bytes that were read (c/read.c). In a rule whose expression has
-   branches or over 256 bytes, only what is read before the first branch, or nothing, is asked for. `read` may leave the call by
-   longjmp, and then the cursor is as it was. The call allocates only as dwcheck_evaluate does. */
+/* Steps as dwcheck_cursor_step does, but asks `reader` for the words that the step needs: of another process, a core
+   file, a target behind a protocol. The blocks of `state` aren't used. This call is C over the proved ones, which see
+   the bytes that were read (c/read.c). In a rule whose expression has branches or over 256 bytes, only what is read
+   before the first branch, or nothing, is asked for. `read` may leave the call by longjmp, and then the cursor is as
+   it was. The call allocates only as dwcheck_evaluate does. */
 uint32_t dwcheck_cursor_step_with(const dwcheck_process *process, dwcheck_cursor *cursor, const dwcheck_state *state,
                                   const dwcheck_reader *reader, dwcheck_frame *frame);
 
 /* ---- expressions --------------------------------------------------------------------------------------------------- */
 
-/* What an expression is used for (`kind`): the rule of a CFA, the rule of a register, or the
-   location of an object. The stack begins with the CFA for the rule of a register, and is empty at
-   first for the others. */
+/* What an expression is used for (`kind`): the rule of a CFA, the rule of a register, or the location of an object.
+   The stack begins with the CFA for the rule of a register, and is empty at first for the others. */
 enum { DWCHECK_EXPRESSION_CFA = 0, DWCHECK_EXPRESSION_REGISTER = 1, DWCHECK_EXPRESSION_LOCATION = 2 };
 
-/* Values that an expression may need and that depend on where the program stopped: the CFA, the
-   frame base (for DW_OP_fbreg) and the address of the object (for DW_OP_push_object_address). Each
-   is known only if its flag, such as has_cfa, isn't 0. */
+/* Values that an expression may need and that depend on where the program stopped: the CFA, the frame base (for
+   DW_OP_fbreg) and the address of the object (for DW_OP_push_object_address). Each is known only if its flag, such as
+   has_cfa, isn't 0. */
 typedef struct dwcheck_context {
     uint64_t cfa, frame_base, object;
     uint32_t has_cfa, has_frame_base, has_object, reserved;
 } dwcheck_context;
 
-/* The outcome of an expression. `kind` is one of these. `value` is 0 for kinds whose comment
-   doesn't mention it. `steps` is the number of operations that were reached, including one that
-   failed. */
+/* The outcome of an expression. `kind` is one of these. `value` is 0 for kinds whose comment doesn't mention it.
+   `steps` is the number of operations that were reached, including one that failed. */
 enum {
     DWCHECK_OUTCOME_VALUE = 0,                 /* `value`, for the rule of a CFA or register */
     /* The operation at `offset` needs a register, memory or a context value that isn't known, or
@@ -407,18 +406,17 @@ enum {
 };
 typedef struct dwcheck_value { uint64_t value; uint32_t kind, offset, steps, count; } dwcheck_value;
 
-/* A piece: where it is (`kind` and `value`, as in dwcheck_value), and its size. The size is in
-   bytes; but if is_bits isn't 0, it is in bits, and the piece begins at bit bit_offset. */
+/* A piece: where it is (`kind` and `value`, as in dwcheck_value), and its size. The size is in bytes; but if is_bits
+   isn't 0, it is in bits, and the piece begins at bit bit_offset. */
 typedef struct dwcheck_piece { uint64_t value; uint32_t kind, size, bit_offset, is_bits; } dwcheck_piece;
 
 #define DWCHECK_MAX_PIECES 32
 
-/* Checks all paths of an expression, and runs it with the registers and memory of `state`, whose
-   ABI isn't used. The pieces of the result go into `pieces`, as many as fit. If the result is
-   DWCHECK_LOCATION_BYTES, or if piece `n` (counted from 0) is, these bytes go into `bytes`, as many
-   as fit. Returns DONE; REFUSED with the first fault of the expression; NO_MEMORY; BAD_TARGET;
-   TOO_LONG; or BAD_KIND. Only DONE writes `value`, `pieces` and `bytes`, and only REFUSED writes
-   `fault`. The call allocates memory only if the expression has more than 16 operations and also
+/* Checks all paths of an expression, and runs it with the registers and memory of `state`, whose ABI isn't used. The
+   pieces of the result go into `pieces`, as many as fit. If the result is DWCHECK_LOCATION_BYTES, or if piece `n`
+   (counted from 0) is, these bytes go into `bytes`, as many as fit. Returns DONE; REFUSED with the first fault of the
+   expression; NO_MEMORY; BAD_TARGET; TOO_LONG; or BAD_KIND. Only DONE writes `value`, `pieces` and `bytes`, and only
+   REFUSED writes `fault`. The call allocates memory only if the expression has more than 16 operations and also
    either has branches or is refused, and frees the memory. */
 uint32_t dwcheck_evaluate(const uint8_t *expression, size_t expression_length, uint32_t order, uint32_t address_size,
                           uint32_t kind, const dwcheck_context *context, const dwcheck_state *state, uint32_t n,
@@ -427,19 +425,18 @@ uint32_t dwcheck_evaluate(const uint8_t *expression, size_t expression_length, u
 
 /* ---- location lists ------------------------------------------------------------------------------------------------ */
 
-/* What to look up: `address`, an address as linked, in the list whose first byte is at offset
-   `list` of the section. `base` is the base address of the unit to which the list belongs. */
+/* What to look up: `address`, an address as linked, in the list whose first byte is at offset `list` of the section.
+   `base` is the base address of the unit to which the list belongs. */
 typedef struct dwcheck_lookup { uint64_t base, address; uint32_t list, reserved; } dwcheck_lookup;
 
 /* An expression: the offset in the section where it begins, and its length in bytes. */
 typedef struct dwcheck_location { uint64_t offset, length; } dwcheck_location;
 
-/* Checks a .debug_loclists section, and writes the expressions of a list that apply at an address
-   into `locations`, in the order of the list, as many as fit. `count` becomes the number written;
-   if it is `locations_length`, there may be more. Returns DONE; NONE if no list begins at
-   lookup->list; REFUSED with the first fault; NO_MEMORY; BAD_TARGET; or TOO_LONG. Only DONE writes
-   `locations` and `count`, and only REFUSED writes `fault`. The call takes time and memory in
-   proportion to the section, and frees the memory. */
+/* Checks a .debug_loclists section, and writes the expressions of a list that apply at an address into `locations`,
+   in the order of the list, as many as fit. `count` becomes the number written; if it is `locations_length`, there
+   may be more. Returns DONE; NONE if no list begins at lookup->list; REFUSED with the first fault; NO_MEMORY;
+   BAD_TARGET; or TOO_LONG. Only DONE writes `locations` and `count`, and only REFUSED writes `fault`. The call takes
+   time and memory in proportion to the section, and frees the memory. */
 uint32_t dwcheck_locations(const uint8_t *lists, size_t lists_length, uint32_t order, uint32_t address_size,
                            const dwcheck_lookup *lookup, dwcheck_location *locations, size_t locations_length,
                            size_t *count, dwcheck_fault *fault);

@@ -79,7 +79,7 @@ static dwcheck_loaded loaded;
 static dwcheck_register registers[4];
 
 static dwcheck_state state(size_t keeps) {
-    dwcheck_state s = {contents, 17, known, 3, blocks, 1, kept, keeps, 7, 1, 0};
+    dwcheck_state s = {contents, 17, known, 3, blocks, 1, kept, keeps, 7, 1, 0, 0};
     return s;
 }
 
@@ -154,6 +154,40 @@ static void refusals(void) {
     IS(dwcheck_check(good, sizeof good, bad, 0, 3, 8, &fault), DWCHECK_BAD_TARGET);
     IS(dwcheck_check(good, sizeof good, bad, sizeof bad, 0, 8, &fault), DWCHECK_REFUSED); IS(fault.within, DWCHECK_IN_LISTS);
     IS(dwcheck_check(good, sizeof good, good, (size_t)1 << 32, 0, 8, &fault), DWCHECK_REFUSED); IS(fault.number, 61);
+}
+
+/* Row 16 of docs/WORKED.md: one table of one list, with expressions at 16 and 19. */
+static const uint8_t some_lists[] = {0x12, 0, 0, 0, 5, 0, 8, 0, 0, 0, 0, 0, 4, 0, 0x10, 1, 0x50, 5, 2, 0x30, 0x9f, 0};
+
+static void reports(void) {
+    dwcheck_counts counts = {9, 9, 9, 9, 9, 9, 9};
+    dwcheck_expression found[3] = {{0}};
+    found[2].offset = 9;
+    IS(dwcheck_report(good, sizeof good, some_lists, sizeof some_lists, 0, 8, &counts, found, 3, &fault), DWCHECK_DONE);
+    IS(counts.cies, 1); IS(counts.fdes, 1); IS(counts.rows, 1); IS(counts.frame_expressions, 0);
+    IS(counts.tables, 1); IS(counts.lists, 1); IS(counts.list_expressions, 2);
+    IS(found[0].offset, 16); IS(found[0].length, 1); IS(found[0].within, DWCHECK_IN_LISTS);
+    IS(found[0].kind, DWCHECK_EXPRESSION_LOCATION); IS(found[0].operations, 1); IS(found[0].depth, 0);
+    IS(found[1].offset, 19); IS(found[1].operations, 2); IS(found[1].depth, 1); IS(found[2].offset, 9);
+    found[1].offset = 9;
+    IS(dwcheck_report(NULL, 0, some_lists, sizeof some_lists, 0, 8, &counts, found, 1, &fault), DWCHECK_DONE);
+    IS(counts.cies, 0); IS(counts.list_expressions, 2); IS(found[1].offset, 9);
+    IS(dwcheck_report(NULL, 0, some_lists, sizeof some_lists, 0, 8, &counts, NULL, 0, &fault), DWCHECK_DONE);
+    counts.rows = 9;
+    IS(dwcheck_report(good, sizeof good, bad, sizeof bad, 0, 8, &counts, found, 3, &fault), DWCHECK_REFUSED);
+    IS(fault.within, DWCHECK_IN_LISTS); IS(counts.rows, 9);
+    IS(dwcheck_report(good, sizeof good, NULL, 0, 3, 8, &counts, found, 3, &fault), DWCHECK_BAD_TARGET);
+}
+
+static void texts(void) {
+    IS(strstr(dwcheck_fault_text(19), "6.4.2.2") != NULL, 1);
+    IS(dwcheck_fault_text(8) == NULL, 1); IS(dwcheck_fault_text(UINT32_MAX) == NULL, 1);
+    IS(strcmp(dwcheck_status_text(DWCHECK_NO_MEMORY), "out of memory"), 0); IS(dwcheck_status_text(11) == NULL, 1);
+    IS(strcmp(dwcheck_stop_text(DWCHECK_STOP_NOT_COVERED), "not covered"), 0); IS(dwcheck_stop_text(5) == NULL, 1);
+    for (uint32_t number = 0; number < 100; number++) { /* each fault with a name has a text */
+        size_t size;
+        IS(dwcheck_fault_text(number) != NULL, dwcheck_fault_name(number, NULL, 0, &size) == DWCHECK_DONE);
+    }
 }
 
 static void walks(void) {
@@ -395,6 +429,57 @@ static void eh_frames(void) {
     dwcheck_process_close(&p);
 }
 
+/* A handler that returns to the signal frame of `eh`, which interrupted a function at its first address: the
+   address before belongs to no function. `registers` are known, of which 97 have no place in a cursor. */
+static void signal_walks(size_t its_registers) {
+    static const uint64_t frame_words[6] = {0x1100a, 0, 0x7f20, 0x21000, 0x21005, 0};
+    uint64_t its_contents[97] = {0};
+    uint8_t its_known[13] = {0x80};
+    dwcheck_block block = {0x7f00, (const uint8_t *)frame_words, 40};
+    dwcheck_state s = {its_contents, its_registers, its_known, 13, &block, 1, NULL, 0, 7, 1, 0, 0};
+    dwcheck_process p = DWCHECK_CLOSED;
+    dwcheck_module m = module_of(eh, sizeof eh, 0x10000);
+    m.kind = DWCHECK_EH_FRAME; m.section_address = 0x2000;
+    IS(add_module(&p, m), DWCHECK_DONE);
+    IS(add(&p, 0x20000), DWCHECK_DONE);
+    its_contents[7] = 0x7f00; its_known[12] = 1;
+    IS(dwcheck_backtrace(&p, 0x21010, &s, frames, 8, &count, &stop, &fault), DWCHECK_DONE);
+    IS(count, 4); IS(stop, DWCHECK_STOP_RETURN_UNREADABLE);
+    IS(frames[0].address, 0x21010); IS(frames[0].cfa.value, 0x7f08);
+    IS(frames[1].address, 0x1100a); IS(frames[1].cfa.value, 0x7f20);
+    IS(frames[2].address, 0x21000); IS(frames[2].cfa.value, 0x7f28);
+    IS(frames[3].address, 0x21005); IS(frames[3].cfa.value, 0x7f30);
+    if (its_registers < 97) {
+        dwcheck_cursor cursor;
+        static const uint32_t stages[] = {DWCHECK_CURSOR_CALLER, DWCHECK_CURSOR_EXACT, DWCHECK_CURSOR_CALLER, DWCHECK_STOP_RETURN_UNREADABLE + 1};
+        IS(dwcheck_cursor_init(&cursor, 0x21010, &s, 1, &fault), DWCHECK_DONE);
+        for (int i = 0; i < 4; i++) {
+            IS(dwcheck_cursor_step(&p, &cursor, &s, &frames[7]), DWCHECK_DONE);
+            IS(cursor.stage, stages[i]); IS(frames[7].address, frames[i].address); IS(frames[7].cfa.value, frames[i].cfa.value);
+        }
+    }
+    dwcheck_process_close(&p);
+}
+
+/* Return addresses whose bits 48 to 54 have a signature, as those of aarch64 may. */
+static void signed_walks(size_t its_registers) {
+    static const uint64_t frame_words[2] = {0x7f000000021010, 0x12000000021020};
+    uint64_t its_contents[97] = {0};
+    uint8_t its_known[13] = {0x80};
+    dwcheck_block block = {0x7f00, (const uint8_t *)frame_words, 16};
+    dwcheck_state s = {its_contents, its_registers, its_known, 13, &block, 1, NULL, 0, 7, 1, 0, 0};
+    dwcheck_process p = DWCHECK_CLOSED;
+    IS(add(&p, 0x20000), DWCHECK_DONE);
+    its_contents[7] = 0x7f00; its_known[12] = 1;
+    IS(dwcheck_backtrace(&p, 0x21000, &s, frames, 8, &count, &stop, &fault), DWCHECK_DONE);
+    IS(count, 2); IS(stop, DWCHECK_STOP_NOT_COVERED); IS(frames[1].address, 0x7f000000021010);
+    s.signed_bits = 0x7f000000000000;
+    IS(dwcheck_backtrace(&p, 0x21000, &s, frames, 8, &count, &stop, &fault), DWCHECK_DONE);
+    IS(count, 3); IS(stop, DWCHECK_STOP_RETURN_UNREADABLE);
+    IS(frames[1].address, 0x21010); IS(frames[2].address, 0x21020);
+    dwcheck_process_close(&p);
+}
+
 static void answers_as(dwcheck_process *p, uint64_t i, uint64_t its_id) {
     static const uint64_t inside[3] = {0, 0x7b, 0xff};
     const uint64_t load = 0x200 * i, first = load + 0x1000;
@@ -438,7 +523,7 @@ static void high_registers(void) {
     static const uint16_t named[2] = {3, 264};
     dwcheck_process p = DWCHECK_CLOSED;
     dwcheck_caller caller;
-    dwcheck_state s = {many, 300, bits, 38, blocks, 1, named, 2, 7, 1, 0};
+    dwcheck_state s = {many, 300, bits, 38, blocks, 1, named, 2, 7, 1, 0, 0};
     many[7] = contents[7]; many[264] = 0x264;
     bits[0] = 0x80; bits[33] = 1;
     IS(add(&p, 0x71f000000000), DWCHECK_DONE);
@@ -876,7 +961,13 @@ int main(void) {
     ranges();
     ranges_at_the_top();
     first_refusals();
+    reports();
+    texts();
     eh_frames();
+    signal_walks(17);
+    signal_walks(97);
+    signed_walks(17);
+    signed_walks(97);
     many_modules();
     high_registers();
     own_bytes();

@@ -99,7 +99,7 @@ static struct stack *new_stack(size_t seed) {
     s->words[(at - 8 - top) / 8] = 0x10; /* no module covers this return address */
     s->contents[7] = top; s->known[0] = 0x80;
     s->block = (dwcheck_block){top, (const uint8_t *)s->words, sizeof s->words};
-    s->state = (dwcheck_state){s->contents, 17, s->known, 3, &s->block, 1, kept, 6, 7, 1, 0};
+    s->state = (dwcheck_state){s->contents, 17, s->known, 3, &s->block, 1, kept, 6, 7, 1, 0, 0};
     return s;
 }
 

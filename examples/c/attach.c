@@ -92,13 +92,8 @@ static void print_stack(const dwcheck_process *process, pid_t pid, const struct 
     dwcheck_frame frame;
     dwcheck_fault fault;
     if (dwcheck_cursor_init(&cursor, r->rip, &state, 1, &fault) != DWCHECK_DONE) return;
-    for (int i = 0; i < FRAMES && dwcheck_cursor_step_with(process, &cursor, &state, &reader, &frame) == DWCHECK_DONE; i++) {
-        uint32_t is_signal;
-        dwcheck_is_signal_frame(process, frame.address, &is_signal);
-        /* What a signal interrupted isn't at a call. */
-        if (is_signal && cursor.stage == DWCHECK_CURSOR_CALLER) cursor.stage = DWCHECK_CURSOR_EXACT;
+    for (int i = 0; i < FRAMES && dwcheck_cursor_step_with(process, &cursor, &state, &reader, &frame) == DWCHECK_DONE; i++)
         printf("frame %d 0x%016" PRIx64 " cfa 0x%016" PRIx64 "\n", i, frame.address, frame.cfa.value);
-    }
 }
 
 int main(int count, char **arguments) {

@@ -11,7 +11,6 @@ import struct
 import gdb
 
 DONE, EH_FRAME, LITTLE = 0, 1, 0
-EXACT, CALLER = 0, 1
 PT_LOAD, PT_GNU_EH_FRAME, PCREL_SDATA4, FRAMES = 1, 0x6474E550, 0x1B, 256
 # DWARF's numbers of registers on x86-64, and the names that gdb has for them
 NAMES = "rax rdx rcx rbx rsi rdi rbp rsp r8 r9 r10 r11 r12 r13 r14 r15 rip".split()
@@ -30,7 +29,7 @@ Fault = structure(number=u32, offset=u32, within=u32, reserved=u32)
 Module = structure(frame=c.c_char_p, frame_length=size, load_address=u64, first=u64, last=u64, cookie=u64, room=size, order=u32,
                    address_size=u32, has_range=u32, kind=u32, section_address=u64, text_start=u64, data_start=u64)
 State = structure(contents=c.POINTER(u64), contents_length=size, known=c.c_char_p, known_length=size, blocks=pointer, blocks_length=size,
-                  kept=c.POINTER(u16), kept_length=size, stack_pointer=u16, has_stack_pointer=u16, reserved=u32)
+                  kept=c.POINTER(u16), kept_length=size, stack_pointer=u16, has_stack_pointer=u16, reserved=u32, signed_bits=u64)
 Frame = structure(address=u64, cfa=u64, kind=u32, reserved=u32)
 Cursor = structure(contents=u64 * 96, known=c.c_uint8 * 96, address=u64, stage=u32, reserved=u32)
 Reader = structure(read=READ, data=pointer, order=u32, address_size=u32)
@@ -104,13 +103,8 @@ def frames(path):
     reader, cursor, frame = Reader(read=READ(read), order=LITTLE, address_size=8), Cursor(), Frame()
     library.dwcheck_cursor_init(c.byref(cursor), u64(contents[16]), c.byref(state), 1, c.byref(Fault()))
     step = [c.byref(x) for x in (process, cursor, state, reader, frame)]
-    is_signal = u32()
     try:
         while library.dwcheck_cursor_step_with(*step) == DONE:
-            # What a signal interrupted isn't at a call.
-            library.dwcheck_is_signal_frame(c.byref(process), u64(frame.address), c.byref(is_signal))
-            if is_signal and cursor.stage == CALLER:
-                cursor.stage = EXACT
             yield frame.address, frame.cfa
     finally:
         library.dwcheck_process_close(c.byref(process))

@@ -1,12 +1,12 @@
 -- The steps of a cursor.
-use Rattle.std.proofs.Common.{◌≡◌, ℕ, ◌+◌, ◌∙◌, List, refl, sym, ap, subst}
+use Rattle.std.proofs.Common.{◌≡◌, ℕ, ◌+◌, ◌≤◌, ◌∙◌, Bool, true, false, if◌then◌else◌, List, refl, sym, ap, subst, arith}
 use Rattle.std.specs.Prelude.{IfSome, None, Option, Some, option_map}
 use Rattle.std.specs.Option.{IsSomeAnd}
 use Rattle.dw_unwind.specs.Caller.{Answer, Caller, value, undefined, unreadable, division_by_zero}
 use Rattle.dw_unwind.specs.CallerViews.{answer_in}
-use Rattle.dw_unwind.specs.Contents.{UnwindsTo, place_before}
+use Rattle.dw_unwind.specs.Contents.{UnwindsTo}
 use Rattle.dw_unwind.specs.UnwoundViews.{caller_with, stop_of_unwound}
-use Rattle.dw_unwind.specs.Walks.{CallerRelation, Place, UnwindsAt, content_of, next_place, place_of_caller, stop_of_caller, stop_of_return}
+use Rattle.dw_unwind.specs.Walks.{Place, UnwindsAt, content_of, contents_of, stop_of_caller, stop_of_return}
 use Rattle.dw_unwind.specs.declared.frames.Stop.{Stop}
 use Rattle.dw_unwind.specs.declared.frames.Stop.TheVariants.{NotCovered}
 use Rattle.dw_unwind.specs.declared.unwinding.Unwound.{Unwound}
@@ -14,19 +14,56 @@ use Rattle.dwcheck_c.specs.declared.answer.CFrame.{CFrame}
 use Rattle.dwcheck_c.specs.declared.cursor.CCursor.{CCursor}
 use Rattle.dwcheck_c.specs.Cursors.{IsStepBy, looked_up_by, place_of, registers_in}
 use Rattle.dwcheck_c.specs.Frames.{cframe_of, stop_number}
-use Rattle.dwcheck_c.proofs.WrittenFrames.{ends-with, next-is}
+use Rattle.dwcheck_c.specs.ProcessWalks.{Unwinding, looked_up_after, place_after, place_at, signal_at, without_bits}
 
-place-by : ℕ → ℕ → (ℕ → Option ℕ) → Place
-place-by stage address registers = record { address = address; looked_up = looked_up_by stage address; registers = registers }
+abbrev pub place-by : Option ℕ → ℕ → (ℕ → Option ℕ) → Place
+place-by looked_up address registers = record { address = address; looked_up = looked_up; registers = registers }
 
--- a cursor at the stage 1 is at a caller
-at-caller : (c : CCursor) (next : ℕ) (contents : ℕ → Option ℕ) → c.stage ≡ 1 → c.address ≡ next → registers_in c ≡ contents
-    → place_of c ≡ place_before next contents
-unfolding place-by
-at-caller c next contents stage address registers =
-    ap (λ (s : ℕ). place-by s c.address (registers_in c)) stage
-    ∙ ap (λ (a : ℕ). place-by 1 a (registers_in c)) address
-    ∙ ap (λ (f : ℕ → Option ℕ). place-by 1 next f) registers
+-- the place of a caller that was interrupted or made a call
+abbrev pub caller-place : Bool → ℕ → (ℕ → Option ℕ) → Place
+caller-place is_signal address registers =
+    record { address = address; looked_up = looked_up_after is_signal address; registers = registers }
+
+by-stage : (is_signal : Bool) (address : ℕ) → looked_up_by (if is_signal then 0 else 1) address ≡ looked_up_after is_signal address
+by-stage true address = refl
+by-stage false address = refl
+
+stage-fits : (is_signal : Bool) → (if is_signal then 0 else 1) ≤ 1
+stage-fits true = omega arith
+stage-fits false = omega arith
+
+-- a cursor at a caller
+at-caller : (is_signal : Bool) (c : CCursor) (next : ℕ) (contents : ℕ → Option ℕ) → c.stage ≡ (if is_signal then 0 else 1)
+    → c.address ≡ next → registers_in c ≡ contents → place_of c ≡ caller-place is_signal next contents
+at-caller is_signal c next contents stage address registers =
+    ap (λ (s : ℕ). place-by (looked_up_by s c.address) c.address (registers_in c)) stage
+    ∙ ap (λ (a : ℕ). place-by (looked_up_by (if is_signal then 0 else 1) a) a (registers_in c)) address
+    ∙ ap (λ (o : Option ℕ). place-by o next (registers_in c)) (by-stage is_signal next)
+    ∙ ap (λ (f : ℕ → Option ℕ). place-by (looked_up_after is_signal next) next f) registers
+
+-- the place of a caller with this return address
+abbrev pub next-place : Unwinding → Option ℕ → Caller → ℕ → Place
+next-place u looked_up caller n = place_at (signal_at u.is_signal looked_up) caller (without_bits u.signed_bits n)
+
+-- the place of the next frame, if unwinding gave a return address
+pub next-is : (u : Unwinding) (looked_up : Option ℕ) (unwound : Option Unwound) (found : List (ℕ × Answer)) (contents : ℕ → Option ℕ) (next : ℕ)
+    → IsSomeAnd unwound (λ w. answer_in w.return_address ≡ value next) → IfSome unwound (λ _. contents_of found ≡ contents)
+    → place_after u looked_up (option_map (caller_with found) unwound)
+    ≡ Some (caller-place (signal_at u.is_signal looked_up) (without_bits u.signed_bits next) contents)
+next-is u looked_up None found contents next is are = absurd is
+next-is u looked_up (Some w) found contents next is are =
+    ap (λ (a : Answer). option_map (next-place u looked_up (caller_with found w)) (content_of a)) is
+    ∙ ap (λ (f : ℕ → Option ℕ). Some (caller-place (signal_at u.is_signal looked_up) (without_bits u.signed_bits next) f)) are
+
+pub same-contents : (unwound : Option Unwound) (found : List (ℕ × Answer)) → IfSome unwound (λ _. contents_of found ≡ contents_of found)
+same-contents None found = tt
+same-contents (Some w) found = refl
+
+-- why the walk ends with that frame
+pub ends-with : (unwound : Option Unwound) (found : List (ℕ × Answer)) (stop : Stop) → stop_of_unwound unwound ≡ Some stop
+    → stop_of_caller (option_map (caller_with found) unwound) ≡ Some stop
+ends-with None found stop is = is
+ends-with (Some w) found stop is = is
 
 no-stop : (unwound : Option Unwound) (found : List (ℕ × Answer)) (next : ℕ)
     → IsSomeAnd unwound (λ w. answer_in w.return_address ≡ value next)
@@ -43,30 +80,38 @@ no-place undefined stop f is = refl
 no-place unreadable stop f is = refl
 no-place division_by_zero stop f is = refl
 
-no-next : (unwound : Option Unwound) (found : List (ℕ × Answer)) (stop : Stop) → stop_of_unwound unwound ≡ Some stop
-    → next_place (option_map (caller_with found) unwound) ≡ None
-no-next None found stop is = refl
-no-next (Some w) found stop is = no-place (answer_in w.return_address) stop (place_of_caller (caller_with found w)) is
+no-next : (u : Unwinding) (looked_up : Option ℕ) (unwound : Option Unwound) (found : List (ℕ × Answer)) (stop : Stop)
+    → stop_of_unwound unwound ≡ Some stop → place_after u looked_up (option_map (caller_with found) unwound) ≡ None
+no-next u looked_up None found stop is = refl
+no-next u looked_up (Some w) found stop is =
+    no-place (answer_in w.return_address) stop (next-place u looked_up (caller_with found w)) is
 
 -- the frame's caller is at a known address
-pub step-goes : (u : CallerRelation) (old new : CCursor) (frame : CFrame) (unwound : Option Unwound) (contents : ℕ → Option ℕ) (next : ℕ)
-    (h : UnwindsTo u (registers_in old) (looked_up_by old.stage old.address) unwound contents)
+pub step-goes : (u : Unwinding) (old new : CCursor) (frame : CFrame) (unwound : Option Unwound) (contents : ℕ → Option ℕ) (a next : ℕ)
+    (h : UnwindsTo u.callers (registers_in old) (looked_up_by old.stage old.address) unwound contents)
+    → looked_up_by old.stage old.address ≡ Some a
     → frame ≡ cframe_of (record { address = old.address; caller = option_map (caller_with h.found) unwound })
-    → IsSomeAnd unwound (λ w. answer_in w.return_address ≡ value next) → new.stage ≡ 1 → new.address ≡ next
-    → registers_in new ≡ contents → IsStepBy u old new frame
-step-goes u old new frame unwound contents next h shown back stage address registers = record {
-  walked = record { address = old.address; caller = option_map (caller_with h.found) unwound };
-  is = (refl, h.unwinds);
-  shown = shown;
-  goes = subst (λ (o : Option Place). IfSome o (λ p. (new.stage ≡ 1) × (place_of new ≡ p)))
-      (sym (next-is unwound h.found contents next back h.contents_are)) (stage, at-caller new next contents stage address registers);
-  ends = subst (λ (o : Option Stop). IfSome o (λ why. (new.stage ≡ stop_number why + 1) × (new.address ≡ old.address)
-      × (registers_in new ≡ registers_in old))) (sym (no-stop unwound h.found next back)) tt;
-}
+    → IsSomeAnd unwound (λ w. answer_in w.return_address ≡ value next) → new.stage ≡ (if u.is_signal a then 0 else 1)
+    → new.address ≡ without_bits u.signed_bits next → registers_in new ≡ contents → IsStepBy u old new frame
+step-goes u old new frame unwound contents a next h at shown back stage address registers =
+    let looked_up : Option ℕ = looked_up_by old.stage old.address in
+    let is_signal : Bool = signal_at u.is_signal looked_up in
+    let here : new.stage ≡ (if is_signal then 0 else 1) =
+    stage ∙ ap (λ (o : Option ℕ). if signal_at u.is_signal o then 0 else 1) (sym at) in
+    record {
+      walked = record { address = old.address; caller = option_map (caller_with h.found) unwound };
+      is = (refl, h.unwinds);
+      shown = shown;
+      goes = subst (λ (o : Option Place). IfSome o (λ p. (new.stage ≤ 1) × (place_of new ≡ p)))
+          (sym (next-is u looked_up unwound h.found contents next back h.contents_are))
+          (subst (λ (n : ℕ). n ≤ 1) (sym here) (stage-fits is_signal), at-caller is_signal new (without_bits u.signed_bits next) contents here address registers);
+      ends = subst (λ (o : Option Stop). IfSome o (λ why. (new.stage ≡ stop_number why + 1) × (new.address ≡ old.address)
+          × (registers_in new ≡ registers_in old))) (sym (no-stop unwound h.found next back)) tt;
+    }
 
 -- the walk ends with the frame
-pub step-ends : (u : CallerRelation) (old new : CCursor) (frame : CFrame) (unwound : Option Unwound) (contents : ℕ → Option ℕ) (stop : Stop)
-    (h : UnwindsTo u (registers_in old) (looked_up_by old.stage old.address) unwound contents)
+pub step-ends : (u : Unwinding) (old new : CCursor) (frame : CFrame) (unwound : Option Unwound) (contents : ℕ → Option ℕ) (stop : Stop)
+    (h : UnwindsTo u.callers (registers_in old) (looked_up_by old.stage old.address) unwound contents)
     → frame ≡ cframe_of (record { address = old.address; caller = option_map (caller_with h.found) unwound })
     → stop_of_unwound unwound ≡ Some stop → new.stage ≡ stop_number stop + 1 → new.address ≡ old.address
     → registers_in new ≡ registers_in old → IsStepBy u old new frame
@@ -74,27 +119,10 @@ step-ends u old new frame unwound contents stop h shown why stage address regist
   walked = record { address = old.address; caller = option_map (caller_with h.found) unwound };
   is = (refl, h.unwinds);
   shown = shown;
-  goes = subst (λ (o : Option Place). IfSome o (λ p. (new.stage ≡ 1) × (place_of new ≡ p)))
-      (sym (no-next unwound h.found stop why)) tt;
+  goes = subst (λ (o : Option Place). IfSome o (λ p. (new.stage ≤ 1) × (place_of new ≡ p)))
+      (sym (no-next u (looked_up_by old.stage old.address) unwound h.found stop why)) tt;
   ends = subst (λ (o : Option Stop). IfSome o (λ why. (new.stage ≡ stop_number why + 1) × (new.address ≡ old.address)
       × (registers_in new ≡ registers_in old))) (sym (ends-with unwound h.found stop why)) (stage, address, registers);
-}
-
-unwinds-over : (u v : CallerRelation) → ((registers : ℕ → Option ℕ) (address : ℕ) (c : Option Caller) → u registers address c → v registers address c)
-    → (registers : ℕ → Option ℕ) (at : Option ℕ) (c : Option Caller) → UnwindsAt u registers at c → UnwindsAt v registers at c
-unwinds-over u v same registers None c h = h
-unwinds-over u v same registers (Some a) c h = same registers a c h
-
--- a step by one relation is one by another
-pub step-over : (u v : CallerRelation) (old new : CCursor) (frame : CFrame)
-    → ((registers : ℕ → Option ℕ) (address : ℕ) (c : Option Caller) → u registers address c → v registers address c)
-    → IsStepBy u old new frame → IsStepBy v old new frame
-step-over u v old new frame same h = record {
-  walked = h.walked;
-  is = (h.is.0, unwinds-over u v same (registers_in old) (looked_up_by old.stage old.address) h.walked.caller h.is.1);
-  shown = h.shown;
-  goes = h.goes;
-  ends = h.ends;
 }
 
 -- a closed process has no modules, so no frame has a caller
@@ -103,8 +131,8 @@ none-held registers None = refl
 none-held registers (Some a) = refl
 
 -- the frame has no caller
-pub step-uncovered : (u : CallerRelation) (old new : CCursor) (frame : CFrame)
-    → UnwindsAt u (registers_in old) (looked_up_by old.stage old.address) None
+pub step-uncovered : (u : Unwinding) (old new : CCursor) (frame : CFrame)
+    → UnwindsAt u.callers (registers_in old) (looked_up_by old.stage old.address) None
     → new ≡ record { registers = old.registers; address = old.address; stage = stop_number NotCovered + 1; reserved = old.reserved }
     → frame ≡ cframe_of (record { address = old.address; caller = None }) → IsStepBy u old new frame
 step-uncovered u old new frame none ended shown = record {

@@ -4,9 +4,12 @@ mod CursorSteps
 mod CursorWalks
 mod FirstBlock
 mod FirstTwice
+mod ContentAt
 mod NameLengths
 mod PartFields
 mod Putting
 mod Uncovered
 mod RightFields
+mod Shown
+mod UsualWalks
 mod WrittenFrames

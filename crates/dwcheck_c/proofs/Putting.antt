@@ -81,3 +81,8 @@ puts_found f xs slots i x room is =
 pub is_something : {X Y : Type 0} (f : X → Y) (o : Option X) (y : Y) → option_map f o ≡ Some y → ((x : X) → o ≡ Some x → ⊥) → ⊥
 is_something f None y is other = cc
 is_something f (Some x) y is other = other x refl
+
+pub puts-length : {X : Type 0} (xs slots : List X) → length (put_into xs slots) ≡ length slots
+puts-length [] slots = refl
+puts-length (x ∷ xs) [] = refl
+puts-length (x ∷ xs) (s ∷ slots) = ap suc (puts-length xs slots)

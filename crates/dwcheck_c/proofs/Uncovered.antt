@@ -7,11 +7,11 @@ use Rattle.dw_unwind.specs.declared.frames.Stop.TheVariants.{Limit, NotCovered}
 use Rattle.dwcheck_c.specs.declared.answer.CFrame.{CFrame}
 use Rattle.dwcheck_c.specs.Frames.{IsBacktrace, cframe_of, stop_number}
 
-module _ (abi : Abi) (memory registers : ℕ → Option ℕ) (address : ℕ) where
+module _ (abi : Abi) (memory registers : ℕ → Option ℕ) (bits address : ℕ) where
   abbrev only : WalkedFrame
   only = record { address = address; caller = None }
 
-  pub no-slot : (old : List CFrame) → length old ≡ 0 → IsBacktrace None abi memory registers address old old 0 (stop_number Limit)
+  pub no-slot : (old : List CFrame) → length old ≡ 0 → IsBacktrace None abi memory bits registers address old old 0 (stop_number Limit)
   no-slot [] is = record {
     frames = record {
       frames = [];
@@ -25,7 +25,7 @@ module _ (abi : Abi) (memory registers : ℕ → Option ℕ) (address : ℕ) whe
   no-slot (slot ∷ rest) is = absurd (omega (arith, is))
 
   pub one-slot : (old : List CFrame) → length old ≡ 1
-      → IsBacktrace None abi memory registers address old (slice_set old 0 (cframe_of only)) 1 (stop_number Limit)
+      → IsBacktrace None abi memory bits registers address old (slice_set old 0 (cframe_of only)) 1 (stop_number Limit)
   one-slot [] is = absurd (omega (arith, is))
   one-slot (slot ∷ []) is = record {
     frames = record {
@@ -40,7 +40,7 @@ module _ (abi : Abi) (memory registers : ℕ → Option ℕ) (address : ℕ) whe
   one-slot (slot ∷ next ∷ rest) is = absurd (omega (arith, is))
 
   pub more-slots : (old : List CFrame) → length old ≢ 0 → length old ≢ 1
-      → IsBacktrace None abi memory registers address old (slice_set old 0 (cframe_of only)) 1 (stop_number NotCovered)
+      → IsBacktrace None abi memory bits registers address old (slice_set old 0 (cframe_of only)) 1 (stop_number NotCovered)
   more-slots [] some more = absurd (some refl)
   more-slots (slot ∷ []) some more = absurd (more refl)
   more-slots (slot ∷ next ∷ rest) some more = record {

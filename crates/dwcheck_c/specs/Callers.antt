@@ -5,7 +5,8 @@ use Rattle.dw_rows.specs.Abi.{Abi}
 use Rattle.dw_unwind.specs.Caller.{Answer, Caller}
 use Rattle.dw_unwind.specs.CallerFits.{CallerFits}
 use Rattle.dw_process.specs.Processes.{ProcessState}
-use Rattle.dwcheck_c.specs.Frames.{canswer_of, over_held}
+use Rattle.dwcheck_c.specs.Frames.{canswer_of}
+use Rattle.dwcheck_c.specs.ProcessWalks.{over_held}
 use Rattle.dwcheck_c.specs.Slots.{put_into}
 use Rattle.dwcheck_c.specs.declared.callers.CRegister.{CRegister}
 use Rattle.dwcheck_c.specs.declared.callers.CCaller.{CCaller}

@@ -3,10 +3,11 @@ use Rattle.std.specs.Prelude.{◌≡◌, ℕ, ◌+◌, ◌≤◌, ◌==◌, if�
 use Rattle.dw_rows.specs.Abi.{Abi}
 use Rattle.dw_unwind.specs.Contents.{contents_in}
 use Rattle.dw_unwind.specs.Places.{LacksPlace}
-use Rattle.dw_unwind.specs.Walks.{AreFrames, CallerRelation, IsFrameAt, Place, WalkedFrame, address_before, next_place, stop_after, stop_of_caller}
+use Rattle.dw_unwind.specs.Walks.{IsFrameAt, Place, WalkedFrame, address_before, stop_after, stop_of_caller}
 use Rattle.dw_unwind.specs.declared.frames.Stop.{Stop}
 use Rattle.dw_process.specs.Processes.{ProcessState}
-use Rattle.dwcheck_c.specs.Frames.{cframe_of, over_held, stop_number}
+use Rattle.dwcheck_c.specs.Frames.{cframe_of, stop_number}
+use Rattle.dwcheck_c.specs.ProcessWalks.{AreFramesBy, Unwinding, over_held, place_after, through_held}
 use Rattle.dwcheck_c.specs.declared.answer.CFrame.{CFrame}
 use Rattle.dwcheck_c.specs.declared.cursor.CCursor.{CCursor}
 
@@ -35,24 +36,24 @@ place_from exact address registers = record {
 -- A cursor takes a step. `frame` is C's struct for the frame that the cursor was at. If that frame
 -- has a caller at a known address, the cursor is there now. Otherwise its stage says why the walk
 -- ends, and it has the address and the registers of the frame.
-pub record IsStepBy (u : CallerRelation) (old new : CCursor) (frame : CFrame) : Type 0 where
+pub record IsStepBy (u : Unwinding) (old new : CCursor) (frame : CFrame) : Type 0 where
   pub walked : WalkedFrame
-  pub is : IsFrameAt u (place_of old) walked
+  pub is : IsFrameAt u.callers (place_of old) walked
   pub shown : frame ≡ cframe_of walked
-  pub goes : IfSome (next_place walked.caller) (λ p. (new.stage ≡ 1) × (place_of new ≡ p))
+  pub goes : IfSome (place_after u (place_of old).looked_up walked.caller) (λ p. (new.stage ≤ 1) × (place_of new ≡ p))
   pub ends : IfSome (stop_of_caller walked.caller) (λ why. (new.stage ≡ stop_number why + 1) × (new.address ≡ old.address)
       × (registers_in new ≡ registers_in old))
 
 -- a step through the modules of a process
-abbrev pub IsStep : Option ProcessState → Abi → (ℕ → Option ℕ) → CCursor → CCursor → CFrame → Type 0
-IsStep held abi memory = IsStepBy (over_held abi memory held)
+abbrev pub IsStep : Option ProcessState → Abi → (ℕ → Option ℕ) → ℕ → CCursor → CCursor → CFrame → Type 0
+IsStep held abi memory bits = IsStepBy (through_held abi memory bits held)
 
 -- the frame that the cursor is at has a caller, one of whose registers has no place in a cursor
 abbrev pub LacksPlaceIn : Option ProcessState → Abi → (ℕ → Option ℕ) → CCursor → Type 0
 LacksPlaceIn held abi memory c = LacksPlace (over_held abi memory held) (registers_in c) (looked_up_by c.stage c.address)
 
 -- steps, one after the other, each of a cursor whose walk hasn't ended; they give these frames
-abbrev pub AreSteps : CallerRelation → CCursor → List CFrame → CCursor → Type 0
+abbrev pub AreSteps : Unwinding → CCursor → List CFrame → CCursor → Type 0
 AreSteps u from [] to = from ≡ to
 AreSteps u from (frame ∷ frames) to =
     (from.stage ≤ 1) × ((next : CCursor) × IsStepBy u from next frame × AreSteps u next frames to)
@@ -63,8 +64,8 @@ HasEnded c why = (c.stage ≡ stop_number why + 1) × (2 ≤ c.stage)
 
 -- The frames of a walk from the place `p` on are these of C's; after them the cursor `to` is at the
 -- next frame, or says why there is none.
-pub record AreFramesOfSteps (u : CallerRelation) (p : Place) (frames : List CFrame) (to : CCursor) : Type 0 where
+pub record AreFramesOfSteps (u : Unwinding) (p : Place) (frames : List CFrame) (to : CCursor) : Type 0 where
   pub walked : List WalkedFrame
-  pub are : AreFrames u (Some p) walked
+  pub are : AreFramesBy u (Some p) walked
   pub shown : frames ≡ map cframe_of walked
   pub ends : (why : Stop) → HasEnded to why → 1 ≤ length frames → stop_after walked ≡ Some why

@@ -2,13 +2,12 @@
 use Rattle.std.specs.Prelude.{◌≡◌, ℕ, List, length, map, Option, Some, None}
 use Rattle.dw_rows.specs.Abi.{Abi}
 use Rattle.dw_unwind.specs.Caller.{Answer, value, undefined, unreadable, division_by_zero}
-use Rattle.dw_unwind.specs.Walks.{CallerRelation, IsFrameAt, Place, WalkedFrame, Walks, first_place, next_place, over_rows}
-use Rattle.dw_unwind.specs.Contents.{place_before}
+use Rattle.dw_unwind.specs.Walks.{Place, WalkedFrame, first_place}
 use Rattle.dw_unwind.specs.WalkViews.{brief_of}
-use Rattle.dw_unwind.specs.WalkSteps.{Progress, GivesFrames, about_to_give, after, has_given}
 use Rattle.dw_unwind.specs.declared.frames.Stop.{Stop}
 use Rattle.dw_unwind.specs.declared.frames.Stop.TheVariants.{Limit, NotCovered, ReturnUndefined, ReturnUnreadable, ReturnDivisionByZero}
-use Rattle.dw_process.specs.Processes.{ProcessState, row_in}
+use Rattle.dw_process.specs.Processes.{ProcessState}
+use Rattle.dwcheck_c.specs.ProcessWalks.{AreFramesBy, Unwinding, WalksBy, place_past, through_held}
 use Rattle.dwcheck_c.specs.Slots.{put_into}
 use Rattle.dwcheck_c.specs.declared.answer.CAnswer.{CAnswer}
 use Rattle.dwcheck_c.specs.declared.answer.CFrame.{CFrame}
@@ -44,46 +43,27 @@ stop_number ReturnDivisionByZero = 4
 
 -- The frames of a walk are at the front of the slots; the number of slots is the walk's limit.
 -- `count` is the number of frames, `stop` why there are no more. The other slots are unchanged.
-pub record AreWritten (u : CallerRelation) (first : Place) (old new : List CFrame) (count stop : ℕ) : Type 0 where
+pub record AreWritten (u : Unwinding) (first : Place) (old new : List CFrame) (count stop : ℕ) : Type 0 where
   pub frames : List WalkedFrame
   pub why : Stop
-  pub walks : Walks u first (length old) frames why
+  pub walks : WalksBy u first (length old) frames why
   pub written : new ≡ put_into (map cframe_of frames) old
   pub count_is : count ≡ length frames
   pub stop_is : stop ≡ stop_number why
 
--- unwinding through the modules of an open process: by the row of the module whose range contains
--- the address
-abbrev pub over_process : Abi → (ℕ → Option ℕ) → ProcessState → CallerRelation
-over_process abi memory p = over_rows p.target (λ address found. found ≡ row_in p address) abi memory
-
--- unwinding through the modules of a process; a closed process has none, so no frame has a caller
-abbrev pub over_held : Abi → (ℕ → Option ℕ) → Option ProcessState → CallerRelation
-over_held abi memory None = λ registers address caller. caller ≡ None
-over_held abi memory (Some p) = over_process abi memory p
-
 -- The frames of a walk through the modules of a process are written to the slots, as `AreWritten`
--- says. The walk starts at the frame at `address` with `registers`. All frames have the same ABI
--- and memory.
-pub record IsBacktrace (held : Option ProcessState) (abi : Abi) (memory registers : ℕ → Option ℕ) (address : ℕ) (old new : List CFrame)
-    (count stop : ℕ) : Type 0 where
-  pub frames : AreWritten (over_held abi memory held) (first_place address registers) old new count stop
+-- says. The walk starts at the frame at `address` with `registers`. All frames have the same ABI,
+-- memory and signed bits.
+pub record IsBacktrace (held : Option ProcessState) (abi : Abi) (memory : ℕ → Option ℕ) (bits : ℕ) (registers : ℕ → Option ℕ) (address : ℕ)
+    (old new : List CFrame) (count stop : ℕ) : Type 0 where
+  pub frames : AreWritten (through_held abi memory bits held) (first_place address registers) old new count stop
 
--- the walk has given `count` frames, its progress is p, and the frames are written to the front of
--- the slots, which were `old` before and are `new` now
-pub record UnderWay (u : CallerRelation) (begin : WalkedFrame) (p : Progress) (old new : List CFrame) (count : ℕ) : Type 0 where
+-- A walk that began at the place `first` has given `count` frames, which are written to the front of
+-- the slots, and its next frame is at the place `p`.
+pub record IsLeftAt (u : Unwinding) (first p : Place) (old new : List CFrame) (count : ℕ) : Type 0 where
   pub frames : List WalkedFrame
-  pub given : GivesFrames u (about_to_give begin) frames
-  pub come : after (about_to_give begin) frames ≡ p
+  pub are : AreFramesBy u (Some first) frames
+  pub next : place_past u (Some first) frames ≡ Some p
   pub written : new ≡ put_into (map cframe_of frames) old
   pub counted : length frames ≡ count
-
--- A walk that begins at the place `first` with the frame `begin` has given `count` frames, `last`
--- being the last of them, and they are written to the slots. Its next frame is at `address`, and
--- the registers of that frame have the contents `registers`.
-pub record IsLeftAt (u : CallerRelation) (first : Place) (begin last : WalkedFrame) (address : ℕ) (registers : ℕ → Option ℕ)
-    (old new : List CFrame) (count : ℕ) : Type 0 where
-  pub begins : IsFrameAt u first begin
-  pub under_way : UnderWay u begin (has_given last) old new count
-  pub next : next_place last.caller ≡ Some (place_before address registers)
   pub long : length new ≡ length old

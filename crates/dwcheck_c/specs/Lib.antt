@@ -11,6 +11,8 @@ pub mod LoadedModules
 pub mod Locations
 pub mod Machine
 pub mod NotAdded
+pub mod ProcessWalks
+pub mod Reports
 pub mod Rows
 pub mod RuleBytes
 pub mod SignalFrames

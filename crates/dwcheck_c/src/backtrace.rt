@@ -1,121 +1,85 @@
 //! Walks up a stack, and writes its frames to an array that C passes.
 
-ghost use Rattle.std.specs.Prelude.{◌≡◌, ◌≤◌, ℕ, List, None, Option, Some, length, option_map};
+ghost use Rattle.std.specs.Prelude.{◌≡◌, ◌≤◌, ◌↔◌, ℕ, false, List, None, Option, Some, length, option_map};
 ghost use Rattle.dw_rows.specs.Abi.{Abi as Roles, abi_fault, abi_of};
 ghost use Rattle.dw_rows.specs.AbiViews.{roles_of};
 ghost use Rattle.dw_unwind.specs.Caller.{Answer};
 ghost use Rattle.dw_unwind.specs.UnwoundViews.{caller_with};
 ghost use Rattle.dw_unwind.specs.WalkViews.{brief_in, brief_of};
-ghost use Rattle.dw_unwind.specs.Walks.{Place, WalkedFrame, first_place};
-ghost use Rattle.dwcheck_c.specs.Frames.{AreWritten, IsBacktrace, IsLeftAt, over_held, over_process, stop_number};
+ghost use Rattle.dw_process.specs.Processes.{ProcessState, is_signal_in};
+ghost use Rattle.dw_unwind.specs.Walks.{Place, WalkedFrame, Walks};
+ghost use Rattle.dw_unwind.specs.declared.frames.Stop.{Stop as Why};
+ghost use Rattle.dwcheck_c.specs.Cursors.{place_of};
+ghost use Rattle.dwcheck_c.specs.Frames.{AreWritten, IsBacktrace, IsLeftAt, stop_number};
+ghost use Rattle.dwcheck_c.specs.Machine.{register_in};
+ghost use Rattle.dwcheck_c.specs.ProcessWalks.{WalksBy, over_process, through_process};
 ghost use Rattle.dwcheck_c.specs.declared.answer.CFrame.{CFrame as Slot};
 
 use crate::answer::{CFrame, shown_frame};
+use crate::cursor::{CALLER, CCursor, EXACT, fill, has_places, step_by, without_bits};
+use crate::listed::{ListedRegisters, looked_up_after};
+use crate::state::Contents;
+use crate::status::DONE;
 use dw_eval::{Memory, Registers};
 use dw_process::Process;
 use dw_rows::Abi;
-use dw_unwind::laws::frames_that_are_given_are_a_walk;
-use dw_unwind::{
-    BriefFrame, KeptRegisters, Stop, Unwinder, Unwound, Walk, WalkedContents, return_address,
-};
+use dw_unwind::{BriefFrame, KeptRegisters, RegisterFile, Stop, Unwound, return_address};
 
-/// Walks up a stack from the frame at `address`, and writes its frames to `slots`, as many as fit.
-/// Returns the number of frames written, and why there are no more.
+/// Goes on with a walk that has written `from` frames to `slots`. Its next frame is at `address`,
+/// is looked up at `looked_up`, and has the registers `registers`. Returns the number of all frames
+/// written, and why there are no more. This walk has lists of registers, for registers that have no
+/// place in a cursor.
 #[inline(never)]
-fn write_frames<U: Unwinder + Drop, R: Registers, M: Memory>(
-    unwinder: U,
+fn write_rest<R: Registers, M: Memory>(
+    process: &Process,
     abi: &Abi,
+    bits: u64,
     address: u64,
-    registers: &R,
-    memory: &M,
-    slots: &mut [CFrame],
-) -> (usize, Stop)
-    ensures { AreWritten (U.unwinds unwinder (roles_of abi.now) (M.bytes memory.now))
-        (first_place address (R.contents registers.now)) slots.old slots.new result.0
-        (stop_number result.1) }
-{
-    frames_that_are_given_are_a_walk::<U>();
-    let mut walk = Walk::new(unwinder, abi, address, registers, memory);
-    let mut count = 0;
-    while count < slots.len() {
-        let Some(frame) = walk.next() else {
-            return match walk.stop() {
-                Some(stop) => (count, stop),
-                None => unreachable!(),
-            };
-        };
-        slots[count] = shown_frame(frame);
-        count += 1;
-    }
-    (count, Stop::Limit)
-}
-
-/// Goes on with a walk that has written `from` frames to `slots`. Its next frame is at `address` and
-/// has the registers `registers`. Returns the number of all frames written, and why there are no
-/// more.
-#[inline(never)]
-fn write_rest<U: Unwinder + Drop, R: Registers, M: Memory>(
-    unwinder: U,
-    abi: &Abi,
-    address: u64,
+    looked_up: Option<u64>,
     registers: &R,
     memory: &M,
     slots: &mut [CFrame],
     from: usize,
 ) -> (usize, Stop)
     requires { from ≤ length slots.old }
-    ensures { (first : Place) (begin last : WalkedFrame) (old : List Slot)
-        → IsLeftAt (U.unwinds unwinder (roles_of abi.now) (M.bytes memory.now)) first begin last
-        address (R.contents registers.now) old slots.old from
-        → AreWritten (U.unwinds unwinder (roles_of abi.now) (M.bytes memory.now)) first old
-        slots.new result.0 (stop_number result.1) }
+    ensures { (first : Place) (old : List Slot)
+        → IsLeftAt (through_process (roles_of abi.now) (M.bytes memory.now) bits process.now) first
+        (record { address = address; looked_up = looked_up; registers = R.contents registers.now })
+        old slots.old from
+        → AreWritten (through_process (roles_of abi.now) (M.bytes memory.now) bits process.now) first
+        old slots.new result.0 (stop_number result.1) }
 {
-    frames_that_are_given_are_a_walk::<U>();
-    let mut walk = Walk::at_caller(unwinder, abi, address, registers, memory);
+    let mut found = ListedRegisters::none();
+    let mut unwound = found.begin(process, abi, looked_up, registers, memory);
+    let mut at = address;
+    let mut place = looked_up;
     let mut count = from;
     while count < slots.len() {
-        let Some(frame) = walk.next() else {
-            return match walk.stop() {
-                Some(stop) => (count, stop),
-                None => unreachable!(),
-            };
-        };
-        slots[count] = shown_frame(frame);
+        slots[count] = shown_frame(brief(at, unwound));
         count += 1;
+        if count == slots.len() {
+            return (count, Stop::Limit);
+        }
+        at = match return_address(unwound) {
+            Ok(next) => without_bits(bits, next),
+            Err(stop) => return (count, stop),
+        };
+        place = looked_up_after(process, place, at);
+        unwound = found.advance(process, abi, place, memory);
     }
     (count, Stop::Limit)
 }
 
-/// Walks as `write_frames` does, with the tables of a process's modules and the ABI that has the
-/// callee-saved registers `kept` and the stack pointer `pointer`.
-#[inline(never)]
-fn write_all<R: Registers, M: Memory>(
-    process: &Process,
-    kept: &[u16],
-    pointer: Option<u16>,
-    address: u64,
-    registers: &R,
-    memory: &M,
-    slots: &mut [CFrame],
-) -> (usize, Stop)
-    requires { abi_fault kept.now pointer ≡ None }
-    ensures { AreWritten (over_process (abi_of kept.now pointer) (M.bytes memory.now)
-        process.now) (first_place address (R.contents registers.now)) slots.old slots.new result.0
-        (stop_number result.1) }
-{
-    match Abi::new(kept, pointer) {
-        Ok(abi) => write_frames(process, &abi, address, registers, memory, slots),
-        Err(_) => unreachable!(),
-    }
-}
-
-/// Goes on with a walk as `write_rest` does, with the modules and the ABI of `write_all`.
+/// Goes on with a walk as `write_rest` does, with the ABI that has the callee-saved registers `kept`
+/// and the stack pointer `pointer`.
 #[inline(never)]
 fn write_more<R: Registers, M: Memory>(
     process: &Process,
     kept: &[u16],
     pointer: Option<u16>,
+    bits: u64,
     address: u64,
+    looked_up: Option<u64>,
     registers: &R,
     memory: &M,
     slots: &mut [CFrame],
@@ -123,14 +87,17 @@ fn write_more<R: Registers, M: Memory>(
 ) -> (usize, Stop)
     requires abi { abi_fault kept.now pointer ≡ None }
     requires within { from ≤ length slots.old }
-    ensures { (first : Place) (begin last : WalkedFrame) (old : List Slot)
-        → IsLeftAt (over_process (abi_of kept.now pointer) (M.bytes memory.now) process.now)
-        first begin last address (R.contents registers.now) old slots.old from
-        → AreWritten (over_process (abi_of kept.now pointer) (M.bytes memory.now) process.now)
+    ensures { (first : Place) (old : List Slot)
+        → IsLeftAt (through_process (abi_of kept.now pointer) (M.bytes memory.now) bits process.now) first
+        (record { address = address; looked_up = looked_up; registers = R.contents registers.now })
+        old slots.old from
+        → AreWritten (through_process (abi_of kept.now pointer) (M.bytes memory.now) bits process.now)
         first old slots.new result.0 (stop_number result.1) }
 {
     match Abi::new(kept, pointer) {
-        Ok(abi) => write_rest(process, &abi, address, registers, memory, slots, from),
+        Ok(abi) => write_rest(
+            process, &abi, bits, address, looked_up, registers, memory, slots, from,
+        ),
         Err(_) => unreachable!(),
     }
 }
@@ -152,62 +119,70 @@ pub(crate) fn brief(address: u64, unwound: Option<Unwound>) -> BriefFrame
     }
 }
 
-/// Walks up a stack from the frame at `address`, and writes its frames to `slots`, as many as fit.
-/// Returns the number of frames written, and why there are no more. It has the contents of
-/// registers by number, which takes less room and time than lists of answers. If a register has no
-/// place there, `write_all` or `write_more` walks on with lists.
-fn write_brief<R: Registers, M: Memory>(
+/// Walks up a stack from where `cursor` is, and writes its frames to `slots`, as many as fit.
+/// Returns the number of frames written, and why there are no more. If a register has no place in
+/// the cursor, `write_more` walks on.
+fn write_steps<M: Memory>(
     process: &Process,
-    kept: &[u16],
+    kept: &KeptRegisters<'_>,
     pointer: Option<u16>,
-    address: u64,
-    registers: &R,
+    bits: u64,
+    cursor: &mut CCursor,
     memory: &M,
     slots: &mut [CFrame],
 ) -> (usize, Stop)
-    requires { abi_fault kept.now pointer ≡ None }
-    ensures { AreWritten (over_process (abi_of kept.now pointer) (M.bytes memory.now)
-        process.now) (first_place address (R.contents registers.now)) slots.old slots.new result.0
-        (stop_number result.1) }
+    requires begun { cursor.old.stage ≤ CALLER }
+    requires abi { abi_fault kept.now pointer ≡ None }
+    ensures { AreWritten (through_process (abi_of kept.now pointer) (M.bytes memory.now)
+        bits process.now) (place_of cursor.old) slots.old slots.new result.0 (stop_number result.1) }
 {
-    frames_that_are_given_are_a_walk::<&Process>();
-    let mut contents = WalkedContents::none();
-    let Ok(first) = contents.begin(&process, kept, pointer, address, registers, memory) else {
-        return write_all(process, kept, pointer, address, registers, memory, slots);
-    };
-    let marked = KeptRegisters::new(kept);
-    let mut unwound = first;
-    let mut at = address;
     let mut count = 0;
     while count < slots.len() {
-        slots[count] = shown_frame(brief(at, unwound));
+        let mut frame = CFrame::none();
+        if step_by(process, kept, pointer, bits, cursor, memory, &mut frame) != DONE {
+            let looked_up = cursor.looked_up();
+            let (numbers, file) = (kept.numbers(), &cursor.registers);
+            return write_more(
+                process,
+                numbers,
+                pointer,
+                bits,
+                cursor.address,
+                looked_up,
+                file,
+                memory,
+                slots,
+                count,
+            );
+        }
+        slots[count] = frame;
         count += 1;
         if count == slots.len() {
             return (count, Stop::Limit);
         }
-        let next = match return_address(unwound) {
-            Ok(next) => next,
-            Err(stop) => return (count, stop),
-        };
-        match contents.advance(&process, &marked, pointer, next, memory) {
-            Ok(caller) => {
-                unwound = caller;
-                at = next;
-            }
-            Err(_) => {
-                let file = contents.file();
-                return write_more(process, kept, pointer, next, file, memory, slots, count);
-            }
+        if let Some(stop) = cursor.stop() {
+            return (count, stop);
         }
     }
     (count, Stop::Limit)
 }
 
+/// Without signal frames and signed bits, a walk through the modules of a process is one of
+/// `dw_unwind`.
+pub fn walks_without_signal_frames()
+    ensures { (abi : Roles) (memory : ℕ → Option ℕ) (p : ProcessState)
+        → ((a : ℕ) → is_signal_in p a ≡ false) → (first : Place) (limit : ℕ)
+        (frames : List WalkedFrame) (stop : Why)
+        → WalksBy (through_process abi memory 0 p) first limit frames stop
+        ↔ Walks (over_process abi memory p) first limit frames stop }
+{}
+
 /// Writes the only frame of a walk through a closed process: no module has a row for `address`.
 /// Returns the number of frames written, and why there are no more.
 pub(crate) fn write_uncovered(address: u64, slots: &mut [CFrame]) -> (usize, Stop)
-    ensures { (abi : Roles) (memory registers : ℕ → Option ℕ) → IsBacktrace None abi memory registers
-        address slots.old slots.new result.0 (stop_number result.1) }
+    ensures { (abi : Roles) (memory registers : ℕ → Option ℕ) (bits : ℕ)
+        → IsBacktrace None abi memory bits registers address slots.old slots.new result.0
+        (stop_number result.1) }
 {
     let only = shown_frame(brief(address, None));
     match slots.len() {
@@ -226,19 +201,34 @@ pub(crate) fn write_uncovered(address: u64, slots: &mut [CFrame]) -> (usize, Sto
 /// Walks up a stack with the tables of a process's modules, and writes its frames to `slots`, as
 /// many as fit. Returns the number of frames written, and why there are no more. The ABI has the
 /// callee-saved registers `kept` and the stack pointer `pointer`.
-pub(crate) fn write_backtrace<R: Registers, M: Memory>(
+pub(crate) fn write_backtrace<M: Memory>(
     process: &Process,
     kept: &[u16],
     pointer: Option<u16>,
+    bits: u64,
     address: u64,
-    registers: &R,
+    registers: &Contents<'_>,
     memory: &M,
     slots: &mut [CFrame],
 ) -> (usize, Stop)
     requires { abi_fault kept.now pointer ≡ None }
-    ensures { IsBacktrace (Some process.now) (abi_of kept.now pointer) (M.bytes memory.now)
-        (R.contents registers.now) address slots.old slots.new result.0
-        (stop_number result.1) }
+    ensures { IsBacktrace (Some process.now) (abi_of kept.now pointer) (M.bytes memory.now) bits
+        (register_in registers.now.contents.now registers.now.known.now) address slots.old
+        slots.new result.0 (stop_number result.1) }
 {
-    write_brief(process, kept, pointer, address, registers, memory, slots)
+    if !has_places(registers) {
+        let looked_up = Some(address);
+        return write_more(
+            process, kept, pointer, bits, address, looked_up, registers, memory, slots, 0,
+        );
+    }
+    let mut cursor = CCursor {
+        registers: RegisterFile::none(),
+        address,
+        stage: EXACT,
+        reserved: 0,
+    };
+    fill(&mut cursor.registers, registers);
+    let marked = KeptRegisters::new(kept);
+    write_steps(process, &marked, pointer, bits, &mut cursor, memory, slots)
 }

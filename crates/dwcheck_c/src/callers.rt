@@ -8,7 +8,7 @@ ghost use Rattle.dw_unwind.specs.CallerFits.{CallerFits};
 ghost use Rattle.dw_unwind.specs.CallerViews.{answer_in};
 ghost use Rattle.dw_unwind.specs.UnwoundViews.{caller_with};
 ghost use Rattle.dwcheck_c.specs.Callers.{ShowsCaller, cregister_of};
-ghost use Rattle.dwcheck_c.specs.Frames.{over_process};
+ghost use Rattle.dwcheck_c.specs.ProcessWalks.{over_process};
 ghost use Rattle.dwcheck_c.specs.Slots.{put_into};
 
 use crate::answer::{CAnswer, shown_answer};

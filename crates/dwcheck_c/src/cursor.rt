@@ -1,8 +1,8 @@
 //! A cursor: where a walk up a stack is, as plain data that C owns.
 
-ghost use Rattle.std.specs.Prelude.{◌≡◌, ◌≢◌, ◌+◌, ◌≤◌, ◌<◌, ◌⊎◌, ℕ, IsSome, List, None, Option, Some, length};
+ghost use Rattle.std.specs.Prelude.{◌≡◌, ◌≢◌, ◌+◌, ◌≤◌, ◌<◌, ◌⊎◌, ℕ, IfNone, IfSome, IsSome, List, None, Option, Some, if◌then◌else◌, length};
 ghost use Rattle.std.specs.Bool.{OnTrue, OnFalse};
-ghost use Rattle.dw_process.specs.Processes.{ProcessState};
+ghost use Rattle.dw_process.specs.Processes.{ProcessState, is_signal_in};
 ghost use Rattle.dw_rows.specs.Abi.{Abi, abi_of};
 ghost use Rattle.dw_unwind.specs.Contents.{contents_in};
 ghost use Rattle.dw_unwind.specs.Places.{LacksPlace};
@@ -13,9 +13,10 @@ ghost use Rattle.dwcheck_c.specs.declared.cursor.CCursor.{CCursor as Cursor};
 ghost use Rattle.dwcheck_c.specs.Slots.{put_into};
 ghost use Rattle.dwcheck_c.specs.Cursors.{AreSteps, HasEnded, IsStep, IsStepBy, LacksPlaceIn, looked_up_by, place_from, place_of, registers_in};
 ghost use Rattle.dwcheck_c.specs.Faults.{Reports};
-ghost use Rattle.dwcheck_c.specs.Frames.{IsBacktrace, cframe_of, over_held, over_process, stop_number};
+ghost use Rattle.dwcheck_c.specs.Frames.{IsBacktrace, cframe_of, stop_number};
 ghost use Rattle.dwcheck_c.specs.Lent.{Reads, loan_of, read_by};
 ghost use Rattle.dwcheck_c.specs.Machine.{abi_fault_of, abi_in, is_known, memory_of, register_in, registers_of};
+ghost use Rattle.dwcheck_c.specs.ProcessWalks.{over_process, through_held, through_process, without_bits};
 
 use crate::answer::{CFrame, shown_frame};
 use crate::backtrace::brief;
@@ -70,7 +71,7 @@ fn is_known(known: &[u8], number: usize) -> bool
 }
 
 /// Whether a cursor has a place for each of these registers that has a content.
-fn has_places(registers: &Contents<'_>) -> bool
+pub(crate) fn has_places(registers: &Contents<'_>) -> bool
     ensures all { OnTrue result ((r : ℕ) → PLACES ≤ r
         → register_in registers.now.contents.now registers.now.known.now r ≡ None) }
     ensures lacks { OnFalse result ((r : ℕ) × (PLACES ≤ r)
@@ -87,16 +88,17 @@ fn has_places(registers: &Contents<'_>) -> bool
 }
 
 /// Gives registers the contents that they have in `registers`. Each has a place.
-fn fill(file: &mut RegisterFile, registers: &Contents<'_>)
+pub(crate) fn fill(file: &mut RegisterFile, registers: &Contents<'_>)
     requires { (r : ℕ) → PLACES ≤ r
         → register_in registers.now.contents.now registers.now.known.now r ≡ None }
     ensures { contents_in file.new
         ≡ register_in registers.now.contents.now registers.now.known.now }
 {
     *file = RegisterFile::none();
+    let count = registers.contents.len();
     let mut number = 0;
-    while number < PLACES as u16 {
-        file.set(number, registers.register(number));
+    while number < PLACES && number < count {
+        file.set(number as u16, registers.register(number as u16));
         number += 1;
     }
     file.ends();
@@ -105,7 +107,7 @@ fn fill(file: &mut RegisterFile, registers: &Contents<'_>)
 impl CCursor {
     /// The address that is looked up for the frame; none if there is no address before it.
     #[inline(always)]
-    fn looked_up(&self) -> Option<u64>
+    pub(crate) fn looked_up(&self) -> Option<u64>
         ensures { result ≡ looked_up_by self.now.stage self.now.address }
     {
         if self.stage == EXACT {
@@ -113,6 +115,43 @@ impl CCursor {
         } else {
             self.address.checked_sub(1)
         }
+    }
+
+    /// Why the walk has ended; none if it hasn't. Any stage above 4 counts as 5.
+    #[inline(always)]
+    pub(crate) fn stop(&self) -> Option<Stop>
+        ensures none { IfNone result (self.now.stage ≤ CALLER) }
+        ensures ended { IfSome result (λ _. CALLER < self.now.stage) }
+        ensures why { IfSome result (λ why. (other : Why) → self.now.stage ≡ stop_number other + 1
+            → why ≡ other) }
+    {
+        match self.stage {
+            EXACT | CALLER => None,
+            2 => Some(Stop::NotCovered),
+            3 => Some(Stop::ReturnUndefined),
+            4 => Some(Stop::ReturnUnreadable),
+            _ => Some(Stop::ReturnDivisionByZero),
+        }
+    }
+}
+
+/// A return address without the bits that sign it.
+#[inline(always)]
+pub(crate) fn without_bits(bits: u64, address: u64) -> u64
+    ensures { result ≡ without_bits bits address }
+{
+    address & !bits
+}
+
+/// The stage of a cursor at the caller of a frame that was looked up at `address`.
+#[inline(always)]
+fn stage_of_caller(process: &Process, address: u64) -> u32
+    ensures { result ≡ (if is_signal_in process.now address then EXACT else CALLER) }
+{
+    if process.is_signal_frame(address) {
+        EXACT
+    } else {
+        CALLER
     }
 }
 
@@ -136,14 +175,15 @@ fn step_by_copy<M: Memory>(
     process: &Process,
     kept: &[u16],
     stack_pointer: Option<u16>,
+    bits: u64,
     address: u64,
     cursor: &mut CCursor,
     memory: &M,
     out: &mut CFrame,
 ) -> u32
     requires { looked_up_by cursor.old.stage cursor.old.address ≡ Some address }
-    ensures done { result ≡ DONE → IsStepBy (over_process (abi_of kept.now stack_pointer)
-        (M.bytes memory.now) process.now) cursor.old cursor.new out.new }
+    ensures done { result ≡ DONE → IsStepBy (through_process (abi_of kept.now stack_pointer)
+        (M.bytes memory.now) bits process.now) cursor.old cursor.new out.new }
     ensures lacks { result ≡ NO_PLACE → LacksPlace (over_process (abi_of kept.now stack_pointer)
         (M.bytes memory.now) process.now) (registers_in cursor.old)
         (looked_up_by cursor.old.stage cursor.old.address) }
@@ -165,8 +205,8 @@ fn step_by_copy<M: Memory>(
     match return_address(unwound) {
         Ok(next) => {
             cursor.registers = into;
-            cursor.address = next;
-            cursor.stage = CALLER;
+            cursor.address = without_bits(bits, next);
+            cursor.stage = stage_of_caller(process, address);
         }
         Err(stop) => cursor.stage = stage_after(stop),
     }
@@ -188,17 +228,19 @@ fn end_uncovered(cursor: &mut CCursor, out: &mut CFrame)
 }
 
 /// Writes the frame that a cursor is at to `out`, and moves the cursor to the frame's caller.
-fn step_by<M: Memory>(
+#[inline(always)]
+pub(crate) fn step_by<M: Memory>(
     process: &Process,
-    kept: &[u16],
+    kept: &KeptRegisters<'_>,
     stack_pointer: Option<u16>,
+    bits: u64,
     cursor: &mut CCursor,
     memory: &M,
     out: &mut CFrame,
 ) -> u32
     requires { cursor.old.stage ≤ CALLER }
-    ensures done { result ≡ DONE → IsStepBy (over_process (abi_of kept.now stack_pointer)
-        (M.bytes memory.now) process.now) cursor.old cursor.new out.new }
+    ensures done { result ≡ DONE → IsStepBy (through_process (abi_of kept.now stack_pointer)
+        (M.bytes memory.now) bits process.now) cursor.old cursor.new out.new }
     ensures lacks { result ≡ NO_PLACE → LacksPlace (over_process (abi_of kept.now stack_pointer)
         (M.bytes memory.now) process.now) (registers_in cursor.old)
         (looked_up_by cursor.old.stage cursor.old.address) }
@@ -209,19 +251,30 @@ fn step_by<M: Memory>(
         end_uncovered(cursor, out);
         return DONE;
     };
-    let marked = KeptRegisters::new(kept);
     let file = &mut cursor.registers;
-    match process.contents_in_place(&marked, stack_pointer, address, memory, file) {
+    match process.contents_in_place(kept, stack_pointer, address, memory, file) {
         Some(unwound) => match return_address(Some(unwound)) {
             Ok(next) => {
                 *out = shown_frame(brief(cursor.address, Some(unwound)));
-                cursor.address = next;
-                cursor.stage = CALLER;
+                cursor.address = without_bits(bits, next);
+                cursor.stage = stage_of_caller(process, address);
                 DONE
             }
             Err(_) => unreachable!(),
         },
-        None => step_by_copy(process, kept, stack_pointer, address, cursor, memory, out),
+        None => {
+            let kept = kept.numbers();
+            step_by_copy(
+                process,
+                kept,
+                stack_pointer,
+                bits,
+                address,
+                cursor,
+                memory,
+                out,
+            )
+        }
     }
 }
 
@@ -229,7 +282,7 @@ fn step_by<M: Memory>(
 #[inline(never)]
 fn step_of(process: &Process, cursor: &mut CCursor, state: &CState<'_>, out: &mut CFrame) -> u32
     ensures done { result ≡ DONE → IsStep (Some process.now) (abi_in state.now)
-        (memory_of state.now) cursor.old cursor.new out.new }
+        (memory_of state.now) state.now.signed_bits cursor.old cursor.new out.new }
     ensures lacks { result ≡ NO_PLACE → LacksPlaceIn (Some process.now) (abi_in state.now)
         (memory_of state.now) cursor.old }
     ensures none { result ≡ NONE → CALLER < cursor.old.stage }
@@ -240,10 +293,12 @@ fn step_of(process: &Process, cursor: &mut CCursor, state: &CState<'_>, out: &mu
     if cursor.stage > CALLER {
         return NONE;
     }
+    let marked = KeptRegisters::new(state.kept);
     step_by(
         process,
-        state.kept,
+        &marked,
         state.pointer(),
+        state.signed_bits,
         cursor,
         &state.memory(),
         out,
@@ -252,8 +307,8 @@ fn step_of(process: &Process, cursor: &mut CCursor, state: &CState<'_>, out: &mu
 
 /// Takes a step through a closed process, which has no modules: the frame has no caller.
 fn step_uncovered(cursor: &mut CCursor, out: &mut CFrame) -> u32
-    ensures done { (abi : Abi) (memory : ℕ → Option ℕ) → result ≡ DONE
-        → IsStep None abi memory cursor.old cursor.new out.new }
+    ensures done { (abi : Abi) (memory : ℕ → Option ℕ) (bits : ℕ) → result ≡ DONE
+        → IsStep None abi memory bits cursor.old cursor.new out.new }
     ensures none { result ≡ NONE → CALLER < cursor.old.stage }
     ensures some { result ≢ NONE → cursor.old.stage ≤ CALLER }
     ensures codes { (result ≡ DONE) ⊎ (result ≡ NONE) }
@@ -304,7 +359,7 @@ pub extern "C" fn dwcheck_cursor_init(
 /// Writes the frame that a cursor is at to `frame`, and moves the cursor to the frame's caller. The
 /// memory and the ABI are those of `state`, the registers those of the cursor. Returns `NONE` if
 /// the cursor's walk has ended, and `NO_PLACE` if a register of the caller with a number of 96 or
-/// more has a content.
+/// more has a rule.
 #[unsafe(no_mangle)]
 pub extern "C" fn dwcheck_cursor_step(
     process: &LentProcess,
@@ -314,7 +369,7 @@ pub extern "C" fn dwcheck_cursor_step(
 ) -> u32
     requires { Reads frame.old.right process.now }
     ensures done { result ≡ DONE → IsStep (read_by frame.old.right) (abi_in state.now)
-        (memory_of state.now) cursor.old cursor.new frame.new.frame }
+        (memory_of state.now) state.now.signed_bits cursor.old cursor.new frame.new.frame }
     ensures lacks { result ≡ NO_PLACE → LacksPlaceIn (read_by frame.old.right) (abi_in state.now)
         (memory_of state.now) cursor.old }
     ensures none { result ≡ NONE → CALLER < cursor.old.stage }
@@ -336,16 +391,17 @@ pub extern "C" fn dwcheck_cursor_step(
 /// with as many slots as there are steps, all of them; with more, if the cursor's walk has ended.
 pub fn steps_are_a_backtrace()
     ensures fills { (held : Option ProcessState) (abi : Abi) (memory registers : ℕ → Option ℕ)
-        (address : ℕ) (from to : Cursor) (frames old : List Slot)
+        (bits address : ℕ) (from to : Cursor) (frames old : List Slot)
         → place_of from ≡ first_place address registers
-        → AreSteps (over_held abi memory held) from frames to → 1 ≤ length frames
+        → AreSteps (through_held abi memory bits held) from frames to → 1 ≤ length frames
         → length frames ≡ length old
-        → IsBacktrace held abi memory registers address old (put_into frames old) (length frames) 0 }
+        → IsBacktrace held abi memory bits registers address old (put_into frames old)
+        (length frames) 0 }
     ensures ends { (held : Option ProcessState) (abi : Abi) (memory registers : ℕ → Option ℕ)
-        (address : ℕ) (from to : Cursor) (frames old : List Slot) (why : Why)
+        (bits address : ℕ) (from to : Cursor) (frames old : List Slot) (why : Why)
         → place_of from ≡ first_place address registers
-        → AreSteps (over_held abi memory held) from frames to → 1 ≤ length frames
+        → AreSteps (through_held abi memory bits held) from frames to → 1 ≤ length frames
         → length frames < length old → HasEnded to why
-        → IsBacktrace held abi memory registers address old (put_into frames old) (length frames)
-        (stop_number why) }
+        → IsBacktrace held abi memory bits registers address old (put_into frames old)
+        (length frames) (stop_number why) }
 {}

@@ -209,12 +209,14 @@ fn frames_of(
 ) -> (usize, Stop)
     requires { abi_fault_of state.now ≡ None }
     ensures { IsBacktrace (Some process.now) (abi_in state.now) (memory_of state.now)
-        (registers_of state.now) address frames.old frames.new result.0 (stop_number result.1) }
+        state.now.signed_bits (registers_of state.now) address frames.old frames.new result.0
+        (stop_number result.1) }
 {
     write_backtrace(
         process,
         state.kept,
         state.pointer(),
+        state.signed_bits,
         address,
         &state.registers(),
         &state.memory(),
@@ -233,7 +235,8 @@ fn frames_in(
     requires right { Reads right.old process.now }
     requires abi { abi_fault_of state.now ≡ None }
     ensures frames { IsBacktrace (read_by right.old) (abi_in state.now) (memory_of state.now)
-        (registers_of state.now) address frames.old frames.new result.0 (stop_number result.1) }
+        state.now.signed_bits (registers_of state.now) address frames.old frames.new result.0
+        (stop_number result.1) }
     ensures same { loan_of right.new ≡ loan_of right.old }
 {
     match process.take(right) {
@@ -261,8 +264,8 @@ pub extern "C" fn dwcheck_backtrace(
     requires { Reads count.old.right process.now }
     ensures accepted { result ≢ REFUSED → abi_fault_of state.now ≡ None }
     ensures done { result ≡ DONE → IsBacktrace (read_by count.old.right) (abi_in state.now)
-        (memory_of state.now) (registers_of state.now) address frames.old frames.new
-        count.new.count stop.new }
+        (memory_of state.now) state.now.signed_bits (registers_of state.now) address frames.old
+        frames.new count.new.count stop.new }
     ensures refused { result ≡ REFUSED → Reports IN_ABI (abi_fault_of state.now) fault.new }
     ensures codes { (result ≡ DONE) ⊎ (result ≡ REFUSED) }
     ensures unwritten { result ≡ REFUSED → (frames.new ≡ frames.old)

@@ -111,6 +111,8 @@ pub struct CState<'a> {
     pub stack_pointer: u16,
     pub has_stack_pointer: u16,
     pub reserved: u32,
+    /// The bits of a return address that may have its signature, where return addresses are signed.
+    pub signed_bits: u64,
 }
 
 impl<'a> CState<'a> {

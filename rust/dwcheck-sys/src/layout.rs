@@ -41,6 +41,8 @@ fn size_at<T>(_: *const T) -> usize {
 fn layouts() -> (String, String) {
     let all = [
         layout!(Fault, "dwcheck_fault": number offset within reserved),
+        layout!(Counts, "dwcheck_counts": cies fdes rows frame_expressions tables lists list_expressions),
+        layout!(Expression, "dwcheck_expression": offset length within kind operations depth),
         layout!(Process, "dwcheck_process": opaque opaque_open),
         layout!(Module, "dwcheck_module": frame frame_length load_address first last cookie room
             order address_size has_range kind section_address text_start data_start),
@@ -49,7 +51,7 @@ fn layouts() -> (String, String) {
         layout!(Row, "dwcheck_row": id cookie load_address start end cfa return_reg count),
         layout!(Block, "dwcheck_block": base bytes length),
         layout!(State, "dwcheck_state": contents contents_length known known_length blocks blocks_length
-            kept kept_length stack_pointer has_stack_pointer reserved),
+            kept kept_length stack_pointer has_stack_pointer reserved signed_bits),
         layout!(Answer, "dwcheck_answer": value kind reserved),
         layout!(Register, "dwcheck_register": value kind number),
         layout!(Caller, "dwcheck_caller": cfa return_address count),

@@ -29,7 +29,7 @@
 mod layout;
 
 use std::mem::MaybeUninit;
-use std::os::raw::c_void;
+use std::os::raw::{c_char, c_void};
 
 /// The call's results are written.
 pub const DONE: u32 = 0;
@@ -75,6 +75,33 @@ pub struct Fault {
     pub offset: u32,
     pub within: u32,
     pub reserved: u32,
+}
+
+/// What two sections contain. A number of rows of 2^64 or more is shown as 2^64 - 1.
+#[repr(C)]
+#[derive(Clone, Copy, Debug, Default)]
+pub struct Counts {
+    pub cies: u64,
+    pub fdes: u64,
+    pub rows: u64,
+    pub frame_expressions: u64,
+    pub tables: u64,
+    pub lists: u64,
+    pub list_expressions: u64,
+}
+
+/// An expression of a section: where it begins, its length in bytes, its section (as in a fault),
+/// what it is used for (an EXPRESSION_ constant), its number of operations, and the greatest depth of
+/// its stack.
+#[repr(C)]
+#[derive(Clone, Copy, Debug, Default)]
+pub struct Expression {
+    pub offset: u64,
+    pub length: u64,
+    pub within: u32,
+    pub kind: u32,
+    pub operations: u32,
+    pub depth: u32,
 }
 
 /// A process: its modules, each a compiled .debug_frame or .eh_frame section with a load address. The
@@ -195,6 +222,8 @@ pub struct Block {
 /// and, if has_stack_pointer isn't 0, stack_pointer. The ABI applies to registers to which the row
 /// gives no rule: in the caller, a register in `kept` has the value that it has now, the stack
 /// pointer is the CFA, and any other register is undefined. The ABI names no register twice.
+/// `signed_bits` are the bits of a return address that may have its signature, where return addresses
+/// are signed. They are 0 in each address of code; in walks they are no part of a caller's address.
 #[repr(C)]
 pub struct State {
     pub contents: *const u64,
@@ -208,6 +237,7 @@ pub struct State {
     pub stack_pointer: u16,
     pub has_stack_pointer: u16,
     pub reserved: u32,
+    pub signed_bits: u64,
 }
 
 /// No FDE covers the frame. This occurs only in the last frame of a walk. (This and the next four
@@ -423,6 +453,16 @@ extern "C" {
         size: *mut usize,
     ) -> u32;
 
+    /// The text of a fault: the rule that it breaks, with its section of DWARF 5. NULL for other
+    /// numbers.
+    pub fn dwcheck_fault_text(number: u32) -> *const c_char;
+
+    /// The text of a status. NULL for other numbers.
+    pub fn dwcheck_status_text(status: u32) -> *const c_char;
+
+    /// The text of the reason why a walk ends. NULL for other numbers.
+    pub fn dwcheck_stop_text(stop: u32) -> *const c_char;
+
     /// Checks a .debug_frame section and a .debug_loclists section, either of which may be empty.
     /// Returns DONE if both are well formed; REFUSED, with the first fault in `fault`, if one
     /// isn't; NO_MEMORY; or BAD_TARGET. A section of 2^32 bytes or more is refused with fault 61,
@@ -436,6 +476,21 @@ extern "C" {
         lists_length: usize,
         order: u32,
         address_size: u32,
+        fault: *mut Fault,
+    ) -> u32;
+
+    /// Checks as `dwcheck_check` does. DONE also writes what the sections contain to `counts`, and
+    /// their expressions to `expressions`, those of the frame section first, as many as fit.
+    pub fn dwcheck_report(
+        frame: *const u8,
+        frame_length: usize,
+        lists: *const u8,
+        lists_length: usize,
+        order: u32,
+        address_size: u32,
+        counts: *mut Counts,
+        expressions: *mut Expression,
+        expressions_length: usize,
         fault: *mut Fault,
     ) -> u32;
 
@@ -514,7 +569,7 @@ extern "C" {
 
     /// Writes the caller of the frame at `address`, an address as loaded, by the row that
     /// dwcheck_row_at gives for it. The address itself is looked up, so to find the caller's own
-    /// caller, pass the caller's return address minus 1. The caller's registers go into `registers`
+    /// caller, pass the caller's return address, without its signed bits, minus 1. The caller's registers go into `registers`
     /// in ascending order, as many as fit. Returns DONE; NONE if there is no row; or REFUSED if the
     /// ABI names too many registers or names one twice. Only DONE writes `caller` and `registers`,
     /// and only REFUSED writes `fault`. The call neither allocates nor frees.
@@ -531,7 +586,7 @@ extern "C" {
     /// Walks up the stack from the frame at `address`, an address as loaded, and writes the frames
     /// to `frames`, the innermost first, as many as fit. `count` becomes their number, and `stop`
     /// the reason why there are no more. Frame 0 is looked up at its address, and each later frame
-    /// at its address minus 1. Returns DONE; or REFUSED if the ABI names too many registers or
+    /// at its address minus 1; but the caller of a signal frame at its address. Returns DONE; or REFUSED if the ABI names too many registers or
     /// names one twice. Only DONE writes `frames`, `count` and `stop`, and only REFUSED writes
     /// `fault`. The call neither allocates nor frees.
     pub fn dwcheck_backtrace(

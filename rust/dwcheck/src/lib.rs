@@ -3,10 +3,10 @@
 //!
 //! This is a safe wrapper over the C interface of `dwcheck`, a library whose every function is
 //! proved to meet its contract, to terminate, and to be safe on every input. The proofs cover the
-//! library, except for the C that [`Process::step_with`] runs over proved steps. They don't cover this
-//! crate, which uses `unsafe` to call the C interface.
+//! library, except for the C that [`Process::step_with`] runs over proved steps, and the texts of
+//! [`FaultKind::rule`]. They don't cover this crate, which uses `unsafe` to call the C interface.
 //!
-//! - [`check`] checks a frame section and location lists.
+//! - [`check`] checks a frame section and location lists, and [`report`] also says what they contain.
 //! - A [`Process`] has modules, each a frame section with a load address and a range of addresses.
 //!   It gives the [`Row`] of an address, the [`Caller`] of a frame, and the frames of a stack.
 //! - [`locations`] gives the expressions of a location list that apply at an address.
@@ -52,6 +52,7 @@ mod layout;
 mod lists;
 mod module;
 mod process;
+mod report;
 mod row;
 mod rows;
 mod state;
@@ -71,6 +72,7 @@ pub use fault::{Error, Fault, FaultKind, Section};
 pub use lists::{locations, Lookup};
 pub use module::{EhFrame, LoadedModule, Module, ModuleId};
 pub use process::Process;
+pub use report::{report, CheckedExpression, Report};
 pub use row::{CfaRule, Row, Rule, Span};
 pub use rows::Rows;
 pub use state::{Block, Registers, State};

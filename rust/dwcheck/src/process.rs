@@ -251,9 +251,9 @@ impl Process {
         Rows::new(self)
     }
 
-    /// Whether an address, as loaded, is where a signal handler returns to, by the module's
-    /// `.eh_frame`. The caller of such a frame was interrupted at its address, which is no return
-    /// address: call [`Cursor::set_interrupted`](crate::Cursor::set_interrupted) before the next step.
+    /// Whether an address, as loaded, is one of a signal frame, to which a signal handler returns, by
+    /// the module's `.eh_frame`. Walks ask so of the address that they look up for a frame, and look
+    /// up the caller of a signal frame at its own address, since it was interrupted there.
     pub fn is_signal_frame(&self, address: u64) -> bool {
         let mut flag = 0;
         // SAFETY: the process is only read, and `flag` is a local.
@@ -402,7 +402,8 @@ impl Process {
     /// Walks up the stack from the frame at an address, and returns the frames, `limit` at most.
     ///
     /// The first frame is looked up at its address, and each later frame at its address minus one,
-    /// which is an address within the call instruction. On a corrupt stack a walk may never end, so
+    /// which is an address within the call instruction; but the caller of a
+    /// [signal frame](Process::is_signal_frame) at its address. On a corrupt stack a walk may never end, so
     /// choose a limit. A high limit costs nothing by itself: the first walk has room for 64 frames,
     /// and if they aren't enough, the walk starts over with room for four times as many, and so on
     /// up to the limit. [`backtrace_into`](Process::backtrace_into) walks only once.

@@ -207,6 +207,7 @@ impl State<'_> {
             stack_pointer: self.abi.stack_pointer.unwrap_or(0),
             has_stack_pointer: u16::from(self.abi.stack_pointer.is_some()),
             reserved: 0,
+            signed_bits: self.abi.signed_bits,
         }
     }
 }

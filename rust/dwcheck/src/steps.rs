@@ -36,8 +36,9 @@ impl Process {
     ///
     /// The frames are the same as those of [`backtrace`](Process::backtrace), which is much faster.
     /// Each step calls [`unwind`](Process::unwind): for the first frame with its address and with
-    /// the registers of `state`; for each later frame with its address minus one, and with the
-    /// registers whose values the step before found. The walk ends after a frame that has no row, or
+    /// the registers of `state`; for each later frame with its address minus one, or with its address
+    /// if the frame before it is a signal frame, and with the registers whose values the step before
+    /// found. The walk ends after a frame that has no row, or
     /// whose return address has no value. On a corrupt stack the walk may never end, so use
     /// [`take`](Iterator::take) to limit the number of steps.
     ///
@@ -105,8 +106,17 @@ impl Iterator for Steps<'_> {
         };
         if let Some(caller) = &caller {
             if let Answer::Value(up) = caller.return_address {
+                let up = up & !self.abi.signed_bits;
+                let is_signal = looked_up.map_or(false, |a| self.process.is_signal_frame(a));
                 self.registers = caller.known();
-                self.next = Some((up, up.checked_sub(1)));
+                self.next = Some((
+                    up,
+                    if is_signal {
+                        Some(up)
+                    } else {
+                        up.checked_sub(1)
+                    },
+                ));
             }
         }
         Some(Ok(Step { address, caller }))

@@ -3,36 +3,40 @@ use Rattle.std.specs.Prelude.{None, option_map}
 use Rattle.dw_rows.specs.Abi.{abi_of}
 use Rattle.dw_unwind.specs.Contents.{UnwindsTo, contents_in}
 use Rattle.dw_unwind.specs.UnwoundViews.{caller_with}
-use Rattle.dw_unwind.specs.Walks.{CallerRelation, UnwindsAt, WalkedFrame}
+use Rattle.dw_unwind.specs.Walks.{UnwindsAt, WalkedFrame}
 use Rattle.dwcheck_c.specs.declared.cursor.CCursor.{CCursor}
 use Rattle.dwcheck_c.specs.Cursors.{registers_in}
-use Rattle.dwcheck_c.specs.Frames.{cframe_by, cframe_of, over_process}
+use Rattle.dwcheck_c.specs.Frames.{cframe_by, cframe_of}
+use Rattle.dwcheck_c.specs.ProcessWalks.{Unwinding, through_process}
 use Rattle.dwcheck_c.proofs.CursorSteps.{step-goes, step-uncovered}
 use Rattle.dwcheck_c.proofs.cursor.step_by.Goals as goal
 
 pub returns-in_default-clause-done : goal.returns-in_default-clause-done
 returns-in_default-clause-done g c = λ _.
-    let u : CallerRelation = over_process (abi_of c.args.kept.now c.args.stack_pointer) (g.M.Memory.bytes c.args.memory.now) c.args.process.now in
+    let u : Unwinding =
+    through_process (abi_of c.args.kept.now c.args.stack_pointer) (g.M.Memory.bytes c.args.memory.now) c.args.bits c.args.process.now in
     let old : CCursor = c.args.cursor.now in
     step-uncovered u old c.end_uncovered.new.cursor c.end_uncovered.new.out
-    (subst (λ (at : Option ℕ). UnwindsAt u (registers_in old) at None) (sym c.in_default.is ∙ c.looked_up.ensures) refl)
+    (subst (λ (at : Option ℕ). UnwindsAt u.callers (registers_in old) at None) (sym c.in_default.is ∙ c.looked_up.ensures) refl)
     c.end_uncovered.ensures.cursor c.end_uncovered.ensures.frame
 
 pub returns-in-Ok-clause-done : goal.returns-in-Ok-clause-done
 returns-in-Ok-clause-done g c = λ _.
-    let u : CallerRelation = over_process (abi_of c.args.kept.now c.args.stack_pointer) (g.M.Memory.bytes c.args.memory.now) c.args.process.now in
+    let u : Unwinding =
+    through_process (abi_of c.args.kept.now c.args.stack_pointer) (g.M.Memory.bytes c.args.memory.now) c.args.bits c.args.process.now in
     let old : CCursor = c.args.cursor.now in
     let w = c.in-Some-contents_in_place.unwound in
     let to = contents_in c.contents_in_place.new.file in
-    let here : UnwindsTo u (registers_in old) (Some c.in-Some.address) (Some w) to =
-    rw c.new-marked.ensures at c.in-Some-contents_in_place.ensures.steps in
-    let h = subst (λ (at : Option ℕ). UnwindsTo u (registers_in old) at (Some w) to) (sym c.in-Some.is ∙ c.looked_up.ensures) here in
+    let here : UnwindsTo u.callers (registers_in old) (Some c.in-Some.address) (Some w) to =
+    c.in-Some-contents_in_place.ensures.steps in
+    let h = subst (λ (at : Option ℕ). UnwindsTo u.callers (registers_in old) at (Some w) to) (sym c.in-Some.is ∙ c.looked_up.ensures) here in
     let new : CCursor = record {
       registers = c.contents_in_place.new.file;
-      address = c.in-Ok.next;
-      stage = 1;
+      address = c.without_bits-cursor.result;
+      stage = c.stage_of_caller-cursor.result;
       reserved = old.reserved;
     } in
     let f : WalkedFrame = record { address = old.address; caller = option_map (caller_with h.found) (Some w) } in
     let shown : c.shown_frame.result ≡ cframe_of f = c.shown_frame.ensures ∙ ap cframe_by (c.brief.ensures h.found) in
-    step-goes u old new c.shown_frame.result (Some w) to c.in-Ok.next h shown c.in-Ok.ensures refl refl refl
+    step-goes u old new c.shown_frame.result (Some w) to c.in-Some.address c.in-Ok.next h (sym (sym c.in-Some.is ∙ c.looked_up.ensures)) shown c.in-Ok.ensures
+    c.stage_of_caller-cursor.ensures c.without_bits-cursor.ensures refl

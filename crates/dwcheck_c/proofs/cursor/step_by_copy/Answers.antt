@@ -3,35 +3,38 @@ use Rattle.std.specs.Prelude.{option_map}
 use Rattle.dw_rows.specs.Abi.{abi_of}
 use Rattle.dw_unwind.specs.Contents.{UnwindsTo, contents_in}
 use Rattle.dw_unwind.specs.UnwoundViews.{caller_with}
-use Rattle.dw_unwind.specs.Walks.{CallerRelation, WalkedFrame}
+use Rattle.dw_unwind.specs.Walks.{WalkedFrame}
 use Rattle.dwcheck_c.specs.declared.cursor.CCursor.{CCursor}
 use Rattle.dwcheck_c.specs.Cursors.{registers_in}
-use Rattle.dwcheck_c.specs.Frames.{cframe_by, cframe_of, over_process}
+use Rattle.dwcheck_c.specs.Frames.{cframe_by, cframe_of}
+use Rattle.dwcheck_c.specs.ProcessWalks.{Unwinding, through_process}
 use Rattle.dwcheck_c.proofs.CursorSteps.{step-ends, step-goes}
 use Rattle.dwcheck_c.proofs.cursor.step_by_copy.Goals as goal
 
 pub returns-in-Ok-return_address-clause-done : goal.returns-in-Ok-return_address-clause-done
 returns-in-Ok-return_address-clause-done g c = λ _.
-    let u : CallerRelation = over_process (abi_of c.args.kept.now c.args.stack_pointer) (g.M.Memory.bytes c.args.memory.now) c.args.process.now in
+    let u : Unwinding =
+    through_process (abi_of c.args.kept.now c.args.stack_pointer) (g.M.Memory.bytes c.args.memory.now) c.args.bits c.args.process.now in
     let old : CCursor = c.args.cursor.now in
-    let h = subst (λ (at : Option ℕ). UnwindsTo u (registers_in old) at c.in-Ok.unwound (contents_in c.contents_into.new.into))
+    let h = subst (λ (at : Option ℕ). UnwindsTo u.callers (registers_in old) at c.in-Ok.unwound (contents_in c.contents_into.new.into))
     (sym c.requires) c.in-Ok.ensures.contents in
     let new : CCursor = record {
       registers = c.contents_into.new.into;
-      address = c.in-Ok-return_address.next;
-      stage = 1;
+      address = c.without_bits-cursor.result;
+      stage = c.stage_of_caller-cursor.result;
       reserved = old.reserved;
     } in
     let f : WalkedFrame = record { address = old.address; caller = option_map (caller_with h.found) c.in-Ok.unwound } in
     let shown : c.shown_frame.result ≡ cframe_of f = c.shown_frame.ensures ∙ ap cframe_by (c.brief.ensures h.found) in
-    step-goes u old new c.shown_frame.result c.in-Ok.unwound (contents_in c.contents_into.new.into) c.in-Ok-return_address.next h shown
-    c.in-Ok-return_address.ensures refl refl refl
+    step-goes u old new c.shown_frame.result c.in-Ok.unwound (contents_in c.contents_into.new.into) c.args.address
+    c.in-Ok-return_address.next h c.requires shown c.in-Ok-return_address.ensures c.stage_of_caller-cursor.ensures c.without_bits-cursor.ensures refl
 
 pub returns-in-Err-clause-done : goal.returns-in-Err-clause-done
 returns-in-Err-clause-done g c = λ _.
-    let u : CallerRelation = over_process (abi_of c.args.kept.now c.args.stack_pointer) (g.M.Memory.bytes c.args.memory.now) c.args.process.now in
+    let u : Unwinding =
+    through_process (abi_of c.args.kept.now c.args.stack_pointer) (g.M.Memory.bytes c.args.memory.now) c.args.bits c.args.process.now in
     let old : CCursor = c.args.cursor.now in
-    let h = subst (λ (at : Option ℕ). UnwindsTo u (registers_in old) at c.in-Ok.unwound (contents_in c.contents_into.new.into))
+    let h = subst (λ (at : Option ℕ). UnwindsTo u.callers (registers_in old) at c.in-Ok.unwound (contents_in c.contents_into.new.into))
     (sym c.requires) c.in-Ok.ensures.contents in
     let new : CCursor = record {
       registers = old.registers;
