@@ -192,6 +192,38 @@ fn tables_end_at_the_bound() {
     X86_64.judged("bound", body, after);
 }
 
+/// Bounded tables: a table without a bound ends where another one begins. Its entries would lead here to an
+/// instruction whose row fits, but what is known of the stack pointer after it would be lost.
+#[test]
+fn tables_end_at_another_table() {
+    let body = "push %rbp
+        .cfi_adjust_cfa_offset 8
+        .cfi_offset rbp, -16
+        mov %rsp, %rbp
+        .cfi_def_cfa_register rbp
+        1: mov (%rsi), %edi
+        test %edi, %edi
+        je 2f
+        lea first(%rip), %rdx
+        movslq (%rdx,%rdi,4), %rax
+        add %rdx, %rax
+        notrack jmp *%rax
+        2: push %rax
+        lea second(%rip), %rdx
+        movslq (%rdx,%rdi,4), %rax
+        lea first(%rip), %rcx
+        add %rcx, %rax
+        notrack jmp *%rax
+        3: call *%rsi
+        pop %rcx
+        pop %rbp
+        .cfi_def_cfa rsp, 8
+        .cfi_restore rbp
+        ret";
+    let after = ".section .rodata\nfirst: .long 1b-first, 1b-first\nsecond: .long 3b-first, 3b-first\n";
+    X86_64.judged("tables", body, after);
+}
+
 /// Bounded tables: without a bound, the table ends where an entry doesn't fit.
 #[test]
 fn entries_that_do_not_fit_are_past_the_end() {
