@@ -3,10 +3,13 @@
 use crate::instruction::{Effect, Instruction, Target};
 use crate::module::Module;
 use crate::register::Registers;
-use std::collections::{HashMap, HashSet};
+use rustc_hash::{FxHashMap, FxHashSet};
 
 /// How many instructions of a callee are read at most.
 const MOST_READ: usize = 3000;
+
+/// Few callees have more instructions before their first return.
+const USUALLY_READ: usize = 100;
 
 /// How many instructions of callees are read in all, for each byte of a module's code.
 const READ_A_BYTE: usize = 16;
@@ -60,8 +63,8 @@ pub struct Callees {
     /// How many instructions may still be read. Without a bound, a hostile file could have code from
     /// which a call leads to each address.
     left: usize,
-    never_returns: HashMap<u64, bool>,
-    written: HashMap<u64, Registers>,
+    never_returns: FxHashMap<u64, bool>,
+    written: FxHashMap<u64, Registers>,
 }
 
 /// What to do after an instruction of a callee.
@@ -204,20 +207,28 @@ fn read(
     address: u64,
     mut next: impl FnMut(&mut Callees, &Instruction) -> Next,
 ) -> bool {
-    let (mut work, mut seen) = (vec![address], HashSet::new());
+    let (mut work, mut seen) = (vec![address], FxHashSet::with_capacity_and_hasher(USUALLY_READ, Default::default()));
     while let Some(mut address) = work.pop() {
+        let mut bytes = module.bytes_at(address);
         while seen.insert(address) {
-            if seen.len() > MOST_READ || callees.left == 0 || module.bytes_at(address).is_empty() {
+            if seen.len() > MOST_READ || callees.left == 0 || bytes.is_empty() {
                 return false;
             }
             callees.left -= 1;
-            let instruction = module.instruction_at(address);
+            let instruction = (module.machine.decode)(bytes, address);
             match next(callees, &instruction) {
                 Next::On(other) => {
                     work.extend(other);
                     address = address.wrapping_add(u64::from(instruction.length));
+                    bytes = match bytes.get(usize::from(instruction.length)..) {
+                        Some(rest) if !rest.is_empty() => rest,
+                        _ => module.bytes_at(address),
+                    };
                 }
-                Next::At(other) => address = other,
+                Next::At(other) => {
+                    address = other;
+                    bytes = module.bytes_at(address);
+                }
                 Next::End => break,
                 Next::Known => return true,
             }
