@@ -93,7 +93,7 @@ impl<'a> Code<'a> {
 
     /// The offsets at which blocks begin, ascending.
     pub fn leaders(&self) -> impl Iterator<Item = u32> + '_ {
-        (0..self.length()).filter(move |offset| self.is_leader(*offset))
+        (0..).zip(&self.leaders).filter(|(_, is_leader)| **is_leader).map(|(offset, _)| offset)
     }
 
     /// Whether the bytes at an offset are two zeros, which no compiler writes as an instruction.

@@ -12,7 +12,8 @@ use crate::state::State;
 use crate::stores::Stores;
 use crate::table::{row_at, Cfa, Fde, Row};
 use crate::walk::{Edge, EdgeKind, Exit, Visitor};
-use std::collections::{BTreeMap, BTreeSet};
+use std::cmp::Reverse;
+use std::collections::{BTreeMap, BinaryHeap};
 
 /// How often the flow of an FDE is followed at most, each time with more stores known.
 const MOST_ROUNDS: usize = 12;
@@ -21,6 +22,9 @@ const MOST_ROUNDS: usize = 12;
 /// jumps by a table is passed a few times, and reads the table each time.
 const MOST_ENTRIES: u64 = 200_000;
 const ENTRIES_A_BYTE: u64 = 64;
+
+/// For how many blocks there is room at first.
+const USUAL_BLOCKS: usize = 1000;
 
 /// How many bytes of code an FDE has at most.
 const MOST_BYTES: usize = 2 << 20;
@@ -36,6 +40,8 @@ struct Reached {
     is_soft: bool,
     /// The region in which it was reached: 0 from the entry, or the number of the assumption.
     region: u32,
+    /// Whether it has to be followed, because its state is new.
+    is_waiting: bool,
 }
 
 /// The flow through an FDE's code.
@@ -65,7 +71,8 @@ pub struct Flow<'m, 'c> {
     reached: Vec<Reached>,
     /// For each offset, the index of the block that was reached there.
     blocks: Vec<u32>,
-    work: BTreeSet<u32>,
+    /// The blocks that have to be followed, the first one first.
+    work: BinaryHeap<Reverse<u32>>,
     region: u32,
     has_new_leader: bool,
 }
@@ -106,7 +113,7 @@ impl<'m, 'c> Flow<'m, 'c> {
             needs_callees: false,
             reached: Vec::new(),
             blocks: vec![NONE; bytes.len()],
-            work: BTreeSet::new(),
+            work: BinaryHeap::new(),
             region: 0,
             has_new_leader: false,
             code,
@@ -136,6 +143,7 @@ impl<'m, 'c> Flow<'m, 'c> {
             self.stores.restart();
             self.entries_left = MOST_ENTRIES + ENTRIES_A_BYTE * u64::from(self.code.length());
             self.reached.clear();
+            self.reached.reserve(self.code.leaders().take(USUAL_BLOCKS).count());
             self.blocks.iter_mut().for_each(|block| *block = NONE);
             self.region = 0;
             self.has_new_leader = false;
@@ -171,8 +179,8 @@ impl<'m, 'c> Flow<'m, 'c> {
 
     fn follow(&mut self, offset: u32, state: &State) {
         self.reach(offset, state, false);
-        while let Some(leader) = self.work.iter().next().copied() {
-            self.work.remove(&leader);
+        while let Some(Reverse(leader)) = self.work.pop() {
+            self.reached[self.blocks[leader as usize] as usize].is_waiting = false;
             self.walk(leader, &mut Follow);
         }
     }
@@ -218,8 +226,8 @@ impl<'m, 'c> Flow<'m, 'c> {
         let index = self.blocks[offset as usize];
         if index == NONE {
             self.blocks[offset as usize] = self.reached.len() as u32;
-            self.reached.push(Reached { state: state.clone(), is_soft, region: self.region });
-            self.work.insert(offset);
+            self.reached.push(Reached { state: state.clone(), is_soft, region: self.region, is_waiting: true });
+            self.work.push(Reverse(offset));
             return;
         }
         let (pointer, frame) = (self.module.machine.stack_pointer, self.module.machine.frame_pointer);
@@ -234,14 +242,19 @@ impl<'m, 'c> Flow<'m, 'c> {
             (true, false, true) => {
                 block.state = state.clone();
                 block.is_soft = false;
-                self.work.insert(offset);
-                return;
+                return self.follow_again(index, offset);
             }
             _ => {}
         }
         block.is_soft &= is_soft;
         if block.state.merge(state, offset) {
-            self.work.insert(offset);
+            self.follow_again(index, offset);
+        }
+    }
+
+    fn follow_again(&mut self, index: u32, offset: u32) {
+        if !std::mem::replace(&mut self.reached[index as usize].is_waiting, true) {
+            self.work.push(Reverse(offset));
         }
     }
 
