@@ -3,16 +3,19 @@
 use crate::coverage::{Coverage, Reason};
 use crate::crossing::Crossing;
 use crate::flow::{is_entry_row, Flow};
-use crate::instruction::{Effect, Place, Transfer};
+use crate::instruction::{Effect, Transfer};
 use crate::judge::{unjudged, Facts, Unjudged, Verdict};
+use crate::last_verdict::LastVerdict;
 use crate::register::{Register, Registers};
 use crate::rules::is_unreachable_end;
 use crate::state::State;
+use crate::stores::is_kept;
 use crate::table::{row_at, Cfa, Row, Rule};
 use crate::truth::Truth;
 use crate::value::Value;
 use crate::walk::{Edge, EdgeKind, Exit, Visitor};
 use std::collections::HashSet;
+use std::ops::Range;
 
 /// How many wrong rows of an FDE are kept at most.
 const MOST_MARKS: usize = 50_000;
@@ -56,7 +59,7 @@ pub struct Mark<'m> {
 #[derive(Default)]
 struct Current {
     row: Option<usize>,
-    end: u64,
+    addresses: Range<u64>,
     unjudged: Option<Unjudged>,
     /// Whether the FDE says that the return address is signed.
     is_signed: bool,
@@ -77,6 +80,9 @@ pub struct Judging<'m, 'x> {
     /// How many returns there are at which the stack pointer isn't at the return address.
     pub odd_returns: u32,
     current: Current,
+    last_verdict: LastVerdict,
+    /// How many slots were known before the last instruction.
+    slot_count: usize,
     /// The landing pads whose rows are right for one call at least.
     fitting_pads: HashSet<u64>,
 }
@@ -85,8 +91,9 @@ impl<'m, 'x> Judging<'m, 'x> {
     /// Nothing has been judged yet.
     pub fn new(crossing: &'x mut Crossing) -> Self {
         let (coverage, current) = (Coverage { fdes: 1, ..Coverage::default() }, Current::default());
-        let fitting_pads = HashSet::new();
-        Judging { crossing, marks: Vec::new(), coverage, lost: Facts::NONE, odd_returns: 0, current, fitting_pads }
+        let (last_verdict, fitting_pads) = (LastVerdict::default(), HashSet::new());
+        let (marks, lost, slot_count) = (Vec::new(), Facts::NONE, 0);
+        Judging { crossing, marks, coverage, lost, odd_returns: 0, current, last_verdict, slot_count, fitting_pads }
     }
 
     /// Judges all blocks that were reached.
@@ -108,23 +115,18 @@ impl<'m, 'x> Judging<'m, 'x> {
         let (row, is_signed) = (row_at(&flow.rows, address), flow.fde.is_signed(address));
         self.current = Current { row, is_signed, ..Current::default() };
         if let Some(row) = self.current.row.map(|index| &flow.rows[index]) {
-            self.current.end = row.end;
+            self.current.addresses = row.begin..row.end;
             self.current.unjudged = unjudged(flow.module.machine, row);
             self.current.watched = watched(flow, row);
         }
     }
 
-    /// Whether an instruction, after which this is known, can change the verdict on the row.
-    fn matters(&self, effect: &Effect, state: &State) -> bool {
-        // Memory that isn't at a known place of the stack isn't followed.
-        let is_followed = |place: &Place| matches!(state.get(place.base), Value::Address { .. });
+    /// Whether an instruction, after which this is known, can change the verdict on the row. A value that isn't
+    /// worth a slot can only end slots.
+    fn matters(&self, effect: &Effect, state: &State, ends_slots: bool) -> bool {
         match effect {
-            Effect::Store { to, .. } => to.as_ref().map_or(false, is_followed),
-            Effect::Write { stored: Some((place, _)), registers }
-                if is_followed(place) || registers.contains(place.base) =>
-            {
-                true
-            }
+            Effect::Store { from, .. } => ends_slots || is_kept(state.get(*from)),
+            Effect::Write { .. } if ends_slots => true,
             Effect::Write { .. }
             | Effect::System { .. }
             | Effect::Set { .. }
@@ -139,6 +141,14 @@ impl<'m, 'x> Judging<'m, 'x> {
                 self.current.watched.map_or(true, |watched| !effect.written().both(watched).is_empty())
             }
             effect => !effect.changes_nothing(),
+        }
+    }
+
+    /// The verdict on a row, by its index, where a block begins.
+    fn verdict_at_block(&mut self, flow: &Flow<'_, '_>, row: usize, state: &State, address: u64) -> Verdict {
+        match self.current.watched.filter(|_| self.current.row == Some(row)) {
+            Some(watched) => self.last_verdict.verdict(flow, row, watched, (address, state)),
+            None => flow.verdict(&flow.rows[row], state, address),
         }
     }
 
@@ -226,15 +236,16 @@ impl<'m, 'x> Judging<'m, 'x> {
 impl<'m> Visitor<'m> for Judging<'m, '_> {
     fn instruction(&mut self, flow: &mut Flow<'m, '_>, at: u32, before: Option<u32>, state: &State) {
         let address = flow.code.address(at);
+        let ends_slots = std::mem::replace(&mut self.slot_count, state.slot_count()) != state.slot_count();
         self.coverage.instructions += 1;
         self.coverage.assumed += u32::from(state.is_assumed);
-        let is_same_row = address < self.current.end && flow.fde.is_signed(address) == self.current.is_signed;
-        let is_other_row = before.is_none() || !is_same_row;
-        if is_other_row {
+        let is_same_row =
+            self.current.addresses.contains(&address) && flow.fde.is_signed(address) == self.current.is_signed;
+        if !is_same_row {
             self.set_row(flow, address);
         }
         let row = match (self.current.row, self.current.unjudged) {
-            (Some(index), None) => &flow.rows[index],
+            (Some(index), None) => index,
             (_, Some(unjudged)) => return self.coverage.skip(unjudged.into()),
             (None, None) => return,
         };
@@ -242,11 +253,13 @@ impl<'m> Visitor<'m> for Judging<'m, '_> {
         if flow.is_for_calls && (!is_call || state.is_assumed) {
             return self.coverage.skip(Reason::CallsOnly);
         }
-        let is_other_row = is_other_row || flow.is_for_calls;
-        if is_other_row || before.map_or(true, |before| self.matters(&flow.code.effect(before), state)) {
-            self.current.verdict = flow.verdict(row, state, address);
+        let matters = |before: u32| self.matters(&flow.code.effect(before), state, ends_slots);
+        match before {
+            None => self.current.verdict = self.verdict_at_block(flow, row, state, address),
+            Some(before) if is_same_row && !flow.is_for_calls && !matters(before) => {}
+            Some(_) => self.current.verdict = flow.verdict(&flow.rows[row], state, address),
         }
-        self.count(row, flow.module.machine.stack_pointer);
+        self.count(&flow.rows[row], flow.module.machine.stack_pointer);
         if !self.current.verdict.wrong.is_empty() {
             self.mark(flow, at, before, Way::Here, (self.current.verdict, state));
         }
@@ -261,20 +274,24 @@ impl<'m> Visitor<'m> for Judging<'m, '_> {
             return;
         }
         let address = flow.code.address(edge.to);
-        let merged = match (flow.row(address), flow.state_at(edge.to)) {
-            (Some(_), Some(merged)) if flow.is_same_region(edge.block, edge.to) && merged == state => return,
-            (Some(_), merged) => merged,
-            (None, _) => return,
+        let row = match row_at(&flow.rows, address) {
+            Some(row) => row,
+            None => return,
         };
-        let row = flow.row(address).filter(|row| unjudged(flow.module.machine, row).is_none());
-        let mut verdict = row.map_or(Verdict::default(), |row| flow.verdict(row, state, address));
-        if verdict.wrong.is_empty() {
-            if edge.kind == EdgeKind::Landing {
+        let merged = flow.state_at(edge.to);
+        let is_landing = edge.kind == EdgeKind::Landing;
+        if is_landing && flow.is_same_region(edge.block, edge.to) && merged == Some(state) {
+            return;
+        }
+        let mut verdict = self.verdict_at_block(flow, row, state, address);
+        let row = &flow.rows[row];
+        if verdict.wrong.is_empty() || unjudged(flow.module.machine, row).is_some() {
+            if is_landing {
                 self.fitting_pads.insert(address);
             }
             return;
         }
-        let of_merged = merged.zip(row).map_or(Facts::NONE, |(merged, row)| flow.verdict(row, merged, address).wrong);
+        let of_merged = merged.map_or(Facts::NONE, |merged| flow.verdict(row, merged, address).wrong);
         verdict.wrong = verdict.wrong.without(of_merged);
         if !verdict.wrong.is_empty() && !of_merged.has(Facts::CFA) {
             self.mark(flow, edge.to, Some(edge.from), Way::Edge(edge.kind), (verdict, state));

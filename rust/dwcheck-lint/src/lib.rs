@@ -34,6 +34,7 @@ pub mod judging;
 pub mod jumps;
 pub mod kinds;
 pub mod landings;
+mod last_verdict;
 pub mod lint;
 pub mod machine;
 pub mod module;

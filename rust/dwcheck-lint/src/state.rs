@@ -1,7 +1,7 @@
 //! What is known of the registers and the stack at a place in the code.
 
 use crate::machine::MOST_FOLLOWED;
-use crate::register::Register;
+use crate::register::{Register, Registers};
 use crate::value::{Base, Value};
 use smallvec::SmallVec;
 
@@ -84,6 +84,21 @@ impl State {
         self.is_assumed || self.is_full || base.is_joined()
     }
 
+    /// Whether another state says the same of some registers and of all slots.
+    pub fn is_same_for(&self, other: &State, registers: Registers) -> bool {
+        let is_same = |register: Register| match register.index() {
+            index if index < FEW => self.registers[index] == other.registers[index],
+            _ => self.get(register) == other.get(register),
+        };
+        let flags = |state: &State| (state.is_assumed, state.is_full);
+        flags(self) == flags(other) && self.slots == other.slots && registers.iter().all(is_same)
+    }
+
+    /// How many slots are listed.
+    pub fn slot_count(&self) -> usize {
+        self.slots.len()
+    }
+
     /// What a slot holds. `None` if it isn't listed.
     pub fn slot(&self, base: Base, offset: i64) -> Option<Value> {
         self.slots.iter().find(|slot| (slot.base, slot.offset) == (base, offset)).map(|slot| slot.value)
@@ -128,19 +143,24 @@ impl State {
     /// function. Returns whether it changed.
     pub fn merge(&mut self, other: &State, at: u32) -> bool {
         let (mut has_changed, mut joins) = (false, Vec::new());
-        let others = other.registers.iter().chain(&other.others).chain(std::iter::repeat(&Value::Unknown));
-        for ((register, value), other) in self.registers_mut().zip(others) {
-            let one = *value;
-            if one != *other {
-                *value = one.joined(*other, at, register);
+        let mut merge = |index, value: &mut Value, other: Value| {
+            let (register, one) = (Register(index as u8), *value);
+            if one != other {
+                *value = one.joined(other, at, register);
                 has_changed |= *value != one;
             }
             match *value {
                 Value::Address { base, offset: 0 } if base == Base::joined(at, register) => {
-                    joins.push(Join { base, one, other: *other });
+                    joins.push(Join { base, one, other });
                 }
                 _ => {}
             }
+        };
+        for (index, (value, other)) in self.registers.iter_mut().zip(&other.registers).enumerate() {
+            merge(index, value, *other);
+        }
+        for (index, value) in self.others.iter_mut().enumerate() {
+            merge(FEW + index, value, other.others.get(index).copied().unwrap_or(Value::Unknown));
         }
         has_changed |= self.merge_slots(other, at, &joins);
         has_changed |= other.is_full && !self.is_full || other.is_assumed && !self.is_assumed;
