@@ -77,6 +77,15 @@ fn padding_after_a_call() {
         1: mov %edi, %eax
         ret";
     X86_64.quiet("padding", body, "");
+    let unreached = "push %rax
+        .cfi_adjust_cfa_offset 8
+        call *%rsi
+        nopw 0(%rax,%rax)
+        .cfi_adjust_cfa_offset -8
+        1: dec %edi
+        jne 1b
+        ret";
+    X86_64.quiet("padding-unreached", unreached, "");
 }
 
 /// Padding: code after it that nothing reaches is taken up from its own row.
