@@ -10,6 +10,7 @@ mod instruction;
 mod json;
 mod names;
 mod section;
+mod signal_return;
 mod tables;
 mod text;
 mod walker;
@@ -84,7 +85,7 @@ pub enum FoundBy {
     /// A guess: no row covers the frame that it called, whose frame pointer leads to the caller.
     FramePointer,
     /// A guess: a signal interrupted it, and the code to which the handler returns has no row that says
-    /// so, but is that by which handlers return to the kernel (x86-64, aarch64).
+    /// so, but is that by which handlers return to the kernel.
     SignalReturn,
 }
 

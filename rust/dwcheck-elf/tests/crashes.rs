@@ -176,21 +176,21 @@ fn a_handler_on_another_stack() {
 const OWN_RETURN: &str = r#"
 #include <signal.h>
 #include <stdlib.h>
-#include <sys/syscall.h>
 #include <unistd.h>
-struct action { void (*handler)(int); unsigned long flags; void (*restorer)(void); unsigned long mask; };
+struct action { void (*handler)(int); unsigned long flags; void (*restorer)(void); unsigned long long mask; };
 void own__sigaction(void);
 asm(".text\n nop\n.globl own__sigaction\n.type own__sigaction, @function\n"
-    "own__sigaction: mov $15, %rax\n syscall\n.size own__sigaction, . - own__sigaction\n");
+    "own__sigaction: " CODE "\n.size own__sigaction, . - own__sigaction\n");
 static void handler(int n) { if (n) abort(); }
 __attribute__((noinline)) static int faulty(volatile int *address) { return *address + 1; }
 int main(int c, char **v) {
-    struct action action = { handler, SA_RESTORER, own__sigaction, 0 };
-    syscall(SYS_rt_sigaction, SIGSEGV, &action, 0, 8);
+    struct action action = { handler, FLAGS | 0x04000000 /* SA_RESTORER */, own__sigaction, 0 };
+    syscall(sizeof(long) == 8 ? 13 : 174 /* rt_sigaction */, SIGSEGV, &action, 0, 8);
     return faulty((volatile int *)(long)c) + 1;
 }
 "#;
 
+/// For i386, the kernel stores the registers elsewhere for a handler with SA_SIGINFO.
 #[test]
 fn a_handler_that_returns_to_code_without_rows() {
     let folder = Folder::new("crash-own-return");
@@ -198,14 +198,20 @@ fn a_handler_that_returns_to_code_without_rows() {
         return;
     }
     folder.write("a.c", OWN_RETURN);
-    folder.run("gcc -O1 -DSA_RESTORER=0x04000000 a.c -o own");
-    folder.make_core("./own");
-    let ran = dwcheck_elf(&folder, "stack --no-inline --no-source core");
-    let shown = frames(&ran.out);
-    assert_eq!(addresses(&shown), by_gdb(&folder, "own"), "{}", ran.out);
-    let at = shown.iter().position(|line| line.contains(" own__sigaction (")).unwrap();
-    assert!(shown[at + 1].contains(" faulty") && shown[at + 1].ends_with(" guess: signal return"), "{}", ran.out);
-    assert_eq!(ran.out.matches(" guess: ").count(), 1);
+    for (machine, flags, code) in [
+        ("-m64", "0", "mov $15, %rax\\n syscall"),
+        ("-m32", "0", "pop %eax\\n mov $119, %eax\\n int $0x80"),
+        ("-m32", "SA_SIGINFO", "mov $173, %eax\\n int $0x80"),
+    ] {
+        folder.run(&format!("gcc {} -O1 -DFLAGS={} '-DCODE=\"{}\"' a.c -o own", machine, flags, code));
+        folder.make_core("./own");
+        let ran = dwcheck_elf(&folder, "stack --no-inline --no-source core");
+        let shown = frames(&ran.out);
+        assert_eq!(addresses(&shown), by_gdb(&folder, "own"), "{}{}", ran.out, ran.error);
+        let at = shown.iter().position(|line| line.contains(" own__sigaction (")).unwrap();
+        assert!(shown[at + 1].contains(" faulty") && shown[at + 1].ends_with(" guess: signal return"), "{}", ran.out);
+        assert_eq!(ran.out.matches(" guess: ").count(), 1);
+    }
 }
 
 /// A return address that isn't code isn't a frame. gdb shows frames with what it finds on the stack.

@@ -1,24 +1,9 @@
 //! Finds the caller of a frame that no row is found for. The result is a guess.
 
+use super::signal_return::SignalReturn;
 use super::FoundBy;
 use crate::core_file::{CoreFile, Memory};
 use dwcheck::Registers;
-use object::elf;
-
-/// The DWARF numbers of the registers that Linux stores for a signal handler on x86-64, in its order
-/// (`struct sigcontext`): r8 to r15, rdi, rsi, rbp, rbx, rdx, rax, rcx, rsp, rip.
-const SIGCONTEXT_X86_64: [u16; 17] = [8, 9, 10, 11, 12, 13, 14, 15, 5, 4, 6, 3, 1, 0, 2, 7, 16];
-
-/// The same for aarch64: x0 to x30, sp, pc.
-const SIGCONTEXT_AARCH64: [u16; 33] = {
-    let mut numbers = [0; 33];
-    let mut number = 0;
-    while number < 33 {
-        numbers[number] = number as u16;
-        number += 1;
-    }
-    numbers
-};
 
 /// A caller that was found by a rule other than a row.
 pub(super) struct Guess {
@@ -55,35 +40,27 @@ impl Guesser<'_> {
         Some(guess).filter(|_| self.is_code(address) && self.may_follow_call(address))
     }
 
-    /// Whether the code at an address asks the kernel to return from a signal handler. A handler
+    /// The code at an address by which a signal handler returns to the kernel, if that is what it is. A handler
     /// returns there, so no call is before it.
-    pub fn is_signal_return(&self, address: u64) -> bool {
-        let code: &[u8] = match self.core.abi().machine {
-            // mov $15, %rax; syscall
-            elf::EM_X86_64 => &[0x48, 0xc7, 0xc0, 15, 0, 0, 0, 0x0f, 0x05],
-            // mov x8, #139; svc #0
-            elf::EM_AARCH64 => &[0x68, 0x11, 0x80, 0xd2, 0x01, 0, 0, 0xd4],
-            _ => return false,
-        };
-        self.has_code(address, code)
+    pub fn signal_return(&self, address: u64) -> Option<&'static SignalReturn> {
+        SignalReturn::of(self.core.abi().machine).find(|found| self.has_code(address, found.code))
     }
 
     fn has_code(&self, address: u64, code: &[u8]) -> bool {
         self.core.is_executable(address) && self.memory.at_most(address, code.len()) == code
     }
 
-    /// The frame that a signal interrupted whose handler has returned to code that
-    /// [`is_signal_return`](Self::is_signal_return). The kernel has stored its registers on the stack.
-    pub fn by_signal_return(&self) -> Option<Guess> {
+    /// The frame that a signal interrupted whose handler returns to this code. The kernel has stored its registers
+    /// on the stack.
+    pub fn by_signal_return(&self, found: &SignalReturn) -> Option<Guess> {
         let abi = self.core.abi();
         let cfa = self.registers.get(abi.stack_pointer)?;
-        let (offset, numbers) = match abi.machine {
-            elf::EM_X86_64 => (40, &SIGCONTEXT_X86_64[..]),
-            _ => (312, &SIGCONTEXT_AARCH64[..]),
-        };
         let mut registers = Registers::default();
-        for (place, number) in (0..).zip(numbers) {
-            registers.set(*number, self.word(cfa.checked_add(offset + 8 * place)?)?);
+        for (place, number) in (0..).zip(found.registers) {
+            let at = cfa.checked_add(found.offset + place * self.word_size())?;
+            if let Some(number) = number {
+                registers.set(*number, self.word(at)?);
+            }
         }
         let address = registers.get(abi.program_counter)?;
         Some(Guess { found_by: FoundBy::SignalReturn, address, registers, cfa })

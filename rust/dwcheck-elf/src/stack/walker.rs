@@ -63,8 +63,9 @@ impl Walker<'_, '_> {
         // doesn't count.
         let is_signal_frame = found.as_ref().map_or(false, |found| found.is_signal_frame);
         let guesser = Guesser { core: self.core, memory: self.memory, registers };
-        if frame.is_after_call && !is_signal_frame && guesser.is_signal_return(frame.address) {
-            let guess = guesser.by_signal_return().filter(|_| !self.options.is_strict);
+        let may_be_return = frame.is_after_call && !is_signal_frame;
+        if let Some(code) = may_be_return.then(|| guesser.signal_return(frame.address)).flatten() {
+            let guess = guesser.by_signal_return(code).filter(|_| !self.options.is_strict);
             (frame.is_after_call, frame.is_signal_frame) = (false, true);
             return Ok(self.by_guess(frame, guess));
         }
