@@ -6,6 +6,7 @@ pub(crate) use signing::Signing;
 
 use crate::bytes::{Cursor, ReadError};
 use crate::target::Target;
+use gimli::constants as dw;
 use object::elf::EM_AARCH64;
 use std::borrow::Cow;
 
@@ -21,41 +22,53 @@ pub(crate) enum Operands {
     Address,
 }
 
-pub(crate) const SET_LOC: u8 = 0x01;
-pub(crate) const REMEMBER_STATE: u8 = 0x0a;
-pub(crate) const RESTORE_STATE: u8 = 0x0b;
-pub(crate) const DEF_CFA: u8 = 0x0c;
-pub(crate) const DEF_CFA_REGISTER: u8 = 0x0d;
-pub(crate) const DEF_CFA_OFFSET: u8 = 0x0e;
-pub(crate) const DEF_CFA_EXPRESSION: u8 = 0x0f;
-pub(crate) const DEF_CFA_SF: u8 = 0x12;
-pub(crate) const DEF_CFA_OFFSET_SF: u8 = 0x13;
+pub(crate) const ADVANCE_LOC1: u8 = dw::DW_CFA_advance_loc1.0;
+pub(crate) const ADVANCE_LOC2: u8 = dw::DW_CFA_advance_loc2.0;
+pub(crate) const ADVANCE_LOC4: u8 = dw::DW_CFA_advance_loc4.0;
+pub(crate) const SET_LOC: u8 = dw::DW_CFA_set_loc.0;
+pub(crate) const REMEMBER_STATE: u8 = dw::DW_CFA_remember_state.0;
+pub(crate) const RESTORE_STATE: u8 = dw::DW_CFA_restore_state.0;
+pub(crate) const DEF_CFA: u8 = dw::DW_CFA_def_cfa.0;
+pub(crate) const DEF_CFA_REGISTER: u8 = dw::DW_CFA_def_cfa_register.0;
+pub(crate) const DEF_CFA_EXPRESSION: u8 = dw::DW_CFA_def_cfa_expression.0;
+pub(crate) const DEF_CFA_SF: u8 = dw::DW_CFA_def_cfa_sf.0;
+pub(crate) const DEF_CFA_OFFSET_SF: u8 = dw::DW_CFA_def_cfa_offset_sf.0;
 /// `DW_CFA_AARCH64_negate_ra_state`. Other machines use the code for another instruction.
-pub(crate) const NEGATE_RA_STATE: u8 = 0x2d;
-pub(crate) const GNU_ARGS_SIZE: u8 = 0x2e;
+pub(crate) const NEGATE_RA_STATE: u8 = dw::DW_CFA_GNU_window_save.0;
+pub(crate) const GNU_ARGS_SIZE: u8 = dw::DW_CFA_GNU_args_size.0;
 
 /// The operands of the instruction with this code. `None` if the code isn't known.
 pub(crate) fn operands(code: u8) -> Option<Operands> {
-    Some(match code {
-        0x40..=0x7f | 0xc0..=0xff => Operands::None,
-        0x80..=0xbf => Operands::Leb,
-        0x00 | REMEMBER_STATE | RESTORE_STATE => Operands::None,
-        SET_LOC => Operands::Address,
-        0x02 => Operands::Bytes(1),
-        0x03 => Operands::Bytes(2),
-        0x04 => Operands::Bytes(4),
-        0x06..=0x08 | DEF_CFA_REGISTER | DEF_CFA_OFFSET | DEF_CFA_OFFSET_SF => Operands::Leb,
-        0x05 | 0x09 | DEF_CFA | 0x11 | DEF_CFA_SF | 0x14 | 0x15 => Operands::TwoLebs,
-        DEF_CFA_EXPRESSION => Operands::Block,
-        0x10 | 0x16 => Operands::LebAndBlock,
-        // 0x1d is DW_CFA_MIPS_advance_loc8.
-        0x1d => Operands::Bytes(8),
-        NEGATE_RA_STATE => Operands::None,
-        GNU_ARGS_SIZE => Operands::Leb,
-        // DW_CFA_GNU_negative_offset_extended.
-        0x2f => Operands::TwoLebs,
+    Some(match dw::DwCfa(primary(code)) {
+        dw::DW_CFA_advance_loc | dw::DW_CFA_restore => Operands::None,
+        dw::DW_CFA_offset => Operands::Leb,
+        dw::DW_CFA_nop | dw::DW_CFA_remember_state | dw::DW_CFA_restore_state => Operands::None,
+        dw::DW_CFA_set_loc => Operands::Address,
+        dw::DW_CFA_advance_loc1 => Operands::Bytes(1),
+        dw::DW_CFA_advance_loc2 => Operands::Bytes(2),
+        dw::DW_CFA_advance_loc4 => Operands::Bytes(4),
+        dw::DW_CFA_MIPS_advance_loc8 => Operands::Bytes(8),
+        dw::DW_CFA_restore_extended | dw::DW_CFA_undefined | dw::DW_CFA_same_value => Operands::Leb,
+        dw::DW_CFA_def_cfa_register | dw::DW_CFA_def_cfa_offset | dw::DW_CFA_def_cfa_offset_sf => Operands::Leb,
+        dw::DW_CFA_def_cfa | dw::DW_CFA_def_cfa_sf | dw::DW_CFA_register => Operands::TwoLebs,
+        dw::DW_CFA_offset_extended | dw::DW_CFA_offset_extended_sf => Operands::TwoLebs,
+        dw::DW_CFA_val_offset | dw::DW_CFA_val_offset_sf => Operands::TwoLebs,
+        dw::DW_CFA_def_cfa_expression => Operands::Block,
+        dw::DW_CFA_expression | dw::DW_CFA_val_expression => Operands::LebAndBlock,
+        dw::DwCfa(NEGATE_RA_STATE) => Operands::None,
+        dw::DW_CFA_GNU_args_size => Operands::Leb,
+        dw::DW_CFA_GNU_negative_offset_extended => Operands::TwoLebs,
         _ => return None,
     })
+}
+
+/// The code without the operand that instructions with one of the two highest bits have in the others.
+fn primary(code: u8) -> u8 {
+    if code & 0xc0 == 0 {
+        code
+    } else {
+        code & 0xc0
+    }
 }
 
 /// Moves past the operands of an instruction. Returns the length of the block that they end with,
@@ -82,10 +95,9 @@ fn block(cursor: &mut Cursor<'_>) -> Result<usize, ReadError> {
 /// section 7.24, or a vendor's. Vendors use some codes for different instructions; `machine`
 /// (`e_machine`) then decides which one is meant. `None` if the code has no name.
 pub(crate) fn name_of(code: u8, machine: u16) -> Option<&'static str> {
-    // The two highest bits alone are the code of an instruction that has an operand in the others.
-    let code = if code & 0xc0 == 0 { code } else { code & 0xc0 };
-    match gimli::DwCfa(code) {
-        gimli::DW_CFA_lo_user | gimli::DW_CFA_hi_user => None,
+    let code = primary(code);
+    match dw::DwCfa(code) {
+        dw::DW_CFA_lo_user | dw::DW_CFA_hi_user => None,
         _ if code == NEGATE_RA_STATE && machine == EM_AARCH64 => Some("AARCH64_negate_ra_state"),
         named => named.static_string()?.strip_prefix("DW_CFA_"),
     }

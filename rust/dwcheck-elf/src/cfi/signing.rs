@@ -5,7 +5,7 @@
 //! the return address is signed from the instruction's location on. A `DW_CFA_restore_state` gives
 //! back what a `DW_CFA_remember_state` remembered.
 
-use super::{NEGATE_RA_STATE, REMEMBER_STATE, RESTORE_STATE, SET_LOC};
+use super::{ADVANCE_LOC1, ADVANCE_LOC2, ADVANCE_LOC4, NEGATE_RA_STATE, REMEMBER_STATE, RESTORE_STATE, SET_LOC};
 use crate::target::Target;
 use std::ops::Range;
 
@@ -39,9 +39,9 @@ impl Signing {
         let number = |size: u8| target.number(rest.get(..usize::from(size)).unwrap_or(&[]));
         match code {
             0x40..=0x7f => self.advance(u64::from(code & 0x3f)),
-            0x02 => self.advance(number(1)),
-            0x03 => self.advance(number(2)),
-            0x04 => self.advance(number(4)),
+            ADVANCE_LOC1 => self.advance(number(1)),
+            ADVANCE_LOC2 => self.advance(number(2)),
+            ADVANCE_LOC4 => self.advance(number(4)),
             SET_LOC => self.location = number(target.address_size.bytes()),
             REMEMBER_STATE => self.remembered.push(self.is_signed()),
             RESTORE_STATE => {

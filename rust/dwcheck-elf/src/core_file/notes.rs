@@ -9,16 +9,16 @@ use object::elf::{NT_AUXV, NT_FILE, NT_PRPSINFO, NT_PRSTATUS, NT_SIGINFO};
 
 /// The type of the entry of the auxiliary vector that has the address of the program's first
 /// instruction.
-pub(super) const AT_ENTRY: u64 = 9;
+pub(super) const AT_ENTRY: u64 = libc::AT_ENTRY;
 
 /// The type of the note that says which bits of an address hold an authentication code on aarch64.
 const NT_ARM_PAC_MASK: u32 = 0x406;
 
 /// The type of the entry of the auxiliary vector that has the address of the vDSO.
-pub(super) const AT_SYSINFO_EHDR: u64 = 33;
+pub(super) const AT_SYSINFO_EHDR: u64 = libc::AT_SYSINFO_EHDR;
 
 /// The type of the entry of the auxiliary vector that has the address of the program's file name.
-const AT_EXECFN: u64 = 31;
+const AT_EXECFN: u64 = libc::AT_EXECFN;
 
 /// A part of a file that is mapped into memory.
 #[derive(Clone, Copy, Debug, PartialEq, Eq)]
