@@ -255,6 +255,23 @@ fn entries_that_do_not_fit_are_past_the_end() {
     X86_64.quiet("unbound", body, after);
 }
 
+/// Bounded tables: without a bound, the table ends where an entry doesn't lead to an instruction. The third entry
+/// leads into the number of a `mov`, whose bytes are four pushes.
+#[test]
+fn tables_end_where_an_entry_leads_to_no_instruction() {
+    let body = "mov (%rsi), %edi
+        lea table(%rip), %rdx
+        movslq (%rdx,%rdi,4), %rax
+        add %rdx, %rax
+        notrack jmp *%rax
+        1: mov $0x50505050, %eax
+        ret
+        2: mov $2, %eax
+        ret";
+    let after = ".section .rodata\ntable: .long 1b-table, 2b-table, 1b+1-table\n";
+    X86_64.quiet("inside", body, after);
+}
+
 /// Default of a switch: the jump out of the function isn't taken.
 #[test]
 fn the_default_of_a_switch_can_lead_anywhere() {
