@@ -1,6 +1,6 @@
 #!/bin/sh
-# Builds the examples and runs them. The frames that `stack`, `crash` and `attach` print must be those
-# that gdb finds in the same process. The first one that `crash` prints must be in the function `deep`,
+# Builds the examples and runs them. The frames that `stack`, `crash`, `attach` and `core` print must be
+# those that gdb finds in the same process or core file. The first one that `crash` prints must be in the function `deep`,
 # by its file and its address there. A stack that `profiler` prints must contain the function `often`.
 # usage: examples/c/run.sh
 # The flags with which the compiler finds the libraries come from pkg-config, or from DWCHECK_FLAGS if
@@ -11,9 +11,13 @@ out=$(mktemp -d)
 trap 'rm -rf "$out"' EXIT
 library=${DWCHECK_FLAGS:-$(pkg-config --cflags --libs dwcheck-dl)}
 build="-std=gnu11 -Wall -Wextra -Werror -O2 -g -fno-optimize-sibling-calls -rdynamic"
-for program in stack crash profiler attach; do
+for program in stack crash profiler attach core; do
+    case $program in
+    attach | core) with=$here/remote.c ;;
+    *) with=$here/state.c ;;
+    esac
     # $build and $library aren't quoted, because each is a list of words.
-    "${CC:-cc}" $build "$here/$program.c" "$here/state.c" $library -pthread -ldl -o "$out/$program"
+    "${CC:-cc}" $build "$here/$program.c" "$with" $library -pthread -ldl -o "$out/$program"
 done
 
 # $build and $library aren't quoted, for the same reason.
@@ -24,16 +28,39 @@ done
 printf '#include <sys/prctl.h>\n#include <unistd.h>\nint main(void) { return prctl(PR_SET_PTRACER, -1L, 0, 0, 0), pause(); }\n' |
     "${CC:-cc}" -x c - -o "$out/waiting"
 
+# A gdb script that prints the addresses of a thread's frames on the stack. gdb shows inlined functions too, and
+# functions that ended in a jump to another.
+cat > "$out/frames.py" << 'END'
+frame = gdb.newest_frame()
+while frame:
+    if frame.type() not in (gdb.INLINE_FRAME, gdb.TAILCALL_FRAME):
+        print("gdb %#018x" % frame.pc())
+    frame = frame.older()
+END
+
+same_as_gdb() { # LEAST: the frames that an example printed are those that gdb printed, and at least LEAST
+    sed -n 's/^frame [0-9]* \(0x[0-9a-f]*\) .*/\1/p' "$out/frames" > "$out/ours"
+    sed -n 's/^gdb \(0x[0-9a-f]*\)$/\1/p' "$out/gdb" | diff "$out/ours" - && [ "$(wc -l < "$out/ours")" -ge "$1" ]
+}
+
 attached() { # the frames of a process that waits, beside gdb's
     "$out/waiting" &
     sleeper=$!
     sleep 1 # until it has begun
     "$out/attach" $sleeper > "$out/frames" || return 1
-    gdb -q -batch -ex "set backtrace past-main on" -ex "python f = gdb.newest_frame()" \
-        -ex "python while f: print('gdb %#018x' % f.pc()); f = f.older()" -p $sleeper > "$out/gdb" 2>&1
+    gdb -q -batch -ex "set backtrace past-main on" -x "$out/frames.py" -p $sleeper > "$out/gdb" 2>&1
     kill $sleeper
-    sed -n 's/^frame [0-9]* \(0x[0-9a-f]*\) .*/\1/p' "$out/frames" > "$out/ours"
-    sed -n 's/^gdb \(0x[0-9a-f]*\)$/\1/p' "$out/gdb" | diff "$out/ours" - && [ "$(wc -l < "$out/ours")" -ge 5 ]
+    same_as_gdb 5
+}
+
+cored() { # the frames of both threads of a core file, beside gdb's
+    "${CC:-cc}" -g -O0 -pthread "$here/../rust/crash.c" -o "$out/dies"
+    mkdir "$out/dead"
+    (cd "$out/dead" && "$here/../../tools/make_core.sh" ../dies)
+    "$out/core" "$out/dead/core" > "$out/frames" || return 1
+    gdb -q -batch -ex "set backtrace past-main on" -ex "thread apply all -ascending -q source $out/frames.py" \
+        "$out/dies" "$out/dead/core" > "$out/gdb" 2>&1
+    same_as_gdb 30
 }
 
 compared() { # PROGRAM LEAST: its frames, at least LEAST of them, are compared with gdb's
@@ -65,6 +92,8 @@ if [ -z "${DWCHECK_NO_PTRACE:-}" ]; then
     attached
     echo "ok attach: $(wc -l < "$out/ours") frames are gdb's"
 fi
+cored
+echo "ok core: $(wc -l < "$out/ours") frames of two threads are gdb's"
 "$out/profiler" | tee "$out/stacks"
 grep -q often "$out/stacks"
 echo "ok profiler: often is in a stack"
