@@ -19,8 +19,9 @@ struct core {
     uint64_t length;
     const Elf64_Phdr *segments;
     unsigned count;
-    const uint64_t *files; /* NT_FILE: a number of mappings, the page size, and three numbers for each mapping */
-    const char *names, *names_end;
+    uint64_t mappings, page_size;
+    const uint8_t *places; /* three numbers for each mapping */
+    const char *names, *names_end; /* a name for each mapping */
 };
 
 /* A mapping of a file: its addresses, and where they begin in the file, in pages. */
@@ -34,18 +35,20 @@ static const uint8_t *bytes_at(const struct core *core, uint64_t offset, uint64_
 /* The mapping with this number, and the name of its file. */
 static const char *mapping_at(const struct core *core, uint64_t number, struct mapping *mapping) {
     const char *name = core->names;
-    for (uint64_t i = 0; i < number && name < core->names_end; i++) name += strnlen(name, (size_t)(core->names_end - name)) + 1;
-    memcpy(mapping, core->files + 2 + 3 * number, sizeof *mapping);
+    for (uint64_t i = 0; i < number && name < core->names_end; i++)
+        name += strnlen(name, (size_t)(core->names_end - name)) + 1;
+    memcpy(mapping, core->places + sizeof *mapping * number, sizeof *mapping);
     return name < core->names_end ? name : NULL;
 }
 
 static bool read_file(const struct core *core, uint64_t address, uint8_t *into, size_t length) {
     struct mapping mapping;
-    for (uint64_t i = 0; core->files && i < core->files[0]; i++) {
+    for (uint64_t i = 0; i < core->mappings; i++) {
         const char *name = mapping_at(core, i, &mapping);
         if (!name || address < mapping.first || address >= mapping.end) continue;
         int file = open(name, O_RDONLY | O_CLOEXEC);
-        ssize_t read = file < 0 ? -1 : pread(file, into, length, (off_t)(mapping.page * core->files[1] + (address - mapping.first)));
+        uint64_t at = mapping.page * core->page_size + (address - mapping.first);
+        ssize_t read = file < 0 ? -1 : pread(file, into, length, (off_t)at);
         if (file >= 0) close(file);
         return read == (ssize_t)length;
     }
@@ -55,16 +58,19 @@ static bool read_file(const struct core *core, uint64_t address, uint8_t *into, 
 static bool read_core(void *data, uint64_t address, uint8_t *into, size_t length) {
     const struct core *core = data;
     for (unsigned i = 0; i < core->count; i++) {
-        uint64_t within = address - core->segments[i].p_vaddr;
-        if (core->segments[i].p_type != PT_LOAD || within >= core->segments[i].p_filesz || length > core->segments[i].p_filesz - within) continue;
-        const uint8_t *bytes = bytes_at(core, core->segments[i].p_offset + within, length);
+        const Elf64_Phdr *segment = &core->segments[i];
+        uint64_t within = address - segment->p_vaddr;
+        if (segment->p_type != PT_LOAD || within >= segment->p_filesz || length > segment->p_filesz - within) continue;
+        const uint8_t *bytes = bytes_at(core, segment->p_offset + within, length);
         return bytes && memcpy(into, bytes, length);
     }
     return read_file(core, address, into, length);
 }
 
-/* Calls `use` with each note of this type. */
-static void each_note(struct core *core, uint32_t type, void (*use)(struct core *, const uint8_t *, uint64_t, void *), void *with) {
+/* What is done with the bytes of a note. */
+typedef void use_note(struct core *core, const uint8_t *bytes, uint64_t length, void *with);
+
+static void each_note(struct core *core, uint32_t type, use_note *use, void *with) {
     for (unsigned i = 0; i < core->count; i++) {
         uint64_t at = core->segments[i].p_offset, end = at + core->segments[i].p_filesz;
         const Elf64_Nhdr *note;
@@ -81,16 +87,22 @@ struct adding { dwcheck_process *process; const dwcheck_reader *reader; };
 
 /* Adds the module of each file: its first mapping has its ELF header. */
 static void add_files(struct core *core, const uint8_t *bytes, uint64_t length, void *with) {
-    const uint64_t *numbers = (const void *)bytes;
     const struct adding *adding = with;
     struct mapping mapping;
     const char *name, *last = "";
-    if (length < 16 || numbers[0] > (length - 16) / 24) return;
-    core->files = numbers;
-    core->names = (const char *)(numbers + 2 + 3 * numbers[0]);
+    uint64_t numbers[2];
+    if (length < sizeof numbers) return;
+    memcpy(numbers, bytes, sizeof numbers);
+    if (numbers[0] > (length - sizeof numbers) / sizeof mapping) return;
+    core->mappings = numbers[0];
+    core->page_size = numbers[1];
+    core->places = bytes + sizeof numbers;
+    core->names = (const char *)core->places + sizeof mapping * core->mappings;
     core->names_end = (const char *)bytes + length;
-    for (uint64_t i = 0; i < numbers[0] && (name = mapping_at(core, i, &mapping)); i++) {
-        if (mapping.page == 0 && strcmp(name, last) != 0) add_module(adding->process, adding->reader, mapping.first), last = name;
+    for (uint64_t i = 0; i < core->mappings && (name = mapping_at(core, i, &mapping)); i++) {
+        if (mapping.page != 0 || strcmp(name, last) == 0) continue;
+        add_module(adding->process, adding->reader, mapping.first);
+        last = name;
     }
 }
 
@@ -127,8 +139,10 @@ int main(int count, char **arguments) {
     if (file < 0 || fstat(file, &about) != 0) return perror(arguments[1]), 1;
     core.length = (uint64_t)about.st_size;
     core.bytes = core.length ? mmap(NULL, core.length, PROT_READ, MAP_PRIVATE, file, 0) : MAP_FAILED;
-    const Elf64_Ehdr *header = core.bytes == MAP_FAILED || core.length < sizeof *header ? NULL : (const void *)core.bytes;
-    if (!header || memcmp(header->e_ident, ELFMAG, SELFMAG) != 0 || header->e_type != ET_CORE || header->e_machine != EM_X86_64)
+    bool is_mapped = core.bytes != MAP_FAILED && core.length >= sizeof(Elf64_Ehdr);
+    const Elf64_Ehdr *header = is_mapped ? (const void *)core.bytes : NULL;
+    bool is_elf = header && memcmp(header->e_ident, ELFMAG, SELFMAG) == 0;
+    if (!is_elf || header->e_type != ET_CORE || header->e_machine != EM_X86_64)
         return fprintf(stderr, "%s: no core file of x86-64\n", arguments[1]), 1;
     core.count = header->e_phnum;
     core.segments = (const void *)bytes_at(&core, header->e_phoff, core.count * sizeof *core.segments);

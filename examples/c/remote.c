@@ -32,7 +32,8 @@ static uint64_t section_start(const dwcheck_reader *reader, uint64_t load, const
     int32_t distance;
     for (int i = 0; i < count; i++) {
         uint64_t at = load + segments[i].p_vaddr;
-        if (segments[i].p_type != PT_GNU_EH_FRAME || !read_at(reader, at, header, sizeof header) || header[1] != PCREL_SDATA4) continue;
+        if (segments[i].p_type != PT_GNU_EH_FRAME || !read_at(reader, at, header, sizeof header)) continue;
+        if (header[1] != PCREL_SDATA4) continue;
         memcpy(&distance, header + 4, 4);
         return at + 4 + (uint64_t)(int64_t)distance;
     }
@@ -43,7 +44,8 @@ void add_module(dwcheck_process *process, const dwcheck_reader *reader, uint64_t
     Elf64_Ehdr header;
     Elf64_Phdr segments[SEGMENTS];
     if (!read_at(reader, base, &header, sizeof header) || memcmp(header.e_ident, ELFMAG, SELFMAG) != 0) return;
-    if (header.e_phnum > SEGMENTS || !read_at(reader, base + header.e_phoff, segments, header.e_phnum * sizeof *segments)) return;
+    if (header.e_phnum > SEGMENTS) return;
+    if (!read_at(reader, base + header.e_phoff, segments, header.e_phnum * sizeof *segments)) return;
     uint64_t load = header.e_type == ET_DYN ? base : 0, end = 0, first = UINT64_MAX, last = 0, id;
     uint64_t at = section_start(reader, load, segments, header.e_phnum);
     for (int i = 0; at != 0 && i < header.e_phnum; i++) {
@@ -58,11 +60,12 @@ void add_module(dwcheck_process *process, const dwcheck_reader *reader, uint64_t
     uint8_t *section = length > 0 && length < LONGEST ? malloc(length) : NULL;
     dwcheck_fault fault;
     if (section && read_at(reader, at, section, length)) {
-        dwcheck_module module = {.frame = section, .frame_length = length, .kind = DWCHECK_EH_FRAME, .section_address = at - load,
-                                 .load_address = load, .first = first, .last = last, .has_range = 1, .room = SIZE_MAX,
-                                 .address_size = 8};
+        dwcheck_module module = {.frame = section, .frame_length = length, .kind = DWCHECK_EH_FRAME,
+                                 .section_address = at - load, .load_address = load, .first = first,
+                                 .last = last, .has_range = 1, .room = SIZE_MAX, .address_size = 8};
         uint32_t status = dwcheck_process_add(process, &module, &id, &fault);
-        if (status != DWCHECK_DONE) fprintf(stderr, "0x%" PRIx64 ": not added: %s\n", base, dwcheck_status_text(status));
+        if (status != DWCHECK_DONE)
+            fprintf(stderr, "0x%" PRIx64 ": not added: %s\n", base, dwcheck_status_text(status));
     }
     free(section);
 }
@@ -72,8 +75,8 @@ void print_stack(const dwcheck_process *process, const dwcheck_reader *reader, c
                                  r->r9,  r->r10, r->r11, r->r12, r->r13, r->r14, r->r15, r->rip};
     static const uint8_t known[] = {0xff, 0xff, 1};
     static const uint16_t kept[] = {3, 6, 12, 13, 14, 15};
-    const dwcheck_state state = {.contents = contents, .contents_length = 17, .known = known, .known_length = 3, .kept = kept,
-                                 .kept_length = 6, .stack_pointer = 7, .has_stack_pointer = 1};
+    const dwcheck_state state = {.contents = contents, .contents_length = 17, .known = known, .known_length = 3,
+                                 .kept = kept, .kept_length = 6, .stack_pointer = 7, .has_stack_pointer = 1};
     dwcheck_cursor cursor;
     dwcheck_frame frame;
     dwcheck_fault fault;
