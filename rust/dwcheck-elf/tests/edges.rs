@@ -214,6 +214,54 @@ fn a_panic_of_go() {
     assert_eq!(of_thread.matches(" guess: ").count(), 1, "{}", of_thread);
 }
 
+/// C is called from Go, calls back, and Go's code crashes there, or the C that it calls.
+const CGO: &str = "package main
+/*
+#include <stdlib.h>
+void inner(int n);
+__attribute__((noinline)) static void outer(int n) { volatile int k = n; inner(n); k++; }
+__attribute__((noinline)) static void crash(int n) { volatile int k = n; abort(); k++; }
+*/
+import \"C\"
+import \"os\"
+//export inner
+func inner(n C.int) {
+	var p *int
+	if n == 2 { C.crash(n) } else { *p = 1 }
+}
+//go:noinline
+func start(n int) { C.outer(C.int(n)) }
+func main() { start(len(os.Args)) }
+";
+
+/// From C back to Go, the frames are gdb's up to the first function of the goroutine. Go has put the first address
+/// of `runtime.systemstack_switch` where a return address is. From Go to C, the stack is another one, which no row
+/// says; gdb goes on with what it finds there.
+#[test]
+fn a_crash_in_go_that_c_has_called() {
+    let folder = Folder::new("edge-cgo");
+    if !["go", "gdb"].iter().all(|tool| has(tool)) {
+        return;
+    }
+    folder.write("a.go", CGO);
+    folder.run("HOME=$PWD GO111MODULE=off GOTOOLCHAIN=local CGO_ENABLED=1 go build -o program a.go");
+    for (words, caller) in [("", " main.main+"), (" 2", " runtime.asmcgocall")] {
+        folder.run(&format!(
+            "rm -f core; (ulimit -c unlimited; GOTRACEBACK=crash ./program{}) > /dev/null 2>&1 || mv core.* core 2> /dev/null || true",
+            words
+        ));
+        if !folder.file("core").exists() {
+            return common::skipped("the kernel writes no core files here");
+        }
+        let ran = dwcheck_elf(&folder, "stack --no-inline --no-source core");
+        let shown = frames(ran.out.split("\nthread ").next().unwrap());
+        let place = shown.iter().position(|line| line.contains(caller)).unwrap_or_else(|| panic!("{}", ran.out));
+        let found = by_gdb(&folder, "program");
+        assert_eq!(addresses(&shown[..=place]), found[..=place], "{}", ran.out);
+        assert!(shown[..=place].iter().all(|line| !line.contains(" guess: frame")), "{}", ran.out);
+    }
+}
+
 /// qemu's own code, to which handlers return, has no row. The frames are those that the source implies.
 #[test]
 fn a_handler_of_aarch64() {

@@ -98,7 +98,7 @@ impl Guesser<'_> {
     }
 
     /// Whether a call may come before an address. False only for code of x86 that is known.
-    fn may_follow_call(&self, address: u64) -> bool {
+    pub fn may_follow_call(&self, address: u64) -> bool {
         let mut before = [0; 7];
         let is_known = address >= 7 && self.memory.read(address - 7, &mut before);
         self.core.abi().link_register.is_some() || !is_known || ends_with_call(&before)

@@ -59,6 +59,8 @@ struct Wanted {
 
 /// An FDE that `dwcheck` has accepted.
 struct Compiled {
+    /// Its first address in the process.
+    begin: u64,
     is_signal_frame: bool,
     is_signal_return: bool,
     /// The addresses in the process at which the return address is signed.
@@ -133,7 +135,7 @@ impl<'a> Tables<'a> {
         if self.process.module_at(address).is_none() {
             self.compile(address)?;
         }
-        let compiled = self.process.module_at(address).and_then(|module| self.compiled.get(module.cookie as usize));
+        let compiled = self.compiled_at(address);
         let caller = self.process.unwind(address, state)?;
         Ok(compiled.zip(caller).map(|(compiled, caller)| Found {
             caller,
@@ -141,6 +143,16 @@ impl<'a> Tables<'a> {
             is_signal_return: compiled.is_signal_return,
             is_signed: compiled.signed.iter().any(|range| range.contains(&address)),
         }))
+    }
+
+    /// The same, but only if an FDE begins at the address.
+    pub fn caller_at_begin(&mut self, address: u64, state: &State<'_>) -> Result<Option<Found>, Error> {
+        let caller = self.caller(address, state)?;
+        Ok(caller.filter(|_| self.compiled_at(address).map_or(false, |compiled| compiled.begin == address)))
+    }
+
+    fn compiled_at(&self, address: u64) -> Option<&Compiled> {
+        self.process.module_at(address).and_then(|module| self.compiled.get(module.cookie as usize))
     }
 
     /// Checks and compiles the FDE that covers an address, if there is one that can be used.
@@ -192,7 +204,8 @@ impl<'a> Tables<'a> {
                     |range: &Range<u64>| range.start.wrapping_add(module.bias)..range.end.wrapping_add(module.bias);
                 let signed = one.signed.iter().map(move_by).collect();
                 let is_signal_frame = one.is_signal_frame || *sigpanic == Some(piece.range.start);
-                self.compiled.push(Compiled { is_signal_frame, is_signal_return: one.is_signal_frame, signed });
+                let begin = piece.range.start.wrapping_add(module.bias);
+                self.compiled.push(Compiled { begin, is_signal_frame, is_signal_return: one.is_signal_frame, signed });
                 return Ok(true);
             }
             Ok((Err(Error::Refused(fault)), _)) => fault.name().to_string(),

@@ -69,12 +69,28 @@ impl Walker<'_, '_> {
             (frame.is_after_call, frame.is_signal_frame) = (false, true);
             return Ok(self.by_guess(frame, guess));
         }
+        let is_call = !frame.is_after_call || guesser.may_follow_call(frame.address);
         match found {
             Some(found) => Ok(self.by_row(frame, found)),
-            None => {
-                let guess = self.guess(frame, &guesser);
-                Ok(self.by_guess(frame, guess))
+            None if !is_call => self.by_row_at_begin(frame, &state, &guesser),
+            None => Ok(self.by_guess(frame, self.guess(frame, &guesser))),
+        }
+    }
+
+    /// The caller of a frame whose address no call is before. Some code, such as Go's, puts the first address of a
+    /// function where a return address is, as if the function had been called and had done nothing yet.
+    fn by_row_at_begin(
+        &mut self,
+        frame: &mut Frame,
+        state: &State<'_>,
+        guesser: &Guesser<'_>,
+    ) -> Result<Caller, Error> {
+        match self.tables.caller_at_begin(frame.address, state)? {
+            Some(found) => {
+                frame.is_after_call = false;
+                Ok(self.by_row(frame, found))
             }
+            None => Ok(self.by_guess(frame, self.guess(frame, guesser))),
         }
     }
 
