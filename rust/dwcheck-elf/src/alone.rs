@@ -6,7 +6,7 @@ use crate::debug_frame::{records, Kind, Record};
 use crate::frames::Frames;
 use crate::pieces::Pieces;
 use crate::target::Target;
-use dwcheck::{DebugFrame, DebugLoclists, Fault, FaultKind, Section};
+use dwcheck::{DebugFrame, DebugLoclists, Error, Fault, FaultKind, Process, Section};
 use std::collections::HashMap;
 
 /// Lists the first fault of each CIE and of each FDE of a refused section, and every overlap of
@@ -57,29 +57,23 @@ pub fn accepted_part<'data>(frames: &Frames<'data>, faults: &[Fault]) -> Frames<
     frames.without(&faults.iter().filter_map(record_of).collect())
 }
 
-/// A section without the CIEs and FDEs that are refused. If there are such, the second part of the result
-/// says how many.
-pub(crate) fn accepted<'data>(frames: Frames<'data>) -> Result<(Frames<'data>, Option<String>), String> {
+/// A section without the CIEs and FDEs that are refused, and its rows. If there are such, the last part of the
+/// result says how many.
+pub(crate) fn accepted(frames: Frames<'_>) -> Result<(Frames<'_>, Process, Option<String>), String> {
     let name = frames.name();
-    let check =
-        |frames: &Frames<'_>| dwcheck::check(DebugFrame(frames.bytes()), DebugLoclists(&[]), frames.target().into());
-    let (rest, fault) = match check(&frames) {
-        Ok(()) => (frames, None),
-        Err(dwcheck::Error::Refused(fault)) => {
-            (accepted_part(&frames, &every_fault(&frames, fault)), Some(fault.name()))
+    let (frames, process, fault) = match frames.process(0) {
+        Ok(process) => (frames, process, None),
+        Err(Error::Refused(fault)) => {
+            let rest = accepted_part(&frames, &every_fault(&frames, fault));
+            let process = rest.process(0).map_err(|_| format!("{}: {}: not used", name, fault.name()))?;
+            (rest, process, Some(fault.name()))
         }
         Err(error) => return Err(format!("{}: {}", name, error)),
     };
-    let reason = fault.or_else(|| rest.bridged().refused().first().map(|error| error.reason.name()));
-    match reason {
-        None => Ok((rest, None)),
-        Some(reason) if fault.is_some() && check(&rest).is_err() => Err(format!("{}: {}: not used", name, reason)),
-        Some(reason) => {
-            let left_out = rest.bridged().left_out().len();
-            let problem = format!("{}: {}: {} of its records aren't used", name, reason, left_out);
-            Ok((rest, Some(problem)))
-        }
-    }
+    let reason = fault.or_else(|| frames.bridged().refused().first().map(|error| error.reason.name()));
+    let left_out = frames.bridged().left_out().len();
+    let problem = reason.map(|reason| format!("{}: {}: {} of its records aren't used", name, reason, left_out));
+    Ok((frames, process, problem))
 }
 
 /// A frame section whose CIEs and FDEs are checked one by one.

@@ -45,7 +45,7 @@ impl<'data> Sections<'data> {
     pub fn read(program: &Program<'data>) -> Self {
         let mut sections = Sections { all: Vec::new(), image: program.image(), unused: Vec::new() };
         for frames in Frames::all(program, Options::default()) {
-            let used = frames.map_err(|error| error.to_string()).and_then(used);
+            let used = frames.map_err(|error| error.to_string()).and_then(accepted);
             match used {
                 Ok((frames, process, problem)) => {
                     sections.all.push((frames, process));
@@ -96,13 +96,6 @@ impl<'data> Sections<'data> {
         });
         fdes
     }
-}
-
-/// A section without the CIEs and FDEs that are refused, its rows, and what isn't used of it.
-fn used(frames: Frames<'_>) -> Result<(Frames<'_>, Process, Option<String>), String> {
-    let (frames, problem) = accepted(frames)?;
-    let process = frames.process(0).map_err(|error| format!("{}: {}", frames.name(), error))?;
-    Ok((frames, process, problem))
 }
 
 /// What the functions of a program do with registers: those of Go and OCaml keep none.
