@@ -7,6 +7,7 @@
 //! - [`validate`] compares the unwind rows of an `.eh_frame` section with those of the rewritten
 //!   section.
 //! - [`lint`] gives the crate `dwcheck-lint` a program's code and rows.
+//! - [`trace`] compares rows with values while a program runs.
 //! - [`core_file`] opens a core file and gives its threads, memory and modules.
 //!
 //! No function here trusts its input: a malformed file gives an error.
@@ -46,4 +47,6 @@ pub mod stack;
 pub mod state_file;
 pub mod target;
 pub mod text;
+#[cfg(all(target_os = "linux", target_arch = "x86_64"))]
+pub mod trace;
 pub mod validate;

@@ -80,6 +80,11 @@ impl<'data> Sections<'data> {
         Ok(module)
     }
 
+    /// The checked sections, in the order in which their rows are taken.
+    pub fn processes(&self) -> impl Iterator<Item = &Process> {
+        self.all.iter().map(|(_, process)| process)
+    }
+
     /// The FDEs of all sections, ascending. If two share an address, the one that begins first is
     /// taken, or the one of `.eh_frame`.
     fn fdes(&self, module: &Module<'_>) -> Vec<Fde> {

@@ -8,11 +8,11 @@ mod maps;
 mod trace;
 
 pub use maps::Map;
+pub(crate) use maps::Process;
 
 use crate::abi::Abi;
 use crate::core_file::{CoreFile, Thread};
 use crate::target::Target;
-use maps::Process;
 use std::fmt;
 use std::io;
 use std::time::Duration;

@@ -16,6 +16,7 @@ mod text;
 mod walker;
 
 pub use crate::lines::SourceLine;
+pub(crate) use guess::ends_with_call;
 pub use instruction::Instruction;
 pub use names::{Inlined, NameOptions, Place};
 pub use text::Lines;

@@ -17,10 +17,14 @@ pub struct Map {
     pub begin: u64,
     /// The address after the last one.
     pub end: u64,
+    /// Whether it may be written to.
+    pub is_writable: bool,
     /// Whether it may be executed.
     pub is_executable: bool,
     /// The offset in the file of the byte at `begin`.
     pub offset: u64,
+    /// The number of the file on its file system, 0 if there is no file.
+    pub inode: u64,
     /// The file's path, or a name such as `[stack]`; empty if it has neither.
     pub path: Vec<u8>,
 }
@@ -107,12 +111,13 @@ fn map(line: &[u8]) -> Option<Map> {
     let number = |text: &str| u64::from_str_radix(text, 16).ok();
     let (begin, end) = word()?.split_once('-')?;
     let (begin, end) = (number(begin)?, number(end)?);
-    let is_executable = word()?.as_bytes().get(2) == Some(&b'x');
+    let rights = word()?.as_bytes();
+    let (is_writable, is_executable) = (rights.get(1) == Some(&b'w'), rights.get(2) == Some(&b'x'));
     let offset = number(word()?)?;
-    let (_device, _inode) = (word()?, word()?);
+    let (_device, inode) = (word()?, word()?.parse().ok()?);
     let path = words.next().unwrap_or(&[]);
     let path = path.iter().position(|byte| *byte != b' ').map_or(&[][..], |first| &path[first..]);
-    Some(Map { begin, end, is_executable, offset, path: path.to_vec() })
+    Some(Map { begin, end, is_writable, is_executable, offset, inode, path: path.to_vec() })
 }
 
 #[cfg(test)]
@@ -124,9 +129,11 @@ mod tests {
         let line = b"7f0000001000-7f0000002000 r-xp 00003000 08:01 1234                       /usr/lib/a b (deleted)";
         let (begin, end) = (0x7f00_0000_1000, 0x7f00_0000_2000);
         let path = b"/usr/lib/a b (deleted)".to_vec();
-        assert_eq!(map(line), Some(Map { begin, end, is_executable: true, offset: 0x3000, path }));
+        let code = Map { begin, end, is_writable: false, is_executable: true, offset: 0x3000, inode: 1234, path };
+        assert_eq!(map(line), Some(code.clone()));
         let line = b"7f0000001000-7f0000002000 rw-p 00000000 00:00 0 ";
-        assert_eq!(map(line), Some(Map { begin, end, is_executable: false, offset: 0, path: Vec::new() }));
+        let data = Map { is_writable: true, is_executable: false, offset: 0, inode: 0, path: Vec::new(), ..code };
+        assert_eq!(map(line), Some(data));
         assert_eq!(map(b""), None);
     }
 }

@@ -3,6 +3,7 @@
 
 pub mod cores;
 pub mod run;
+pub mod trace;
 
 use std::path::{Path, PathBuf};
 use std::process::Command;

@@ -48,7 +48,14 @@ pub enum Command {
     /// Compare the rows of unwind tables with the code that they describe (x86-64, aarch64)
     #[command(after_help = LINT_STATUS)]
     Lint(LintWords),
+    /// Run a program, and compare rows with what is so meanwhile (x86-64)
+    #[command(after_help = TRACE_STATUS)]
+    Trace(TraceWords),
 }
+
+const TRACE_STATUS: &str = "Example: dwcheck-elf trace --module 'libcrypto*' -- openssl speed rsa512
+Exit status: that of the program, or 128 plus the number of the signal that ended it. With --status, and of
+--pid: 0 nothing found; 1 findings; 2 a bad argument; 3 a program that can't be traced";
 
 const LINT_STATUS: &str = "Example: dwcheck-elf lint --explain /usr/bin/openssl
 Exit status: 0 nothing found; 1 findings; 2 a bad argument; 3 a file that can't be read";
@@ -235,7 +242,7 @@ pub struct SurveyWords {
 #[derive(Args, Debug)]
 pub struct LintWords {
     /// Programs, libraries, unlinked objects, and folders of them
-    #[arg(required = true)]
+    #[arg(required_unless_present = "confirm")]
     pub paths: Vec<PathBuf>,
     /// Show functions, too, that never give a callee-saved register back
     #[arg(long)]
@@ -258,4 +265,51 @@ pub struct LintWords {
     /// Read this many files at once, instead of one for each processor
     #[arg(long, value_name = "N")]
     pub jobs: Option<usize>,
+    /// Run PROGRAM, step the functions with findings, and say of each whether it is so. Without PATH, the files
+    /// are those whose code the program runs
+    #[arg(long, requires = "program", conflicts_with_all = ["explain", "json", "sarif", "known", "kind", "private", "jobs"])]
+    pub confirm: bool,
+    /// The program, and its arguments
+    #[arg(last = true, requires = "confirm", value_name = "PROGRAM ARGUMENTS")]
+    pub program: Vec<OsString>,
+}
+
+#[derive(Args, Debug)]
+pub struct TraceWords {
+    /// The program, and its arguments
+    #[arg(last = true, required_unless_present = "pid", value_name = "PROGRAM ARGUMENTS")]
+    pub program: Vec<OsString>,
+    /// Step some of the code of this process, which runs on
+    #[arg(long, value_name = "PID", conflicts_with_all = ["program", "all", "follow_fork", "calls"])]
+    pub pid: Option<u32>,
+    /// Step only functions of files with this path or name, such as 'libc.so*'. Can be given several times
+    #[arg(long, value_name = "GLOB")]
+    pub module: Vec<String>,
+    /// Step this many calls of each function
+    #[arg(long, value_name = "N", default_value_t = 1)]
+    pub calls: u64,
+    /// Step every instruction
+    #[arg(long)]
+    pub all: bool,
+    /// Trace the processes that the program starts, too
+    #[arg(long)]
+    pub follow_fork: bool,
+    /// Let the program go after this time; with --pid, after 10 seconds unless this is given
+    #[arg(long, value_name = "N")]
+    pub seconds: Option<u64>,
+    /// Let a function run to its end after this many instructions without one that is seen for the first time
+    #[arg(long, value_name = "N", default_value_t = 3_000)]
+    pub idle: u64,
+    /// Show functions, too, that never give a callee-saved register back
+    #[arg(long)]
+    pub private: bool,
+    /// Write a line of JSON for each finding, for each file and for the totals
+    #[arg(long)]
+    pub json: bool,
+    /// Write to this file, not to standard error
+    #[arg(long, short, value_name = "FILE")]
+    pub output: Option<PathBuf>,
+    /// End with the status 1 if something is found, and 0 if not, in place of the program's own status
+    #[arg(long)]
+    pub status: bool,
 }

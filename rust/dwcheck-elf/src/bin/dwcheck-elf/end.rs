@@ -15,6 +15,8 @@ pub enum Done {
     Refused,
     /// Something couldn't be read or checked. Standard error says what.
     Unread,
+    /// Another program was run, which ended with this status.
+    Status(u8),
 }
 
 /// Why a run ends early.
@@ -35,6 +37,7 @@ impl Done {
             Done::Accepted => 0,
             Done::Refused => 1,
             Done::Unread => 3,
+            Done::Status(status) => status,
         }
     }
 }

@@ -1,5 +1,5 @@
 //! Checks the unwind tables of ELF programs, shows their rows, unwinds by them, compares them with
-//! the code, and prints the stacks of core files.
+//! the code and with programs that run, and prints the stacks of core files.
 
 mod arguments;
 mod check;
@@ -10,6 +10,7 @@ mod opened;
 mod rows;
 mod stack;
 mod survey;
+mod trace;
 mod walks;
 
 use arguments::{Command, Words};
@@ -52,6 +53,8 @@ fn run(command: Command, out: &mut impl Write) -> Result<Done, Failure> {
         Command::Locs(words) => lists::locs(&words, out),
         Command::Stack(words) => stack::stack(&words, out),
         Command::Survey(words) => survey::survey(&words, out),
+        Command::Lint(words) if words.confirm => trace::confirm(&words, out),
         Command::Lint(words) => lint::lint(&words, out),
+        Command::Trace(words) => trace::trace(&words),
     }
 }

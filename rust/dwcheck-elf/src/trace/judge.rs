@@ -1,0 +1,265 @@
+//! Compares a row with what is true of a frame.
+
+use super::registers::{Registers, COUNT, KEPT, KEPT_NUMBERS};
+use super::rules::Rule;
+use super::shadow::{Frame, Origin};
+use super::site::{Judged, Places, Wrong};
+use super::space::Space;
+use super::thread::{Mode, Thread};
+use super::tracer::Tracer;
+use dwcheck::{Abi, Cursor, Error, Process, State};
+use dwcheck_lint::judge::{Facts, Verdict, WrongCfa, WrongRule};
+
+/// How many bytes below the CFA are read at once. Most functions save their registers there.
+const READ_AT_ONCE: usize = 128;
+
+/// How many bytes of a frame are searched for the values of registers.
+const SEARCHED: u64 = 4096;
+
+/// The bytes below the stack pointer that a function may use.
+const RED_ZONE: u64 = 128;
+
+/// How often it is looked where the values are, if something is wrong at an instruction.
+const MOST_LOOKS: u64 = 16;
+
+/// How often the stack is walked from an instruction at which something is wrong.
+const MOST_WALKS: u64 = 3;
+
+/// What `dwcheck` computes by a row.
+#[derive(Clone, Copy, Debug, Default, PartialEq, Eq)]
+pub(super) struct Unwound {
+    pub cfa: Option<u64>,
+    /// `None` if the caller isn't known.
+    pub caller: Option<Caller>,
+}
+
+/// The caller of a frame.
+#[derive(Clone, Copy, Debug, PartialEq, Eq)]
+pub(super) struct Caller {
+    pub return_address: u64,
+    pub kept: [Option<u64>; KEPT],
+    /// All its registers, as far as they are known.
+    pub registers: [Option<u64>; COUNT],
+}
+
+/// Reads the memory of a process, that below a frame's CFA at once.
+struct Reader<'a> {
+    space: &'a Space,
+    begin: u64,
+    bytes: Option<[u8; READ_AT_ONCE]>,
+}
+
+impl<'a> Reader<'a> {
+    fn new(space: &'a Space, cfa: u64) -> Self {
+        let begin = cfa.wrapping_sub(READ_AT_ONCE as u64);
+        let mut bytes = [0; READ_AT_ONCE];
+        let is_read = space.read(begin, &mut bytes);
+        Reader { space, begin, bytes: is_read.then_some(bytes) }
+    }
+
+    fn read(&self, address: u64, wanted: &mut [u8]) -> bool {
+        let offset = usize::try_from(address.wrapping_sub(self.begin)).unwrap_or(usize::MAX);
+        let known = self.bytes.as_ref().and_then(|bytes| bytes.get(offset..offset.checked_add(wanted.len())?));
+        match known {
+            Some(known) => {
+                wanted.copy_from_slice(known);
+                true
+            }
+            None => self.space.read(address, wanted),
+        }
+    }
+}
+
+impl Unwound {
+    /// What `dwcheck` computes by the row of an address in a file, whose frame has these registers.
+    fn of(process: &Process, address: u64, known: &dwcheck::Registers, memory: &Reader<'_>) -> Result<Unwound, Error> {
+        let state = State { registers: known, memory: &[], abi: Abi::X86_64 };
+        let mut cursor = Cursor::new(address, &state)?;
+        let frame = process.step_with(&mut cursor, &state, |address, bytes| memory.read(address, bytes))?;
+        let cfa = frame.and_then(|frame| frame.cfa()).and_then(|cfa| cfa.value());
+        let caller = cursor.stop().is_none().then(|| Caller::of(&cursor));
+        Ok(Unwound { cfa, caller })
+    }
+}
+
+impl Caller {
+    fn of(cursor: &Cursor) -> Caller {
+        let mut registers = [None; COUNT];
+        (0..).zip(&mut registers).for_each(|(number, register)| *register = cursor.register(number));
+        Caller { return_address: cursor.address(), kept: KEPT_NUMBERS.map(|number| cursor.register(number)), registers }
+    }
+}
+
+impl Tracer<'_, '_> {
+    /// Judges the row of the instruction before which a thread is.
+    pub(super) fn judge(&mut self, thread: &mut Thread, space: &mut Space) {
+        self.counts.steps += 1;
+        self.sites.at_mut(thread.here.site).visits += 1;
+        if !self.trusts_top(thread) {
+            return;
+        }
+        let frame = match thread.shadow.frames.last() {
+            Some(frame) => frame,
+            None => return,
+        };
+        let judged = match self.sites.at(thread.here.site).row {
+            Ok(judged) if judged.is_signal == (frame.origin == Origin::Signal) => judged,
+            Ok(_) => return self.counts.rules.add(Rule::SignalReturn),
+            Err(rule) => return self.counts.rules.add(rule),
+        };
+        let unwound = self.unwind(thread.here.site, judged, &thread.registers, frame.cfa, space);
+        let verdict = verdict(judged, &unwound, frame);
+        if !verdict.wrong.is_empty() && frame.origin != Origin::Signal {
+            // What isn't where the call put it isn't known anymore.
+            if space.word(frame.slot) != Some(frame.return_address) {
+                thread.shadow.distrust();
+                return self.counts.rules.add(Rule::MovedReturnAddress);
+            }
+        }
+        if let Some(frame) = thread.shadow.frames.last_mut() {
+            frame.wrong = verdict.wrong;
+        }
+        self.counts.add_judged(&verdict);
+        self.sites.at_mut(thread.here.site).judged += 1;
+        if !verdict.wrong.is_empty() {
+            self.note_wrong(thread, space, verdict);
+        }
+    }
+
+    /// Whether the caller's registers, by the row of the instruction before which a thread is, aren't those
+    /// that the frame on top began with. Those that were wrong before the call don't count.
+    pub(super) fn has_other_registers(&mut self, thread: &Thread, space: &Space) -> bool {
+        let judged = self.sites.at(thread.here.site).row.ok().filter(|judged| !judged.is_signal);
+        match (judged, thread.shadow.frames.last()) {
+            (Some(judged), Some(frame)) => {
+                let unwound = self.unwind(thread.here.site, judged, &thread.registers, frame.cfa, space);
+                let wrong = verdict(judged, &unwound, frame).wrong;
+                !wrong.registers().without(frame.wrong).is_empty()
+            }
+            _ => false,
+        }
+    }
+
+    /// What `dwcheck` computes by the row of an instruction. Its frame has these registers, and its CFA
+    /// is near this address.
+    fn unwind(&mut self, site: usize, judged: Judged, registers: &Registers, cfa: u64, space: &Space) -> Unwound {
+        let site = self.sites.at(site);
+        let process = site.file.and_then(|file| self.files.at(file).process(judged.section));
+        registers.iter().for_each(|(number, value)| self.known.set(number, value));
+        let memory = Reader::new(space, cfa);
+        let unwound = process.map(|process| Unwound::of(process, site.address, &self.known, &memory));
+        unwound.and_then(Result::ok).unwrap_or_default()
+    }
+
+    /// Notes what is wrong at the instruction before which a thread is.
+    fn note_wrong(&mut self, thread: &Thread, space: &mut Space, verdict: Verdict) {
+        let count = self.sites.at(thread.here.site).wrong.as_ref().map_or(0, |wrong| wrong.count);
+        let breaks_walk = verdict.wrong.has_frame() || count < MOST_WALKS && self.is_walk_broken(thread, space);
+        let places = if count < MOST_LOOKS { places(thread, space, verdict) } else { None };
+        let before = Some((thread.before.address, thread.before.effect))
+            .filter(|_| thread.mode == Mode::Stepping && thread.before.next == thread.here.address);
+        let wrong = &mut self.sites.at_mut(thread.here.site).wrong;
+        match (wrong, places) {
+            (Some(wrong), places) => wrong.add(verdict, breaks_walk, places),
+            (none, Some(places)) => *none = Some(Box::new(Wrong { count: 1, verdict, breaks_walk, before, places })),
+            (None, None) => {}
+        }
+    }
+
+    /// Whether a walk by rows, from the frame of a thread up to the last one that is known, finds
+    /// another caller than the true one.
+    fn is_walk_broken(&mut self, thread: &Thread, space: &mut Space) -> bool {
+        let mut registers = thread.registers;
+        let mut is_after_call = false;
+        for frame in thread.shadow.frames.iter().rev() {
+            let address = registers.program_counter().wrapping_sub(u64::from(is_after_call));
+            let site = self.here(space, address).site;
+            let judged = match self.sites.at(site).row {
+                Ok(judged) if !frame.is_distrusted => judged,
+                _ => return false,
+            };
+            let unwound = self.unwind(site, judged, &registers, frame.cfa, space);
+            let caller = match unwound.caller {
+                Some(caller) if unwound.cfa == Some(frame.cfa) && caller.return_address == frame.return_address => {
+                    caller
+                }
+                _ => return true,
+            };
+            if frame.origin == Origin::UnknownCall {
+                return false;
+            }
+            is_after_call = frame.origin != Origin::Signal;
+            registers = Registers::known(&caller.registers).at(caller.return_address);
+        }
+        false
+    }
+}
+
+/// Compares what was computed with what is true. Registers are compared only where the CFA is right, because
+/// their rules build on it.
+fn verdict(judged: Judged, unwound: &Unwound, frame: &Frame) -> Verdict {
+    let mut verdict = Verdict::default();
+    if unwound.cfa != Some(frame.cfa) {
+        verdict.wrong.add(Facts::CFA);
+        let off = |cfa: u64| WrongCfa::OffBy(cfa.wrapping_sub(frame.cfa) as i64);
+        verdict.cfa = Some(unwound.cfa.map_or(WrongCfa::Dynamic, off));
+        return verdict;
+    }
+    let caller = match unwound.caller {
+        Some(caller) if caller.return_address == frame.return_address => caller,
+        _ => {
+            verdict.wrong.add(Facts::RETURN_ADDRESS);
+            verdict.return_address = Some(WrongRule::Overwritten);
+            return verdict;
+        }
+    };
+    for (index, (value, kept)) in caller.kept.iter().zip(&frame.kept).enumerate() {
+        if *value != Some(*kept) && !judged.is_undefined[index] {
+            verdict.wrong.add(Facts::kept(index));
+            verdict.rules[index] = Some(WrongRule::Overwritten);
+        }
+    }
+    verdict
+}
+
+/// Where things are, of which some are wrong.
+fn places(thread: &Thread, space: &Space, verdict: Verdict) -> Option<Places> {
+    let frame = thread.shadow.frames.last()?;
+    let mut distances = [None; 16];
+    let all = distances.iter_mut().zip(thread.registers.iter());
+    all.for_each(|(distance, (_, value))| *distance = Some(frame.cfa.wrapping_sub(value) as i64));
+    let begin = thread.stack_pointer().saturating_sub(RED_ZONE).max(frame.cfa.saturating_sub(SEARCHED)) & !7;
+    let mut bytes = vec![0; frame.cfa.saturating_sub(begin).min(SEARCHED) as usize & !7];
+    if !space.read(begin, &mut bytes) {
+        bytes.clear();
+    }
+    let words = bytes.chunks_exact(8).map(|word| u64::from_le_bytes(word.try_into().unwrap_or_default()));
+    let slots: Vec<(i64, u64)> =
+        (0..).map(|n| begin.wrapping_add(8 * n).wrapping_sub(frame.cfa) as i64).zip(words).collect();
+    let (mut in_registers, mut in_slots) = <([Vec<u16>; KEPT], [Vec<i64>; KEPT])>::default();
+    for (index, value) in frame.kept.iter().enumerate().filter(|(index, _)| verdict.wrong.has(Facts::kept(*index))) {
+        let registers = thread.registers.iter().take(16).filter(|(_, found)| found == value);
+        in_registers[index] = registers.map(|(number, _)| number).collect();
+        in_slots[index] = slots.iter().filter(|(_, found)| found == value).map(|(offset, _)| *offset).collect();
+    }
+    Some(Places { distances, in_registers, in_slots })
+}
+
+impl Wrong {
+    /// Adds another time.
+    fn add(&mut self, verdict: Verdict, breaks_walk: bool, places: Option<Places>) {
+        self.count += 1;
+        self.breaks_walk |= breaks_walk;
+        self.verdict.wrong.add(verdict.wrong);
+        self.verdict.cfa = match (self.verdict.cfa, verdict.cfa) {
+            (Some(one), Some(other)) if one != other => Some(WrongCfa::Dynamic),
+            (one, other) => one.or(other),
+        };
+        self.verdict.return_address = self.verdict.return_address.or(verdict.return_address);
+        let rules = self.verdict.rules.iter_mut().zip(verdict.rules);
+        rules.for_each(|(one, other)| *one = one.or(other));
+        if let Some(places) = places {
+            self.places.keep_common(&places);
+        }
+    }
+}

@@ -1,0 +1,186 @@
+//! Requests of ptrace, and what traced threads report.
+//!
+//! nix has no real-time signals, so whatever names a signal calls the C library itself.
+
+#![allow(unsafe_code)]
+
+use super::registers::Registers;
+use libc::{c_uint, pid_t};
+use nix::errno::Errno;
+use nix::sys::ptrace;
+use nix::unistd::Pid;
+use std::ptr::null_mut;
+
+/// The id of a thread, as the kernel gives it.
+pub type Tid = pid_t;
+
+/// What a thread reports.
+#[derive(Clone, Copy, Debug, PartialEq, Eq)]
+pub enum Report {
+    /// It ended with this status.
+    Exited(i32),
+    /// This signal ended it.
+    Killed(i32),
+    /// It stopped, to get this signal when it goes on.
+    Signal(i32),
+    /// A signal stopped its whole process, until `SIGCONT`.
+    GroupStop,
+    /// It stopped because it was asked to, or because it is new.
+    Stop,
+    /// It made another thread or process.
+    Created(Creation),
+    /// The process that it made by `vfork` doesn't use its memory anymore.
+    VforkDone,
+    /// It runs another program.
+    Exec,
+}
+
+/// How a thread made another thread or process.
+#[derive(Clone, Copy, Debug, PartialEq, Eq)]
+pub enum Creation {
+    /// By `fork`, or as that does.
+    Fork,
+    /// By `vfork`, or as that does: it waits until the other one ends or runs another program.
+    Vfork,
+    /// By `clone`.
+    Clone,
+}
+
+/// What is wanted of each traced thread.
+pub fn options(kills: bool) -> ptrace::Options {
+    use ptrace::Options;
+    let wanted = Options::PTRACE_O_TRACECLONE
+        | Options::PTRACE_O_TRACEFORK
+        | Options::PTRACE_O_TRACEVFORK
+        | Options::PTRACE_O_TRACEVFORKDONE
+        | Options::PTRACE_O_TRACEEXEC;
+    if kills {
+        wanted | Options::PTRACE_O_EXITKILL
+    } else {
+        wanted
+    }
+}
+
+/// Begins to trace a thread, which isn't stopped by this.
+pub fn seize(tid: Tid, options: ptrace::Options) -> Result<(), Errno> {
+    ptrace::seize(Pid::from_raw(tid), options)
+}
+
+/// Asks a thread to stop.
+pub fn interrupt(tid: Tid) -> Result<(), Errno> {
+    ptrace::interrupt(Pid::from_raw(tid))
+}
+
+/// Lets a thread run one instruction. It gets the signal, if that isn't 0.
+pub fn step(tid: Tid, signal: i32) -> Result<(), Errno> {
+    request(libc::PTRACE_SINGLESTEP, tid, signal)
+}
+
+/// Lets a thread run. It gets the signal, if that isn't 0.
+pub fn run(tid: Tid, signal: i32) -> Result<(), Errno> {
+    request(libc::PTRACE_CONT, tid, signal)
+}
+
+/// Lets a thread whose process was stopped by a signal wait for `SIGCONT`.
+pub fn listen(tid: Tid) -> Result<(), Errno> {
+    request(libc::PTRACE_LISTEN, tid, 0)
+}
+
+/// Ends the tracing of a stopped thread, which runs on. It gets the signal, if that isn't 0.
+pub fn detach(tid: Tid, signal: i32) -> Result<(), Errno> {
+    request(libc::PTRACE_DETACH, tid, signal)
+}
+
+/// Sends a signal to a process.
+pub fn send(pid: Tid, signal: i32) {
+    // SAFETY: this call takes no pointers.
+    let _ = unsafe { libc::kill(pid, signal) };
+}
+
+/// The registers of a stopped thread.
+pub fn registers(tid: Tid) -> Result<Registers, Errno> {
+    Ok(Registers::of(&ptrace::getregs(Pid::from_raw(tid))?))
+}
+
+/// Sets the address of the next instruction of a stopped thread.
+pub fn set_program_counter(tid: Tid, address: u64) -> Result<(), Errno> {
+    let mut raw = ptrace::getregs(Pid::from_raw(tid))?;
+    raw.rip = address;
+    // The instruction isn't a system call that would have to be made again.
+    raw.orig_rax = u64::MAX;
+    ptrace::setregs(Pid::from_raw(tid), raw)
+}
+
+/// The number and the first two arguments of the system call that a thread has stopped in.
+pub fn system_call(tid: Tid) -> Result<(u64, u64, u64), Errno> {
+    let raw = ptrace::getregs(Pid::from_raw(tid))?;
+    Ok((raw.orig_rax, raw.rdi, raw.rsi))
+}
+
+/// What comes with the last event of a thread: the id of the thread that it made, for example.
+pub fn message(tid: Tid) -> Result<Tid, Errno> {
+    Ok(ptrace::getevent(Pid::from_raw(tid))? as Tid)
+}
+
+/// Who sent the signal that a thread has stopped to get (`si_code`).
+pub fn signal_code(tid: Tid) -> Result<i32, Errno> {
+    Ok(ptrace::getsiginfo(Pid::from_raw(tid))?.si_code)
+}
+
+/// Waits until a traced thread reports something.
+pub fn wait() -> Result<(Tid, Report), Errno> {
+    wait_with(-1, libc::__WALL)
+}
+
+/// Waits until this thread reports something.
+pub fn wait_for_stop(tid: Tid) -> Result<Report, Errno> {
+    loop {
+        match wait_with(tid, libc::__WALL) {
+            Ok((_, report)) => return Ok(report),
+            Err(Errno::EINTR) => {}
+            Err(error) => return Err(error),
+        }
+    }
+}
+
+/// What a traced thread has reported. `Ok(None)` if none has.
+pub fn poll() -> Result<Option<(Tid, Report)>, Errno> {
+    match wait_with(-1, libc::__WALL | libc::WNOHANG)? {
+        (0, _) => Ok(None),
+        found => Ok(Some(found)),
+    }
+}
+
+fn wait_with(tid: Tid, flags: i32) -> Result<(Tid, Report), Errno> {
+    let mut status = 0;
+    // SAFETY: the kernel writes the status to a local.
+    let tid = Errno::result(unsafe { libc::waitpid(tid, &mut status, flags) })?;
+    Ok((tid, report(status)))
+}
+
+fn report(status: i32) -> Report {
+    if libc::WIFEXITED(status) {
+        return Report::Exited(libc::WEXITSTATUS(status));
+    }
+    if libc::WIFSIGNALED(status) {
+        return Report::Killed(libc::WTERMSIG(status));
+    }
+    let signal = libc::WSTOPSIG(status);
+    match status >> 16 {
+        0 => Report::Signal(signal),
+        libc::PTRACE_EVENT_FORK => Report::Created(Creation::Fork),
+        libc::PTRACE_EVENT_VFORK => Report::Created(Creation::Vfork),
+        libc::PTRACE_EVENT_CLONE => Report::Created(Creation::Clone),
+        libc::PTRACE_EVENT_VFORK_DONE => Report::VforkDone,
+        libc::PTRACE_EVENT_EXEC => Report::Exec,
+        libc::PTRACE_EVENT_STOP if signal != libc::SIGTRAP => Report::GroupStop,
+        _ => Report::Stop,
+    }
+}
+
+/// A request of ptrace that has a signal.
+fn request(request: c_uint, tid: Tid, signal: i32) -> Result<(), Errno> {
+    // SAFETY: these requests take no pointers.
+    let done = unsafe { libc::ptrace(request, tid, null_mut::<libc::c_void>(), signal as libc::c_long) };
+    Errno::result(done).map(drop)
+}

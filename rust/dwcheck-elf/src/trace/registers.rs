@@ -1,0 +1,66 @@
+//! The registers of a stopped thread.
+
+use libc::user_regs_struct;
+
+/// How many registers are known: the general ones, and the instruction pointer.
+pub const COUNT: usize = 17;
+
+/// How many registers a function has to give back as it got them.
+pub const KEPT: usize = 6;
+
+/// The DWARF numbers of these: rbx, rbp, r12 to r15.
+pub const KEPT_NUMBERS: [u16; KEPT] = [3, 6, 12, 13, 14, 15];
+
+const STACK_POINTER: usize = 7;
+const PROGRAM_COUNTER: usize = 16;
+
+/// The registers of a stopped thread of x86-64, by their DWARF numbers.
+#[derive(Clone, Copy, Debug, Default, PartialEq, Eq)]
+pub struct Registers([u64; COUNT]);
+
+impl Registers {
+    /// The registers as the kernel gives them.
+    pub fn of(raw: &user_regs_struct) -> Self {
+        Registers([
+            raw.rax, raw.rdx, raw.rcx, raw.rbx, raw.rsi, raw.rdi, raw.rbp, raw.rsp, raw.r8, raw.r9, raw.r10, raw.r11,
+            raw.r12, raw.r13, raw.r14, raw.r15, raw.rip,
+        ])
+    }
+
+    /// Registers of a caller, as far as they are known. The others are 0.
+    pub fn known(registers: &[Option<u64>; COUNT]) -> Self {
+        Registers(registers.map(Option::unwrap_or_default))
+    }
+
+    /// The stack pointer.
+    pub fn stack_pointer(&self) -> u64 {
+        self.0[STACK_POINTER]
+    }
+
+    /// The address of the next instruction.
+    pub fn program_counter(&self) -> u64 {
+        self.0[PROGRAM_COUNTER]
+    }
+
+    /// The same registers with another address of the next instruction.
+    #[must_use]
+    pub fn at(mut self, address: u64) -> Self {
+        self.0[PROGRAM_COUNTER] = address;
+        self
+    }
+
+    /// The register with this DWARF number.
+    pub fn get(&self, number: u16) -> Option<u64> {
+        self.0.get(usize::from(number)).copied()
+    }
+
+    /// The registers that a function has to give back.
+    pub fn kept(&self) -> [u64; KEPT] {
+        KEPT_NUMBERS.map(|number| self.0[usize::from(number)])
+    }
+
+    /// All registers, with their DWARF numbers.
+    pub fn iter(&self) -> impl Iterator<Item = (u16, u64)> + '_ {
+        (0..).zip(self.0.iter().copied())
+    }
+}

@@ -1,0 +1,112 @@
+//! Lets go of what is traced: takes all breakpoints out, and ends the tracing. What was traced runs on.
+
+use super::breakpoints::TRAP;
+use super::ptrace::{self, Report, Tid};
+use super::thread::{Mode, Thread};
+use super::tracer::{Birth, Tracer, BY_KERNEL};
+use nix::errno::Errno;
+use std::collections::HashMap;
+use std::time::{Duration, Instant};
+
+/// A thread that doesn't stop within this time is left as it is. It waits in the kernel, has nothing to
+/// undo, and runs on when this program ends.
+const PATIENCE: Duration = Duration::from_secs(2);
+
+impl Tracer<'_, '_> {
+    /// Lets go of all threads. The program's end is still waited for.
+    pub(super) fn release_all(&mut self) {
+        let running = self.threads.values().filter(|thread| !thread.is_stopped);
+        running.for_each(|thread| drop(ptrace::interrupt(thread.tid)));
+        let signals = self.stop_all();
+        let mut threads: Vec<Thread> = self.threads.drain().map(|(_, thread)| thread).collect();
+        for thread in &mut threads {
+            thread.space.borrow_mut().take_out();
+        }
+        for thread in threads.iter().filter(|thread| thread.is_stopped) {
+            let _ = ptrace::detach(thread.tid, signals.get(&thread.tid).copied().unwrap_or(0));
+        }
+        for tid in std::mem::take(&mut self.early) {
+            let _ = ptrace::detach(tid, 0);
+        }
+    }
+
+    /// Waits until all threads have stopped. Returns the signals that they get.
+    fn stop_all(&mut self) -> HashMap<Tid, i32> {
+        let begin = Instant::now();
+        let mut signals = HashMap::new();
+        while self.threads.values().any(|thread| !thread.is_stopped) && begin.elapsed() < PATIENCE {
+            match ptrace::poll() {
+                Ok(Some((tid, report))) => self.stopped_last(tid, report, &mut signals),
+                Ok(None) => std::thread::sleep(Duration::from_micros(200)),
+                Err(Errno::EINTR) => {}
+                Err(_) => break,
+            }
+        }
+        signals
+    }
+
+    /// A thread has stopped that is let go.
+    fn stopped_last(&mut self, tid: Tid, report: Report, signals: &mut HashMap<Tid, i32>) {
+        match report {
+            Report::Exited(_) | Report::Killed(_) | Report::Exec => return self.handle(tid, report),
+            _ => {}
+        }
+        let thread = match self.threads.get_mut(&tid) {
+            Some(thread) => thread,
+            None => return self.let_go_first(tid),
+        };
+        thread.is_stopped = true;
+        match report {
+            Report::Signal(libc::SIGTRAP) => {
+                if !rewind(thread) {
+                    signals.insert(tid, libc::SIGTRAP);
+                }
+            }
+            Report::Signal(signal) => drop(signals.insert(tid, signal)),
+            Report::VforkDone => thread.space.borrow_mut().put_back(),
+            Report::Created(_) => {
+                if let Ok(made) = ptrace::message(tid) {
+                    let space = std::rc::Rc::clone(&thread.space);
+                    self.births.insert(made, Birth::LetGo(space));
+                }
+            }
+            _ => {}
+        }
+    }
+
+    /// A thread or a process that was just made has stopped.
+    fn let_go_first(&mut self, tid: Tid) {
+        match self.births.remove(&tid) {
+            Some(Birth::LetGo(space) | Birth::Copy(space)) => {
+                if let Ok(mut copy) = space.borrow().forked(tid) {
+                    copy.take_out();
+                }
+                let _ = ptrace::detach(tid, 0);
+            }
+            Some(Birth::Thread(_) | Birth::Borrower) => drop(ptrace::detach(tid, 0)),
+            None => drop(self.early.insert(tid)),
+        }
+    }
+}
+
+/// Sets a thread that has executed a breakpoint back to it. Returns false if the trap is the program's own.
+fn rewind(thread: &mut Thread) -> bool {
+    if thread.mode != Mode::Running {
+        return true;
+    }
+    if ptrace::signal_code(thread.tid) != Ok(BY_KERNEL) {
+        return false;
+    }
+    let registers = match ptrace::registers(thread.tid) {
+        Ok(registers) => registers,
+        Err(_) => return true,
+    };
+    let address = registers.program_counter().wrapping_sub(1);
+    let mut byte = [0];
+    let is_gone = thread.space.borrow().read(address, &mut byte) && byte != [TRAP];
+    let is_breakpoint = thread.space.borrow().breakpoints.at(address).is_some() || is_gone;
+    if is_breakpoint {
+        let _ = ptrace::set_program_counter(thread.tid, address);
+    }
+    is_breakpoint
+}

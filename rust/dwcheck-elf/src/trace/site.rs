@@ -1,0 +1,163 @@
+//! The instructions that were stepped, and what was seen at each.
+
+use super::registers::KEPT;
+use super::rules::Rule;
+use super::shadow::FdeId;
+use dwcheck_lint::instruction::{Effect, Instruction};
+use dwcheck_lint::judge::Verdict;
+use std::collections::HashMap;
+
+/// An instruction of a file, at one address, wherever the file is loaded.
+#[derive(Debug)]
+pub struct Site {
+    /// The index of its file. `None` if it isn't in a file.
+    pub file: Option<usize>,
+    /// Its address in the file.
+    pub address: u64,
+    /// Its bytes' number.
+    pub length: u8,
+    /// What it does.
+    pub effect: Effect,
+    /// Its FDE.
+    pub fde: Option<FdeId>,
+    /// Whether it is the first one of its FDE.
+    pub is_entry: bool,
+    /// Whether modules may have been loaded or unloaded when a thread gets there.
+    pub is_load: bool,
+    /// How its row is judged, or why it isn't.
+    pub row: Result<Judged, Rule>,
+    /// How often it was stepped.
+    pub visits: u64,
+    /// How often it was judged.
+    pub judged: u64,
+    /// What was wrong, if something was.
+    pub wrong: Option<Box<Wrong>>,
+}
+
+/// How a row is judged.
+#[derive(Clone, Copy, Debug)]
+pub struct Judged {
+    /// The index of its frame section.
+    pub section: usize,
+    /// The callee-saved registers, by their places, whose values the row says aren't known.
+    pub is_undefined: [bool; KEPT],
+    /// Whether it describes the frame of a signal.
+    pub is_signal: bool,
+}
+
+/// What was wrong at an instruction.
+#[derive(Clone, Debug)]
+pub struct Wrong {
+    /// How often something was wrong.
+    pub count: u64,
+    /// What was wrong.
+    pub verdict: Verdict,
+    /// Whether a walk up the stack from here lost its way.
+    pub breaks_walk: bool,
+    /// The instruction that was executed before, if it is next to this one: its address, and what it does.
+    pub before: Option<(u64, Effect)>,
+    /// Where things were each time when something was wrong.
+    pub places: Places,
+}
+
+/// Where things are in a frame.
+#[derive(Clone, Debug, PartialEq, Eq)]
+pub struct Places {
+    /// The CFA minus each register, by the registers' DWARF numbers. `None` if it isn't always the same.
+    pub distances: [Option<i64>; 16],
+    /// For each callee-saved register, which registers have its entry value.
+    pub in_registers: [Vec<u16>; KEPT],
+    /// For each callee-saved register, at which offsets from the CFA its entry value is.
+    pub in_slots: [Vec<i64>; KEPT],
+}
+
+/// All instructions that were stepped.
+#[derive(Debug, Default)]
+pub struct Sites {
+    all: Vec<Site>,
+    /// The place of an instruction that isn't remembered.
+    passing: Option<usize>,
+    /// The index of each one, by its file and its address there.
+    places: HashMap<(usize, u64), usize>,
+}
+
+impl Site {
+    /// An instruction of no file.
+    pub fn nameless(address: u64, instruction: Instruction) -> Site {
+        Site {
+            file: None,
+            address,
+            length: instruction.length,
+            effect: instruction.effect,
+            fde: None,
+            is_entry: false,
+            is_load: false,
+            row: Err(Rule::NoRow),
+            visits: 0,
+            judged: 0,
+            wrong: None,
+        }
+    }
+}
+
+impl Places {
+    /// Leaves only what is the same at another time.
+    pub fn keep_common(&mut self, other: &Places) {
+        for (distance, other) in self.distances.iter_mut().zip(&other.distances) {
+            *distance = distance.filter(|distance| Some(*distance) == *other);
+        }
+        for (registers, other) in self.in_registers.iter_mut().zip(&other.in_registers) {
+            registers.retain(|register| other.contains(register));
+        }
+        for (slots, other) in self.in_slots.iter_mut().zip(&other.in_slots) {
+            slots.retain(|slot| other.contains(slot));
+        }
+    }
+}
+
+impl Sites {
+    /// The index of an instruction of a file.
+    pub fn find(&self, file: usize, address: u64) -> Option<usize> {
+        self.places.get(&(file, address)).copied()
+    }
+
+    /// Adds an instruction. Returns its index.
+    pub fn add(&mut self, site: Site) -> usize {
+        let index = self.all.len();
+        if let Some(file) = site.file {
+            self.places.insert((file, site.address), index);
+        }
+        self.all.push(site);
+        index
+    }
+
+    /// Adds an instruction that isn't remembered: the next one takes its place. Returns its index.
+    pub fn add_passing(&mut self, site: Site) -> usize {
+        match self.passing {
+            Some(index) => {
+                self.all[index] = site;
+                index
+            }
+            None => {
+                let index = self.add(site);
+                self.passing = Some(index);
+                index
+            }
+        }
+    }
+
+    /// The instruction with this index.
+    pub fn at(&self, index: usize) -> &Site {
+        &self.all[index]
+    }
+
+    /// The instruction with this index.
+    pub fn at_mut(&mut self, index: usize) -> &mut Site {
+        &mut self.all[index]
+    }
+
+    /// All instructions.
+    pub fn iter(&self) -> impl Iterator<Item = &Site> {
+        self.all.iter()
+    }
+}
