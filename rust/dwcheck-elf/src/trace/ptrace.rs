@@ -1,6 +1,9 @@
 //! Requests of ptrace, and what traced threads report.
 //!
 //! nix has no real-time signals, so whatever names a signal calls the C library itself.
+//!
+//! A thread may be killed at any time. Requests that change how it goes on then do nothing: it reports its
+//! end.
 
 #![allow(unsafe_code)]
 
@@ -67,28 +70,28 @@ pub fn seize(tid: Tid, options: ptrace::Options) -> Result<(), Errno> {
 }
 
 /// Asks a thread to stop.
-pub fn interrupt(tid: Tid) -> Result<(), Errno> {
-    ptrace::interrupt(Pid::from_raw(tid))
+pub fn interrupt(tid: Tid) {
+    let _ = ptrace::interrupt(Pid::from_raw(tid));
 }
 
 /// Lets a thread run one instruction. It gets the signal, if that isn't 0.
-pub fn step(tid: Tid, signal: i32) -> Result<(), Errno> {
-    request(libc::PTRACE_SINGLESTEP, tid, signal)
+pub fn step(tid: Tid, signal: i32) {
+    request(libc::PTRACE_SINGLESTEP, tid, signal);
 }
 
 /// Lets a thread run. It gets the signal, if that isn't 0.
-pub fn run(tid: Tid, signal: i32) -> Result<(), Errno> {
-    request(libc::PTRACE_CONT, tid, signal)
+pub fn run(tid: Tid, signal: i32) {
+    request(libc::PTRACE_CONT, tid, signal);
 }
 
 /// Lets a thread whose process was stopped by a signal wait for `SIGCONT`.
-pub fn listen(tid: Tid) -> Result<(), Errno> {
-    request(libc::PTRACE_LISTEN, tid, 0)
+pub fn listen(tid: Tid) {
+    request(libc::PTRACE_LISTEN, tid, 0);
 }
 
 /// Ends the tracing of a stopped thread, which runs on. It gets the signal, if that isn't 0.
-pub fn detach(tid: Tid, signal: i32) -> Result<(), Errno> {
-    request(libc::PTRACE_DETACH, tid, signal)
+pub fn detach(tid: Tid, signal: i32) {
+    request(libc::PTRACE_DETACH, tid, signal);
 }
 
 /// Sends a signal to a process.
@@ -103,12 +106,13 @@ pub fn registers(tid: Tid) -> Result<Registers, Errno> {
 }
 
 /// Sets the address of the next instruction of a stopped thread.
-pub fn set_program_counter(tid: Tid, address: u64) -> Result<(), Errno> {
-    let mut raw = ptrace::getregs(Pid::from_raw(tid))?;
-    raw.rip = address;
-    // The instruction isn't a system call that would have to be made again.
-    raw.orig_rax = u64::MAX;
-    ptrace::setregs(Pid::from_raw(tid), raw)
+pub fn set_program_counter(tid: Tid, address: u64) {
+    if let Ok(mut raw) = ptrace::getregs(Pid::from_raw(tid)) {
+        raw.rip = address;
+        // The thread isn't in a system call that would have to be made again.
+        raw.orig_rax = u64::MAX;
+        let _ = ptrace::setregs(Pid::from_raw(tid), raw);
+    }
 }
 
 /// The number and the first two arguments of the system call that a thread has stopped in.
@@ -179,8 +183,7 @@ fn report(status: i32) -> Report {
 }
 
 /// A request of ptrace that has a signal.
-fn request(request: c_uint, tid: Tid, signal: i32) -> Result<(), Errno> {
+fn request(request: c_uint, tid: Tid, signal: i32) {
     // SAFETY: these requests take no pointers.
-    let done = unsafe { libc::ptrace(request, tid, null_mut::<libc::c_void>(), signal as libc::c_long) };
-    Errno::result(done).map(drop)
+    unsafe { libc::ptrace(request, tid, null_mut::<libc::c_void>(), libc::c_long::from(signal)) };
 }

@@ -16,17 +16,17 @@ impl Tracer<'_, '_> {
     /// Lets go of all threads. The program's end is still waited for.
     pub(super) fn release_all(&mut self) {
         let running = self.threads.values().filter(|thread| !thread.is_stopped);
-        running.for_each(|thread| drop(ptrace::interrupt(thread.tid)));
+        running.for_each(|thread| ptrace::interrupt(thread.tid));
         let signals = self.stop_all();
         let mut threads: Vec<Thread> = self.threads.drain().map(|(_, thread)| thread).collect();
         for thread in &mut threads {
             thread.space.borrow_mut().take_out();
         }
         for thread in threads.iter().filter(|thread| thread.is_stopped) {
-            let _ = ptrace::detach(thread.tid, signals.get(&thread.tid).copied().unwrap_or(0));
+            ptrace::detach(thread.tid, signals.get(&thread.tid).copied().unwrap_or(0));
         }
         for tid in std::mem::take(&mut self.early) {
-            let _ = ptrace::detach(tid, 0);
+            ptrace::detach(tid, 0);
         }
     }
 
@@ -62,7 +62,9 @@ impl Tracer<'_, '_> {
                     signals.insert(tid, libc::SIGTRAP);
                 }
             }
-            Report::Signal(signal) => drop(signals.insert(tid, signal)),
+            Report::Signal(signal) => {
+                signals.insert(tid, signal);
+            }
             Report::VforkDone => thread.space.borrow_mut().put_back(),
             Report::Created(_) => {
                 if let Ok(made) = ptrace::message(tid) {
@@ -81,10 +83,12 @@ impl Tracer<'_, '_> {
                 if let Ok(mut copy) = space.borrow().forked(tid) {
                     copy.take_out();
                 }
-                let _ = ptrace::detach(tid, 0);
+                ptrace::detach(tid, 0);
             }
-            Some(Birth::Thread(_) | Birth::Borrower) => drop(ptrace::detach(tid, 0)),
-            None => drop(self.early.insert(tid)),
+            Some(Birth::Thread(_) | Birth::Borrower) => ptrace::detach(tid, 0),
+            None => {
+                self.early.insert(tid);
+            }
         }
     }
 }
@@ -106,7 +110,7 @@ fn rewind(thread: &mut Thread) -> bool {
     let is_gone = thread.space.borrow().read(address, &mut byte) && byte != [TRAP];
     let is_breakpoint = thread.space.borrow().breakpoints.at(address).is_some() || is_gone;
     if is_breakpoint {
-        let _ = ptrace::set_program_counter(thread.tid, address);
+        ptrace::set_program_counter(thread.tid, address);
     }
     is_breakpoint
 }

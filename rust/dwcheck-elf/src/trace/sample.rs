@@ -69,7 +69,7 @@ impl Tracer<'_, '_> {
             Err(Errno::ESRCH) => return Ok(()),
             Err(error) => return Err(TraceError::NotTraced(error)),
         }
-        let _ = ptrace::interrupt(tid);
+        ptrace::interrupt(tid);
         let begin = Instant::now();
         let signal = loop {
             match ptrace::poll() {
@@ -82,8 +82,9 @@ impl Tracer<'_, '_> {
             }
         };
         let signal = self.sample_window(tid, signal);
-        // If that fails, the thread was killed.
-        let _ = signal.map(|signal| ptrace::detach(tid, signal));
+        if let Some(signal) = signal {
+            ptrace::detach(tid, signal);
+        }
         Ok(())
     }
 
@@ -103,7 +104,7 @@ impl Tracer<'_, '_> {
                 break;
             }
             thread.got_signal = signal != 0;
-            ptrace::step(tid, std::mem::take(&mut signal)).ok()?;
+            ptrace::step(tid, std::mem::take(&mut signal));
             match ptrace::wait_for_stop(tid).ok()? {
                 Report::Signal(libc::SIGTRAP) => {
                     let registers = ptrace::registers(tid).ok()?;

@@ -129,8 +129,8 @@ impl Tracer<'_, '_> {
                 Ok((tid, Report::Exited(_) | Report::Killed(_))) if tid == self.main => {
                     return Err(TraceError::NoProcess)
                 }
-                Ok((tid, Report::Signal(signal))) => drop(ptrace::run(tid, signal)),
-                Ok((tid, _)) => drop(ptrace::run(tid, 0)),
+                Ok((tid, Report::Signal(signal))) => ptrace::run(tid, signal),
+                Ok((tid, _)) => ptrace::run(tid, 0),
                 Err(Errno::EINTR) => {}
                 Err(error) => return Err(TraceError::NotTraced(error)),
             }
@@ -170,8 +170,7 @@ impl Tracer<'_, '_> {
                 Some(0)
             }
             Report::GroupStop => {
-                // If that fails, the thread was killed.
-                let _ = ptrace::listen(tid);
+                ptrace::listen(tid);
                 thread.is_stopped = false;
                 None
             }
@@ -226,7 +225,7 @@ impl Tracer<'_, '_> {
             return libc::SIGTRAP;
         }
         thread.registers = registers.at(address);
-        let _ = ptrace::set_program_counter(thread.tid, address);
+        ptrace::set_program_counter(thread.tid, address);
         if let Some(breakpoint) = breakpoint {
             self.hit(thread, space, breakpoint);
         }
@@ -261,19 +260,21 @@ impl Tracer<'_, '_> {
     fn stopped_first(&mut self, tid: Tid) {
         match self.births.remove(&tid) {
             Some(birth) => self.born(tid, birth),
-            None => drop(self.early.insert(tid)),
+            None => {
+                self.early.insert(tid);
+            }
         }
     }
 
     /// A thread or a process that was made has stopped for the first time.
     fn born(&mut self, tid: Tid, birth: Birth) {
         let space = match birth {
-            Birth::Borrower => return drop(ptrace::detach(tid, 0)),
+            Birth::Borrower => return ptrace::detach(tid, 0),
             Birth::LetGo(space) => {
                 if let Ok(mut copy) = space.borrow().forked(tid) {
                     copy.take_out();
                 }
-                return drop(ptrace::detach(tid, 0));
+                return ptrace::detach(tid, 0);
             }
             Birth::Thread(space) => {
                 self.counts.threads += 1;
@@ -285,7 +286,7 @@ impl Tracer<'_, '_> {
                     self.counts.processes += 1;
                     Rc::new(RefCell::new(copy))
                 }
-                Err(_) => return drop(ptrace::detach(tid, 0)),
+                Err(_) => return ptrace::detach(tid, 0),
             },
         };
         let mut thread = Thread::new(tid, space);
@@ -327,7 +328,7 @@ impl Tracer<'_, '_> {
             }
             refusal => {
                 self.notes.extend(refusal.map(|refusal| format!("process {}: {}", tid, refusal)));
-                let _ = ptrace::detach(tid, 0);
+                ptrace::detach(tid, 0);
             }
         }
     }
@@ -336,7 +337,7 @@ impl Tracer<'_, '_> {
     fn begin_memory(&mut self, tid: Tid) {
         let mut space = match Space::of(tid) {
             Ok(space) => space,
-            Err(_) => return drop(ptrace::detach(tid, 0)),
+            Err(_) => return ptrace::detach(tid, 0),
         };
         self.plant(&mut space);
         let mut thread = Thread::new(tid, Rc::new(RefCell::new(space)));
@@ -361,16 +362,15 @@ impl Tracer<'_, '_> {
 pub(super) fn resume(thread: &mut Thread, signal: i32) {
     thread.got_signal = signal != 0 && thread.mode == Mode::Stepping;
     thread.is_stopped = false;
-    // If these requests fail, the thread was killed, which it will report.
     if thread.mode == Mode::Running {
-        let _ = ptrace::run(thread.tid, signal);
+        ptrace::run(thread.tid, signal);
         return;
     }
     let address = thread.program_counter();
     if thread.space.borrow_mut().lift(address) {
         thread.lifted = Some(address);
     }
-    let _ = ptrace::step(thread.tid, signal);
+    ptrace::step(thread.tid, signal);
 }
 
 /// Whether what a thread makes uses its memory, by the arguments of the system call.
