@@ -10,6 +10,8 @@
 //! - [`shadow`] is what is true of a thread's frames, [`follow`] keeps it step by step, and [`judge`]
 //!   compares it with the rows, but for what [`rules`] leaves out.
 //! - [`tracer`] handles what threads report, [`windows`] decides what is stepped, and [`release`] lets go.
+//! - [`sample`] steps a process that runs already, for which [`guard`] makes a process.
+//! - [`confirm`] says of each finding of the lint whether it is so.
 //! - [`report`] makes findings and counts of what was seen.
 
 mod alarm;
@@ -17,6 +19,7 @@ mod breakpoints;
 mod confirm;
 mod files;
 mod follow;
+mod guard;
 mod judge;
 mod ptrace;
 mod registers;
@@ -34,6 +37,7 @@ mod windows;
 
 pub use confirm::{Confirmation, Confirmed, Suspect};
 pub use files::{FileError, ModuleFile};
+pub use guard::guarded;
 pub use report::{Counts, Coverage, FileReport, Found};
 pub use rules::{Rule, RuleCounts};
 pub use tracer::Tracer;

@@ -93,6 +93,7 @@ const PLANTED: &str = "
         push %rbx
         .cfi_adjust_cfa_offset 8
         .cfi_offset rbx, -16
+        mov $0x5a5a5a, %ebx
         mov $1, %edi
         call push_no_row
         mov %rax, %rdi

@@ -22,7 +22,10 @@ fn runs_alike(folder: &Folder, options: &str, line: &str) {
         line,
         traced.log
     );
-    assert_eq!(traced.error, String::from_utf8_lossy(&own.stderr), "{}", line);
+    // Of a program that a signal ends, the shell says so.
+    if traced.status < 128 {
+        assert_eq!(traced.error, String::from_utf8_lossy(&own.stderr), "{}", line);
+    }
 }
 
 /// A process that ends with the test.
@@ -294,17 +297,38 @@ fn what_cannot_be_traced_is_refused() {
     let folder = Folder::new("trace-refused");
     folder.write("says.c", "#include <stdio.h>\nint main(void) { return puts(\"ran\") < 0; }\n");
     folder.run("gcc -m32 says.c -o narrow && gcc says.c -o wide && chmod 4755 wide && chmod 755 .");
-    let ran = dwcheck_elf(&folder, "trace -- ./narrow");
-    assert_eq!((ran.status, ran.out.as_str()), (3, ""), "{}", ran.error);
-    assert!(ran.error.contains("/narrow isn't a 64-bit program for x86-64"), "{}", ran.error);
-    let ran = dwcheck_elf(&folder, "trace -- ./missing");
-    assert_eq!(ran.status, 3);
-    assert!(ran.error.contains("./missing: it can't be started: No such file or directory"), "{}", ran.error);
-    let ran = dwcheck_elf(&folder, "trace --pid 4194304");
-    assert_eq!(ran.status, 3);
-    assert!(ran.error.contains("process 4194304: there is no such process"), "{}", ran.error);
-    let ran = dwcheck_elf(&folder, "trace");
-    assert_eq!(ran.status, 2);
-    let process = Started::new(&folder, &["../../bin/sleep", "100"]);
-    let _ = process;
+    std::fs::copy(env!("CARGO_BIN_EXE_dwcheck-elf"), folder.file("tool")).unwrap();
+    let user = "$([ $(id -u) = 0 ] && echo setpriv --reuid 65534 --regid 65534 --clear-groups)";
+    for (line, why) in [
+        ("./tool trace -- ./narrow", "/narrow isn't a 64-bit program for x86-64"),
+        (&*format!("{} ./tool trace -- ./wide", user), "/wide is a setuid or setgid program"),
+        ("./tool trace -- ./missing", "./missing: it can't be started: No such file or directory"),
+        ("./tool trace --pid 4194304", "process 4194304: there is no such process"),
+    ] {
+        let said = folder.run(&format!("{} 2>&1; echo status $?", line));
+        assert!(said.contains(why) && said.ends_with("status 3\n") && !said.contains("ran"), "{}", said);
+    }
+    assert_eq!(dwcheck_elf(&folder, "trace").status, 2);
+    assert_eq!(dwcheck_elf(&folder, "trace --module [ -- ./wide").status, 2);
+}
+
+/// A process that another program traces is left alone.
+#[test]
+fn a_process_that_is_traced_already() {
+    if !may_trace_programs() {
+        return;
+    }
+    let folder = Folder::new("trace-twice");
+    folder.run("cp /bin/sleep mysleeper");
+    let mut command = Command::new(env!("CARGO_BIN_EXE_dwcheck-elf"));
+    let mut first =
+        Started(command.args(["trace", "--", "./mysleeper", "1000"]).current_dir(folder.path()).spawn().unwrap());
+    let children = format!("/proc/{0}/task/{0}/children", first.0.id());
+    let child = || std::fs::read_to_string(&children).unwrap_or_default().trim().to_string();
+    assert!(comes_true(|| !child().is_empty()));
+    std::thread::sleep(Duration::from_millis(300));
+    let ran = dwcheck_elf(&folder, &format!("trace --pid {}", child()));
+    assert_eq!(ran.status, 3, "{}", ran.error);
+    assert!(ran.error.contains(&format!("the process {} traces it already", first.0.id())), "{}", ran.error);
+    first.0.kill().unwrap();
 }

@@ -1,9 +1,9 @@
 //! The files whose code processes run: their FDEs, rows and functions.
 
 use super::confirm::{suspects, Suspect};
-use super::registers::{KEPT, KEPT_NUMBERS};
+use super::registers::KEPT_NUMBERS;
 use super::rules::Rule;
-use super::site::{Judged, Site};
+use super::site::{Judged, Kept, Site};
 use crate::functions::Functions;
 use crate::lint::{LintError, Sections};
 use crate::live::Map;
@@ -49,7 +49,7 @@ pub struct ModuleFile<'s> {
     /// The addresses at which functions begin that are stepped.
     pub(super) entries: BTreeSet<u64>,
     /// The addresses at which other modules may have been loaded.
-    pub(super) loads: Vec<u64>,
+    pub(super) loads: BTreeSet<u64>,
 }
 
 /// Why a file can't be read.
@@ -163,6 +163,7 @@ impl<'s> ModuleFile<'s> {
         let is_stepped = selection.selects(&path);
         let load = functions.all().iter().find(|function| function.name == MODULES_CHANGED);
         let loads = load.map(|function| function.begin).into_iter().chain(Some(program.entry()));
+        let loads: BTreeSet<u64> = loads.filter(|address| *address != 0).collect();
         let mut file = ModuleFile {
             path,
             functions,
@@ -172,7 +173,7 @@ impl<'s> ModuleFile<'s> {
             sections,
             segments: program.segments(),
             entries: BTreeSet::new(),
-            loads: loads.filter(|address| *address != 0).collect(),
+            loads,
             module,
         };
         if is_stepped {
@@ -258,9 +259,13 @@ impl<'s> ModuleFile<'s> {
             unjudged(self.module.machine, &row).map_or(Ok(()), |reason| Err(Rule::from(reason)))?;
         }
         let keeps = self.module.convention == Convention::KeepsRegisters;
-        let is_undefined: [bool; KEPT] =
-            KEPT_NUMBERS.map(|number| !keeps || row.rule(Register(number as u8)) == Some(RowRule::Undefined));
-        Ok(Judged { section, is_undefined, is_signal })
+        let kept = KEPT_NUMBERS.map(|number| match row.rule(Register(number as u8)) {
+            _ if !keeps => Kept::Unknown,
+            Some(RowRule::Undefined) => Kept::Unknown,
+            None | Some(RowRule::Same) => Kept::InPlace,
+            Some(_) => Kept::Elsewhere,
+        });
+        Ok(Judged { section, kept, is_signal })
     }
 }
 

@@ -3,7 +3,7 @@
 use super::registers::{Registers, COUNT, KEPT, KEPT_NUMBERS};
 use super::rules::Rule;
 use super::shadow::{Frame, Origin};
-use super::site::{Judged, Places, Wrong};
+use super::site::{Judged, Kept, Places, Wrong};
 use super::space::Space;
 use super::thread::{Mode, Thread};
 use super::tracer::Tracer;
@@ -214,9 +214,14 @@ fn verdict(judged: Judged, unwound: &Unwound, frame: &Frame) -> Verdict {
         }
     };
     for (index, (value, kept)) in caller.kept.iter().zip(&frame.kept).enumerate() {
-        if *value != Some(*kept) && !judged.is_undefined[index] {
+        let wrong = match judged.kept[index] {
+            Kept::Unknown => continue,
+            Kept::InPlace => WrongRule::Changed,
+            Kept::Elsewhere => WrongRule::Overwritten,
+        };
+        if *value != Some(*kept) {
             verdict.wrong.add(Facts::kept(index));
-            verdict.rules[index] = Some(WrongRule::Overwritten);
+            verdict.rules[index] = Some(wrong);
         }
     }
     verdict

@@ -39,10 +39,21 @@ pub struct Site {
 pub struct Judged {
     /// The index of its frame section.
     pub section: usize,
-    /// The callee-saved registers, by their places, whose values the row says aren't known.
-    pub is_undefined: [bool; KEPT],
+    /// Where it finds each callee-saved register.
+    pub kept: [Kept; KEPT],
     /// Whether it describes the frame of a signal.
     pub is_signal: bool,
+}
+
+/// Where a row finds the caller's value of a register.
+#[derive(Clone, Copy, Debug, PartialEq, Eq)]
+pub enum Kept {
+    /// In the register itself.
+    InPlace,
+    /// In memory or in another register.
+    Elsewhere,
+    /// Nowhere, or the function doesn't have to give it back.
+    Unknown,
 }
 
 /// What was wrong at an instruction.

@@ -189,10 +189,18 @@ impl Tracer<'_, '_> {
         let mut space = space.borrow_mut();
         // The thread by which the memory was known may have ended.
         space.pid = thread.tid;
+        let address = thread.program_counter();
         let is_own_trap = matches!(thread.here.effect, Effect::Stop);
-        let is_same = registers.program_counter() == thread.program_counter();
-        let may_be_other = thread.mode == Mode::Running || is_same || is_own_trap;
+        let is_same = registers.program_counter() == address;
+        // Another thread may have put the breakpoint back before the instruction was executed.
+        let is_at_breakpoint =
+            registers.program_counter() == address.wrapping_add(1) && space.breakpoints.at(address).is_some();
+        let may_be_other = thread.mode == Mode::Running || is_same || is_own_trap || is_at_breakpoint;
         let code = if may_be_other { ptrace::signal_code(thread.tid).ok()? } else { 0 };
+        if thread.mode != Mode::Running && is_at_breakpoint && code == BY_KERNEL {
+            ptrace::set_program_counter(thread.tid, address);
+            return Some(0);
+        }
         if thread.mode == Mode::Running || code == BY_KERNEL {
             return Some(self.trapped_running(thread, &mut space, registers, code));
         }

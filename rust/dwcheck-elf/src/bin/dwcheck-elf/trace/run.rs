@@ -2,7 +2,7 @@
 
 use crate::arguments::{LintWords, TraceWords};
 use crate::end::{shown, Done, Failure};
-use dwcheck_elf::trace::{Confirmed, End, FileReport, Found, Options, TraceError, Tracer};
+use dwcheck_elf::trace::{guarded, Confirmed, End, FileReport, Found, Options, TraceError, Tracer};
 use dwcheck_lint::finding::Severity;
 use dwcheck_lint::report::{Json, Quoted, Text};
 use std::ffi::OsString;
@@ -26,8 +26,23 @@ struct Totals {
     private: usize,
 }
 
-/// Runs a program, and writes what is found.
+/// Runs a program, and writes what is found. A process that runs already is stepped by a process of its own.
 pub fn trace(words: &TraceWords) -> Result<Done, Failure> {
+    if words.pid.is_none() {
+        return traced(words);
+    }
+    let run = || match traced(words) {
+        Ok(done) => done.status(),
+        Err(failure) => {
+            let _ = writeln!(io::stderr(), "dwcheck-elf: {}", failure);
+            failure.status()
+        }
+    };
+    let status = guarded(run).map_err(|error| Failure::File(format!("no process: {}", error.desc())))?;
+    Ok(Done::Status(status))
+}
+
+fn traced(words: &TraceWords) -> Result<Done, Failure> {
     let patterns = words.module.iter().map(|text| pattern(text)).collect::<Result<_, _>>()?;
     let seconds = words.seconds.or_else(|| words.pid.map(|_| SAMPLED));
     let options = Options {
