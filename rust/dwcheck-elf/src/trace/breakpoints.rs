@@ -24,7 +24,7 @@ pub(super) struct Breakpoint {
     pub misses: u8,
 }
 
-/// The breakpoints of a process.
+/// The breakpoints of a process. Those that aren't wanted anymore stay known.
 #[derive(Clone, Debug, Default)]
 pub(super) struct Breakpoints {
     all: HashMap<u64, Breakpoint>,
@@ -38,6 +38,15 @@ impl Breakpoint {
     /// Whether there is a reason for it.
     pub fn is_wanted(&self) -> bool {
         self.is_entry || self.is_load || self.returns > 0
+    }
+
+    /// The byte that is in the code there.
+    fn byte(&self) -> u8 {
+        if self.is_wanted() {
+            TRAP
+        } else {
+            self.original
+        }
     }
 }
 
@@ -130,14 +139,6 @@ impl Space {
         self.change(address, |breakpoint| breakpoint.misses = breakpoint.misses.saturating_add(1));
     }
 
-    /// Doesn't wait for any return: the process is a copy whose threads have no frames.
-    pub fn forget_returns(&mut self) {
-        let all = self.breakpoints.all.iter().filter(|(_, found)| found.returns > 0);
-        for address in all.map(|(address, _)| *address).collect::<Vec<_>>() {
-            self.change(address, |breakpoint| breakpoint.returns = 0);
-        }
-    }
-
     fn change(&mut self, address: u64, change: impl Fn(&mut Breakpoint)) {
         let breakpoint = match self.breakpoints.all.get_mut(&address) {
             Some(breakpoint) => breakpoint,
@@ -146,7 +147,6 @@ impl Space {
         change(breakpoint);
         if !breakpoint.is_wanted() {
             let original = breakpoint.original;
-            self.breakpoints.all.remove(&address);
             self.put(address, original);
         }
     }
@@ -189,12 +189,25 @@ impl Space {
     /// Puts all breakpoints back, if there is no other reason for which they are out.
     pub fn put_back(&mut self) {
         if self.breakpoints.out == 1 {
-            self.put_all(|_| TRAP);
+            self.put_all(Breakpoint::byte);
         }
         self.breakpoints.out = self.breakpoints.out.saturating_sub(1);
     }
 
-    /// Writes the byte of each breakpoint, all of a part of executable memory at once.
+    /// Takes all breakpoints out of a copy of a process, which is let go. The copy may have some that have
+    /// been forgotten meanwhile.
+    pub fn clear(&mut self) {
+        self.put_all(|breakpoint| breakpoint.original);
+    }
+
+    /// Begins with a copy of a process, whose threads wait for no return.
+    pub fn adopt(&mut self) {
+        self.breakpoints.out = 0;
+        self.breakpoints.all.values_mut().for_each(|breakpoint| breakpoint.returns = 0);
+        self.put_all(Breakpoint::byte);
+    }
+
+    /// Writes the byte of each breakpoint, also of those that aren't wanted anymore, all of a part of executable memory at once.
     fn put_all(&self, byte: impl Fn(&Breakpoint) -> u8) {
         let mut all: Vec<(u64, &Breakpoint)> = self.breakpoints.all.iter().map(|(at, found)| (*at, found)).collect();
         all.sort_by_key(|(address, _)| *address);

@@ -67,9 +67,10 @@ impl Tracer<'_, '_> {
             }
             Report::VforkDone => thread.space.borrow_mut().put_back(),
             Report::Created(_) => {
-                if let Ok(made) = ptrace::message(tid) {
-                    let space = std::rc::Rc::clone(&thread.space);
-                    self.births.insert(made, Birth::LetGo(space));
+                let copy =
+                    ptrace::message(tid).ok().and_then(|made| Some((made, thread.space.borrow().forked(made).ok()?)));
+                if let Some((made, copy)) = copy {
+                    self.births.insert(made, Birth::LetGo(copy));
                 }
             }
             _ => {}
@@ -79,10 +80,8 @@ impl Tracer<'_, '_> {
     /// A thread or a process that was just made has stopped.
     fn let_go_first(&mut self, tid: Tid) {
         match self.births.remove(&tid) {
-            Some(Birth::LetGo(space) | Birth::Copy(space)) => {
-                if let Ok(mut copy) = space.borrow().forked(tid) {
-                    copy.take_out();
-                }
+            Some(Birth::LetGo(mut copy) | Birth::Copy(mut copy)) => {
+                copy.clear();
                 ptrace::detach(tid, 0);
             }
             Some(Birth::Thread(_) | Birth::Borrower) => ptrace::detach(tid, 0),

@@ -54,14 +54,14 @@ pub struct Tracer<'b, 's> {
 }
 
 /// What is done with a thread or a process that was made.
-#[derive(Clone, Debug)]
+#[derive(Debug)]
 pub(super) enum Birth {
     /// It is a thread with this memory, or uses it as one.
     Thread(Rc<RefCell<Space>>),
-    /// It has a copy of this memory, and is traced.
-    Copy(Rc<RefCell<Space>>),
-    /// It has a copy of this memory, and is let go.
-    LetGo(Rc<RefCell<Space>>),
+    /// It has this memory, a copy, and is traced.
+    Copy(Space),
+    /// It has this memory, a copy, and is let go.
+    LetGo(Space),
     /// It uses the memory of what made it, which waits meanwhile, and has no breakpoints.
     Borrower,
 }
@@ -254,8 +254,12 @@ impl Tracer<'_, '_> {
                 Birth::Borrower
             }
             (true, ..) => Birth::Thread(space),
-            (false, _, true) => Birth::Copy(space),
-            (false, _, false) => Birth::LetGo(space),
+            (false, _, follows) => match space.borrow().forked(tid) {
+                Ok(copy) if follows => Birth::Copy(copy),
+                Ok(copy) => Birth::LetGo(copy),
+                // It ended.
+                Err(_) => return,
+            },
         };
         if self.early.remove(&tid) {
             self.born(tid, birth);
@@ -278,24 +282,19 @@ impl Tracer<'_, '_> {
     fn born(&mut self, tid: Tid, birth: Birth) {
         let space = match birth {
             Birth::Borrower => return ptrace::detach(tid, 0),
-            Birth::LetGo(space) => {
-                if let Ok(mut copy) = space.borrow().forked(tid) {
-                    copy.take_out();
-                }
+            Birth::LetGo(mut copy) => {
+                copy.clear();
                 return ptrace::detach(tid, 0);
             }
             Birth::Thread(space) => {
                 self.counts.threads += 1;
                 space
             }
-            Birth::Copy(space) => match space.borrow().forked(tid) {
-                Ok(mut copy) => {
-                    copy.forget_returns();
-                    self.counts.processes += 1;
-                    Rc::new(RefCell::new(copy))
-                }
-                Err(_) => return ptrace::detach(tid, 0),
-            },
+            Birth::Copy(mut copy) => {
+                copy.adopt();
+                self.counts.processes += 1;
+                Rc::new(RefCell::new(copy))
+            }
         };
         let mut thread = Thread::new(tid, space);
         self.set_out(&mut thread);
