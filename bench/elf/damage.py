@@ -5,9 +5,9 @@
 
 gcc makes a few ELF files, and gdb core files. From these, COUNT files of each kind are made: bytes
 are changed in headers, in sections and anywhere, and some files are cut short. `survey` is run on
-folders of 250 ELF files, and `check`, `rows`, `row` and `locs` on every 50th file. `stack` is run
-on each core file, and, for the kind `program`, on a core file that isn't changed with its program,
-which is: its tables, symbols, debug information and .gnu_debugdata. Each run must end within 60
+folders of 250 ELF files, and `check`, `rows`, `row`, `locs` and `vars` on every 50th file. `stack` is
+run on each core file, and, for the kind `program`, with `--vars` on a core file that isn't changed with
+its program, which is: its tables, symbols, debug information and .gnu_debugdata. Each run must end within 60
 seconds, in 1 GB of address space, with an exit status that dwcheck-elf documents, and without a
 panic. A survey must write a line of JSON for each different file that still begins as an ELF file
 does, and one line of totals. This needs gcc, gdb, binutils and xz.
@@ -34,8 +34,6 @@ __attribute__((noinline)) int deep(int n) {
 }
 int main(int argc, char **argv) { return deep(argc + 3); }
 """
-# Flags with which gcc writes no location list entries of the kinds that dwcheck refuses.
-PLAIN = "-O2 -g -gdwarf-5 -gno-variable-location-views -fno-var-tracking-assignments -fvar-tracking -fno-var-tracking-uninit"
 IN_A_FOLDER = 250
 # How many bytes of address space a run may take.
 MEMORY = 1 << 30
@@ -61,9 +59,10 @@ def made(folder):
     with open(os.path.join(folder, "a.c"), "w") as file:
         file.write(SOURCE)
     lines = [
-        f"gcc {PLAIN} a.c -o linked",
-        f"gcc {PLAIN} -fno-asynchronous-unwind-tables -gz a.c -o compressed",
-        f"gcc {PLAIN} -c a.c -o object.o",
+        "gcc -O2 -g -gdwarf-5 a.c -o linked",
+        "gcc -O2 -g -gdwarf-5 -fno-asynchronous-unwind-tables -gz a.c -o compressed",
+        "gcc -O2 -g -gdwarf-5 -c a.c -o object.o",
+        "gcc -O2 -g -gdwarf-4 a.c -o old",
         "gcc -O2 -static -Wl,-s a.c -o crash",
         "gdb --batch -ex 'set startup-with-shell off' -ex run -ex 'gcore core' ./crash < /dev/null",
         "gcc -O2 -g -gz a.c -o program",
@@ -74,7 +73,7 @@ def made(folder):
     for line in lines:
         subprocess.run(line, shell=True, cwd=folder, check=True, capture_output=True)
     elf = {}
-    for name in ["linked", "compressed", "object.o"]:
+    for name in ["linked", "compressed", "object.o", "old"]:
         with open(os.path.join(folder, name), "rb") as file:
             elf[name] = file.read()
     with open(os.path.join(folder, "core"), "rb") as file:
@@ -146,7 +145,8 @@ def elf_files(program, made_elf, work, seed, count):
         came["not judged" if any("error" in part for part in parts) else "refused" if False in accepted else "accepted"] += 1
     for number in range(0, count, 50):
         name = f"{number:04}"
-        for words in [["check", "--all", "--notes", name], ["rows", name], ["row", name, "main+4"], ["locs", name, "0xc", "0x0", "deep"]]:
+        for words in [["check", "--all", "--notes", name], ["rows", name], ["row", name, "main+4"], ["locs", name, "0xc", "0x0", "deep"],
+                      ["vars", "--depth", "3", name, "main+4"], ["vars", "--json", name, "deep+8"]]:
             _, wrong = run([program, *words], folder, (0, 1, 2, 3))
             if wrong:
                 problems.append(f"seed {seed}: {words}: {wrong}")
@@ -188,7 +188,7 @@ def programs(program, original, work, seed, count):
     for number in range(count):
         with open(path, "wb") as file:
             file.write(changed(numbers, original, ranges))
-        ran, wrong = run([program, "stack", "--limit", "100", path, "program.core"], work, (0, 3))
+        ran, wrong = run([program, "stack", "--vars", "--limit", "100", path, "program.core"], work, (0, 3))
         if wrong:
             problems.append(f"seed {seed}: program {number}: {wrong}")
             shutil.copy(path, f"{path}-{number}")

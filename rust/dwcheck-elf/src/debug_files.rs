@@ -15,7 +15,7 @@ use typed_arena::Arena;
 const FOLDER: &str = "usr/lib/debug";
 
 /// The separate files of debug information that were opened, and what was decompressed of them.
-pub(crate) struct DebugFiles {
+pub struct DebugFiles {
     /// The folder that stands for `/`.
     root: PathBuf,
     files: Arena<Bytes>,
@@ -24,7 +24,7 @@ pub(crate) struct DebugFiles {
 
 /// Why a file of debug information that was found isn't used.
 #[derive(Clone, Debug, PartialEq, Eq)]
-pub(crate) enum NotUsed {
+pub enum NotUsed {
     /// It can't be read.
     Unreadable(String),
     /// Its build id is the first one, that of the program is the second one.
@@ -47,11 +47,15 @@ impl DebugFiles {
     /// The file of debug information of a program whose file is `path`. `None` if there is none. If
     /// the file that has its name can't be used, the error has its path and the reason.
     pub fn of(&self, path: &Path, program: &Program<'_>) -> Result<Option<&Bytes>, (PathBuf, NotUsed)> {
+        Ok(self.find(path, program)?.map(|(_, bytes)| bytes))
+    }
+
+    /// The same file, with its path.
+    pub fn find(&self, path: &Path, program: &Program<'_>) -> Result<Option<(PathBuf, &Bytes)>, (PathBuf, NotUsed)> {
         if let Some(id) = program.build_id() {
             let file = self.root.join(FOLDER).join(".build-id").join(name_of(id));
-            match self.open(&file)? {
-                Some(bytes) => return same_id(bytes, id).map(Some).map_err(|why| (file, why)),
-                None => {}
+            if let Some(bytes) = self.open(&file)? {
+                return checked(file, bytes, id);
             }
         }
         match program.debug_link() {
@@ -67,7 +71,7 @@ impl DebugFiles {
         path: &Path,
         program: &Program<'_>,
         (name, checksum): (&[u8], u32),
-    ) -> Result<Option<&Bytes>, (PathBuf, NotUsed)> {
+    ) -> Result<Option<(PathBuf, &Bytes)>, (PathBuf, NotUsed)> {
         let name = Path::new(OsStr::from_bytes(name));
         let is_plain =
             name.components().count() == 1 && name.components().all(|part| matches!(part, Component::Normal(_)));
@@ -86,8 +90,7 @@ impl DebugFiles {
             if crc32fast::hash(bytes) != checksum {
                 return Err((file, NotUsed::Checksum));
             }
-            let id = program.build_id().unwrap_or(&[]);
-            return same_id(bytes, id).map(Some).map_err(|why| (file, why));
+            return checked(file, bytes, program.build_id().unwrap_or(&[]));
         }
         Ok(None)
     }
@@ -127,6 +130,14 @@ fn name_of(id: &[u8]) -> String {
 
 fn hex(id: &[u8]) -> String {
     id.iter().map(|byte| format!("{:02x}", byte)).collect()
+}
+
+/// Returns a file if it has this build id, or none.
+fn checked<'b>(file: PathBuf, bytes: &'b Bytes, id: &[u8]) -> Result<Option<(PathBuf, &'b Bytes)>, (PathBuf, NotUsed)> {
+    match same_id(bytes, id) {
+        Ok(bytes) => Ok(Some((file, bytes))),
+        Err(why) => Err((file, why)),
+    }
 }
 
 /// Returns the bytes of a file if it has this build id, or none.

@@ -94,12 +94,12 @@ pub fn operations(expression: &[u8], target: Target) -> Vec<Operation> {
     all
 }
 
-const BRA: u8 = 0x28;
-const SKIP: u8 = 0x2f;
+pub(crate) const BRA: u8 = 0x28;
+pub(crate) const SKIP: u8 = 0x2f;
 
 /// Moves past the operands of an operation. For a branch, returns the distance in bytes from the
 /// end of the branch to its target. For any other operation, returns 0.
-fn skip(cursor: &mut Cursor<'_>, code: u8) -> Result<u64, ReadError> {
+pub(crate) fn skip(cursor: &mut Cursor<'_>, code: u8) -> Result<u64, ReadError> {
     let size = cursor.target().address_size.bytes();
     match code {
         0x03 => cursor.take(u64::from(size)).map(|_| 0),

@@ -35,8 +35,8 @@ pub struct Defect {
     /// The CIE or FDE with the fault. In location lists, the table with the fault. `None` if the
     /// fault is in none.
     pub record: Option<Within>,
-    /// The function at the FDE's first address. `None` if the fault isn't in an FDE, or if the file
-    /// has no name for the function.
+    /// The function at the FDE's first address, or the variable of the location list. `None` if the fault
+    /// is in neither, or if the file has no name for it.
     pub function: Option<String>,
     /// The rule that the fault breaks, in words.
     pub rule: String,
@@ -54,6 +54,8 @@ pub enum Within {
     /// A CIE or FDE that can't be read or can't be rewritten, or a table of location lists, by its
     /// offset in the section.
     Record(u64),
+    /// A location list, by its offset in the section.
+    List(u64),
 }
 
 /// A frame section, with what is needed to describe its faults.
@@ -129,14 +131,7 @@ impl Defect {
     /// Describes a fault that `dwcheck` found in `lists`, the bytes of `.debug_loclists`.
     pub fn of_lists(lists: &[u8], fault: Fault, target: Target) -> Self {
         let code = lists.get(fault.offset as usize).copied();
-        let what = match (fault.number(), code) {
-            (30..=39 | 41 | 42, Some(code)) => expression::name_of(code),
-            (40, _) => "the end of an expression".to_string(),
-            (51..=53, Some(code)) => format!("entry {:#04x}", code),
-            (54, _) => "the end of a table".to_string(),
-            (55, _) => "an offset".to_string(),
-            _ => "a field".to_string(),
-        };
+        let what = what_of_lists(fault.kind, code);
         Defect {
             section: Name::DebugLoclists,
             offset: u64::from(fault.offset),
@@ -148,6 +143,18 @@ impl Defect {
             rule: fault.kind.rule().to_string(),
             hint: code.and_then(|code| list_hint(fault.kind, code)),
         }
+    }
+}
+
+/// Says in words what is at a fault of location lists, by its first byte.
+pub(crate) fn what_of_lists(kind: FaultKind, code: Option<u8>) -> String {
+    match (kind.number(), code) {
+        (30..=39 | 41 | 42, Some(code)) => expression::name_of(code),
+        (40, _) => "the end of an expression".to_string(),
+        (51..=53, Some(code)) => format!("entry {:#04x}", code),
+        (54, _) => "the end of a table".to_string(),
+        (55, _) => "an offset".to_string(),
+        _ => "a field".to_string(),
     }
 }
 
@@ -265,6 +272,7 @@ impl fmt::Display for Within {
             Within::Cie(offset) => write!(f, "CIE {:#x}", offset),
             Within::Fde(range) => write!(f, "FDE {:#x}..{:#x}", range.start, range.end),
             Within::Record(offset) => write!(f, "record {:#x}", offset),
+            Within::List(offset) => write!(f, "list {:#x}", offset),
         }
     }
 }

@@ -27,7 +27,9 @@ pub enum Name {
     DebugFrame,
     /// `.eh_frame`, which is rewritten as `.debug_frame`.
     EhFrame,
-    /// `.debug_loclists`.
+    /// `.debug_loc`, the location lists of DWARF 4 and before.
+    DebugLoc,
+    /// `.debug_loclists`, the location lists of DWARF 5.
     DebugLoclists,
 }
 
@@ -207,6 +209,7 @@ impl fmt::Display for Name {
         f.pad(match self {
             Name::DebugFrame => ".debug_frame",
             Name::EhFrame => ".eh_frame",
+            Name::DebugLoc => ".debug_loc",
             Name::DebugLoclists => ".debug_loclists",
         })
     }

@@ -2,15 +2,19 @@
 
 use crate::alone::{accepted_part, every_fault};
 use crate::bridge::{BridgeError, Edge, Options, Reason, RecordKind};
+use crate::debug_files::DebugFiles;
 use crate::fault::{Defect, Terms};
 use crate::frames::{Frames, FramesError, Name};
+use crate::lists;
 use crate::loclists::Contents;
 use crate::program::{Program, ProgramError};
 use crate::row::Row;
 use crate::target::Target;
+use crate::text::Plain;
 use crate::validate::{validate, validate_rows, Agreement, Difference, DwcheckRows, RowSource, What};
 use dwcheck::{DebugFrame, DebugLoclists, Error, Process};
 use std::fmt;
+use std::path::{Path, PathBuf};
 
 /// How to check a program.
 ///
@@ -38,6 +42,8 @@ pub struct Inspected<'data> {
     pub bytes: usize,
     /// The frame section. `None` for location lists, and for a frame section that couldn't be read.
     pub frames: Option<Frames<'data>>,
+    /// What location lists have that were found by `.debug_info`. `None` for any other section.
+    pub lists: Option<lists::Contents>,
     /// Whether the section was accepted.
     pub verdict: Verdict,
 }
@@ -48,8 +54,10 @@ pub enum Verdict {
     /// A well-formed frame section. If it was rewritten, `dwcheck`'s rows are equal to the rows
     /// that gimli finds in the section before it was rewritten.
     Frames(Agreement),
-    /// Well-formed location lists.
+    /// Well-formed location lists of a file without `.debug_info`, in which the whole section is checked.
     Lists(Contents),
+    /// Well-formed location lists, but for what [`lists::Contents::not_checked`] says.
+    FoundLists,
     /// The section is refused. These are its first fault, or all faults if [`Check::all`] is set.
     /// Never empty. [`Inspected::rest`] has what isn't refused.
     Refused(Vec<Defect>),
@@ -66,9 +74,17 @@ pub enum InspectError {
     Difference(Difference),
     /// `dwcheck` neither accepted nor refused the section, for example because memory ran out.
     Dwcheck(Name, Error),
+    /// `.debug_info` can't be read: the offset of the unit, if it is known, and why.
+    DebugInfo(Option<u64>, String),
+    /// A location list differs from what gimli reads.
+    List(Name, lists::Difference),
+    /// No unit refers to location lists, though the file has some.
+    NoReferences(Name),
+    /// This many units have their debug information in files of their own, one of which has this name.
+    Split(usize, Option<String>),
 }
 
-/// Checks the sections of a program that have bytes: `.debug_frame`, `.eh_frame`,
+/// Checks the sections of a program that have bytes: `.debug_frame`, `.eh_frame`, `.debug_loc`,
 /// `.debug_loclists`.
 ///
 /// The memory that this takes is in proportion to the length of the sections. So is the time, for
@@ -78,14 +94,58 @@ pub enum InspectError {
 /// A section that can't be read or checked doesn't keep the others from it: each has a [`Verdict`].
 pub fn inspect<'data>(program: &Program<'data>, check: Check) -> Vec<Inspected<'data>> {
     let mut all = inspect_frame_sections(program, check);
+    all.extend(inspect_lists(program, None, check));
+    all
+}
+
+/// Checks the location lists of a program that have bytes: those to which `.debug_info` refers, or all of
+/// `.debug_loclists` in a file without `.debug_info`. `shared` is the file that `.gnu_debugaltlink` names,
+/// which may have names of variables.
+pub fn inspect_lists<'data>(
+    program: &Program<'data>,
+    shared: Option<&Program<'_>>,
+    check: Check,
+) -> Vec<Inspected<'data>> {
+    if program.has_bytes(".debug_info") {
+        return lists::inspect_lists(program, shared, check.all);
+    }
     let (bytes, verdict) = match program.debug_loclists() {
-        Ok(Some(lists)) => (lists.bytes.len(), inspect_lists(&lists.bytes, program.target())),
-        Ok(None) => return all,
+        Ok(Some(lists)) => (lists.bytes.len(), inspect_section_of_lists(&lists.bytes, program.target())),
+        Ok(None) => return Vec::new(),
         Err(error) => (0, Err(InspectError::Program(error))),
     };
     let verdict = verdict.unwrap_or_else(Verdict::Unread);
-    all.push(Inspected { name: Name::DebugLoclists, bytes, frames: None, verdict });
-    all
+    vec![Inspected { name: Name::DebugLoclists, bytes, frames: None, lists: None, verdict }]
+}
+
+/// Checks the location lists of a program as [`inspect_lists`] does, but those of its separate file of debug
+/// information if it has none of its own. Also returns the path of that file.
+///
+/// # Errors
+///
+/// If the separate file can't be used: its path, and why.
+pub fn inspect_lists_of_file<'data>(
+    path: &Path,
+    program: &Program<'data>,
+    files: &DebugFiles,
+    check: Check,
+) -> Result<(Option<PathBuf>, Vec<Inspected<'data>>), (PathBuf, String)> {
+    let separate = match program.has_bytes(".debug_info") {
+        true => None,
+        false => files.find(path, program).map_err(|(path, why)| (path, why.to_string()))?,
+    };
+    let lists = |program: &Program<'_>| {
+        let shared = files.shared(program).and_then(|bytes| Program::read(bytes).ok());
+        lists::inspect_lists(program, shared.as_ref(), check.all)
+    };
+    match separate {
+        Some((path, bytes)) => match Program::read(bytes) {
+            Ok(separate) => Ok((Some(path), lists(&separate))),
+            Err(error) => Err((path, error.to_string())),
+        },
+        None if program.has_bytes(".debug_info") => Ok((None, lists(program))),
+        None => Ok((None, inspect_lists(program, None, check))),
+    }
 }
 
 /// Checks the frame sections of a program that have bytes: `.debug_frame`, `.eh_frame`.
@@ -107,12 +167,12 @@ fn unread_frames<'data>(error: FramesError) -> Inspected<'data> {
             (name, Verdict::Refused(vec![Defect { section: name, ..defect }]))
         }
     };
-    Inspected { name, bytes: 0, frames: None, verdict }
+    Inspected { name, bytes: 0, frames: None, lists: None, verdict }
 }
 
 fn inspect_frames<'data>(program: &Program<'data>, frames: Frames<'data>, check: Check) -> Inspected<'data> {
     let verdict = verdict_on(program, &frames, check).unwrap_or_else(Verdict::Unread);
-    Inspected { name: frames.name(), bytes: frames.source().bytes.len(), frames: Some(frames), verdict }
+    Inspected { name: frames.name(), bytes: frames.source().bytes.len(), frames: Some(frames), lists: None, verdict }
 }
 
 fn verdict_on(program: &Program<'_>, frames: &Frames<'_>, check: Check) -> Result<Verdict, InspectError> {
@@ -175,6 +235,11 @@ impl Rest<'_> {
 }
 
 impl<'data> Inspected<'data> {
+    /// A section that can't be read or checked.
+    pub(crate) fn unread(name: Name, error: InspectError) -> Self {
+        Inspected { name, bytes: 0, frames: None, lists: None, verdict: Verdict::Unread(error) }
+    }
+
     /// What is left of a refused frame section. `None` for any other section, and for one that can't
     /// be rewritten at all. Each FDE is checked alone, as for [`Check::all`].
     pub fn rest(&self) -> Result<Option<Rest<'data>>, InspectError> {
@@ -228,7 +293,7 @@ fn counted(frames: &Frames<'_>, process: &Process) -> Agreement {
     agreement
 }
 
-fn inspect_lists(lists: &[u8], target: Target) -> Result<Verdict, InspectError> {
+fn inspect_section_of_lists(lists: &[u8], target: Target) -> Result<Verdict, InspectError> {
     match dwcheck::check(DebugFrame(&[]), DebugLoclists(lists), target.into()) {
         Ok(()) => Ok(Verdict::Lists(Contents::of(lists, target))),
         Err(Error::Refused(fault)) => Ok(Verdict::Refused(vec![Defect::of_lists(lists, fault, target)])),
@@ -249,6 +314,22 @@ impl fmt::Display for InspectError {
             InspectError::Difference(difference) if difference.is_unread() => difference.fmt(f),
             InspectError::Difference(difference) => write!(f, "the rows differ: {}", difference),
             InspectError::Dwcheck(name, error) => write!(f, "{}: {}", name, error),
+            InspectError::DebugInfo(None, error) => write!(f, ".debug_info: {}", error),
+            InspectError::DebugInfo(Some(unit), error) => write!(f, ".debug_info: unit {:#x}: {}", unit, error),
+            InspectError::List(name, difference) => write!(f, "{}: the lists differ: {}", name, difference),
+            InspectError::NoReferences(name) => write!(f, "{}: .debug_info refers to none of its lists", name),
+            InspectError::Split(count, name) => {
+                let name = name.as_deref().unwrap_or("without a name");
+                match count {
+                    1 => write!(f, "1 unit has its location lists in another file, {}, which isn't read", Plain(name)),
+                    _ => write!(
+                        f,
+                        "{} units have their location lists in other files, such as {}, which aren't read",
+                        count,
+                        Plain(name)
+                    ),
+                }
+            }
         }
     }
 }

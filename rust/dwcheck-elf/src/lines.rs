@@ -1,12 +1,10 @@
 //! Finds the source lines and the inlined functions of addresses, by the debug information of a
 //! program.
 
+use crate::debug_info::{self, Slice};
 use crate::program::Program;
-use gimli::{Dwarf, EndianSlice, RunTimeEndian, SectionId};
-use std::borrow::Cow;
+use gimli::{Dwarf, EndianSlice, SectionId};
 use typed_arena::Arena;
-
-type Bytes<'a> = EndianSlice<'a, RunTimeEndian>;
 
 /// A line of a source file.
 #[derive(Clone, Debug, PartialEq, Eq)]
@@ -29,7 +27,7 @@ pub struct At {
 }
 
 /// The debug information of a program.
-pub struct Lines<'a>(addr2line::Context<Bytes<'a>>);
+pub struct Lines<'a>(addr2line::Context<Slice<'a>>);
 
 /// The sections that are read.
 const NEEDED: [SectionId; 10] = [
@@ -54,13 +52,9 @@ impl<'a> Lines<'a> {
             return None;
         }
         let section = |program: &Program<'a>, id: SectionId| {
-            let read = NEEDED.contains(&id).then(|| program.debug_section(id.name()));
-            let bytes = match read {
-                Some(Ok(Some(Cow::Borrowed(bytes)))) => bytes,
-                Some(Ok(Some(Cow::Owned(bytes)))) => unpacked.alloc(bytes),
-                _ => &[],
-            };
-            Ok::<_, gimli::Error>(EndianSlice::new(bytes, program.target().gimli_order()))
+            let empty = EndianSlice::new(&[][..], program.target().gimli_order());
+            let read = NEEDED.contains(&id).then(|| debug_info::section(program, id, unpacked));
+            Ok::<_, gimli::Error>(read.and_then(Result::ok).unwrap_or(empty))
         };
         let mut dwarf = Dwarf::load(|id| section(program, id)).ok()?;
         if let Some(shared) = shared {

@@ -233,6 +233,11 @@ impl<'data> Program<'data> {
         Ok(self.section(name)?.map(|section| section.bytes))
     }
 
+    /// Whether the file has a section with this name that has bytes in the file, compressed or not.
+    pub fn has_bytes(&self, name: &'static str) -> bool {
+        self.sections_named(name).next().is_some()
+    }
+
     /// Whether the file has a section with this name.
     pub fn has_section(&self, name: &str) -> bool {
         self.file.section_by_name(name).is_some()
@@ -273,15 +278,19 @@ impl<'data> Program<'data> {
         Some(loaded(first)..=loaded(last))
     }
 
-    fn section(&self, name: &'static str) -> Result<Option<Section<'data>>, ProgramError> {
+    /// The sections with this name, compressed or not. Sections without bytes don't count. In a separate
+    /// file of debug information, the sections that it leaves out are listed without bytes. An object can
+    /// have an empty section and another section with the same name.
+    fn sections_named<'s>(&'s self, name: &'static str) -> impl Iterator<Item = object::Section<'data, 's>> {
         let compressed = name.strip_prefix('.').unwrap_or(name);
-        let is_named = |found: &str| found == name || found.strip_prefix(".z") == Some(compressed);
-        // Sections without bytes don't count. In a separate file of debug information, the sections
-        // that it leaves out are listed without bytes. An object can have an empty section and
-        // another section with the same name.
-        let has_bytes = |section: &object::Section<'data, '_>| section.file_range().map_or(false, |(_, size)| size > 0);
-        let named = self.file.sections().filter(|section| section.name().map_or(false, is_named));
-        let mut named = named.filter(has_bytes);
+        let is_named = move |found: &str| found == name || found.strip_prefix(".z") == Some(compressed);
+        let has_bytes = |section: &object::Section<'data, 's>| section.file_range().map_or(false, |(_, size)| size > 0);
+        let sections = self.file.sections().filter(has_bytes);
+        sections.filter(move |section| section.name().map_or(false, is_named))
+    }
+
+    fn section(&self, name: &'static str) -> Result<Option<Section<'data>>, ProgramError> {
+        let mut named = self.sections_named(name);
         let found = match (named.next(), named.next()) {
             (None, _) => return Ok(None),
             (Some(found), None) => found,

@@ -205,6 +205,10 @@ const MIPS_PC32: u32 = 248;
 fn machine_step(machine: u16, code: u32) -> Option<Step> {
     let (action, bits) = match (machine, code) {
         (elf::EM_X86_64, elf::R_X86_64_PC64) => (Action::Relative, 64),
+        // The offset of a variable in the data of its thread, which debug information has.
+        (elf::EM_X86_64, elf::R_X86_64_DTPOFF32) => (Action::Absolute, 32),
+        (elf::EM_X86_64, elf::R_X86_64_DTPOFF64) => (Action::Absolute, 64),
+        (elf::EM_386, elf::R_386_TLS_LDO_32) => (Action::Absolute, 32),
         (elf::EM_PPC, elf::R_PPC_REL32) | (elf::EM_PPC64, elf::R_PPC64_REL32) => (Action::Relative, 32),
         (elf::EM_PPC64, elf::R_PPC64_REL64) => (Action::Relative, 64),
         (elf::EM_ARM, elf::R_ARM_REL32) => (Action::Relative, 32),

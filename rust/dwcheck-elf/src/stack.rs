@@ -13,6 +13,7 @@ mod section;
 mod signal_return;
 mod tables;
 mod text;
+mod variables;
 mod walker;
 
 pub use crate::lines::SourceLine;
@@ -22,6 +23,7 @@ pub use names::{Inlined, NameOptions, Place};
 pub use text::Lines;
 
 use crate::core_file::{CoreFile, Files, Memory, Thread};
+use crate::variables::{Shape, Variables};
 use dwcheck::{Block, Registers};
 use names::Names;
 use std::cell::RefCell;
@@ -60,6 +62,12 @@ pub struct Stacks<'a> {
     name_options: NameOptions,
     /// The names of each module that a stack passes, by its index.
     names: RefCell<HashMap<usize, Names<'a>>>,
+    /// The debug information of each module of whose frames the variables were asked for, by its index.
+    variables: RefCell<HashMap<usize, Option<Variables<'a>>>>,
+    /// How much of variables texts and JSON show. `None` if they show none.
+    shape: Option<Shape>,
+    /// Whether texts and JSON show the registers of frames that have them.
+    shows_registers: bool,
 }
 
 /// How to walk.
@@ -198,6 +206,9 @@ impl<'a> Stacks<'a> {
             tables: RefCell::new(Tables::new(core.target(), core.modules(files))),
             name_options: NameOptions::default(),
             names: RefCell::default(),
+            variables: RefCell::default(),
+            shape: None,
+            shows_registers: true,
         }
     }
 
@@ -205,6 +216,13 @@ impl<'a> Stacks<'a> {
     pub fn show_names(&mut self, options: NameOptions) {
         self.name_options = options;
         self.names.get_mut().clear();
+    }
+
+    /// Says that the variables of frames are shown, and whether their registers are. Walks have to keep
+    /// registers ([`WalkOptions::keeps_registers`]).
+    pub fn show_variables(&mut self, shape: Shape, shows_registers: bool) {
+        self.shape = Some(shape);
+        self.shows_registers = shows_registers;
     }
 
     /// Adds the program of a core that doesn't list its mapped files, such as qemu's. Does nothing

@@ -2,6 +2,7 @@
 
 use super::text::Why;
 use super::{Frame, Inlined, Place, SourceLine, Stack};
+use crate::variables::Function;
 use serde_json::{json, Map, Value};
 
 impl Stack<'_, '_> {
@@ -32,7 +33,10 @@ impl Stack<'_, '_> {
             "inlined": inlined.iter().map(inlined_function).collect::<Vec<_>>(),
         });
         add_source(&mut object, &source);
-        if !frame.registers.is_empty() {
+        if self.stacks.shape.is_some() {
+            object["functions"] = self.functions(number).iter().rev().map(Function::json).collect();
+        }
+        if self.stacks.shows_registers && !frame.registers.is_empty() {
             let abi = self.stacks.core.abi();
             let named = frame.registers.iter().map(|(number, value)| (abi.register_name(*number), hex(*value).into()));
             object["registers"] = Value::Object(named.collect::<Map<_, _>>());

@@ -65,11 +65,13 @@ impl<'s, 'a> Stack<'s, 'a> {
         let Place { module, function, offset, source, inlined } = self.stacks.place(frame);
         let address = Address(self.stacks.core.target(), frame.address);
         let module = module.map(|path| path.to_string_lossy().into_owned());
+        let mut functions = self.functions(number);
         for one in inlined {
             let name = if one.name.is_empty() { "?" } else { &one.name };
             write!(f, "#{} {} {} inlined", number, address, name)?;
             write_end(f, &module, &one.source)?;
             writeln!(f)?;
+            functions.pop().map_or(Ok(()), |function| write!(f, "{}", function.lines()))?;
         }
         write!(f, "#{} {}", number, address)?;
         if let Some(function) = function {
@@ -84,13 +86,15 @@ impl<'s, 'a> Stack<'s, 'a> {
             write!(f, " guess: {}", frame.found_by)?;
         }
         writeln!(f)?;
-        self.write_registers(f, frame)
+        self.write_registers(f, frame)?;
+        functions.iter().rev().try_for_each(|function| write!(f, "{}", function.lines()))
     }
 
     /// Writes the registers of a frame, four on each line.
     fn write_registers(&self, f: &mut fmt::Formatter<'_>, frame: &Frame) -> fmt::Result {
         let (target, abi) = (self.stacks.core.target(), self.stacks.core.abi());
-        for some in frame.registers.chunks(4) {
+        let shown = if self.stacks.shows_registers { frame.registers.as_slice() } else { &[] };
+        for some in shown.chunks(4) {
             f.write_str("   ")?;
             for (number, value) in some {
                 write!(f, " {}={}", abi.register_name(*number), Address(target, *value))?;

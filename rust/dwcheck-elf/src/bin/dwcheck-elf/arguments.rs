@@ -42,6 +42,9 @@ pub enum Command {
     /// Print the stack of each thread of a core file
     #[command(after_help = "Example: dwcheck-elf stack ./program core")]
     Stack(StackWords),
+    /// Show the variables that are in scope at an address, where they are, and their values
+    #[command(after_help = "Example: dwcheck-elf vars --core core --frame 2")]
+    Vars(VarsWords),
     /// Check all ELF files in folders
     #[command(after_help = "Example: dwcheck-elf survey /usr/bin /usr/lib")]
     Survey(SurveyWords),
@@ -93,10 +96,10 @@ pub struct CheckWords {
     /// ELF files: programs, libraries, unlinked objects, kernel modules
     #[arg(required = true)]
     pub programs: Vec<PathBuf>,
-    /// List every CIE and FDE that is refused, not only the first one
+    /// List every CIE, FDE and expression of location lists that is refused, not only the first one
     #[arg(long)]
     pub all: bool,
-    /// Leave .debug_loclists out. Compilers write entries in it that are refused (see the manual page)
+    /// Leave location lists out
     #[arg(long)]
     pub no_lists: bool,
     #[command(flatten)]
@@ -208,9 +211,48 @@ pub struct StackWords {
     /// Print the registers of each frame, as far as they are known
     #[arg(long)]
     pub registers: bool,
-    /// Print the stack of several threads once if it is the same
+    /// Print the parameters and variables of each frame with their values, as far as they are known
     #[arg(long)]
+    pub vars: bool,
+    /// With --vars: follow structures and arrays this deep
+    #[arg(long, value_name = "N", default_value_t = 1, requires = "vars")]
+    pub depth: usize,
+    /// Print the stack of several threads once if it is the same
+    #[arg(long, conflicts_with = "vars")]
     pub group: bool,
+    /// Write one document of JSON
+    #[arg(long)]
+    pub json: bool,
+}
+
+#[derive(Args, Debug)]
+pub struct VarsWords {
+    /// An ELF file
+    #[arg(required_unless_present = "core", requires = "address")]
+    pub program: Option<PathBuf>,
+    /// An address, such as 0x1130, or a function, such as main, main+4 or 'twice(int)+4'
+    pub address: Option<String>,
+    /// A state file: registers and memory of the process at the address
+    #[arg(long, value_name = "FILE", conflicts_with = "core")]
+    pub state: Option<PathBuf>,
+    /// Where the program is loaded
+    #[arg(long, value_name = "ADDRESS", default_value = "0x0")]
+    pub load: String,
+    /// A core file of x86-64, i386 or aarch64, instead of a program
+    #[arg(long, value_name = "CORE", conflicts_with = "program")]
+    pub core: Option<PathBuf>,
+    /// The thread of the core file, instead of the first one
+    #[arg(long, value_name = "TID", requires = "core")]
+    pub thread: Option<u32>,
+    /// The frame of the thread, counted from 0
+    #[arg(long, value_name = "N", default_value_t = 0)]
+    pub frame: usize,
+    /// The folder in which the paths of the core file are looked up
+    #[arg(long, value_name = "FOLDER", default_value = "/")]
+    pub root: PathBuf,
+    /// Follow structures and arrays this deep
+    #[arg(long, value_name = "N", default_value_t = 1)]
+    pub depth: usize,
     /// Write one document of JSON
     #[arg(long)]
     pub json: bool,
@@ -227,7 +269,7 @@ pub struct SurveyWords {
     /// List every FDE that is refused, not only the first of each section
     #[arg(long)]
     pub all: bool,
-    /// Check .debug_loclists too. Compilers write entries in it that are refused (see the manual page)
+    /// Check location lists too
     #[arg(long)]
     pub lists: bool,
     /// Check this many files at once, instead of one for each processor

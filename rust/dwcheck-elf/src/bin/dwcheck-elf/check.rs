@@ -4,10 +4,12 @@ use crate::arguments::CheckWords;
 use crate::end::{shown, Done, Failure};
 use crate::opened::{note, program, read, write_defect};
 use dwcheck_elf::bridge::{Bridged, Counts};
+use dwcheck_elf::debug_files::DebugFiles;
 use dwcheck_elf::debug_frame::{instructions, records, Kind};
 use dwcheck_elf::expression::Measure;
 use dwcheck_elf::frames::{Frames, Name};
-use dwcheck_elf::inspect::{inspect, inspect_frame_sections, source_offset, Inspected, Verdict};
+use dwcheck_elf::inspect::{inspect_frame_sections, inspect_lists_of_file, source_offset, Check, Inspected, Verdict};
+use dwcheck_elf::lists::{self, Bytes as ListBytes};
 use dwcheck_elf::loclists::Contents;
 use dwcheck_elf::mapped::Bytes;
 use dwcheck_elf::program::Program;
@@ -15,7 +17,7 @@ use dwcheck_elf::target::Target;
 use dwcheck_elf::text::Offset;
 use dwcheck_elf::validate::Agreement;
 use std::io::{self, Write};
-use std::path::Path;
+use std::path::{Path, PathBuf};
 
 /// Checks each program in turn. If there are several and one can't be read or checked, the others
 /// are still checked.
@@ -47,20 +49,26 @@ fn check_one(words: &CheckWords, path: &Path, out: &mut impl Write) -> Result<Do
     let data = read_program(path)?;
     let program = program(path, &data)?;
     let check = words.reading.check(words.all);
-    let (sections, names) = match words.no_lists {
-        true => (inspect_frame_sections(&program, check), ".debug_frame or .eh_frame"),
-        false => (inspect(&program, check), ".debug_frame, .eh_frame or .debug_loclists"),
-    };
+    let mut sections = inspect_frame_sections(&program, check);
     let mut done = Done::Accepted;
+    let mut separate = None;
+    let mut names = ".debug_frame or .eh_frame";
+    if !words.no_lists {
+        names = ".debug_frame, .eh_frame, .debug_loc or .debug_loclists";
+        separate = add_lists(&mut sections, path, &program, check);
+    }
     if sections.is_empty() {
         writeln!(out, "{}: no {}", shown(path), names)?;
     }
     for section in &sections {
+        let file = separate.as_deref().filter(|_| section.lists.is_some());
         match &section.verdict {
             Verdict::Refused(defects) => {
-                defects.iter().try_for_each(|defect| write_defect(out, path, defect))?;
+                defects.iter().try_for_each(|defect| write_defect(out, file.unwrap_or(path), defect))?;
                 done = done.max(write_rest(out, path, section)?);
+                section.lists.as_ref().map_or(Ok(()), |lists| write_found(out, lists))?;
             }
+            Verdict::FoundLists => write_found_lists(out, path, file, section)?,
             Verdict::Unread(error) => {
                 out.flush()?;
                 note(path, error);
@@ -79,6 +87,28 @@ fn check_one(words: &CheckWords, path: &Path, out: &mut impl Write) -> Result<Do
     Ok(done)
 }
 
+/// Adds the location lists of a program to its sections. Returns the path of the separate file of debug
+/// information that has them, if there is one.
+fn add_lists<'a>(
+    sections: &mut Vec<Inspected<'a>>,
+    path: &Path,
+    program: &Program<'a>,
+    check: Check,
+) -> Option<PathBuf> {
+    // A separate file is also found by the folder of the program.
+    let whole = path.canonicalize().unwrap_or_else(|_| path.to_path_buf());
+    match inspect_lists_of_file(&whole, program, &DebugFiles::default(), check) {
+        Ok((file, lists)) => {
+            sections.extend(lists);
+            file
+        }
+        Err((file, why)) => {
+            note(&file, why);
+            None
+        }
+    }
+}
+
 /// Writes what an accepted section holds: a line of counts, such as those of its CIEs, FDEs and
 /// rows, and a line for each of its expressions.
 fn write_accepted(out: &mut impl Write, program: &Program<'_>, section: &Inspected<'_>) -> io::Result<()> {
@@ -90,6 +120,48 @@ fn write_accepted(out: &mut impl Write, program: &Program<'_>, section: &Inspect
         },
         _ => Ok(()),
     }
+}
+
+/// Writes that location lists are accepted and what they have. `separate` is the file that has them, if it
+/// isn't the program itself.
+fn write_found_lists(
+    out: &mut impl Write,
+    path: &Path,
+    separate: Option<&Path>,
+    section: &Inspected<'_>,
+) -> io::Result<()> {
+    let lists = match &section.lists {
+        Some(lists) => lists,
+        None => return Ok(()),
+    };
+    let place = separate.map_or_else(String::new, |file| format!(" (in {})", shown(file)));
+    let not_checked = lists.not_checked().map_or_else(String::new, |what| format!(", not checked: {}", what));
+    writeln!(out, "{}: {}{}: accepted{}", shown(path), section.name, place, not_checked)?;
+    lists.unchecked.iter().try_for_each(|defect| write_defect(out, separate.unwrap_or(path), defect))?;
+    write_found(out, lists)
+}
+
+/// Writes what location lists have that were found by `.debug_info`: how many they are, what is in their
+/// section, and which operations can't be evaluated.
+fn write_found(out: &mut impl Write, lists: &lists::Contents) -> io::Result<()> {
+    let lists::Contents { units, entries, bytes, .. } = lists;
+    writeln!(out, "units {} lists {} entries {}", units, lists.lists, entries)?;
+    let ListBytes { headers, views, unused, gaps, .. } = bytes;
+    writeln!(out, "bytes headers {} lists {} views {} unused {} gaps {}", headers, bytes.lists, views, unused, gaps)?;
+    if lists.with_holes > 0 {
+        let kinds: Vec<_> = lists.holes.iter().map(|(hole, count)| format!(" {} {}", hole, count)).collect();
+        writeln!(out, "not evaluated {}:{}", lists.with_holes, kinds.concat())?;
+    }
+    let lints = lists.lints.named();
+    let lints: Vec<_> =
+        lints.iter().filter(|lint| lint.1 > 0).map(|(name, count)| format!(" {} {}", name, count)).collect();
+    if !lints.is_empty() {
+        writeln!(out, "doubtful{}", lints.concat())?;
+    }
+    if lists.not_compared > 0 {
+        writeln!(out, "not compared {}", lists.not_compared)?;
+    }
+    Ok(())
 }
 
 /// Writes how much of a refused frame section is left out, and what the rest holds.

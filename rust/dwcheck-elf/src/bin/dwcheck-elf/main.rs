@@ -11,6 +11,7 @@ mod rows;
 mod stack;
 mod survey;
 mod trace;
+mod vars;
 mod walks;
 
 use arguments::{Command, Words};
@@ -52,6 +53,7 @@ fn run(command: Command, out: &mut impl Write) -> Result<Done, Failure> {
         Command::Backtrace(words) => walks::backtrace(&words, out),
         Command::Locs(words) => lists::locs(&words, out),
         Command::Stack(words) => stack::stack(&words, out),
+        Command::Vars(words) => vars::vars(&words, out),
         Command::Survey(words) => survey::survey(&words, out),
         Command::Lint(words) if words.confirm => trace::confirm(&words, out),
         Command::Lint(words) => lint::lint(&words, out),

@@ -9,6 +9,7 @@ use dwcheck_elf::core_file::{CoreError, CoreFile, Files, MappedFile};
 use dwcheck_elf::live::Snapshot;
 use dwcheck_elf::mapped::Bytes;
 use dwcheck_elf::stack::{NameOptions, Stacks};
+use dwcheck_elf::variables::Shape;
 use report::Report;
 use std::ffi::OsStr;
 use std::io::{self, Write};
@@ -87,6 +88,9 @@ fn print(
 ) -> Result<Done, Failure> {
     let (inlined, source, raw) = (!words.no_inline, !words.no_source, words.raw_names);
     stacks.show_names(NameOptions { inlined, source, raw });
+    if words.vars {
+        stacks.show_variables(Shape { depth: words.depth, ..Shape::default() }, words.registers);
+    }
     let report = Report { words, core, stacks, longest_stop };
     report.write(out, &mut warnings)?;
     out.flush()?;

@@ -11,6 +11,7 @@ use dwcheck_elf::bridge::Counts;
 use dwcheck_elf::fault::Defect;
 use dwcheck_elf::frames::Name;
 use dwcheck_elf::inspect::{inspect, inspect_frame_sections, Check, Inspected, Verdict};
+use dwcheck_elf::lists;
 use dwcheck_elf::program::Program;
 use dwcheck_elf::validate::Agreement;
 use files::{content, Files};
@@ -45,6 +46,8 @@ pub struct Section {
     /// Why the section can't be read or checked.
     error: Option<String>,
     counts: Counts,
+    /// What location lists have that were found by `.debug_info`.
+    lists: Option<lists::Contents>,
     mended: usize,
     /// The instructions `DW_CFA_AARCH64_negate_ra_state` that were dropped.
     negated: usize,
@@ -153,7 +156,7 @@ impl Surveyed {
 
 impl Section {
     fn of(inspected: Inspected<'_>) -> Self {
-        let Inspected { name, bytes, frames, verdict } = inspected;
+        let Inspected { name, bytes, frames, lists, verdict } = inspected;
         let bridged = frames.as_ref().map(|frames| frames.bridged());
         let counts = bridged.map_or(Counts::default(), |bridged| *bridged.counts());
         let mended = bridged.map_or(0, |bridged| bridged.mended().len());
@@ -164,13 +167,17 @@ impl Section {
             Verdict::Lists(found) => {
                 (Held::Lists { lists: found.lists, expressions: found.expressions.len() }, Vec::new())
             }
+            Verdict::FoundLists => {
+                let (count, entries) = lists.as_ref().map_or((0, 0), |found| (found.lists, found.entries));
+                (Held::Lists { lists: count, expressions: entries }, Vec::new())
+            }
             Verdict::Refused(defects) => (Held::Unknown, defects),
             Verdict::Unread(why) => {
                 error = Some(why.to_string());
                 (Held::Unknown, Vec::new())
             }
         };
-        Section { name, bytes, held, defects, error, counts, mended, negated }
+        Section { name, bytes, held, defects, error, counts, lists, mended, negated }
     }
 }
 

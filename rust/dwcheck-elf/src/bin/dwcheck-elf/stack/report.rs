@@ -61,7 +61,7 @@ impl<'r, 'a> Report<'r, 'a> {
         let options = WalkOptions {
             limit: self.words.limit,
             is_strict: self.words.strict,
-            keeps_registers: self.words.registers,
+            keeps_registers: self.words.registers || self.words.vars,
         };
         self.stacks.walk(thread, options).map_err(|error| Failure::File(format!("thread {}: {}", thread.id, error)))
     }

@@ -4,6 +4,7 @@ use super::files::Files;
 use super::totals::Totals;
 use super::{Held, Section, Surveyed};
 use dwcheck_elf::fault::{Defect, Within};
+use dwcheck_elf::lists;
 use serde_json::{json, Map, Value};
 use std::io::{self, Write};
 
@@ -43,7 +44,7 @@ fn section(section: &Section) -> Value {
     if let Some(error) = &section.error {
         return json!({ "section": name, "error": error });
     }
-    match section.held {
+    let mut object = match section.held {
         Held::Frames { cies, fdes, rows } => {
             json!({ "section": name, "bytes": bytes, "accepted": true, "cies": cies, "fdes": fdes, "rows": rows })
         }
@@ -54,7 +55,27 @@ fn section(section: &Section) -> Value {
             let faults: Vec<_> = section.defects.iter().map(fault).collect();
             json!({ "section": name, "bytes": bytes, "accepted": false, "faults": faults })
         }
+    };
+    if let Some(lists) = &section.lists {
+        add_lists(&mut object, lists);
     }
+    object
+}
+
+/// Adds what location lists have that were found by `.debug_info`.
+fn add_lists(object: &mut Value, lists: &lists::Contents) {
+    let numbers = [
+        ("units", lists.units),
+        ("entries", lists.entries),
+        ("not_evaluated", lists.with_holes),
+        ("not_compared", lists.not_compared),
+        ("unused", lists.bytes.unused),
+        ("gaps", lists.bytes.gaps),
+    ];
+    numbers.iter().for_each(|(name, number)| object[*name] = json!(number));
+    object["holes"] = lists.holes.iter().map(|(hole, count)| (hole.to_string(), json!(count))).collect();
+    object["limits"] = lists.limits.iter().map(|(limit, count)| (limit.to_string(), json!(count))).collect();
+    object["doubtful"] = lists.lints.named().iter().map(|(name, count)| (name.to_string(), json!(count))).collect();
 }
 
 fn fault(defect: &Defect) -> Value {

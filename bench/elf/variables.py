@@ -1,0 +1,269 @@
+#!/usr/bin/env python3
+"""Compares the variables that `dwcheck-elf vars` shows with those of gdb, at random instructions of a program.
+
+    bench/elf/variables.py DWCHECK_ELF STOPS SEED PROGRAM [ARGUMENT]..
+
+gdb runs the program, which has debug information, and stops at up to STOPS instructions that are drawn at
+random. At each stop it writes a state file with the registers, the stack and the program's own data, and the
+values of the variables that it has in scope, in the function and in those that are inlined there. `vars` gets
+the state file. Each variable is counted in one of these lines; all but the first two have examples:
+
+    equal                    both have the same value
+    neither                  both say that there is no value
+    not evaluated: WHY       gdb has a value, and vars says why it has none
+    only dwcheck-elf         gdb says that the variable is optimized out, or can't read it
+    only gdb                 vars doesn't show the variable
+    DIFFERENT                both have a value, and not the same
+
+The exit status is 1 if a variable is DIFFERENT or shown by only one of the two. This needs gdb and binutils,
+and a machine that lets gdb run programs; it is for x86-64. Texts that pointers lead to aren't compared.
+"""
+import collections
+import json
+import os
+import random
+import re
+import struct
+import subprocess
+import sys
+import tempfile
+
+try:
+    import gdb
+except ImportError:
+    gdb = None
+
+# DWARF's numbers of the registers of x86-64.
+REGISTERS = ["rax", "rdx", "rcx", "rbx", "rsi", "rdi", "rbp", "rsp", "r8", "r9", "r10", "r11", "r12", "r13", "r14", "r15"]
+# How much of the stack a state file has, in bytes.
+STACK = 65536
+# Breakpoints that are set at once.
+AT_ONCE = 300
+
+
+def plain(value, depth=1):
+    """A value of gdb as `vars --json` writes it. None if it has none."""
+    kind = value.type.strip_typedefs()
+    if kind.code in (gdb.TYPE_CODE_REF, gdb.TYPE_CODE_RVALUE_REF):
+        return hex(int(value.referenced_value().address))
+    if value.is_optimized_out:
+        return None
+    if kind.code == gdb.TYPE_CODE_PTR:
+        return hex(int(value) & (1 << 8 * kind.sizeof) - 1)
+    if kind.code == gdb.TYPE_CODE_FLT:
+        number = float(value)
+        return repr(struct.unpack("<f", struct.pack("<f", number))[0]) if kind.sizeof == 4 else repr(number)
+    if kind.code == gdb.TYPE_CODE_ENUM:
+        return str(value).split("::")[-1]
+    if kind.code == gdb.TYPE_CODE_BOOL:
+        return {0: "false", 1: "true"}.get(int(value), str(int(value)))
+    if kind.code in (gdb.TYPE_CODE_INT, gdb.TYPE_CODE_CHAR):
+        return str(int(value))
+    if kind.code in (gdb.TYPE_CODE_STRUCT, gdb.TYPE_CODE_UNION):
+        return {field.name or "": part(value[field], depth) for field in kind.fields() if hasattr(field, "bitpos")}
+    if kind.code == gdb.TYPE_CODE_ARRAY:
+        low, high = kind.range()
+        if kind.target().strip_typedefs().code == gdb.TYPE_CODE_ARRAY:
+            return "?"
+        return [part(value[place], depth) for place in range(low, min(high, low + 199) + 1)]
+    return "?"
+
+
+def part(value, depth):
+    """A member or an element, "?" if it is deeper than `vars` shows."""
+    kind = value.type.strip_typedefs().code
+    if depth == 0 or kind in (gdb.TYPE_CODE_STRUCT, gdb.TYPE_CODE_UNION, gdb.TYPE_CODE_ARRAY):
+        return "?"
+    try:
+        return plain(value, depth - 1)
+    except gdb.error:
+        return None
+
+
+def variables(frame, depth):
+    """The variables of a frame by gdb: the number of the function, the name and the value."""
+    found = []
+    try:
+        block = frame.block()
+    except RuntimeError:
+        return found
+    while block is not None and not block.is_global and not block.is_static:
+        for symbol in block:
+            if not (symbol.is_argument or symbol.is_variable) or symbol.addr_class == gdb.SYMBOL_LOC_TYPEDEF:
+                continue
+            try:
+                value = plain(symbol.value(frame))
+            except (gdb.error, OverflowError, TypeError, ValueError):
+                value = None
+            found.append([depth, symbol.name, value])
+        if block.function is not None:
+            break
+        block = block.superblock
+    return found
+
+
+def write_state(path, frame, own):
+    """Writes the registers, a part of the stack, and the program's own data."""
+    process = gdb.selected_inferior()
+    pointer = int(frame.read_register("rsp"))
+    with open(path, "w") as state:
+        for number, name in enumerate(REGISTERS):
+            state.write("reg %d %#x\n" % (number, int(frame.read_register(name)) & (1 << 64) - 1))
+        for number in range(16):
+            low = int(frame.read_register("xmm%d" % number)["v2_int64"][0]) & (1 << 64) - 1
+            state.write("reg %d %#x\n" % (17 + number, low))
+        state.write("".join("keep %d\n" % number for number in (3, 6, 12, 13, 14, 15)) + "sp 7\n")
+        end = next((end for begin, end in mapped() if begin <= pointer < end), pointer)
+        memory = bytes(process.read_memory(pointer - 256, min(STACK, end - pointer + 256)))
+        state.write("mem %#x %s\n" % (pointer - 256, memory.hex()))
+        for begin, end in own:
+            state.write("mem %#x %s\n" % (begin, bytes(process.read_memory(begin, end - begin)).hex()))
+
+
+def mapped():
+    """The ranges of addresses that the process has mapped."""
+    for line in open("/proc/%d/maps" % gdb.selected_inferior().pid):
+        yield tuple(int(word, 16) for word in line.split()[0].split("-"))
+
+
+def own_data(program):
+    """Where the program's writable data is, and its load address."""
+    lines = open("/proc/%d/maps" % gdb.selected_inferior().pid).read().splitlines()
+    parts = [line.split() for line in lines if line.endswith(os.path.realpath(program))]
+    ranges = [(tuple(int(word, 16) for word in words[0].split("-")), words[1], int(words[2], 16)) for words in parts]
+    load = min(begin - offset for (begin, _), _, offset in ranges)
+    return [bounds for bounds, rights, _ in ranges if "w" in rights], load
+
+
+def in_gdb():
+    """Stops the program at instructions, and writes what gdb knows there."""
+    asked = json.loads(os.environ["VARIABLES_PY"])
+    for line in ("pagination off", "confirm off", "width 0", "disable-randomization on", "startup-with-shell off"):
+        gdb.execute("set " + line)
+    gdb.execute("starti " + " ".join(asked["arguments"]) + " > /dev/null 2>&1", to_string=True)
+    own, load = own_data(asked["program"])
+    load = load if asked["pie"] else 0
+    places = [place + load for place in asked["places"]]
+    stops = []
+    waiting = []
+    while places and len(stops) < asked["stops"]:
+        while places and len(waiting) < AT_ONCE:
+            waiting.append(gdb.Breakpoint("*%#x" % places.pop(), temporary=True, internal=True))
+        try:
+            gdb.execute("continue", to_string=True)
+        except gdb.error:
+            break
+        if not gdb.selected_inferior().pid:
+            break
+        waiting = [point for point in waiting if point.is_valid()]
+        frame = gdb.newest_frame()
+        frames = [frame]
+        while frames[-1].type() == gdb.INLINE_FRAME:
+            frames.append(frames[-1].older())
+        path = os.path.join(asked["folder"], "state%d" % len(stops))
+        write_state(path, frame, own_data(asked["program"])[0])
+        found = [one for place, each in enumerate(reversed(frames)) for one in variables(each, place)]
+        stops.append({"address": frame.pc(), "load": load, "state": path, "variables": found})
+    with open(os.path.join(asked["folder"], "stops"), "w") as file:
+        json.dump(stops, file)
+    try:
+        gdb.execute("kill")
+    except gdb.error:
+        pass
+
+
+def same(one, other):
+    """Whether a value of gdb and one of vars are the same, as far as they can be compared."""
+    if isinstance(other, dict) and "address" in other and "text" in other and isinstance(one, str):
+        other = other["address"]
+    if one == "?" or one == other:
+        return True
+    if isinstance(one, dict) and isinstance(other, dict):
+        return all(same(value, other.get(name)) for name, value in one.items())
+    if isinstance(one, list) and isinstance(other, list):
+        return len(one) == len(other) and all(map(same, one, other))
+    if isinstance(one, list) and isinstance(other, str) and other.startswith('"'):
+        return True
+    if isinstance(one, str) and isinstance(other, str):
+        if other.split(" ")[0] == one:
+            return True
+        try:
+            return float(one) == float(other)
+        except ValueError:
+            return one.lower() == other.lower()
+    return False
+
+
+def compare(stop, shown, count):
+    """Counts the variables of a stop by what gdb and vars say."""
+    ours = collections.defaultdict(list)
+    for depth, function in enumerate(reversed(shown["functions"])):
+        for variable in function["variables"]:
+            ours[depth, variable["name"]].append(variable)
+    for depth, name, value in stop["variables"]:
+        found = ours[depth, name]
+        place = next((place for place, one in enumerate(found) if same(value, one["value"])), 0)
+        where = f"{stop['address']:#x} {name}"
+        if not found:
+            count("only gdb", f"{where}: {value}")
+            continue
+        one = found.pop(place)
+        missing = one["missing"]
+        if value is None:
+            count("neither" if one["value"] is None else "only dwcheck-elf", f"{where}: {one}")
+        elif one["value"] is None:
+            count(f"not evaluated: {missing}", f"{where}: {value}")
+        else:
+            count("equal" if same(value, one["value"]) else "DIFFERENT", f"{where}: {value}, {one}")
+    for (depth, name), left in ours.items():
+        for one in left:
+            count("neither" if one["value"] is None else "not in gdb", f"{stop['address']:#x} {name}: {one}")
+
+
+def instructions(program):
+    """The addresses of the instructions of the program's own code."""
+    shown = subprocess.run(["objdump", "-d", "-j", ".text", program], capture_output=True, text=True, check=True).stdout
+    return [int(found, 16) for found in re.findall(r"^ +([0-9a-f]+):\t", shown, re.M)]
+
+
+def main():
+    if len(sys.argv) < 5:
+        sys.exit(__doc__)
+    dwcheck_elf, stops, seed, program, *arguments = sys.argv[1:]
+    header = subprocess.run(["readelf", "-h", program], capture_output=True, text=True, check=True).stdout
+    numbers = random.Random(int(seed))
+    places = instructions(program)
+    numbers.shuffle(places)
+    counts, examples = collections.Counter(), collections.defaultdict(list)
+
+    def count(what, example):
+        what = re.sub(r"memory at 0x[0-9a-f]+", "memory", what)
+        counts[what] += 1
+        if len(examples[what]) < 3:
+            examples[what].append(example)
+
+    with tempfile.TemporaryDirectory() as folder:
+        asked = {"program": program, "arguments": arguments, "places": places, "stops": int(stops), "folder": folder,
+                 "pie": "DYN (" in header}
+        environment = dict(os.environ, VARIABLES_PY=json.dumps(asked))
+        words = ["gdb", "--batch", "-nx", "-x", os.path.abspath(__file__), program]
+        subprocess.run(words, env=environment, capture_output=True, stdin=subprocess.DEVNULL, check=True)
+        with open(os.path.join(folder, "stops")) as file:
+            found = json.load(file)
+        for stop in found:
+            words = [dwcheck_elf, "vars", "--json", "--load", hex(stop["load"]), "--state", stop["state"], program,
+                     hex(stop["address"])]
+            ran = subprocess.run(words, capture_output=True, text=True, check=True)
+            compare(stop, json.loads(ran.stdout), count)
+    print(f"stops {len(found)} variables {sum(counts.values())}")
+    for what, number in counts.most_common():
+        print(f"{number} {what}")
+        if what not in ("equal", "neither"):
+            print("".join(f"    {example}\n" for example in examples[what]), end="")
+    sys.exit(1 if counts["DIFFERENT"] or counts["only gdb"] else 0)
+
+
+if gdb:
+    in_gdb()
+elif __name__ == "__main__":
+    main()

@@ -1,0 +1,131 @@
+//! The command `vars`: shows the variables that are in scope at an address, where they are, and their values
+//! as far as they are known.
+
+use crate::arguments::VarsWords;
+use crate::end::{shown, Done, Failure};
+use crate::opened::{address, note, number_argument, program, read, Opened};
+use crate::walks::state_file;
+use dwcheck::{Process, State};
+use dwcheck_elf::bridge::Options;
+use dwcheck_elf::core_file::{CoreFile, Files};
+use dwcheck_elf::debug_files::DebugFiles;
+use dwcheck_elf::modules::Modules;
+use dwcheck_elf::program::Program;
+use dwcheck_elf::stack::{Stacks, WalkOptions};
+use dwcheck_elf::state_file::StateFile;
+use dwcheck_elf::variables::{Frame, Function, Shape, Step, Variables};
+use serde_json::json;
+use std::io::Write;
+use std::path::Path;
+
+/// How many callers are looked up for entry values.
+const MAX_CALLERS: usize = 16;
+
+/// Writes the functions at the address with their variables, the innermost first.
+pub fn vars(words: &VarsWords, out: &mut impl Write) -> Result<Done, Failure> {
+    let shape = Shape { depth: words.depth, ..Shape::default() };
+    let functions = match (&words.core, &words.program, &words.address) {
+        (Some(core), None, None) => of_core(words, core, shape)?,
+        (None, Some(program), Some(address)) => of_program(words, program, address, shape)?,
+        _ => return Err(Failure::Argument("give PROGRAM ADDRESS, or --core".to_string())),
+    };
+    if words.json {
+        let functions: Vec<_> = functions.iter().rev().map(Function::json).collect();
+        writeln!(out, "{}", json!({ "functions": functions }))?;
+        return Ok(Done::Accepted);
+    }
+    if functions.is_empty() {
+        writeln!(out, "none")?;
+    }
+    functions.iter().rev().try_for_each(|function| write!(out, "{}", function))?;
+    Ok(Done::Accepted)
+}
+
+fn of_core(words: &VarsWords, path: &Path, shape: Shape) -> Result<Vec<Function>, Failure> {
+    let bytes = read(path)?;
+    let core = CoreFile::read(&bytes).map_err(|error| Failure::File(format!("{}: {}", shown(path), error)))?;
+    let files = Files::read(&core, &words.root);
+    let stacks = Stacks::of(&core, &files);
+    let is_wanted = |tid: u32| words.thread.map_or(true, |wanted| wanted == tid);
+    let thread = core.threads().iter().find(|thread| is_wanted(thread.id));
+    let thread =
+        thread.ok_or_else(|| Failure::Argument("bad argument: the core file has no such thread".to_string()))?;
+    let limit = words.frame.saturating_add(1 + MAX_CALLERS);
+    let options = WalkOptions { limit, keeps_registers: true, ..WalkOptions::default() };
+    let stack = stacks.walk(thread, options).map_err(|error| Failure::File(error.to_string()))?;
+    if words.frame >= stack.frames.len() {
+        return Err(Failure::Argument(format!("bad argument: the stack has {} frames", stack.frames.len())));
+    }
+    let functions = stacks.variables(&stack, words.frame, shape);
+    for (file, why) in stacks.missing() {
+        note(&file, why);
+    }
+    Ok(functions)
+}
+
+fn of_program(words: &VarsWords, path: &Path, at: &str, shape: Shape) -> Result<Vec<Function>, Failure> {
+    let data = read(path)?;
+    let program = program(path, &data)?;
+    let target = program.target();
+    let load = number_argument(&words.load, target)?;
+    let address = address(at, target, &program.functions(), load)?;
+    let state = words.state.as_ref().map_or(Ok(StateFile::default()), |path| state_file(path, target))?;
+    let files = DebugFiles::default();
+    let whole = path.canonicalize().unwrap_or_else(|_| path.to_path_buf());
+    let failed = |why: String| Failure::File(format!("{}: {}", shown(path), why));
+    let separate = match program.has_bytes(".debug_info") {
+        true => None,
+        false => {
+            files.of(&whole, &program).map_err(|(file, why)| Failure::File(format!("{}: {}", shown(&file), why)))?
+        }
+    };
+    let separate = separate.map(|bytes| Program::read(bytes)).transpose().map_err(|error| failed(error.to_string()))?;
+    let debug = separate.as_ref().unwrap_or(&program);
+    if !debug.has_bytes(".debug_info") {
+        return Err(failed("no .debug_info, and no separate file of debug information".to_string()));
+    }
+    let shared = files.shared(debug).and_then(|bytes| Program::read(bytes).ok());
+    let variables = Variables::read(debug, shared.as_ref(), files.unpacked());
+    let variables = variables.map_err(|error| failed(error.to_string()))?;
+    let process = match &words.state {
+        Some(_) => unwinder(path, &program, load)?,
+        None => Modules::new(target),
+    };
+    let steps = steps(process.process(), address, &state)?;
+    let blocks = state.blocks();
+    Ok(variables.at(&Frame { target, load, steps: &steps, memory: &blocks }, shape))
+}
+
+/// The program's unwind tables, which give the CFA and the callers.
+fn unwinder(path: &Path, program: &Program<'_>, load: u64) -> Result<Modules, Failure> {
+    let opened = Opened::read(path, program, Options::default())?;
+    opened.note_refused(path, false);
+    let mut modules = Modules::new(program.target());
+    let sections: Vec<_> = opened.frames.iter().map(|one| one.bytes().into()).collect();
+    let added = modules.add(path, program, &sections, load);
+    if let Some(lost) = added.map_err(|error| Failure::File(format!("{}: {}", shown(path), error)))? {
+        note(path, lost);
+    }
+    Ok(modules)
+}
+
+/// The frame at an address, and its callers.
+fn steps(process: &Process, address: u64, file: &StateFile) -> Result<Vec<Step>, Failure> {
+    let blocks = file.blocks();
+    let registers = file.registers.clone();
+    let mut steps = Vec::new();
+    let mut next = Some(Step { address, is_after_call: false, registers, cfa: file.context.cfa });
+    while let Some(mut step) = next.take().filter(|_| steps.len() <= MAX_CALLERS) {
+        let looked_up = step.address.wrapping_sub(u64::from(step.is_after_call));
+        let state = State { registers: &step.registers, ..file.state(&blocks) };
+        let caller = process.unwind(looked_up, &state).map_err(|error| Failure::File(error.to_string()))?;
+        if let Some(caller) = caller {
+            step.cfa = step.cfa.or_else(|| caller.cfa.value());
+            let registers = caller.known();
+            let address = caller.return_address.value();
+            next = address.map(|address| Step { address, is_after_call: true, registers, cfa: None });
+        }
+        steps.push(step);
+    }
+    Ok(steps)
+}

@@ -1,0 +1,166 @@
+//! Checks all location lists of a program.
+
+use super::expression::Scope;
+use super::references::{abbreviations_length, references, Reference};
+use super::report::report;
+use super::section::{checked, every_problem, Section};
+use super::unit::{Source, UnitLists};
+use super::validate::validate;
+use crate::debug_info::{ranges_of, section, Slice};
+use crate::frames::Name;
+use crate::inspect::{InspectError, Inspected};
+use crate::program::Program;
+use crate::target::Target;
+use gimli::{DebugAddrIndex, Dwarf, Reader, Section as _, SectionId, Unit, UnitHeader, UnitSectionOffset};
+use typed_arena::Arena;
+
+/// The sections that a check needs.
+const NEEDED: [SectionId; 9] = [
+    SectionId::DebugAbbrev,
+    SectionId::DebugAddr,
+    SectionId::DebugInfo,
+    SectionId::DebugLine,
+    SectionId::DebugLoc,
+    SectionId::DebugLocLists,
+    SectionId::DebugRanges,
+    SectionId::DebugRngLists,
+    SectionId::DebugTypes,
+];
+
+/// Units may have tables of abbreviations of this many times the bytes of `.debug_abbrev` in all.
+const MAX_SHARED_ABBREVIATIONS: usize = 64;
+
+/// The lists of a program while they are checked.
+struct Lists<'a> {
+    dwarf: Dwarf<Slice<'a>>,
+    /// `.debug_loc` and `.debug_loclists`.
+    sections: [Section<'a>; 2],
+    target: Target,
+    /// The lowest address of the program's code, 0 if it isn't known.
+    lowest: u64,
+    /// How many more bytes tables of abbreviations may have.
+    abbreviations: usize,
+    /// The indexes of units whose debug information is in files of their own.
+    split: Vec<usize>,
+}
+
+/// Checks the location lists to which the debug information of a program refers. `shared` is the file that
+/// its `.gnu_debugaltlink` names. If `all`, every refused expression is a fault of the result, else only the
+/// first one.
+///
+/// The memory that this takes is in proportion to the sections of lists, and to a unit of `.debug_info`.
+pub fn inspect_lists<'d>(program: &Program<'_>, shared: Option<&Program<'_>>, all: bool) -> Vec<Inspected<'d>> {
+    let unpacked = Arena::new();
+    let checked = Lists::open(program, &unpacked).and_then(|mut lists| {
+        lists.check()?;
+        Ok(lists)
+    });
+    match checked {
+        Ok(Lists { sections, split, .. }) => report(program, shared, sections, &split, all),
+        Err(error) => vec![Inspected::unread(Name::DebugLoclists, error)],
+    }
+}
+
+impl<'a> Lists<'a> {
+    fn open(program: &Program<'a>, unpacked: &'a Arena<Vec<u8>>) -> Result<Self, InspectError> {
+        let empty = Slice::new(&[], program.target().gimli_order());
+        let (mut loc, mut loclists) = (empty, empty);
+        let dwarf = Dwarf::load(|id| {
+            let bytes = if NEEDED.contains(&id) { section(program, id, unpacked)? } else { empty };
+            match id {
+                SectionId::DebugLoc => loc = bytes,
+                SectionId::DebugLocLists => loclists = bytes,
+                _ => {}
+            }
+            Ok(bytes)
+        });
+        let dwarf = dwarf.map_err(InspectError::Program)?;
+        let abbreviations = dwarf.debug_abbrev.reader().len().saturating_mul(MAX_SHARED_ABBREVIATIONS);
+        let sections = [Section::new(Name::DebugLoc, loc.slice()), Section::new(Name::DebugLoclists, loclists.slice())];
+        let lowest = program.code(0).map_or(0, |code| *code.start());
+        Ok(Lists { dwarf, sections, lowest, target: program.target(), abbreviations, split: Vec::new() })
+    }
+
+    /// Checks the lists of all units.
+    fn check(&mut self) -> Result<(), InspectError> {
+        let unreadable = |error: gimli::Error| InspectError::DebugInfo(None, error.to_string());
+        let mut index = 0;
+        let mut units = self.dwarf.units();
+        while let Some(header) = units.next().map_err(unreadable)? {
+            self.unit(index, header)?;
+            index += 1;
+        }
+        let mut units = self.dwarf.type_units();
+        while let Some(header) = units.next().map_err(unreadable)? {
+            self.unit(index, header)?;
+            index += 1;
+        }
+        self.sections.iter_mut().try_for_each(|section| {
+            let name = section.name;
+            section.finish(self.target).map_err(|error| InspectError::Dwcheck(name, error))
+        })
+    }
+
+    /// Checks the lists of a unit.
+    fn unit(&mut self, index: usize, header: UnitHeader<Slice<'a>>) -> Result<(), InspectError> {
+        let offset = match header.offset() {
+            UnitSectionOffset::DebugInfoOffset(offset) => offset.0,
+            UnitSectionOffset::DebugTypesOffset(offset) => offset.0,
+        };
+        let fail = |what: String| InspectError::DebugInfo(Some(offset as u64), what);
+        if header.encoding().address_size != self.target.address_size.bytes() {
+            return Err(fail(format!("addresses of {} bytes", header.encoding().address_size)));
+        }
+        let length = abbreviations_length(self.dwarf.debug_abbrev.reader(), header.debug_abbrev_offset().0);
+        let left = self.abbreviations.checked_sub(length);
+        self.abbreviations = left.ok_or_else(|| fail("units share too many abbreviations".to_string()))?;
+        let unit = self.dwarf.unit(header).map_err(|error| fail(error.to_string()))?;
+        if unit.dwo_id.is_some() {
+            self.split.push(index);
+        }
+        let references = match references(&self.dwarf, &unit) {
+            Ok(references) => references,
+            Err(error) => return Err(fail(error.to_string())),
+        };
+        match references.is_empty() {
+            true => Ok(()),
+            false => self.lists_of(index, &unit, &references),
+        }
+    }
+
+    /// Checks the lists to which a unit refers.
+    fn lists_of(&mut self, index: usize, unit: &Unit<Slice<'a>>, references: &[Reference]) -> Result<(), InspectError> {
+        let encoding = unit.encoding();
+        let section = &mut self.sections[usize::from(encoding.version >= 5)];
+        let name = section.name;
+        let dwarf = &self.dwarf;
+        let address = |index: u64| dwarf.address(unit, DebugAddrIndex(usize::try_from(index).ok()?)).ok();
+        let (version, offset_size) = (encoding.version, encoding.format.word_size());
+        let (load, known) = (0, &|_, _: &[u8]| None);
+        let scope = Scope { target: self.target, version, offset_size, address: &address, load, known };
+        let source = Source { bytes: section.bytes, section: name, scope, base: unit.low_pc };
+        let mut lists = UnitLists::default();
+        let mut problems = Vec::new();
+        for reference in references {
+            match lists.add(*reference, &source, |_| false) {
+                Ok(found) => problems.extend(found),
+                Err(problem) => problems.push(problem),
+            }
+            if lists.original_bytes > section.left {
+                return Err(InspectError::DebugInfo(None, format!("{}: lists share too many bytes", name)));
+            }
+        }
+        let failed = |error| InspectError::Dwcheck(name, error);
+        if checked(&lists.bytes, self.target).map_err(failed)?.is_some() {
+            problems.extend(every_problem(&lists, &source, self.target).map_err(failed)?);
+        }
+        let compared = validate(dwarf, unit, &lists, name, source.new_base(unit.low_pc));
+        section.contents.not_compared += compared.map_err(|difference| InspectError::List(name, difference))?;
+        let mut ranges = dwarf.unit_ranges(unit).map(ranges_of).unwrap_or_default();
+        ranges.sort_by_key(|range| range.start);
+        section.contents.lints.count(&lists, section.bytes, &ranges, self.lowest, self.target);
+        section.note(&lists, &source);
+        section.problems.extend(problems.into_iter().map(|problem| (index, problem)));
+        Ok(())
+    }
+}

@@ -1,0 +1,143 @@
+//! Finds the location lists that a unit of `.debug_info` refers to.
+
+use crate::debug_info::Slice;
+use gimli::{Abbreviation, AttributeValue, DwAt, DwForm, EntriesRaw, Reader, Unit, UnitOffset};
+use std::fmt;
+
+/// `DW_AT_GNU_locviews`: where the view numbers of a list are.
+const LOCVIEWS: DwAt = DwAt(0x2137);
+
+/// A unit may have this many attributes for each of its bytes. Attributes without bytes, such as flags, are
+/// few in what compilers write.
+const ATTRIBUTES_PER_BYTE: usize = 4;
+
+/// A place in `.debug_info` that refers to a location list.
+#[derive(Clone, Copy, Debug, PartialEq, Eq)]
+pub(crate) struct Reference {
+    /// The offset of the list in its section. `None` if the index of the reference leads to none.
+    pub list: Option<u64>,
+    /// The entry of `.debug_info`, by its offset in the unit.
+    pub entry: UnitOffset<usize>,
+    /// Where the view numbers of the list are.
+    pub views: Option<u64>,
+}
+
+/// Why the references of a unit can't be read.
+#[derive(Clone, Copy, Debug, PartialEq, Eq)]
+pub(super) enum Unreadable {
+    /// gimli says why.
+    Gimli(gimli::Error),
+    /// It has more attributes than [`ATTRIBUTES_PER_BYTE`] allows.
+    TooManyAttributes,
+}
+
+/// The references of a unit, in the order of their lists, one for each list.
+pub(super) fn references<'a>(
+    dwarf: &gimli::Dwarf<Slice<'a>>,
+    unit: &Unit<Slice<'a>>,
+) -> Result<Vec<Reference>, Unreadable> {
+    let mut found = Vec::new();
+    let mut entries = unit.entries_raw(None).map_err(Unreadable::Gimli)?;
+    let mut left = unit.header.length_including_self().saturating_mul(ATTRIBUTES_PER_BYTE);
+    while !entries.is_empty() {
+        let entry = entries.next_offset();
+        let abbreviation = match entries.read_abbreviation().map_err(Unreadable::Gimli)? {
+            Some(abbreviation) => abbreviation,
+            None => continue,
+        };
+        let specifications = abbreviation.attributes();
+        left = left.checked_sub(specifications.len()).ok_or(Unreadable::TooManyAttributes)?;
+        if may_refer(abbreviation) {
+            of_entry(dwarf, unit, &mut entries, abbreviation, entry, &mut found).map_err(Unreadable::Gimli)?;
+        } else {
+            entries.skip_attributes(specifications).map_err(Unreadable::Gimli)?;
+        }
+    }
+    // A reference with views before others of the same list.
+    found.sort_by_key(|reference: &Reference| (reference.list, reference.views.is_none()));
+    found.dedup_by(|next, first| next.list.is_some() && next.list == first.list);
+    Ok(found)
+}
+
+/// Whether an entry can refer to a location list, by the forms of its attributes.
+fn may_refer(abbreviation: &Abbreviation) -> bool {
+    let is_reference = |form: DwForm| {
+        matches!(
+            form,
+            gimli::DW_FORM_sec_offset
+                | gimli::DW_FORM_loclistx
+                | gimli::DW_FORM_data4
+                | gimli::DW_FORM_data8
+                | gimli::DW_FORM_indirect
+        )
+    };
+    abbreviation.attributes().iter().any(|attribute| is_reference(attribute.form()))
+}
+
+fn of_entry<'a>(
+    dwarf: &gimli::Dwarf<Slice<'a>>,
+    unit: &Unit<Slice<'a>>,
+    entries: &mut EntriesRaw<'_, '_, Slice<'a>>,
+    abbreviation: &Abbreviation,
+    entry: UnitOffset<usize>,
+    found: &mut Vec<Reference>,
+) -> Result<(), gimli::Error> {
+    let first = found.len();
+    let mut views = None;
+    for specification in abbreviation.attributes() {
+        let attribute = entries.read_attribute(*specification)?;
+        let list = match attribute.value() {
+            AttributeValue::LocationListsRef(list) => Some(list.0 as u64),
+            AttributeValue::DebugLocListsIndex(index) => {
+                dwarf.locations_offset(unit, index).ok().map(|list| list.0 as u64)
+            }
+            AttributeValue::SecOffset(offset) if attribute.name() == LOCVIEWS => {
+                views = Some(offset as u64);
+                continue;
+            }
+            _ => continue,
+        };
+        found.push(Reference { list, entry, views: None });
+    }
+    // gcc writes views only for DW_AT_location, the only list of such an entry.
+    if let [reference] = &mut found[first..] {
+        reference.views = views;
+    }
+    Ok(())
+}
+
+/// The number of bytes of a table of abbreviations, up to the 0 that ends it.
+pub(super) fn abbreviations_length(section: &Slice<'_>, offset: usize) -> usize {
+    let mut rest = *section;
+    if rest.skip(offset).is_err() {
+        return 0;
+    }
+    let all = rest.len();
+    let mut next = || -> Result<bool, gimli::Error> {
+        if rest.read_uleb128()? == 0 {
+            return Ok(false);
+        }
+        rest.read_uleb128()?;
+        rest.read_u8()?;
+        loop {
+            let (name, form) = (rest.read_uleb128()?, rest.read_uleb128()?);
+            if form == u64::from(gimli::DW_FORM_implicit_const.0) {
+                rest.read_sleb128()?;
+            }
+            if (name, form) == (0, 0) {
+                return Ok(true);
+            }
+        }
+    };
+    while let Ok(true) = next() {}
+    all - rest.len()
+}
+
+impl fmt::Display for Unreadable {
+    fn fmt(&self, f: &mut fmt::Formatter<'_>) -> fmt::Result {
+        match self {
+            Unreadable::Gimli(error) => error.fmt(f),
+            Unreadable::TooManyAttributes => f.write_str("more attributes than its bytes can have"),
+        }
+    }
+}

@@ -1,0 +1,60 @@
+//! The variables of frames.
+
+use super::{Frame, Stack, Stacks};
+use crate::core_file::{Files, Module};
+use crate::program::Program;
+use crate::variables::{self, Function, Shape, Step, Variables};
+
+/// How many callers of a frame may be asked for entry values.
+const MAX_CALLERS: usize = 16;
+
+impl<'a> Stacks<'a> {
+    /// The functions at a frame of a stack with their variables, the outermost first: the function, then those
+    /// that are inlined there. The stack has to have the registers of its frames. Empty if the debug
+    /// information has no function there.
+    pub fn variables(&self, stack: &Stack<'_, 'a>, frame: usize, shape: Shape) -> Vec<Function> {
+        let tables = self.tables.borrow();
+        let module_of = |frame: &Frame| tables.module_at(frame.looked_up());
+        let frames = stack.frames.get(frame..).unwrap_or(&[]);
+        let place = frames.first().and_then(module_of);
+        let (place, module) = match place.and_then(|place| Some((place, tables.modules().get(place)?))) {
+            Some(found) => found,
+            None => return Vec::new(),
+        };
+        let in_file = frames.iter().take(1 + MAX_CALLERS).take_while(|frame| module_of(frame) == Some(place));
+        let steps: Vec<_> = in_file.map(step).collect();
+        let pointer = self.core.abi().stack_pointer;
+        let blocks = self.blocks(steps.first().and_then(|step| step.registers.get(pointer)).unwrap_or(0));
+        let mut opened = self.variables.borrow_mut();
+        let opened = opened.entry(place).or_insert_with(|| open(module, self.files));
+        let (target, load) = (self.core.target(), module.bias);
+        let frame = variables::Frame { target, load, steps: &steps, memory: &blocks };
+        opened.as_ref().map_or_else(Vec::new, |variables| variables.at(&frame, shape))
+    }
+}
+
+impl Stack<'_, '_> {
+    /// The same for a frame, if variables are shown.
+    pub(super) fn functions(&self, frame: usize) -> Vec<Function> {
+        self.stacks.shape.map_or_else(Vec::new, |shape| self.stacks.variables(self, frame, shape))
+    }
+}
+
+fn step(frame: &Frame) -> Step {
+    Step {
+        address: frame.address,
+        is_after_call: frame.is_after_call,
+        registers: frame.registers.iter().copied().collect(),
+        cfa: frame.cfa,
+    }
+}
+
+/// The debug information of a module. `None` if it has none that can be read.
+fn open<'a>(module: &Module<'a>, files: &'a Files) -> Option<Variables<'a>> {
+    let program = Program::read(module.image.bytes()).ok()?;
+    let separate = files.debug_files().of(&module.path, &program).ok().flatten();
+    let separate = separate.and_then(|bytes| Program::read(bytes).ok());
+    let debug = separate.filter(|_| !program.has_bytes(".debug_info")).unwrap_or(program);
+    let shared = files.debug_files().shared(&debug).and_then(|bytes| Program::read(bytes).ok());
+    Variables::read(&debug, shared.as_ref(), files.debug_files().unpacked()).ok()
+}

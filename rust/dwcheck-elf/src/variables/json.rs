@@ -1,0 +1,43 @@
+//! Writes variables as JSON.
+
+use super::{Function, Missing, Value, Variable};
+use serde_json::{json, Value as Json};
+
+impl Function {
+    /// The function with its variables, as an object. docs/OUTPUT.md lists its keys.
+    pub fn json(&self) -> Json {
+        let variables: Vec<_> = self.variables.iter().map(Variable::json).collect();
+        json!({
+            "name": self.name,
+            "source": self.source,
+            "inlined": self.is_inlined,
+            "variables": variables,
+        })
+    }
+}
+
+impl Variable {
+    fn json(&self) -> Json {
+        let missing = self.value.as_ref().err().map(Missing::to_string);
+        json!({
+            "name": self.name,
+            "parameter": self.is_parameter,
+            "type": self.type_name,
+            "location": self.place.as_ref().ok().map(ToString::to_string),
+            "value": self.value.as_ref().ok().map(value),
+            "missing": missing,
+        })
+    }
+}
+
+/// A value: a text, an object with the members, or an array with the elements. What is missing is `null`.
+fn value(of: &Value) -> Json {
+    let part = |part: &Result<Value, Missing>| part.as_ref().map_or(Json::Null, value);
+    match of {
+        Value::Plain(text) => json!(text),
+        Value::Text(address, text) => json!({ "address": address, "text": text }),
+        Value::Members(members) => members.iter().map(|(name, member)| (name.clone(), part(member))).collect(),
+        Value::Elements(elements, _) => elements.iter().map(part).collect(),
+        Value::Deeper => Json::Null,
+    }
+}

@@ -1,0 +1,177 @@
+//! The types of variables: their names, their sizes, and what they are once names for them and qualifiers
+//! are left out.
+
+use crate::debug_info::Die;
+use gimli::{AttributeValue, DwTag};
+
+/// How many types are passed on the way to the one that a name or a qualifier stands for.
+const MAX_TYPES: usize = 32;
+
+/// The most elements of all dimensions of an array whose size is known.
+const MAX_SIZE: u64 = 1 << 40;
+
+/// The type of a variable or a member, or of what a type points to. `None` for `void`.
+pub(super) fn type_of<'u, 'a>(die: &Die<'u, 'a>) -> Option<Die<'u, 'a>> {
+    let (holder, value) = die.inherited(gimli::DW_AT_type)?;
+    holder.at(value)
+}
+
+/// The type that a name such as `size_t` or a qualifier such as `const` stands for.
+pub(super) fn plain<'u, 'a>(of: &Die<'u, 'a>) -> Option<Die<'u, 'a>> {
+    let next = |die: &Die<'u, 'a>| die.tag().filter(|tag| is_other_name(*tag)).and_then(|_| type_of(die));
+    std::iter::successors(Some(of.clone()), next).take(MAX_TYPES).find(|die| !die.tag().map_or(false, is_other_name))
+}
+
+fn is_other_name(tag: DwTag) -> bool {
+    matches!(
+        tag,
+        gimli::DW_TAG_typedef
+            | gimli::DW_TAG_const_type
+            | gimli::DW_TAG_volatile_type
+            | gimli::DW_TAG_restrict_type
+            | gimli::DW_TAG_atomic_type
+            | gimli::DW_TAG_immutable_type
+    )
+}
+
+/// A number that an attribute of a type has. `None` if it is an expression or isn't there.
+pub(super) fn number(die: &Die<'_, '_>, name: gimli::DwAt) -> Option<u64> {
+    let value = die.attribute(name)?;
+    value.udata_value().or_else(|| value.sdata_value().map(|number| number as u64))
+}
+
+/// The size of a type in bytes. `None` if it isn't known.
+pub(super) fn size_of(of: &Die<'_, '_>) -> Option<u64> {
+    let die = plain(of)?;
+    if let Some(size) = number(&die, gimli::DW_AT_byte_size) {
+        return Some(size);
+    }
+    match die.tag()? {
+        gimli::DW_TAG_array_type => {
+            let element = type_of(&die).filter(|element| place_differs(element, &die))?;
+            let count = dimensions(&die).into_iter().try_fold(1u64, |all, count| all.checked_mul(count?))?;
+            element_size(&element, MAX_TYPES)?.checked_mul(count).filter(|size| *size <= MAX_SIZE)
+        }
+        gimli::DW_TAG_enumeration_type => type_of(&die).and_then(|inner| element_size(&inner, MAX_TYPES)),
+        tag if is_pointer(tag) => Some(u64::from(die.unit.encoding().address_size)),
+        _ => None,
+    }
+}
+
+/// The size of a type that isn't an array without a size of its own, of which there may be only so many
+/// inside each other.
+fn element_size(of: &Die<'_, '_>, left: usize) -> Option<u64> {
+    let die = plain(of)?;
+    if let Some(size) = number(&die, gimli::DW_AT_byte_size) {
+        return Some(size);
+    }
+    let tag = die.tag()?;
+    if tag == gimli::DW_TAG_array_type && left > 0 {
+        let count = dimensions(&die).into_iter().try_fold(1u64, |all, count| all.checked_mul(count?))?;
+        return element_size(&type_of(&die)?, left - 1)?.checked_mul(count);
+    }
+    Some(u64::from(die.unit.encoding().address_size)).filter(|_| is_pointer(tag))
+}
+
+fn place_differs(one: &Die<'_, '_>, other: &Die<'_, '_>) -> bool {
+    super::scopes::place(one) != super::scopes::place(other)
+}
+
+pub(super) fn is_pointer(tag: DwTag) -> bool {
+    matches!(tag, gimli::DW_TAG_pointer_type | gimli::DW_TAG_reference_type | gimli::DW_TAG_rvalue_reference_type)
+}
+
+/// The number of elements in each dimension of an array. `None` for one that isn't a constant.
+pub(super) fn dimensions(array: &Die<'_, '_>) -> Vec<Option<u64>> {
+    let ranges = array.children().into_iter().filter(|child| child.tag() == Some(gimli::DW_TAG_subrange_type));
+    ranges.map(|range| count_of(&range)).collect()
+}
+
+fn count_of(range: &Die<'_, '_>) -> Option<u64> {
+    if let Some(count) = number(range, gimli::DW_AT_count) {
+        return Some(count);
+    }
+    let upper = range.attribute(gimli::DW_AT_upper_bound)?;
+    let upper = upper.sdata_value().or_else(|| upper.udata_value().map(|number| number as i64))?;
+    let lower = match range.attribute(gimli::DW_AT_lower_bound) {
+        Some(value) => value.sdata_value().or_else(|| value.udata_value().map(|number| number as i64))?,
+        None => lowest(range),
+    };
+    u64::try_from(upper.checked_sub(lower)?.checked_add(1)?).ok()
+}
+
+/// The index of the first element where the language says it: 1 in Fortran and Ada, else 0.
+fn lowest(range: &Die<'_, '_>) -> i64 {
+    let root = Die { offset: gimli::UnitOffset(range.unit.header.header_size()), ..range.clone() };
+    match root.attribute(gimli::DW_AT_language) {
+        Some(AttributeValue::Language(
+            gimli::DW_LANG_Fortran77
+            | gimli::DW_LANG_Fortran90
+            | gimli::DW_LANG_Fortran95
+            | gimli::DW_LANG_Fortran03
+            | gimli::DW_LANG_Fortran08
+            | gimli::DW_LANG_Ada83
+            | gimli::DW_LANG_Ada95,
+        )) => 1,
+        _ => 0,
+    }
+}
+
+/// The name of a type as C writes it, such as `const char *`.
+pub(super) fn name_of(of: Option<Die<'_, '_>>) -> String {
+    named(of, MAX_TYPES)
+}
+
+fn named(of: Option<Die<'_, '_>>, left: usize) -> String {
+    let die = match of {
+        Some(die) if left > 0 => die,
+        Some(_) => return "..".to_string(),
+        None => return "void".to_string(),
+    };
+    let inner = || named(type_of(&die), left - 1);
+    let own = || die.name().unwrap_or_else(|| "{..}".to_string());
+    match die.tag() {
+        Some(gimli::DW_TAG_pointer_type) => die.name().unwrap_or_else(|| pointer(inner(), "*")),
+        Some(gimli::DW_TAG_reference_type) => pointer(inner(), "&"),
+        Some(gimli::DW_TAG_rvalue_reference_type) => pointer(inner(), "&&"),
+        Some(gimli::DW_TAG_const_type) => format!("const {}", inner()),
+        Some(gimli::DW_TAG_volatile_type) => format!("volatile {}", inner()),
+        Some(gimli::DW_TAG_restrict_type) => format!("{} restrict", inner()),
+        Some(gimli::DW_TAG_atomic_type) => format!("_Atomic {}", inner()),
+        Some(gimli::DW_TAG_array_type) => {
+            let count = |count: Option<u64>| count.map_or_else(|| "[]".to_string(), |count| format!("[{}]", count));
+            let counts: String = dimensions(&die).into_iter().map(count).collect();
+            format!("{} {}", inner(), counts)
+        }
+        Some(gimli::DW_TAG_subroutine_type) => format!("{} ()", inner()),
+        Some(gimli::DW_TAG_structure_type) => aggregate(&die, "struct ", own()),
+        Some(gimli::DW_TAG_union_type) => aggregate(&die, "union ", own()),
+        Some(gimli::DW_TAG_enumeration_type) => aggregate(&die, "enum ", own()),
+        _ => own(),
+    }
+}
+
+fn pointer(inner: String, sign: &str) -> String {
+    if inner.ends_with('*') {
+        format!("{}{}", inner, sign)
+    } else {
+        format!("{} {}", inner, sign)
+    }
+}
+
+/// C writes the kind of a structure before its name. Other languages don't.
+fn aggregate(die: &Die<'_, '_>, kind: &str, name: String) -> String {
+    let root = Die { offset: gimli::UnitOffset(die.unit.header.header_size()), ..die.clone() };
+    let is_c = match root.attribute(gimli::DW_AT_language) {
+        Some(AttributeValue::Language(language)) => matches!(
+            language,
+            gimli::DW_LANG_C | gimli::DW_LANG_C89 | gimli::DW_LANG_C99 | gimli::DW_LANG_C11 | gimli::DW_LANG_C17
+        ),
+        _ => false,
+    };
+    if is_c {
+        format!("{}{}", kind, name)
+    } else {
+        name
+    }
+}

@@ -1,0 +1,308 @@
+//! Reads the values of variables by their types.
+
+use super::location::Locator;
+use super::place::{Missing, Place};
+use super::types::{dimensions, is_pointer, name_of, number, plain, size_of, type_of};
+use crate::debug_info::Die;
+use crate::target::Order;
+use gimli::{AttributeValue, DwAte};
+
+/// A value of a variable.
+#[derive(Clone, Debug, PartialEq, Eq)]
+pub enum Value {
+    /// A number, a character, a pointer or the name of a constant, as text.
+    Plain(String),
+    /// A pointer to a text, with the text as far as it was read.
+    Text(String, String),
+    /// The members of a structure or union with their names.
+    Members(Vec<(String, Result<Value, Missing>)>),
+    /// The elements of an array, and how many more there are.
+    Elements(Vec<Result<Value, Missing>>, u64),
+    /// A structure or array that is deeper than asked for.
+    Deeper,
+}
+
+/// How much of values is read.
+#[derive(Clone, Copy, Debug, PartialEq, Eq)]
+pub struct Shape {
+    /// How deep structures and arrays are followed.
+    pub depth: usize,
+    /// The most elements of an array, and the most bytes of a text.
+    pub length: usize,
+}
+
+impl Default for Shape {
+    fn default() -> Self {
+        Shape { depth: 1, length: 200 }
+    }
+}
+
+/// A part of a variable: the place and the size of the variable, and where the part begins.
+#[derive(Clone, Copy)]
+struct Part<'p> {
+    place: &'p Place,
+    size: usize,
+    offset: usize,
+}
+
+/// The most members of a structure and of structures inside of it that are read for a variable.
+const MAX_MEMBERS: usize = 4096;
+
+impl<'v, 'a> Locator<'v, 'a> {
+    /// The value of a variable of a type at a place.
+    pub fn value(&self, kind: Option<&Die<'v, 'a>>, place: &Place, shape: Shape) -> Result<Value, Missing> {
+        let kind = kind.ok_or(Missing::Unsupported("no type"))?;
+        if let Place::ImplicitPointer(..) = place {
+            return Ok(Value::Plain(place.to_string()));
+        }
+        let size = size_of(kind).and_then(|size| usize::try_from(size).ok());
+        let size = size.ok_or(Missing::Unsupported("a type whose size isn't a constant"))?;
+        let mut left = MAX_MEMBERS;
+        self.part(kind, Part { place, size, offset: 0 }, shape, &mut left)
+    }
+
+    fn part(&self, kind: &Die<'v, 'a>, part: Part<'_>, shape: Shape, left: &mut usize) -> Result<Value, Missing> {
+        let kind = plain(kind).ok_or(Missing::Unsupported("a type that isn't there"))?;
+        let tag = kind.tag().ok_or(Missing::Unsupported("a type that isn't there"))?;
+        match tag {
+            gimli::DW_TAG_base_type | gimli::DW_TAG_unspecified_type => self.base(&kind, part),
+            gimli::DW_TAG_enumeration_type => self.constant(&kind, part),
+            gimli::DW_TAG_array_type => self.array(&kind, part, shape, left),
+            gimli::DW_TAG_structure_type | gimli::DW_TAG_class_type | gimli::DW_TAG_union_type => {
+                self.members(&kind, part, shape, left)
+            }
+            tag if is_pointer(tag) => self.pointer(&kind, part, shape),
+            _ => Err(Missing::Unsupported("a type of this kind")),
+        }
+    }
+
+    fn bytes(&self, kind: &Die<'v, 'a>, part: Part<'_>) -> Result<Vec<u8>, Missing> {
+        let size = size_of(kind).and_then(|size| usize::try_from(size).ok()).filter(|size| *size <= 16);
+        let size = size.ok_or(Missing::Unsupported("a type of this size"))?;
+        self.machine.bytes(part.place, part.size, part.offset, size)
+    }
+
+    fn base(&self, kind: &Die<'v, 'a>, part: Part<'_>) -> Result<Value, Missing> {
+        let bytes = self.bytes(kind, part)?;
+        let encoding = match kind.attribute(gimli::DW_AT_encoding) {
+            Some(AttributeValue::Encoding(encoding)) => encoding,
+            _ => return Err(Missing::Unsupported("a type without an encoding")),
+        };
+        shown(encoding, &self.in_order(bytes)).map(Value::Plain).ok_or(Missing::Unsupported("a type of this encoding"))
+    }
+
+    /// The bytes of a number with the least significant one first.
+    fn in_order(&self, mut bytes: Vec<u8>) -> Vec<u8> {
+        if self.machine.target.order == Order::Big {
+            bytes.reverse();
+        }
+        bytes
+    }
+
+    fn constant(&self, kind: &Die<'v, 'a>, part: Part<'_>) -> Result<Value, Missing> {
+        let bytes = self.in_order(self.bytes(kind, part)?);
+        let (value, width) = (unsigned(&bytes), bytes.len());
+        let is_wanted = |one: &Die<'v, 'a>| {
+            let held = number(one, gimli::DW_AT_const_value);
+            held.map_or(false, |held| cut(u128::from(held), width) == value)
+        };
+        let mut constants = kind.children().into_iter();
+        let found = constants.find(|one| one.tag() == Some(gimli::DW_TAG_enumerator) && is_wanted(one));
+        let name = found.and_then(|one| one.name());
+        Ok(Value::Plain(name.unwrap_or_else(|| signed(&bytes).to_string())))
+    }
+
+    fn pointer(&self, kind: &Die<'v, 'a>, part: Part<'_>, shape: Shape) -> Result<Value, Missing> {
+        let address = unsigned(&self.in_order(self.bytes(kind, part)?)) as u64;
+        let shown = format!("{:#x}", address);
+        let target = type_of(kind).and_then(|target| plain(&target));
+        let is_text = target.map_or(false, |target| is_character(&target));
+        match self.text(address, shape.length) {
+            Some(text) if is_text => Ok(Value::Text(shown, text)),
+            _ => Ok(Value::Plain(shown)),
+        }
+    }
+
+    /// The text at an address, up to its 0 or to `length` bytes. `None` if no byte of it can be read.
+    fn text(&self, address: u64, length: usize) -> Option<String> {
+        let machine = &self.machine;
+        let mut bytes = Vec::new();
+        while bytes.len() < length {
+            let byte = machine
+                .memory(address.checked_add(bytes.len() as u64)?, 1)
+                .ok()
+                .and_then(|found| found.first().copied());
+            match byte {
+                Some(0) => return Some(escaped(&bytes)),
+                Some(byte) => bytes.push(byte),
+                None if bytes.is_empty() => return None,
+                None => break,
+            }
+        }
+        Some(escaped(&bytes) + "..")
+    }
+
+    fn array(&self, kind: &Die<'v, 'a>, part: Part<'_>, shape: Shape, left: &mut usize) -> Result<Value, Missing> {
+        let element = type_of(kind).ok_or(Missing::Unsupported("an array without a type"))?;
+        let size = size_of(&element).and_then(|size| usize::try_from(size).ok()).filter(|size| *size > 0);
+        let size = size.ok_or(Missing::Unsupported("elements whose size isn't a constant"))?;
+        let count = dimensions(kind).into_iter().try_fold(1u64, |all, count| all.checked_mul(count?));
+        let count = count.ok_or(Missing::Unsupported("a length that isn't a constant"))?;
+        if plain(&element).map_or(false, |element| is_character(&element)) {
+            let length = usize::try_from(count).unwrap_or(usize::MAX).min(shape.length);
+            let bytes = self.machine.bytes(part.place, part.size, part.offset, length)?;
+            let end = bytes.iter().position(|byte| *byte == 0).unwrap_or(bytes.len());
+            return Ok(Value::Plain(format!("\"{}\"", escaped(&bytes[..end]))));
+        }
+        if shape.depth == 0 {
+            return Ok(Value::Deeper);
+        }
+        let shown = usize::try_from(count).unwrap_or(usize::MAX).min(shape.length).min(*left);
+        *left -= shown;
+        let inner = Shape { depth: shape.depth - 1, ..shape };
+        let elements = (0..shown).map(|index| {
+            let offset = part.offset.saturating_add(index.saturating_mul(size));
+            self.part(&element, Part { offset, ..part }, inner, left)
+        });
+        let elements: Vec<_> = elements.collect();
+        let more = count - elements.len() as u64;
+        Ok(Value::Elements(elements, more))
+    }
+
+    fn members(&self, kind: &Die<'v, 'a>, part: Part<'_>, shape: Shape, left: &mut usize) -> Result<Value, Missing> {
+        if shape.depth == 0 {
+            return Ok(Value::Deeper);
+        }
+        let inner = Shape { depth: shape.depth - 1, ..shape };
+        let mut members = Vec::new();
+        for member in kind.children().into_iter().filter(is_member) {
+            if *left == 0 {
+                break;
+            }
+            *left -= 1;
+            let name = member.name().unwrap_or_else(|| match member.tag() {
+                Some(gimli::DW_TAG_inheritance) => name_of(type_of(&member)),
+                _ => String::new(),
+            });
+            members.push((name, self.member(&member, part, inner, left)));
+        }
+        Ok(Value::Members(members))
+    }
+
+    fn member(&self, member: &Die<'v, 'a>, part: Part<'_>, shape: Shape, left: &mut usize) -> Result<Value, Missing> {
+        let kind = type_of(member).ok_or(Missing::Unsupported("no type"))?;
+        let past = match member.attribute(gimli::DW_AT_data_member_location) {
+            Some(value) => value.udata_value().ok_or(Missing::Unsupported("a member at an expression"))?,
+            None => 0,
+        };
+        let offset = usize::try_from(past).ok().and_then(|past| part.offset.checked_add(past));
+        let part = Part { offset: offset.ok_or(Missing::Unsupported("a member at this offset"))?, ..part };
+        match number(member, gimli::DW_AT_bit_size) {
+            Some(bits) => self.bit_field(member, &kind, part, bits),
+            None => self.part(&kind, part, shape, left),
+        }
+    }
+
+    fn bit_field(&self, member: &Die<'v, 'a>, kind: &Die<'v, 'a>, part: Part<'_>, bits: u64) -> Result<Value, Missing> {
+        let unsupported = Missing::Unsupported("a member of bits at this place");
+        if self.machine.target.order == Order::Big || bits > 64 {
+            return Err(unsupported);
+        }
+        let first = first_bit(member, kind, bits).ok_or_else(|| unsupported.clone())?;
+        let (byte, bit) = (usize::try_from(first / 8).map_err(|_| unsupported.clone())?, (first % 8) as u32);
+        let length = (u64::from(bit) + bits + 7) / 8;
+        let offset = part.offset.saturating_add(byte);
+        let bytes = self.machine.bytes(part.place, part.size, offset, length as usize)?;
+        let value = unsigned(&bytes) >> bit & ((1u128 << bits) - 1);
+        let encoding = plain(kind).and_then(|kind| kind.attribute(gimli::DW_AT_encoding));
+        let is_signed = matches!(encoding, Some(AttributeValue::Encoding(gimli::DW_ATE_signed)));
+        let is_negative = is_signed && bits > 0 && value >> (bits - 1) == 1;
+        let value = if is_negative { value as i128 - (1i128 << bits) } else { value as i128 };
+        Ok(Value::Plain(value.to_string()))
+    }
+}
+
+/// The first bit of a member of bits, counted from the least significant bit of the structure or, in DWARF 4,
+/// of the integer that has the member.
+fn first_bit(member: &Die<'_, '_>, kind: &Die<'_, '_>, bits: u64) -> Option<u64> {
+    if let Some(first) = number(member, gimli::DW_AT_data_bit_offset) {
+        return Some(first);
+    }
+    let size = number(member, gimli::DW_AT_byte_size).or_else(|| size_of(kind))?;
+    let from_top = number(member, gimli::DW_AT_bit_offset)?;
+    size.checked_mul(8)?.checked_sub(from_top)?.checked_sub(bits)
+}
+
+fn is_member(die: &Die<'_, '_>) -> bool {
+    let is_static = die.attribute(gimli::DW_AT_external).is_some();
+    match die.tag() {
+        Some(gimli::DW_TAG_member) => !is_static,
+        tag => tag == Some(gimli::DW_TAG_inheritance),
+    }
+}
+
+fn is_character(kind: &Die<'_, '_>) -> bool {
+    let encoding = match kind.attribute(gimli::DW_AT_encoding) {
+        Some(AttributeValue::Encoding(encoding)) => encoding,
+        _ => return false,
+    };
+    size_of(kind) == Some(1) && matches!(encoding, gimli::DW_ATE_signed_char | gimli::DW_ATE_unsigned_char)
+}
+
+/// A number of a base type, least significant byte first, as text. `None` if the encoding isn't known.
+fn shown(encoding: DwAte, bytes: &[u8]) -> Option<String> {
+    Some(match encoding {
+        gimli::DW_ATE_boolean => match unsigned(bytes) {
+            0 => "false".to_string(),
+            1 => "true".to_string(),
+            other => other.to_string(),
+        },
+        gimli::DW_ATE_signed => signed(bytes).to_string(),
+        gimli::DW_ATE_unsigned | gimli::DW_ATE_address => unsigned(bytes).to_string(),
+        gimli::DW_ATE_signed_char => character(signed(bytes), bytes),
+        gimli::DW_ATE_unsigned_char => character(unsigned(bytes) as i128, bytes),
+        gimli::DW_ATE_UTF | gimli::DW_ATE_UCS | gimli::DW_ATE_ASCII => {
+            let code = unsigned(bytes);
+            match u32::try_from(code).ok().and_then(char::from_u32) {
+                Some(found) if code > 0 => format!("{} {:?}", code, found),
+                _ => code.to_string(),
+            }
+        }
+        gimli::DW_ATE_float => match *bytes {
+            [a, b, c, d] => f32::from_le_bytes([a, b, c, d]).to_string(),
+            [a, b, c, d, e, f, g, h] => f64::from_le_bytes([a, b, c, d, e, f, g, h]).to_string(),
+            _ => return None,
+        },
+        _ => return None,
+    })
+}
+
+fn character(number: i128, bytes: &[u8]) -> String {
+    match bytes {
+        [byte] => format!("{} '{}'", number, escaped(&[*byte])),
+        _ => number.to_string(),
+    }
+}
+
+/// A text with escapes for bytes that aren't printable ASCII characters.
+fn escaped(bytes: &[u8]) -> String {
+    bytes.iter().flat_map(|byte| std::ascii::escape_default(*byte)).map(char::from).collect()
+}
+
+fn unsigned(bytes: &[u8]) -> u128 {
+    bytes.iter().rev().take(16).fold(0, |number, byte| number << 8 | u128::from(*byte))
+}
+
+fn signed(bytes: &[u8]) -> i128 {
+    let unused = 128 - 8 * bytes.len().clamp(1, 16) as u32;
+    ((unsigned(bytes) << unused) as i128) >> unused
+}
+
+/// The low bytes of a number.
+fn cut(number: u128, bytes: usize) -> u128 {
+    if bytes >= 16 {
+        number
+    } else {
+        number & ((1u128 << (8 * bytes)) - 1)
+    }
+}

@@ -1,0 +1,68 @@
+//! Shows the variables of frames, and compares them with what gdb shows and with what the source says.
+
+mod common;
+
+use common::run::{dwcheck_elf, Ran};
+use common::{may_trace, Folder};
+
+/// A program that a trap ends. `work` has a variable of each kind of type.
+const KINDS: &str = "
+enum color { RED, GREEN = 5, BLUE };
+struct inner { double d; };
+struct point { int x; char name[8]; struct inner in; unsigned bits : 5; };
+__attribute__((noinline)) int work(struct point p, enum color c, const char *text, float f, _Bool yes, char letter) {
+    int local[3] = {1, -2, 3};
+    long long big = -5000000000;
+    struct point *self = &p;
+    {
+        unsigned char in_block = 200;
+        __builtin_trap();
+    }
+    return local[0] + big + self->x + text[0] + f + yes + letter + c;
+}
+int main(int argc, char **argv) { struct point p = {4, \"abc\", {1.5}, 9}; return work(p, BLUE, \"hello\", 2.5f, 1, 'q'); }
+";
+
+/// The lines of variables, without their indentation and without where they are.
+fn values(ran: &Ran) -> Vec<String> {
+    let line = |line: &str| line.trim().split(" (").next().unwrap().to_string();
+    ran.out.lines().filter(|line| line.starts_with("    ")).map(line).collect()
+}
+
+#[test]
+fn values_of_each_kind_of_type() {
+    let folder = Folder::new("vars-kinds");
+    if !may_trace() {
+        return;
+    }
+    for flags in ["-gdwarf-5", "-gdwarf-4", "-gdwarf-5 -m32"] {
+        folder.write("a.c", KINDS);
+        folder.run(&format!("gcc -O0 -g {} a.c -o program", flags));
+        folder.crash("./program");
+        let ran = dwcheck_elf(&folder, "vars --core core");
+        assert_eq!(ran.status, 0, "{:?}", ran);
+        assert_eq!(ran.lines()[0], "function work (a.c:5)");
+        let expected = [
+            "param p: struct point = {x = 4, name = \"abc\", in = {..}, bits = 9}",
+            "param c: enum color = BLUE",
+            "param text: const char * = 0x",
+            "param f: float = 2.5",
+            "param yes: _Bool = true",
+            "param letter: char = 113 'q'",
+            "var local: int [3] = {1, -2, 3}",
+            "var big: long long int = -5000000000",
+            "var self: struct point * = 0x",
+            "var in_block: unsigned char = 200 '\\xc8'",
+        ];
+        let found = values(&ran);
+        assert_eq!(found.len(), expected.len(), "{}", ran.out);
+        for (found, expected) in found.iter().zip(expected) {
+            assert!(found.starts_with(expected), "{}: {} isn't {}", flags, found, expected);
+        }
+        assert!(found[2].ends_with("\"hello\""), "{}", found[2]);
+        let deeper = dwcheck_elf(&folder, "vars --core core --depth 2");
+        assert!(deeper.out.contains("in = {d = 1.5}"), "{}", deeper.out);
+        let main = dwcheck_elf(&folder, "vars --core core --frame 1");
+        assert!(main.out.starts_with("function main (a.c:15)\n    param argc: int = 1 "), "{}", main.out);
+    }
+}
