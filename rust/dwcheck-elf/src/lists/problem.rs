@@ -1,7 +1,6 @@
 //! What is wrong with location lists.
 
 use super::references::Reference;
-use crate::rules::rule;
 use dwcheck::FaultKind;
 use gimli::UnitOffset;
 use std::fmt;
@@ -91,7 +90,7 @@ impl Kind {
     /// The rule in words.
     pub fn rule(self) -> &'static str {
         match self {
-            Kind::Dwcheck(kind) => rule(kind),
+            Kind::Dwcheck(kind) => kind.rule(),
             Kind::NoSuchList => {
                 "an index of a location list is below the number of offsets in the table (DWARF 5, 7.29)"
             }
