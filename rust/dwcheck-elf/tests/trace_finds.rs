@@ -235,7 +235,7 @@ fn findings_of_the_lint_are_confirmed() {
     let folder = Folder::new("trace-confirm");
     let unused =
         "never: .cfi_startproc\n push %rbx\n mov %rdi, %rbx\n mov %rbx, %rax\n pop %rbx\n ret\n .cfi_endproc\n";
-    folder.write("planted.s", variant(PLANTED, "WRONG", "RIGHT") + ".text\n" + unused);
+    folder.write("planted.s", variant(PLANTED, "WRONG", "RIGHT") + "\n.text\n" + unused);
     folder.run("gcc planted.s -o planted");
     let ran = common::run::dwcheck_elf(&folder, "lint planted --confirm -- ./planted");
     assert_eq!(ran.status, 1, "{}{}", ran.out, ran.error);
