@@ -190,7 +190,8 @@ impl Tracer<'_, '_> {
         // The thread by which the memory was known may have ended.
         space.pid = thread.tid;
         let address = thread.program_counter();
-        let is_own_trap = matches!(thread.here.effect, Effect::Stop);
+        // Traps that are the program's own, and system calls by which it sends itself the signal.
+        let is_own_trap = matches!(thread.here.effect, Effect::Stop | Effect::Padding | Effect::System { .. });
         let is_same = registers.program_counter() == address;
         // Another thread may have put the breakpoint back before the instruction was executed.
         let is_at_breakpoint =
@@ -204,9 +205,10 @@ impl Tracer<'_, '_> {
         if thread.mode == Mode::Running || code == BY_KERNEL {
             return Some(self.trapped_running(thread, &mut space, registers, code));
         }
-        // What another process sends isn't a step.
-        if may_be_other && code <= 0 {
-            return Some(libc::SIGTRAP);
+        // What a process sends isn't a step, but the kernel gives one signal for both.
+        let sent = if may_be_other && code <= 0 { libc::SIGTRAP } else { 0 };
+        if sent != 0 && is_same {
+            return Some(sent);
         }
         if let Some(address) = thread.lifted.take() {
             space.lower(address);
@@ -218,7 +220,7 @@ impl Tracer<'_, '_> {
             }
             _ => self.stepped(thread, &mut space, &registers),
         }
-        Some(0)
+        Some(sent)
     }
 
     /// A thread that runs got the signal of a trap. Returns the signal that it gets, 0 if none.
