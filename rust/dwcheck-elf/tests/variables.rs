@@ -66,3 +66,34 @@ fn values_of_each_kind_of_type() {
         assert!(main.out.starts_with("function main (a.c:15)\n    param argc: int = 1 "), "{}", main.out);
     }
 }
+
+/// gcc puts `twice` into a block that the abstract instance of the inlined function doesn't have.
+#[test]
+fn variables_of_an_inlined_function_are_shown_once() {
+    let folder = Folder::new("vars-inlined");
+    if !may_trace() {
+        return;
+    }
+    folder.write(
+        "a.c",
+        "struct point { int x, y; };
+static inline int doubled(int v) { int twice = 2 * v; if (twice > 5) __builtin_trap(); return twice; }
+__attribute__((noinline)) int sum(struct point p, const char *name) {
+    int first = doubled(p.x);
+    return first + p.y + name[0];
+}
+int main(int argc, char **argv) { return sum((struct point){argc + 2, 7}, \"three\"); }
+",
+    );
+    folder.run("gcc -O2 -g a.c -o program");
+    folder.crash("./program");
+    let ran = dwcheck_elf(&folder, "vars --core core");
+    assert_eq!((ran.status, ran.lines()[0]), (0, "inlined doubled (a.c:2)"), "{:?}", ran);
+    let found = values(&ran);
+    assert_eq!(found[..3], ["param v: int = 3", "var twice: int = 6", "param p: struct point = {x = 3, y = 7}"]);
+    assert!(found[3].starts_with("param name: const char * = 0x") && found[3].ends_with(" \"three\""), "{}", found[3]);
+    let stack = dwcheck_elf(&folder, "stack --vars core");
+    assert!(stack.out.contains("    var twice: int = 6 (r0)\n"), "{}", stack.out);
+    let json = dwcheck_elf(&folder, "vars --json --core core");
+    assert!(json.out.contains("\"value\":{\"x\":\"3\",\"y\":\"7\"}"), "{}", json.out);
+}

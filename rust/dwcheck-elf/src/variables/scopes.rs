@@ -60,10 +60,11 @@ impl<'u, 'a> Search<'u, 'a> {
     /// Adds the variables of a function or block to the last scope, then those of its parts that have the
     /// address.
     fn enter(&mut self, within: &Die<'u, 'a>, depth: usize) {
-        let mut concrete = HashSet::new();
         let mut inner = Vec::new();
-        for child in self.children(within, depth) {
-            concrete.extend(child.reference(gimli::DW_AT_abstract_origin).as_ref().map(place));
+        let children = self.children(within, depth);
+        let mut concrete = HashSet::new();
+        self.add_origins(&children, &mut concrete, depth);
+        for child in children {
             match child.tag() {
                 Some(tag) if is_variable(tag) => self.add(child, tag, false),
                 Some(gimli::DW_TAG_lexical_block | gimli::DW_TAG_inlined_subroutine) => inner.push(child),
@@ -74,6 +75,18 @@ impl<'u, 'a> Search<'u, 'a> {
             self.add_abstract(&origin, &concrete, depth + 1);
         }
         inner.iter().for_each(|child| self.enter_part(child, depth + 1));
+    }
+
+    /// Adds the entries of the abstract instance that these entries, or those of blocks among them, complete.
+    /// A variable may be in a block that only the concrete instance has.
+    fn add_origins(&mut self, children: &[Die<'u, 'a>], origins: &mut HashSet<Place>, depth: usize) {
+        for child in children {
+            origins.extend(child.reference(gimli::DW_AT_abstract_origin).as_ref().map(place));
+            if child.tag() == Some(gimli::DW_TAG_lexical_block) {
+                let inner = self.children(child, depth + 1);
+                self.add_origins(&inner, origins, depth + 1);
+            }
+        }
     }
 
     /// Enters a block or an inlined function, if it has the address.
