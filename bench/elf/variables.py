@@ -37,6 +37,8 @@ except ImportError:
 REGISTERS = ["rax", "rdx", "rcx", "rbx", "rsi", "rdi", "rbp", "rsp", "r8", "r9", "r10", "r11", "r12", "r13", "r14", "r15"]
 # How much of the stack a state file has, in bytes.
 STACK = 65536
+# How many bytes of these are below the stack pointer, where a function has its variables before it makes room.
+BELOW = 4096
 # Breakpoints that are set at once.
 AT_ONCE = 300
 
@@ -114,8 +116,8 @@ def write_state(path, frame, own):
             state.write("reg %d %#x\n" % (17 + number, low))
         state.write("".join("keep %d\n" % number for number in (3, 6, 12, 13, 14, 15)) + "sp 7\n")
         end = next((end for begin, end in mapped() if begin <= pointer < end), pointer)
-        memory = bytes(process.read_memory(pointer - 256, min(STACK, end - pointer + 256)))
-        state.write("mem %#x %s\n" % (pointer - 256, memory.hex()))
+        memory = bytes(process.read_memory(pointer - BELOW, min(STACK, end - pointer + BELOW)))
+        state.write("mem %#x %s\n" % (pointer - BELOW, memory.hex()))
         for begin, end in own:
             state.write("mem %#x %s\n" % (begin, bytes(process.read_memory(begin, end - begin)).hex()))
 
