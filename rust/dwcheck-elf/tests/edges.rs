@@ -217,17 +217,16 @@ fn a_panic_of_go() {
 /// C is called from Go, calls back, and Go's code crashes there, or the C that it calls.
 const CGO: &str = "package main
 /*
-#include <stdlib.h>
 void inner(int n);
 __attribute__((noinline)) static void outer(int n) { volatile int k = n; inner(n); k++; }
-__attribute__((noinline)) static void crash(int n) { volatile int k = n; abort(); k++; }
+__attribute__((noinline)) static int crash(long n) { volatile int k = n; return *(volatile int *)n + k; }
 */
 import \"C\"
 import \"os\"
 //export inner
 func inner(n C.int) {
 	var p *int
-	if n == 2 { C.crash(n) } else { *p = 1 }
+	if n == 2 { C.crash(16) } else { *p = 1 }
 }
 //go:noinline
 func start(n int) { C.outer(C.int(n)) }
@@ -254,7 +253,7 @@ fn a_crash_in_go_that_c_has_called() {
             return common::skipped("the kernel writes no core files here");
         }
         let ran = dwcheck_elf(&folder, "stack --no-inline --no-source core");
-        let shown = frames(ran.out.split("\nthread ").next().unwrap());
+        let shown = frames(ran.out.split("\nthread ").nth(1).unwrap());
         let place = shown.iter().position(|line| line.contains(caller)).unwrap_or_else(|| panic!("{}", ran.out));
         let found = by_gdb(&folder, "program");
         assert_eq!(addresses(&shown[..=place]), found[..=place], "{}", ran.out);

@@ -6,7 +6,7 @@ use crate::common::Folder;
 const FRAMES: &str = "set backtrace past-main on
 python
 frame = gdb.newest_frame()
-width = 2 + 2 * int(gdb.parse_and_eval('sizeof(void *)'))
+width = 10 if frame.architecture().name() == 'i386' else 18
 while frame is not None:
     if frame.type() not in (gdb.INLINE_FRAME, gdb.TAILCALL_FRAME):
         print('frame', '%#0*x' % (width, frame.pc()))
