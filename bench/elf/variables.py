@@ -9,13 +9,14 @@ values of the variables that it has in scope, in the function and in those that 
 the state file. Each variable is counted in one of these lines; all but the first two have examples:
 
     equal                    both have the same value
-    neither                  both say that there is no value
+    neither                  neither of the two has a value
     not evaluated: WHY       gdb has a value, and vars says why it has none
     only dwcheck-elf         gdb says that the variable is optimized out, or can't read it
-    only gdb                 vars doesn't show the variable
+    only gdb                 vars doesn't show the variable, of which gdb has a value
+    not in gdb               gdb doesn't list the variable, such as one without a name
     DIFFERENT                both have a value, and not the same
 
-The exit status is 1 if a variable is DIFFERENT or shown by only one of the two. This needs gdb and binutils,
+The exit status is 1 if a variable is DIFFERENT or `only gdb` has it. This needs gdb and binutils,
 and a machine that lets gdb run programs; it is for x86-64. Texts that pointers lead to aren't compared.
 """
 import collections
@@ -148,7 +149,7 @@ def in_gdb():
     places = [place + load for place in asked["places"]]
     stops = []
     waiting = []
-    while places and len(stops) < asked["stops"]:
+    while (places or waiting) and len(stops) < asked["stops"]:
         while places and len(waiting) < AT_ONCE:
             waiting.append(gdb.Breakpoint("*%#x" % places.pop(), temporary=True, internal=True))
         try:
@@ -207,7 +208,7 @@ def compare(stop, shown, count):
         place = next((place for place, one in enumerate(found) if same(value, one["value"])), 0)
         where = f"{stop['address']:#x} {name}"
         if not found:
-            count("only gdb", f"{where}: {value}")
+            count("neither" if value is None else "only gdb", f"{where}: {value}")
             continue
         one = found.pop(place)
         missing = one["missing"]
