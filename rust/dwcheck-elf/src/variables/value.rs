@@ -45,6 +45,10 @@ struct Part<'p> {
     offset: usize,
 }
 
+/// The greatest depth to which structures and arrays are followed. In a hostile file, a structure can have
+/// itself as a member.
+const MAX_DEPTH: usize = 64;
+
 /// The most members of a structure and of structures inside of it that are read for a variable.
 const MAX_MEMBERS: usize = 4096;
 
@@ -57,6 +61,7 @@ impl<'v, 'a> Locator<'v, 'a> {
         }
         let size = size_of(kind).and_then(|size| usize::try_from(size).ok());
         let size = size.ok_or(Missing::Unsupported("a type whose size isn't a constant"))?;
+        let shape = Shape { depth: shape.depth.min(MAX_DEPTH), ..shape };
         let mut left = MAX_MEMBERS;
         self.part(kind, Part { place, size, offset: 0 }, shape, &mut left)
     }
