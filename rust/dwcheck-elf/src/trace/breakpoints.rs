@@ -56,6 +56,11 @@ impl Breakpoints {
         self.all.get(&address).copied().filter(Breakpoint::is_wanted)
     }
 
+    /// Whether there is or was a breakpoint at an address.
+    pub fn is_known(&self, address: u64) -> bool {
+        self.all.contains_key(&address)
+    }
+
     /// Forgets those that aren't at such an address. Their code isn't there anymore.
     pub fn retain(&mut self, is_there: impl Fn(u64) -> bool) {
         self.all.retain(|address, _| is_there(*address));

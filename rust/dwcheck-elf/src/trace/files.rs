@@ -160,7 +160,8 @@ impl<'s> ModuleFile<'s> {
         let functions = program.functions();
         let sections: &'s Sections<'s> = arena.alloc(Sections::read(&program));
         let module = sections.module(&program, &functions).map_err(FileError::Code)?;
-        let is_stepped = selection.selects(&path);
+        // The stacks of Go move while functions are on them.
+        let is_stepped = selection.selects(&path) && module.convention != Convention::Go;
         let load = functions.all().iter().find(|function| function.name == MODULES_CHANGED);
         let loads = load.map(|function| function.begin).into_iter().chain(Some(program.entry()));
         let loads: BTreeSet<u64> = loads.filter(|address| *address != 0).collect();

@@ -9,6 +9,7 @@ use super::tracer::Tracer;
 use dwcheck_lint::instruction::Effect;
 use dwcheck_lint::register::Register;
 use dwcheck_lint::table::Rule as RowRule;
+use dwcheck_lint::x86_64::X86_64;
 
 /// A stack pointer that goes up or down by more than this by one instruction may be on another stack.
 const FAR_UP: u64 = 1 << 16;
@@ -61,7 +62,11 @@ impl Tracer<'_, '_> {
         if self.keeps_return_address(thread, space, new) {
             return Left::default();
         }
-        self.leave(thread, space, new)
+        let left = self.leave(thread, space, new);
+        if left.count == 0 && may_switch(&thread.here.effect) {
+            thread.shadow.distrust();
+        }
+        left
     }
 
     /// Adds the frame of a function that was just called.
@@ -192,5 +197,20 @@ impl Tracer<'_, '_> {
             frame.seen_in = fde;
         }
         true
+    }
+}
+
+/// Whether an instruction that changes the stack pointer, but leaves no frame, may have gone to another stack
+/// in the same memory: it sets the stack pointer to something else than a sum, or returns from no frame.
+fn may_switch(effect: &Effect) -> bool {
+    let is_stack = |register: &Register| *register == X86_64.stack_pointer;
+    match effect {
+        Effect::Return => true,
+        Effect::Exchange { one, other } => is_stack(one) || is_stack(other),
+        Effect::Move { to, .. } | Effect::MayMove { to, .. } | Effect::Load { to, .. } | Effect::Pop { to } => {
+            is_stack(to)
+        }
+        Effect::Write { registers, .. } | Effect::MayWrite { registers } => registers.contains(X86_64.stack_pointer),
+        _ => false,
     }
 }

@@ -195,7 +195,7 @@ impl Tracer<'_, '_> {
         let is_same = registers.program_counter() == address;
         // Another thread may have put the breakpoint back before the instruction was executed.
         let is_at_breakpoint =
-            registers.program_counter() == address.wrapping_add(1) && space.breakpoints.at(address).is_some();
+            registers.program_counter() == address.wrapping_add(1) && space.breakpoints.is_known(address);
         let may_be_other = thread.mode == Mode::Running || is_same || is_own_trap || is_at_breakpoint;
         let code = if may_be_other { ptrace::signal_code(thread.tid).ok()? } else { 0 };
         if thread.mode != Mode::Running && is_at_breakpoint && code == BY_KERNEL {
