@@ -101,7 +101,8 @@ int main(void) {
     struct sigaction action = {.sa_sigaction = queued, .sa_flags = SA_SIGINFO | SA_ONSTACK};
     sigaction(SIGRTMIN + 3, &action, NULL);
     for (int i = 0; i < 50; i++) sigqueue(getpid(), SIGRTMIN + 3, (union sigval){.sival_int = i});
-    signal(SIGTRAP, trapped);
+    struct sigaction trap = {.sa_handler = trapped, .sa_flags = SA_NODEFER};
+    sigaction(SIGTRAP, &trap, NULL);
     raise(SIGTRAP);
     __asm__ volatile(\"int3\");
     struct sigaction timed = {.sa_handler = tick, .sa_flags = SA_ONSTACK | SA_RESTART};
