@@ -166,9 +166,9 @@ fn right_rows_are_quiet() {
     let traced = trace(&folder, "--module planted", "./planted");
     assert_eq!(traced.found(), Vec::<[String; 3]>::new(), "{}", traced.log);
     let traced = trace(&folder, "--all --private --module planted", "./planted");
-    let places: Vec<_> = traced.found().into_iter().map(|[kind, place, _]| (kind, place)).collect();
-    assert!(places.contains(&("private".to_string(), "own_convention+0x3".to_string())), "{}", traced.log);
-    assert!(traced.found().iter().all(|[kind, ..]| kind == "private"), "{}", traced.log);
+    let found = traced.found();
+    assert!(found.iter().any(|[_, place, _]| place == "own_convention+0x3"), "{}", traced.log);
+    assert!(found.iter().all(|[kind, ..]| kind == "private"), "{}", traced.log);
 }
 
 /// What clang 14 does to two epilogues (docs/findings/llvm-moved-epilogue.md).
