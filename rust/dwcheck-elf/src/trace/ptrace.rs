@@ -131,6 +131,15 @@ pub fn signal_code(tid: Tid) -> Result<i32, Errno> {
     Ok(ptrace::getsiginfo(Pid::from_raw(tid))?.si_code)
 }
 
+/// Whether the signal of a trap waits for a stopped thread. The kernel reports other stops first, and the
+/// signal ends a thread that isn't traced anymore.
+pub fn trap_waits(tid: Tid) -> bool {
+    let status = std::fs::read_to_string(format!("/proc/{}/status", tid)).unwrap_or_default();
+    let waiting = status.lines().find_map(|line| line.strip_prefix("SigPnd:"));
+    let waiting = waiting.and_then(|set| u64::from_str_radix(set.trim(), 16).ok()).unwrap_or(0);
+    waiting & 1 << (libc::SIGTRAP - 1) != 0
+}
+
 /// Waits until a traced thread reports something.
 pub fn wait() -> Result<(Tid, Report), Errno> {
     wait_with(-1, libc::__WALL)

@@ -55,6 +55,10 @@ impl Tracer<'_, '_> {
             Some(thread) => thread,
             None => return self.let_go_first(tid),
         };
+        if matches!(report, Report::Stop | Report::GroupStop) && ptrace::trap_waits(tid) {
+            // It executes nothing before it reports the trap.
+            return ptrace::run(tid, 0);
+        }
         thread.is_stopped = true;
         match report {
             Report::Signal(libc::SIGTRAP) => {
@@ -94,10 +98,11 @@ impl Tracer<'_, '_> {
 
 /// Sets a thread that has executed a breakpoint back to it. Returns false if the trap is the program's own.
 fn rewind(thread: &mut Thread) -> bool {
-    if thread.mode != Mode::Running {
+    let code = ptrace::signal_code(thread.tid).unwrap_or(BY_KERNEL);
+    if thread.mode != Mode::Running && code > 0 {
         return true;
     }
-    if ptrace::signal_code(thread.tid) != Ok(BY_KERNEL) {
+    if code != BY_KERNEL {
         return false;
     }
     let registers = match ptrace::registers(thread.tid) {

@@ -115,6 +115,14 @@ impl Tracer<'_, '_> {
                 _ => break,
             }
         }
+        while ptrace::trap_waits(tid) {
+            ptrace::run(tid, 0);
+            match ptrace::wait_for_stop(tid).ok()? {
+                Report::Signal(libc::SIGTRAP) if ptrace::signal_code(tid).ok()? <= 0 => return Some(libc::SIGTRAP),
+                Report::Exited(_) | Report::Killed(_) => return None,
+                _ => {}
+            }
+        }
         Some(Some(signal).filter(|signal| *signal != libc::SIGTRAP).unwrap_or(0))
     }
 }
