@@ -61,11 +61,7 @@ impl Tracer<'_, '_> {
         }
         thread.is_stopped = true;
         match report {
-            Report::Signal(libc::SIGTRAP) => {
-                if !rewind(thread) {
-                    signals.insert(tid, libc::SIGTRAP);
-                }
-            }
+            Report::Signal(libc::SIGTRAP) if rewind(thread) => {}
             Report::Signal(signal) => {
                 signals.insert(tid, signal);
             }

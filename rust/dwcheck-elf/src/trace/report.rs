@@ -244,7 +244,7 @@ fn truth(row: &Row<'_>, places: &Places) -> Truth {
     let order = of_row.into_iter().chain(usual).chain(0..16);
     let distance = |number: usize| {
         let distance = (*places.distances.get(number)?)?;
-        (distance.abs() < FARTHEST).then(|| (Register(number as u8), distance))
+        (distance.abs() < FARTHEST).then_some((Register(number as u8), distance))
     };
     let mut truth = Truth { cfa: order.filter_map(distance).next(), ..Truth::default() };
     truth.return_address = Some((Location::Slot(-8), false));
