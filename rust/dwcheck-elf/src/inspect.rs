@@ -6,13 +6,12 @@ use crate::debug_files::DebugFiles;
 use crate::fault::{Defect, Terms};
 use crate::frames::{Frames, FramesError, Name};
 use crate::lists;
-use crate::loclists::Contents;
 use crate::program::{Program, ProgramError};
 use crate::row::Row;
 use crate::target::Target;
 use crate::text::Plain;
 use crate::validate::{validate, validate_rows, Agreement, Difference, DwcheckRows, RowSource, What};
-use dwcheck::{DebugFrame, DebugLoclists, Error, Process};
+use dwcheck::{DebugFrame, DebugLoclists, Error, Process, Report};
 use std::fmt;
 use std::path::{Path, PathBuf};
 
@@ -55,7 +54,7 @@ pub enum Verdict {
     /// that gimli finds in the section before it was rewritten.
     Frames(Agreement),
     /// Well-formed location lists of a file without `.debug_info`, in which the whole section is checked.
-    Lists(Contents),
+    Lists(Report),
     /// Well-formed location lists, but for what [`lists::Contents::not_checked`] says.
     FoundLists,
     /// The section is refused. These are its first fault, or all faults if [`Check::all`] is set.
@@ -294,8 +293,8 @@ fn counted(frames: &Frames<'_>, process: &Process) -> Agreement {
 }
 
 fn inspect_section_of_lists(lists: &[u8], target: Target) -> Result<Verdict, InspectError> {
-    match dwcheck::check(DebugFrame(&[]), DebugLoclists(lists), target.into()) {
-        Ok(()) => Ok(Verdict::Lists(Contents::of(lists, target))),
+    match dwcheck::report(DebugFrame(&[]), DebugLoclists(lists), target.into()) {
+        Ok(report) => Ok(Verdict::Lists(report)),
         Err(Error::Refused(fault)) => Ok(Verdict::Refused(vec![Defect::of_lists(lists, fault, target)])),
         Err(error) => Err(InspectError::Dwcheck(Name::DebugLoclists, error)),
     }

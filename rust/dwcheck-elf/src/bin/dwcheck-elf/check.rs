@@ -3,17 +3,14 @@
 use crate::arguments::CheckWords;
 use crate::end::{shown, Done, Failure};
 use crate::opened::{note, program, read, write_defect};
+use dwcheck::{CheckedExpression, DebugFrame, DebugLoclists, ExpressionKind, Report};
 use dwcheck_elf::bridge::{Bridged, Counts};
 use dwcheck_elf::debug_files::DebugFiles;
-use dwcheck_elf::debug_frame::{instructions, records, Kind};
-use dwcheck_elf::expression::Measure;
 use dwcheck_elf::frames::{Frames, Name};
 use dwcheck_elf::inspect::{inspect_frame_sections, inspect_lists_of_file, source_offset, Check, Inspected, Verdict};
 use dwcheck_elf::lists::{self, Bytes as ListBytes};
-use dwcheck_elf::loclists::Contents;
 use dwcheck_elf::mapped::Bytes;
 use dwcheck_elf::program::Program;
-use dwcheck_elf::target::Target;
 use dwcheck_elf::text::Offset;
 use dwcheck_elf::validate::Agreement;
 use std::io::{self, Write};
@@ -77,7 +74,7 @@ fn check_one(words: &CheckWords, path: &Path, out: &mut impl Write) -> Result<Do
             }
             _ => {
                 writeln!(out, "{}: {}: accepted", shown(path), section.name)?;
-                write_accepted(out, &program, section)?;
+                write_accepted(out, section)?;
             }
         }
         if let Some(frames) = section.frames.as_ref().filter(|_| words.notes.notes) {
@@ -111,13 +108,10 @@ fn add_lists<'a>(
 
 /// Writes what an accepted section holds: a line of counts, such as those of its CIEs, FDEs and
 /// rows, and a line for each of its expressions.
-fn write_accepted(out: &mut impl Write, program: &Program<'_>, section: &Inspected<'_>) -> io::Result<()> {
+fn write_accepted(out: &mut impl Write, section: &Inspected<'_>) -> io::Result<()> {
     match (&section.verdict, &section.frames) {
         (Verdict::Frames(agreement), Some(frames)) => write_frames(out, agreement, frames),
-        (Verdict::Lists(contents), _) => match program.debug_loclists() {
-            Ok(Some(lists)) => write_lists(out, contents, &lists.bytes, program.target()),
-            _ => Ok(()),
-        },
+        (Verdict::Lists(report), _) => write_lists(out, report),
         _ => Ok(()),
     }
 }
@@ -181,51 +175,25 @@ fn write_rest(out: &mut impl Write, path: &Path, section: &Inspected<'_>) -> io:
     }
 }
 
-/// An expression of a frame section.
-struct Located {
-    /// Its offset in [`Frames::bytes`].
-    begin: usize,
-    length: usize,
-    is_cfa: bool,
-}
-
-/// The expressions of a frame section: first those of CIEs, then those of FDEs, each in the order
-/// of the section.
-fn expressions(frames: &Frames<'_>) -> Vec<Located> {
-    let target = frames.target();
-    let mut all = records(frames.bytes(), target);
-    all.sort_by_key(|record| !matches!(record.kind, Kind::Cie { .. }));
-    let programs = all.into_iter().filter_map(|record| record.program);
-    let each = programs.flat_map(|program| instructions(frames.bytes(), program, target));
-    let located = each.filter_map(|instruction| {
-        let (begin, length) = instruction.expression?;
-        Some(Located { begin, length, is_cfa: instruction.code == 0x0f })
-    });
-    located.collect()
-}
-
 fn write_frames(out: &mut impl Write, agreement: &Agreement, frames: &Frames<'_>) -> io::Result<()> {
     let Agreement { cies, fdes, rows, .. } = agreement;
-    let expressions = expressions(frames);
-    writeln!(out, "cies {} fdes {} rows {} expressions {}", cies, fdes, rows, expressions.len())?;
-    for Located { begin, length, is_cfa } in expressions {
-        let bytes = frames.bytes().get(begin..begin + length).unwrap_or(&[]);
-        let Measure { operations, depth } = Measure::of(bytes, u64::from(!is_cfa), frames.target());
-        let kind = if is_cfa { "cfa" } else { "register" };
-        let offset = Offset(source_offset(frames, begin as u64));
+    // Accepted sections are refused again only if memory runs out.
+    let report = dwcheck::report(DebugFrame(frames.bytes()), DebugLoclists(&[]), frames.target().into())
+        .map_err(|_| io::ErrorKind::OutOfMemory)?;
+    writeln!(out, "cies {} fdes {} rows {} expressions {}", cies, fdes, rows, report.expressions.len())?;
+    for CheckedExpression { offset, kind, operations, depth, .. } in report.expressions {
+        let kind = if kind == Some(ExpressionKind::FrameCfa) { "cfa" } else { "register" };
+        let offset = Offset(source_offset(frames, offset));
         writeln!(out, "expr {} {} {} ops {} depth {}", frames.name(), offset, kind, operations, depth)?;
     }
     Ok(())
 }
 
-fn write_lists(out: &mut impl Write, contents: &Contents, lists: &[u8], target: Target) -> io::Result<()> {
-    let Contents { tables, lists: count, expressions } = contents;
-    writeln!(out, "tables {} lists {} expressions {}", tables, count, expressions.len())?;
-    for (begin, length) in expressions {
-        let bytes = lists.get(*begin..begin + length).unwrap_or(&[]);
-        let Measure { operations, depth } = Measure::of(bytes, 0, target);
-        let offset = Offset(*begin as u64);
-        writeln!(out, "expr {} {} location ops {} depth {}", Name::DebugLoclists, offset, operations, depth)?;
+fn write_lists(out: &mut impl Write, report: &Report) -> io::Result<()> {
+    writeln!(out, "tables {} lists {} expressions {}", report.tables, report.lists, report.expressions.len())?;
+    for CheckedExpression { offset, operations, depth, .. } in &report.expressions {
+        let (name, offset) = (Name::DebugLoclists, Offset(*offset));
+        writeln!(out, "expr {} {} location ops {} depth {}", name, offset, operations, depth)?;
     }
     Ok(())
 }

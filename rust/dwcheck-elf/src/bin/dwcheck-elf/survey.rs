@@ -165,7 +165,7 @@ impl Section {
         let (held, defects) = match verdict {
             Verdict::Frames(Agreement { cies, fdes, rows, .. }) => (Held::Frames { cies, fdes, rows }, Vec::new()),
             Verdict::Lists(found) => {
-                (Held::Lists { lists: found.lists, expressions: found.expressions.len() }, Vec::new())
+                (Held::Lists { lists: found.lists as usize, expressions: found.expressions.len() }, Vec::new())
             }
             Verdict::FoundLists => {
                 let (count, entries) = lists.as_ref().map_or((0, 0), |found| (found.lists, found.entries));
