@@ -140,7 +140,8 @@ def own_data(program):
 
 def in_gdb():
     """Stops the program at instructions, and writes what gdb knows there."""
-    asked = json.loads(os.environ["VARIABLES_PY"])
+    with open(os.environ["VARIABLES_PY"]) as file:
+        asked = json.load(file)
     for line in ("pagination off", "confirm off", "width 0", "disable-randomization on", "startup-with-shell off"):
         gdb.execute("set " + line)
     gdb.execute("starti " + " ".join(asked["arguments"]) + " > /dev/null 2>&1", to_string=True)
@@ -182,6 +183,8 @@ def same(one, other):
     if one == "?" or one == other:
         return True
     if isinstance(one, dict) and isinstance(other, dict):
+        if "" in one:  # gdb lists the discriminant and all variants, and vars the variant that is there
+            return all(name in one and same(one[name], value) for name, value in other.items())
         return all(same(value, other.get(name)) for name, value in one.items())
     if isinstance(one, list) and isinstance(other, list):
         return len(one) == len(other) and all(map(same, one, other))
@@ -248,7 +251,10 @@ def main():
     with tempfile.TemporaryDirectory() as folder:
         asked = {"program": program, "arguments": arguments, "places": places, "stops": int(stops), "folder": folder,
                  "pie": "DYN (" in header}
-        environment = dict(os.environ, VARIABLES_PY=json.dumps(asked))
+        # A file, since the places of a large program are too long for the environment.
+        environment = dict(os.environ, VARIABLES_PY=os.path.join(folder, "asked"))
+        with open(environment["VARIABLES_PY"], "w") as file:
+            json.dump(asked, file)
         words = ["gdb", "--batch", "-nx", "-x", os.path.abspath(__file__), program]
         subprocess.run(words, env=environment, capture_output=True, stdin=subprocess.DEVNULL, check=True)
         with open(os.path.join(folder, "stops")) as file:

@@ -3,7 +3,7 @@
 mod common;
 
 use common::run::{dwcheck_elf, Ran};
-use common::{may_trace, Folder};
+use common::{has, may_trace, Folder};
 
 /// A program that a trap ends. `work` has a variable of each kind of type.
 const KINDS: &str = "
@@ -96,4 +96,44 @@ int main(int argc, char **argv) { return sum((struct point){argc + 2, 7}, \"thre
     assert!(stack.out.contains("    var twice: int = 6 (r0)\n"), "{}", stack.out);
     let json = dwcheck_elf(&folder, "vars --json --core core");
     assert!(json.out.contains("\"value\":{\"x\":\"3\",\"y\":\"7\"}"), "{}", json.out);
+}
+
+/// A program in Rust with enums whose variant is said by a number of its own, or by a null pointer.
+const VARIANTS: &str = "
+#[allow(dead_code, unused_variables)]
+enum Token { Number(i64), Plus, Pair { left: u8, right: u16 } }
+#[inline(never)]
+fn work(byte: &u8) {
+    let number = Token::Number(-5);
+    let plus = Token::Plus;
+    let pair = Token::Pair { left: 3, right: 400 };
+    let (some, none): (Option<u32>, Option<u32>) = (Some(9), None);
+    let (full, empty): (Option<&u8>, Option<&u8>) = (Some(byte), None);
+    unsafe { std::arch::asm!(\"ud2\") }
+}
+fn main() { work(&7) }
+";
+
+#[test]
+fn variants_of_enums_of_rust() {
+    let folder = Folder::new("vars-variants");
+    if !may_trace() || !has("rustc") {
+        return;
+    }
+    folder.write("a.rs", VARIANTS);
+    folder.run("rustc -g a.rs -o program 2> /dev/null");
+    folder.crash("./program");
+    let ran = dwcheck_elf(&folder, "vars --core core --depth 2");
+    let expected = [
+        "number: Token = {Number = {__0 = -5}}",
+        "plus: Token = {Plus = {}}",
+        "pair: Token = {Pair = {left = 3, right = 400}}",
+        "some: Option<u32> = {Some = {__0 = 9}}",
+        "none: Option<u32> = {None = {}}",
+        "full: Option<&u8> = {Some = {__0 = 0x",
+        "empty: Option<&u8> = {None = {}}",
+    ];
+    for expected in expected {
+        assert!(ran.out.contains(expected), "{}: {} {}", expected, ran.out, ran.error);
+    }
 }

@@ -1,5 +1,7 @@
 //! Reads the values of variables by their types.
 
+mod variants;
+
 use super::location::Locator;
 use super::place::{Missing, Place};
 use super::types::{dimensions, is_pointer, name_of, number, plain, size_of, type_of};
@@ -179,8 +181,15 @@ impl<'v, 'a> Locator<'v, 'a> {
             return Ok(Value::Deeper);
         }
         let inner = Shape { depth: shape.depth - 1, ..shape };
+        let mut all = Vec::new();
+        for child in kind.children() {
+            match child.tag() {
+                Some(gimli::DW_TAG_variant_part) => all.extend(self.chosen(&child, part)?),
+                _ => all.push(child),
+            }
+        }
         let mut members = Vec::new();
-        for member in kind.children().into_iter().filter(is_member) {
+        for member in all.into_iter().filter(is_member) {
             if *left == 0 {
                 break;
             }
@@ -196,16 +205,21 @@ impl<'v, 'a> Locator<'v, 'a> {
 
     fn member(&self, member: &Die<'v, 'a>, part: Part<'_>, shape: Shape, left: &mut usize) -> Result<Value, Missing> {
         let kind = type_of(member).ok_or(Missing::Unsupported("no type"))?;
+        let part = self.placed(member, part)?;
+        match number(member, gimli::DW_AT_bit_size) {
+            Some(bits) => self.bit_field(member, &kind, part, bits),
+            None => self.part(&kind, part, shape, left),
+        }
+    }
+
+    /// Where a member of a structure begins.
+    fn placed<'p>(&self, member: &Die<'v, 'a>, part: Part<'p>) -> Result<Part<'p>, Missing> {
         let past = match member.attribute(gimli::DW_AT_data_member_location) {
             Some(value) => value.udata_value().ok_or(Missing::Unsupported("a member at an expression"))?,
             None => 0,
         };
         let offset = usize::try_from(past).ok().and_then(|past| part.offset.checked_add(past));
-        let part = Part { offset: offset.ok_or(Missing::Unsupported("a member at this offset"))?, ..part };
-        match number(member, gimli::DW_AT_bit_size) {
-            Some(bits) => self.bit_field(member, &kind, part, bits),
-            None => self.part(&kind, part, shape, left),
-        }
+        Ok(Part { offset: offset.ok_or(Missing::Unsupported("a member at this offset"))?, ..part })
     }
 
     fn bit_field(&self, member: &Die<'v, 'a>, kind: &Die<'v, 'a>, part: Part<'_>, bits: u64) -> Result<Value, Missing> {
