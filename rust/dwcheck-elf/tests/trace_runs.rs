@@ -73,7 +73,8 @@ fn output_status_and_signals_are_the_programs_own() {
         "bash -c 'kill -SEGV $$'",
         "bash -c 'kill -40 $$'",
         "bash -c 'trap \"echo trapped; exit 3\" TERM; kill -TERM $$; echo no'",
-        "bash -c '(sleep 0.3; kill -CONT $$) & kill -STOP $$; echo on'",
+        // Again and again, since a traced program may take long to stop itself.
+        "bash -c '(while kill -CONT $$ 2> /dev/null; do sleep 0.1; done) > /dev/null & kill -STOP $$; echo on'",
         "bash -c 'yes | head -2; echo ${PIPESTATUS[0]}'",
         "./script word",
     ] {
