@@ -304,6 +304,14 @@ list-only target r l after same h =
     ap (λ x. x >>= λ (es : List Entry × ReadPosition). done (listed r.position es.0) es.1) read
     ∙ ap (λ at. done (listed at l.entries) after) (sym h.encoded.offset_is)
 
+pub list-entries : (r : ReadPosition) (l : Loclist) (after : ReadPosition) → list_at r ≡ Ok (l, after)
+    → entries_at false r ≡ Ok (l.entries, after)
+unfolding list_at
+list-entries r l after is =
+    let es = bind-ok (entries_at false r) (λ es. done (listed r.position es.0) es.1) (l, after) is in
+    let same : (listed r.position es.0.0, es.0.1) ≡ (l, after) = ok-is {A = Loclist} (listed r.position es.0.0, es.0.1) (l, after) es.2 in
+    es.1 ∙ ap (λ (p : Loclist × ReadPosition). Ok (p.0.entries, p.1)) same
+
 -- ---- reading a list one entry at a time
 
 pub checked-forward : (has_default : Bool) (r : ReadPosition) (e : Entry) (after : ReadPosition)

@@ -7,22 +7,22 @@ use Rattle.std.proofs.Math.Seq.{drop-append_seam}
 use Rattle.std.proofs.lemmas.List.{length-append}
 use Rattle.std.proofs.lemmas.List.Elements.{Contains-append_left, Contains-append_right, Contains-append_cases}
 use Rattle.dw_bytes.specs.declared.target.Target.{Target}
-use Rattle.dw_bytes.specs.Reading.{ReadPosition, section_from}
+use Rattle.dw_bytes.specs.Reading.{Next, ReadPosition, section_from}
 use Rattle.dw_bytes.specs.Sequence.{Sequence}
 use Rattle.dw_loclists.specs.Entries.{Entry, is_default}
 use Rattle.dw_loclists.specs.Lists.{Loclist, IsList, Table, IsTable, AreTables, lists_of}
 use Rattle.dw_loclists.specs.Locations.{expressions_of, expressions_in, base_after, holds, held_by, bounded_at}
 use Rattle.dw_stack.specs.Located.{LocatedExpression}
 use Rattle.dw_loclists.specs.Locations.{default_of, defaults_in}
-use Rattle.dw_loclists.specs.Reading.{entries_at, ListSection, IsChecked, tables_in, lists_in, located_in}
-use Rattle.dw_loclists.proofs.EachList.{entries-read}
+use Rattle.dw_loclists.specs.Reading.{entries_at, list_at, IsListAt, ListSection, IsChecked, tables_in, lists_in, located_in}
+use Rattle.dw_loclists.proofs.EachList.{entries-read, list-found, list-only}
 use Rattle.dw_loclists.specs.declared.kept.KeptExpression.{KeptExpression}
 use Rattle.dw_loclists.specs.Bounds.{Ascends, StandsIn}
 use Rattle.dw_loclists.specs.Kept.{IsKeptOf, AreKeptOf, IsAmong}
 use Rattle.dw_loclists.specs.Views.{offset_of}
-use Rattle.dw_loclists.proofs.Order.{entries-front, offsets-of}
+use Rattle.dw_loclists.proofs.Order.{entries-front, list-rises, offsets-of}
 use Rattle.dw_loclists.proofs.Checked.{checked-tables, lists-ascend, expressions-ascend}
-use Rattle.dw_loclists.proofs.Search.{ascends-back, ascending-same, contains-behind}
+use Rattle.dw_loclists.proofs.Search.{ascends-back, ascending-same, contains-behind, rise-ascends}
 
 no-list : {X : Type 0} (x : X) → Contains [] x → ⊥
 no-list x (k, lt, is) = omega arith
@@ -86,19 +86,29 @@ among-tables target at bytes (t ∷ ts) l (first, rest, parts, here, others) amo
           refl (among-tables target (at + length first) rest ts l others behind)
     ]
 
--- reading from a list's offset returns its entries
-pub list-read : (s : ListSection) (l : Loclist) → IsChecked s → Contains (lists_in s) l
-    → (after : ReadPosition) × (entries_at false (section_from s.target s.section l.offset) ≡ Ok (l.entries, after))
-list-read s l checked among =
+-- the bytes at a list's offset encode the list
+stands-next : (s : ListSection) (l : Loclist) → IsChecked s → Contains (lists_in s) l
+    → (after : ReadPosition) × Next (IsList s.target l.offset) (section_from s.target s.section l.offset) l after
+stands-next s l checked among =
     let h = among-tables s.target 0 s.section (tables_in s) l (checked-tables s checked) among in
     let after : ReadPosition = record { target = s.target; position = l.offset + length h.own; rest = h.rest } in
     let parts : drop l.offset s.section ≡ h.own ++ h.rest =
     ap (λ n. drop n s.section) (let at : l.offset ≡ length h.front = omega (arith, h.offset_is) in at)
-    ∙ (ap (drop (length h.front)) h.parts ∙ drop-append_seam h.front (h.own ++ h.rest)) in (
-      after,
-      entries-read s.target (section_from s.target s.section l.offset) l after refl
-          (record { bytes = h.own; encoded = h.list_is; parts = parts; position = refl; target = refl }),
-    )
+    ∙ (ap (drop (length h.front)) h.parts ∙ drop-append_seam h.front (h.own ++ h.rest)) in
+    (after, record { bytes = h.own; encoded = h.list_is; parts = parts; position = refl; target = refl })
+
+-- reading from a list's offset returns its entries
+pub list-read : (s : ListSection) (l : Loclist) → IsChecked s → Contains (lists_in s) l
+    → (after : ReadPosition) × (entries_at false (section_from s.target s.section l.offset) ≡ Ok (l.entries, after))
+list-read s l checked among =
+    let next = stands-next s l checked among in
+    (next.0, entries-read s.target (section_from s.target s.section l.offset) l next.0 refl next.1)
+
+-- reading from a list's offset returns the list
+pub list-alone : (s : ListSection) (l : Loclist) → IsChecked s → Contains (lists_in s) l → IsListAt s.target s.section l.offset l
+list-alone s l checked among =
+    let next = stands-next s l checked among in
+    (next.0, list-only s.target (section_from s.target s.section l.offset) l next.0 refl next.1)
 
 pub inside-section : (s : ListSection) (l : Loclist) → IsChecked s → Contains (lists_in s) l → l.offset ≤ length s.section
 inside-section s l checked among =
@@ -163,16 +173,19 @@ of-lists (m ∷ ls) l x (zero, lt, is) h =
 of-lists (m ∷ ls) l x (suc k, lt, is) h =
     Contains-append_right (expressions_of m.entries) (expressions_in ls) x (of-lists ls l x (k, omega arith, is) h)
 
--- each expression that a list of the section has in an entry whose range contains the address, or
--- in a default entry, is an expression of the section
+-- each expression that a list has in an entry whose range contains the address, or in a default
+-- entry, is an expression of the list
+pub entries-among : (base address : ℕ) (es : List Entry) (x : LocatedExpression) → Contains (bounded_at base address es ++ defaults_in es) x
+    → Contains (expressions_of es) x
+entries-among base address es x among = elim (Contains-append_cases (bounded_at base address es) (defaults_in es) x among) [
+  | inl h ↦ bounded-among base address es x h
+  | inr h ↦ defaults-among es x h
+]
+
+-- such an expression is also one of the section
 pub given-among : (s : ListSection) (l : Loclist) (base address : ℕ) (x : LocatedExpression) → Contains (lists_in s) l
     → Contains (bounded_at base address l.entries ++ defaults_in l.entries) x → Contains (located_in s) x
-given-among s l base address x l_in among =
-    of-lists (lists_in s) l x l_in (from (Contains-append_cases (bounded_at base address l.entries) (defaults_in l.entries) x among))
-  where
-    from : (Contains (bounded_at base address l.entries) x ⊎ Contains (defaults_in l.entries) x) → Contains (expressions_of l.entries) x
-    from (inl h) = bounded-among base address l.entries x h
-    from (inr h) = defaults-among l.entries x h
+given-among s l base address x l_in among = of-lists (lists_in s) l x l_in (entries-among base address l.entries x among)
 
 -- ---- stored expressions
 
@@ -197,3 +210,13 @@ same-offsets (x ∷ xs) (k ∷ ks) kept =
 pub kept-ascend : (s : ListSection) (ks : List KeptExpression) → IsChecked s → AreKeptOf (located_in s) ks → Ascends offset_of ks
 kept-ascend s ks checked kept = ascends-back offset_of ks
     (subst (Ascends (λ n. n)) (same-offsets (located_in s) ks kept) (expressions-ascend s checked))
+
+-- what is stored about the expressions of one list
+pub list-ascend : (target : Target) (r : ReadPosition) (l : Loclist) (after : ReadPosition) (ks : List KeptExpression) → r.target ≡ target
+    → list_at r ≡ Ok (l, after) → AreKeptOf (expressions_of l.entries) ks → Ascends offset_of ks
+list-ascend target r l after ks same read kept =
+    let h = list-found target r l after same read in
+    let rise = list-rises target r.position h.bytes l h.encoded in
+    ascends-back offset_of ks
+    (subst (Ascends (λ n. n)) (same-offsets (expressions_of l.entries) ks kept)
+    (rise-ascends (r.position + 1) (r.position + length h.bytes + 1) (offsets-of (expressions_of l.entries)) rise))

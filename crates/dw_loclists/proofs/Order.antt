@@ -93,13 +93,17 @@ entries-rise target d at bytes (e ∷ es) (first, rest, parts, here, fine, going
     (expressions_of es) (omega (arith, ap length parts, length-append first rest)) (entry-rises target at first e here)
     (entries-rise target (d || is_default e) (at + length first) rest es others))
 
+pub list-rises : (target : Target) (at : ℕ) (bytes : List ℕ) (l : Loclist) → IsList target at bytes l
+    → RiseWithin (at + 1) (at + length bytes + 1) (offsets-of (expressions_of l.entries))
+list-rises target at bytes l here = entries-rise target false at bytes l.entries (entries-in target at bytes l here)
+
 lists-rise : (target : Target) (at : ℕ) (bytes : List ℕ) (ls : List Loclist) → Sequence (IsList target) at bytes ls
     → RiseWithin (at + 1) (at + length bytes + 1) (offsets-of (expressions_in ls))
 lists-rise target at bytes [] are = omega arith
 lists-rise target at bytes (l ∷ ls) (first, rest, parts, here, others) =
     both-rise (at + 1) (at + length first + 1) (at + length bytes + 1) (at + length first + length rest + 1) (expressions_of l.entries)
     (expressions_in ls) (omega (arith, ap length parts, length-append first rest))
-    (entries-rise target false at first l.entries (entries-in target at first l here))
+    (list-rises target at first l here)
     (lists-rise target (at + length first) rest ls others)
 
 -- ---- expressions of tables

@@ -1,18 +1,19 @@
 -- What the code stores about a section: the offsets of its tables and lists, and where its
 -- expressions are. No contract of a public call uses these definitions.
-use Rattle.std.specs.Prelude.{◌≡◌, ◌<◌, ◌≤◌, ◌+◌, ◌^◌, length, take, drop, ℕ, Bool, List, [], ◌∷◌, ◌++◌, map, Contains, Ok}
+use Rattle.std.specs.Prelude.{◌≡◌, ◌<◌, ◌≤◌, ◌+◌, ◌^◌, length, take, drop, ℕ, Bool, List, [], ◌∷◌, ◌++◌, map, Contains, Result, Ok, Err}
 use Rattle.std.specs.List.{AllByRecursion, AllZip}
 use Rattle.dw_bytes.specs.declared.target.Target.{Target}
 use Rattle.dw_loclists.specs.declared.contents.Contents.{Contents}
 use Rattle.dw_loclists.specs.declared.kept.KeptExpression.{KeptExpression}
-use Rattle.dw_bytes.specs.Reading.{ReadPosition}
+use Rattle.dw_bytes.specs.declared.fault.Fault.{Fault}
+use Rattle.dw_bytes.specs.Reading.{ReadPosition, section_from}
 use Rattle.dw_loclists.specs.Entries.{Entry, is_end, is_default}
 use Rattle.dw_loclists.specs.Lists.{Loclist, Table, lists_of, starts_of}
 use Rattle.dw_loclists.specs.Locations.{expressions_of, expressions_in}
 use Rattle.dw_stack.specs.declared.state.Kind.TheVariants.{Location}
 use Rattle.dw_stack.specs.Expressions as stack
 use Rattle.dw_stack.specs.Located.{LocatedExpression}
-use Rattle.dw_loclists.specs.Reading.{ListSection, IsChecked, checked_entry_at, tables_in, located_in}
+use Rattle.dw_loclists.specs.Reading.{ListSection, IsChecked, checked_entry_at, list_at, tables_in, located_in}
 use Rattle.dw_loclists.specs.Views.{start_of}
 
 -- ---- expressions
@@ -108,3 +109,23 @@ pub record IsKept (s : ListSection) (c : Contents) : Type 0 where
   pub kept : kept_of c ≡ kept_from (tables_in s)
   pub expressions : AreKeptOf (located_in s) c.expressions.items
   pub short : length s.section < 2 ^ 32
+
+-- ---- one list by itself
+
+-- the list that a read gave; one without entries if the read failed
+abbrev pub list_found : ReadPosition → Result (Loclist × ReadPosition) Fault → Loclist
+list_found r (Ok found) = found.0
+list_found r (Err fault) = record { offset = r.position; entries = [] }
+
+-- the list that is read from r on
+abbrev pub list_from : ReadPosition → Loclist
+list_from r = list_found r (list_at r)
+
+-- the list at an offset of a section can be read, and `kept` is what is stored about its expressions
+pub record IsKeptList (target : Target) (section : List ℕ) (at : ℕ) (kept : List KeptExpression) : Type 0 where
+  pub list : Loclist
+  pub after : ReadPosition
+  pub read : list_at (section_from target section at) ≡ Ok (list, after)
+  pub expressions : AreKeptOf (expressions_of list.entries) kept
+  pub inside : at ≤ length section
+  pub short : length section < 2 ^ 32

@@ -82,6 +82,11 @@ entries_at has_default r = at_most_entries (length r.rest) has_default r
 unfoldable pub list_at : ReadPosition → Result (Loclist × ReadPosition) Fault
 list_at r = entries_at false r >>= λ entries. Ok (record { offset = r.position; entries = entries.0 }, entries.1)
 
+-- The list that begins at the offset `at` of a section, read up to its end_of_list. No list at a
+-- lower offset counts, and no table does.
+abbrev pub IsListAt : Target → List ℕ → ℕ → Loclist → Type 0
+IsListAt target section at l = (after : ReadPosition) × (list_at (section_from target section at) ≡ Ok (l, after))
+
 -- all values, or the first fault
 abbrev pub all_of : {X : Type 0} → List (Result X Fault) → Result (List X) Fault
 all_of [] = Ok []

@@ -11,7 +11,7 @@ ghost use Rattle.dw_loclists.specs.Entries.{Entry, IsEntry, expression_in};
 ghost use Rattle.dw_loclists.specs.Lists.{Loclist, IsList, Table, IsTable, AreTables, lists_of, starts_of, IsWellFormed};
 ghost use Rattle.dw_loclists.specs.Locations.{base_after, held_by, bounded_at, defaults_in};
 ghost use Rattle.dw_stack.specs.Located.{LocatedExpression};
-ghost use Rattle.dw_loclists.specs.Reading.{entry_at, list_at, table_at, tables_from, tables_of, lists_fault, ListSection, IsChecked};
+ghost use Rattle.dw_loclists.specs.Reading.{IsListAt, entry_at, list_at, table_at, tables_from, tables_of, lists_fault, ListSection, IsChecked};
 ghost use Rattle.dw_loclists.specs.Reading.{tables_in, lists_in, located_in};
 ghost use Rattle.dw_loclists.specs.Bounds.{AllWithin, Ascends, StandsIn};
 
@@ -98,4 +98,10 @@ pub fn lists_and_expressions_stand_in_their_bytes()
     ensures lists { (target : Target) (at : ℕ) (bytes : List ℕ) (tables : List Table) (l : Loclist) →
         AreTables target at bytes tables → Contains (lists_of tables) l →
         StandsIn target at bytes l }
+{}
+
+/// A list of an accepted section that is read by itself is the same list.
+pub fn lists_by_themselves_are_the_sections()
+    ensures { (s : ListSection) (l : Loclist) → IsChecked s → Contains (lists_in s) l →
+        IsListAt s.target s.section l.offset l }
 {}

@@ -10,6 +10,7 @@ mod lent;
 mod list;
 mod lists;
 mod locations;
+mod one_list;
 mod table;
 mod walk;
 
@@ -17,3 +18,4 @@ pub use contents::LocationList;
 pub use lent::Expressions;
 pub use lists::{CheckedLists, check_lists};
 pub use locations::LocationsAt;
+pub use one_list::{CheckedList, check_list};
