@@ -66,12 +66,7 @@ pub fn check_list<'a>(
 {
     let mut expressions = Vec::new(alloc);
     let mut cursor = Cursor::at(section, target, offset);
-    read_list(
-        alloc,
-        &mut cursor,
-        section.len() as u32,
-        &mut expressions,
-    )?;
+    read_list(alloc, &mut cursor, section.len() as u32, &mut expressions)?;
     Ok(CheckedList {
         target,
         section,
