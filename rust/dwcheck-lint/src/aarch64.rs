@@ -82,7 +82,7 @@ fn stub(bytes: &[u8], address: u64) -> Option<u64> {
     let first = usize::from(effect(0)? == Effect::Nothing);
     let (page, pointer) = match (effect(first)?, effect(first + 1)?) {
         (Effect::Set { to, number }, Effect::Load { to: pointer, from }) if from.base == to => {
-            (number.wrapping_add(from.offset), pointer)
+            (number.wrapping_add(from.offset.into()), pointer)
         }
         _ => return None,
     };
@@ -115,8 +115,8 @@ impl Word {
     }
 
     /// The bits as a signed number.
-    fn signed(self, high: u32, low: u32) -> i64 {
-        i64::from((self.0 << (31 - high)) as i32 >> (31 - high + low))
+    fn signed(self, high: u32, low: u32) -> i32 {
+        (self.0 << (31 - high)) as i32 >> (31 - high + low)
     }
 
     /// The general register whose number begins at a bit. `None` for the one that is always zero.
@@ -140,7 +140,7 @@ impl Word {
 
     /// The address that is a signed number of words, which these bits are, from the instruction.
     fn target(self, high: u32, low: u32, address: u64) -> u64 {
-        address.wrapping_add((4 * self.signed(high, low)) as u64)
+        address.wrapping_add((4 * i64::from(self.signed(high, low))) as u64)
     }
 
     fn effect(self, address: u64) -> Effect {
@@ -161,7 +161,7 @@ impl Word {
         let to = self.general(0);
         match self.bits(25, 23) {
             0b000 | 0b001 => {
-                let offset = self.signed(23, 5) << 2 | i64::from(self.bits(30, 29));
+                let offset = i64::from(self.signed(23, 5)) << 2 | i64::from(self.bits(30, 29));
                 let place = if self.is_wide() { (address & !0xfff) as i64 } else { address as i64 };
                 let offset = if self.is_wide() { offset << 12 } else { offset };
                 to.map_or(Effect::Nothing, |to| Effect::Set { to, number: place.wrapping_add(offset) })

@@ -18,6 +18,9 @@ pub struct Code<'a> {
     /// For each offset, the index of the instruction that begins there.
     at: Vec<u32>,
     leaders: Vec<bool>,
+    leader_count: usize,
+    /// The offsets that are still to be decoded. Empty between calls.
+    work: Vec<u32>,
 }
 
 impl<'a> Code<'a> {
@@ -26,7 +29,7 @@ impl<'a> Code<'a> {
     pub fn decode(machine: &'a Machine, begin: u64, bytes: &'a [u8], pads: impl Iterator<Item = u64>) -> Code<'a> {
         let (at, leaders) = (vec![NONE; bytes.len()], vec![false; bytes.len()]);
         let instructions = Vec::with_capacity(bytes.len() / SHORT);
-        let mut code = Code { machine, begin, bytes, instructions, at, leaders };
+        let mut code = Code { machine, begin, bytes, instructions, at, leaders, leader_count: 0, work: Vec::new() };
         code.lead(0);
         for offset in pads.filter_map(|pad| code.offset(pad)).collect::<Vec<_>>() {
             code.lead(offset);
@@ -62,6 +65,11 @@ impl<'a> Code<'a> {
         self.instructions.get(*self.at.get(offset as usize)? as usize)
     }
 
+    /// The instruction that begins at an offset. An invalid one if none was decoded there.
+    pub fn instruction(&self, offset: u32) -> Instruction {
+        self.get(offset).copied().unwrap_or(Instruction { length: 1, effect: Effect::Invalid })
+    }
+
     /// What the instruction at an offset does.
     pub fn effect(&self, offset: u32) -> Effect {
         self.get(offset).map_or(Effect::Invalid, |instruction| instruction.effect)
@@ -91,9 +99,16 @@ impl<'a> Code<'a> {
         self.leaders.get(offset as usize).copied().unwrap_or(false)
     }
 
-    /// The offsets at which blocks begin, ascending.
-    pub fn leaders(&self) -> impl Iterator<Item = u32> + '_ {
-        (0..).zip(&self.leaders).filter(|(_, is_leader)| **is_leader).map(|(offset, _)| offset)
+    /// At how many offsets blocks begin.
+    pub fn leader_count(&self) -> usize {
+        self.leader_count
+    }
+
+    /// Makes a block begin at an offset. Returns whether none began there before.
+    fn mark(&mut self, offset: u32) -> bool {
+        let is_new = !std::mem::replace(&mut self.leaders[offset as usize], true);
+        self.leader_count += usize::from(is_new);
+        is_new
     }
 
     /// Whether the bytes at an offset are two zeros, which no compiler writes as an instruction.
@@ -106,25 +121,25 @@ impl<'a> Code<'a> {
         if self.is_leader(offset) && self.get(offset).is_some() {
             return false;
         }
-        let is_new = !std::mem::replace(&mut self.leaders[offset as usize], true);
-        let mut work = vec![offset];
-        while let Some(offset) = work.pop() {
-            self.decode_from(offset, &mut work);
+        let is_new = self.mark(offset);
+        self.work.push(offset);
+        while let Some(offset) = self.work.pop() {
+            self.decode_from(offset);
         }
         is_new
     }
 
     /// Decodes instructions until one ends the flow or is decoded already. Adds the targets of jumps
     /// to `work`.
-    fn decode_from(&mut self, mut offset: u32, work: &mut Vec<u32>) {
+    fn decode_from(&mut self, mut offset: u32) {
         while offset < self.length() && self.at[offset as usize] == NONE {
             let instruction = (self.machine.decode)(&self.bytes[offset as usize..], self.address(offset));
             self.at[offset as usize] = self.instructions.len() as u32;
             self.instructions.push(instruction);
             let target = instruction.effect.jump_target().and_then(|target| self.offset(target));
             if let Some(target) = target {
-                self.leaders[target as usize] = true;
-                work.push(target);
+                self.mark(target);
+                self.work.push(target);
             }
             offset += u32::from(instruction.length);
             if instruction.effect.is_end() {
@@ -132,7 +147,7 @@ impl<'a> Code<'a> {
             }
             let ends_block = matches!(instruction.effect, Effect::JumpIf { .. } | Effect::Call { .. });
             if ends_block && offset < self.length() {
-                self.leaders[offset as usize] = true;
+                self.mark(offset);
             }
         }
     }

@@ -34,6 +34,8 @@ const NONE: u32 = u32::MAX;
 
 /// A block that was reached.
 struct Reached {
+    /// Where it begins.
+    offset: u32,
     /// What is known at its beginning.
     state: State,
     /// Whether only calls that perhaps don't return lead to it.
@@ -143,7 +145,7 @@ impl<'m, 'c> Flow<'m, 'c> {
             self.stores.restart();
             self.entries_left = MOST_ENTRIES + ENTRIES_A_BYTE * u64::from(self.code.length());
             self.reached.clear();
-            self.reached.reserve(self.code.leaders().take(USUAL_BLOCKS).count());
+            self.reached.reserve(self.code.leader_count().min(USUAL_BLOCKS));
             self.blocks.iter_mut().for_each(|block| *block = NONE);
             self.region = 0;
             self.has_new_leader = false;
@@ -189,9 +191,9 @@ impl<'m, 'c> Flow<'m, 'c> {
     /// into code that was reached before.
     fn follow_rows(&mut self) {
         let mut offset = 0;
-        while offset < self.code.length() {
+        while offset < self.code.length() && self.reached.len() < self.code.leader_count() {
             let is_open = self.code.is_leader(offset) && self.state_at(offset).is_none();
-            if is_open && self.code.effect(offset) != Effect::Invalid {
+            if is_open && !matches!(self.code.effect(offset), Effect::Invalid) {
                 if let Some(after) = is_only_padding(&self.code, offset) {
                     self.lead_after_padding(after);
                     offset = after;
@@ -226,7 +228,8 @@ impl<'m, 'c> Flow<'m, 'c> {
         let index = self.blocks[offset as usize];
         if index == NONE {
             self.blocks[offset as usize] = self.reached.len() as u32;
-            self.reached.push(Reached { state: state.clone(), is_soft, region: self.region, is_waiting: true });
+            let (state, region) = (state.clone(), self.region);
+            self.reached.push(Reached { offset, state, is_soft, region, is_waiting: true });
             self.work.push(Reverse(offset));
             return;
         }
@@ -277,7 +280,9 @@ impl<'m, 'c> Flow<'m, 'c> {
 
     /// The blocks that were reached, ascending.
     pub fn reached_leaders(&self) -> Vec<u32> {
-        self.code.leaders().filter(|offset| self.state_at(*offset).is_some()).collect()
+        let mut leaders: Vec<u32> = self.reached.iter().map(|block| block.offset).collect();
+        leaders.sort_unstable();
+        leaders
     }
 
     /// The row of an address of the FDE.

@@ -3,6 +3,7 @@
 //! The decoder of a processor makes these. Nothing else knows any instruction by its bytes.
 
 use crate::register::{Register, Registers};
+use std::num::NonZeroU8;
 
 /// An instruction.
 #[derive(Clone, Copy, Debug, PartialEq, Eq)]
@@ -19,7 +20,7 @@ pub struct Place {
     /// The register.
     pub base: Register,
     /// The offset in bytes.
-    pub offset: i64,
+    pub offset: i32,
 }
 
 /// Where a call or a jump goes to.
@@ -75,13 +76,18 @@ pub struct Scale {
     pub is_extended: bool,
 }
 
+/// Up to four registers, of which some aren't followed, such as a register that is always zero. They take a byte
+/// each, so that all effects of instructions are small.
+#[derive(Clone, Copy, Debug, PartialEq, Eq)]
+pub struct FourRegisters([Register; 4]);
+
 /// A transfer of registers to or from memory, next to each other.
 #[derive(Clone, Copy, Debug, PartialEq, Eq)]
 pub struct Transfer {
     /// Whether they are loaded; otherwise they are stored.
     pub is_load: bool,
-    /// The registers. `None` is one that isn't followed, such as a register that is always zero.
-    pub registers: [Option<Register>; 4],
+    /// The registers.
+    pub registers: FourRegisters,
     /// How many registers there are.
     pub count: u8,
     /// How many bytes each has in memory.
@@ -92,7 +98,7 @@ pub struct Transfer {
     /// Where the first one is.
     pub place: Place,
     /// What is added to the register of the place afterwards.
-    pub added: i64,
+    pub added: i32,
 }
 
 /// What an instruction does. `to` is what it writes, and `from` what it reads.
@@ -108,7 +114,7 @@ pub enum Effect {
         /// The registers.
         registers: Registers,
         /// The place in memory, if it is a register plus an offset, and the number of bytes.
-        stored: Option<(Place, u8)>,
+        stored: Option<(Place, NonZeroU8)>,
     },
     /// Perhaps writes values that aren't followed to registers.
     MayWrite {
@@ -203,13 +209,28 @@ impl Scale {
     pub const ONE: Scale = Scale { shift: 0, is_extended: false };
 }
 
+impl From<[Option<Register>; 4]> for FourRegisters {
+    fn from(registers: [Option<Register>; 4]) -> Self {
+        FourRegisters(registers.map(|register| register.unwrap_or(FourRegisters::NOT_FOLLOWED)))
+    }
+}
+
+impl FourRegisters {
+    const NOT_FOLLOWED: Register = Register(u8::MAX);
+
+    /// The registers. `None` is one that isn't followed.
+    pub fn iter(&self) -> impl Iterator<Item = Option<Register>> + '_ {
+        self.0.iter().map(|register| Some(*register).filter(|register| *register != FourRegisters::NOT_FOLLOWED))
+    }
+}
+
 impl Transfer {
     /// The registers, each with its place.
     pub fn each(&self) -> impl Iterator<Item = (Option<Register>, Place)> + '_ {
         let Place { base, offset } = self.place;
-        let bytes = i64::from(self.bytes);
-        let places = (0..i64::from(self.count)).map(move |index| Place { base, offset: offset + index * bytes });
-        self.registers.iter().copied().zip(places)
+        let bytes = i32::from(self.bytes);
+        let places = (0..i32::from(self.count)).map(move |index| Place { base, offset: offset + index * bytes });
+        self.registers.iter().zip(places)
     }
 
     fn written(&self) -> Registers {
@@ -225,6 +246,11 @@ impl Transfer {
 }
 
 impl Effect {
+    /// Writes values that aren't followed to registers, and to a number of bytes at a place.
+    pub fn write(registers: Registers, place: Place, bytes: u8) -> Effect {
+        Effect::Write { registers, stored: NonZeroU8::new(bytes).map(|bytes| (place, bytes)) }
+    }
+
     /// Whether the instruction after it isn't reached by going on from it.
     pub fn is_end(&self) -> bool {
         matches!(self, Effect::Jump { .. } | Effect::Return | Effect::Stop | Effect::Invalid)

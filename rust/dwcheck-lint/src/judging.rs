@@ -127,7 +127,20 @@ impl<'m, 'x> Judging<'m, 'x> {
         match effect {
             Effect::Store { from, .. } => ends_slots || is_kept(state.get(*from)),
             Effect::Write { .. } if ends_slots => true,
-            Effect::Write { .. }
+            // A new base ends what was known of the one that had its name.
+            Effect::Derive { to, .. }
+            | Effect::Align { to, .. }
+            | Effect::AddRegister { to, .. }
+            | Effect::SubtractRegister { to, .. }
+                if matches!(state.get(*to), Value::Address { .. }) =>
+            {
+                true
+            }
+            Effect::Derive { .. }
+            | Effect::Align { .. }
+            | Effect::AddRegister { .. }
+            | Effect::SubtractRegister { .. }
+            | Effect::Write { .. }
             | Effect::System { .. }
             | Effect::Set { .. }
             | Effect::Move { .. }
@@ -141,6 +154,22 @@ impl<'m, 'x> Judging<'m, 'x> {
                 self.current.watched.map_or(true, |watched| !effect.written().both(watched).is_empty())
             }
             effect => !effect.changes_nothing(),
+        }
+    }
+
+    /// The verdict on a row, by its index, at the end of an edge. It is that on the instruction from which the edge
+    /// leads if nothing has changed on which it depends.
+    fn verdict_at_edge(&mut self, flow: &Flow<'_, '_>, row: usize, edge: &Edge, state: &State) -> Verdict {
+        let address = flow.code.address(edge.to);
+        let current = &self.current;
+        let is_same_row = current.row == Some(row) && current.is_signed == flow.fde.is_signed(address);
+        // An expression may read the address.
+        let is_judged = current.unjudged.is_none() && current.watched.is_some();
+        let ends_slots = self.slot_count != state.slot_count();
+        let has_changed = || edge.is_changed && self.matters(&flow.code.effect(edge.from), state, ends_slots);
+        match is_same_row && is_judged && !has_changed() {
+            true => current.verdict,
+            false => self.verdict_at_block(flow, row, state, address),
         }
     }
 
@@ -283,7 +312,7 @@ impl<'m> Visitor<'m> for Judging<'m, '_> {
         if is_landing && flow.is_same_region(edge.block, edge.to) && merged == Some(state) {
             return;
         }
-        let mut verdict = self.verdict_at_block(flow, row, state, address);
+        let mut verdict = self.verdict_at_edge(flow, row, &edge, state);
         let row = &flow.rows[row];
         if verdict.wrong.is_empty() || unjudged(flow.module.machine, row).is_some() {
             if is_landing {
@@ -322,9 +351,11 @@ fn is_at_return_address(flow: &Flow<'_, '_>, state: &State) -> bool {
 /// The registers on which the verdict on a row depends. `None` if an expression may read any.
 fn watched(flow: &Flow<'_, '_>, row: &Row<'_>) -> Option<Registers> {
     let machine = flow.module.machine;
-    let mut watched = Registers::of(&[machine.stack_pointer.0]);
-    machine.kept.iter().for_each(|register| watched.insert(*register));
-    watched.insert(machine.return_address);
+    let mut watched = Registers::NONE;
+    // A register with another rule than these isn't read.
+    let is_read = |register: &Register| matches!(row.rule(*register), None | Some(Rule::Same));
+    let judged = machine.kept.iter().copied().chain([machine.return_address]);
+    judged.filter(is_read).for_each(|register| watched.insert(register));
     match row.cfa {
         Cfa::Offset(register, _) => watched.insert(register),
         Cfa::Expression(_) => return None,

@@ -20,7 +20,7 @@ const SWITCH: usize = 7;
 /// `nop`, isn't entered there.
 pub fn is_only_padding(code: &Code<'_>, offset: u32) -> Option<u32> {
     let mut at = offset;
-    while code.effect(at) == Effect::Padding {
+    while matches!(code.effect(at), Effect::Padding) {
         at = code.next(at);
         if code.is_leader(at) {
             break;
@@ -29,10 +29,10 @@ pub fn is_only_padding(code: &Code<'_>, offset: u32) -> Option<u32> {
     Some(at).filter(|at| *at != offset)
 }
 
-/// Rule "data in code": whether there is no code at an offset. Functions written by hand have data
-/// between their instructions.
-pub fn is_data(code: &Code<'_>, offset: u32, state: &State) -> bool {
-    code.effect(offset) == Effect::Invalid || state.is_assumed && code.has_zeros(offset)
+/// Rule "data in code": whether there is no code at an offset, whose instruction does this. Functions written
+/// by hand have data between their instructions.
+pub fn is_data(code: &Code<'_>, offset: u32, effect: &Effect, state: &State) -> bool {
+    matches!(effect, Effect::Invalid) || state.is_assumed && code.has_zeros(offset)
 }
 
 /// Rule "padding": whether a block of only padding leads to a row that doesn't fit, so that the call

@@ -4,6 +4,7 @@ use crate::machine::MOST_FOLLOWED;
 use crate::register::{Register, Registers};
 use crate::value::{Base, Value};
 use smallvec::SmallVec;
+use std::rc::Rc;
 
 /// How many registers are kept without allocating. x86-64 has no more.
 const FEW: usize = 16;
@@ -11,8 +12,8 @@ const FEW: usize = 16;
 /// The most slots of the stack that are followed.
 const MOST_SLOTS: usize = 28;
 
-/// How many slots are kept without allocating: as many as x86-64's callee-saved registers and the return address
-/// need, and one more.
+/// How many slots there are mostly at most: as many as x86-64's callee-saved registers and the return address need,
+/// and one more.
 const FEW_SLOTS: usize = 8;
 
 /// The number of bytes of a slot.
@@ -26,13 +27,17 @@ struct Slot {
     value: Value,
 }
 
+/// The slots of a state.
+type Slots = SmallVec<[Slot; FEW_SLOTS]>;
+
 /// What is known at a place in the code.
-#[derive(Debug, PartialEq, Eq)]
+#[derive(Clone, Debug, PartialEq, Eq)]
 pub struct State {
     registers: [Value; FEW],
     /// Further registers. Those after the last one are unknown.
     others: Vec<Value>,
-    slots: SmallVec<[Slot; FEW_SLOTS]>,
+    /// Most instructions store in no slot, so most states of a function share their slots.
+    slots: Rc<Slots>,
     /// Whether it comes of a row that was taken as an assumption, so that nothing is known of slots
     /// that aren't listed. Otherwise it was followed from the function's entry, and a slot to which
     /// the function never stores an entry value holds none.
@@ -41,18 +46,11 @@ pub struct State {
     is_full: bool,
 }
 
-impl Clone for State {
-    fn clone(&self) -> State {
-        let State { registers, is_assumed, is_full, .. } = *self;
-        State { registers, others: self.others.clone(), slots: SmallVec::from_slice(&self.slots), is_assumed, is_full }
-    }
-}
-
 impl State {
     /// A state in which nothing is known of any register.
     pub fn unknown(is_assumed: bool) -> State {
         let registers = [Value::Unknown; FEW];
-        State { registers, others: Vec::new(), slots: SmallVec::new(), is_assumed, is_full: false }
+        State { registers, others: Vec::new(), slots: Rc::default(), is_assumed, is_full: false }
     }
 
     /// What a register holds.
@@ -91,7 +89,18 @@ impl State {
             _ => self.get(register) == other.get(register),
         };
         let flags = |state: &State| (state.is_assumed, state.is_full);
-        flags(self) == flags(other) && self.slots == other.slots && registers.iter().all(is_same)
+        flags(self) == flags(other) && self.has_same_slots(other) && registers.iter().all(is_same)
+    }
+
+    fn has_same_slots(&self, other: &State) -> bool {
+        Rc::ptr_eq(&self.slots, &other.slots) || self.slots == other.slots
+    }
+
+    /// Forgets the slots that aren't to be kept.
+    fn retain(&mut self, is_kept: impl Fn(&Slot) -> bool) {
+        if !self.slots.iter().all(&is_kept) {
+            Rc::make_mut(&mut self.slots).retain(|slot| is_kept(slot));
+        }
     }
 
     /// How many slots are listed.
@@ -114,7 +123,7 @@ impl State {
     pub fn put(&mut self, base: Base, offset: i64, value: Value) {
         self.overwrite(base, offset, WORD);
         if self.slots.len() < MOST_SLOTS {
-            self.slots.push(Slot { base, offset, value });
+            Rc::make_mut(&mut self.slots).push(Slot { base, offset, value });
         } else {
             self.is_full = true;
         }
@@ -123,12 +132,12 @@ impl State {
     /// Forgets the slots that share a byte with a range of bytes.
     pub fn overwrite(&mut self, base: Base, offset: i64, bytes: i64) {
         let (end, first) = (offset.wrapping_add(bytes), offset.wrapping_sub(WORD));
-        self.slots.retain(|slot| slot.base != base || slot.offset >= end || slot.offset <= first);
+        self.retain(|slot| slot.base != base || slot.offset >= end || slot.offset <= first);
     }
 
     /// Forgets the slots below an address: a call may overwrite them.
     pub fn overwrite_below(&mut self, base: Base, offset: i64) {
-        self.slots.retain(|slot| slot.base != base || slot.offset >= offset);
+        self.retain(|slot| slot.base != base || slot.offset >= offset);
     }
 
     /// Forgets everything that is relative to a base, because the code that makes it runs again.
@@ -136,7 +145,7 @@ impl State {
         let is_of = |value: &Value| matches!(value, Value::Address { base: other, .. } if *other == base);
         let held = self.registers_mut().map(|(_, value)| value).filter(|value| is_of(value));
         held.for_each(|value| *value = Value::Unknown);
-        self.slots.retain(|slot| slot.base != base && !is_of(&slot.value));
+        self.retain(|slot| slot.base != base && !is_of(&slot.value));
     }
 
     /// Reduces this state to what is also known in the other, where two ways meet at an offset in the
@@ -177,16 +186,18 @@ impl State {
         if joins.is_empty() {
             let count = self.slots.len();
             // Mostly, both states have the same slots.
-            if self.slots != other.slots || self.slots.iter().any(|slot| slot.base.is_joined_at(at)) {
-                self.slots.retain(|slot| is_kept(slot));
+            if !self.has_same_slots(other) || self.slots.iter().any(|slot| slot.base.is_joined_at(at)) {
+                self.retain(is_kept);
             }
             return self.slots.len() < count;
         }
         let renamed = |join: &Join| self.slots.iter().filter_map(|slot| join.renamed(slot, other)).collect::<Vec<_>>();
         let renamed: Vec<_> = joins.iter().flat_map(renamed).collect();
-        let slots = std::mem::take(&mut self.slots);
-        self.slots.extend(slots.iter().filter(|slot| is_kept(slot)).copied().chain(renamed).take(MOST_SLOTS));
-        self.slots != slots
+        let slots: Slots =
+            self.slots.iter().filter(|slot| is_kept(slot)).copied().chain(renamed).take(MOST_SLOTS).collect();
+        let has_changed = *self.slots != slots;
+        self.slots = Rc::new(slots);
+        has_changed
     }
 }
 

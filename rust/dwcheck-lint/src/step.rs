@@ -6,6 +6,7 @@ use crate::register::{Register, Registers};
 use crate::state::State;
 use crate::stores::Stores;
 use crate::value::{Base, Value};
+use std::num::NonZeroU8;
 
 /// The number of bytes that a push moves the stack pointer by.
 const WORD: i64 = 8;
@@ -132,11 +133,15 @@ impl Step<'_> {
         }
     }
 
-    fn write(&mut self, registers: Registers, stored: Option<(Place, u8)>) {
+    fn overwrite(&mut self, place: Place, bytes: u8) {
+        if let Value::Address { base, offset } = self.state.get(place.base) {
+            self.state.overwrite(base, offset.wrapping_add(place.offset.into()), i64::from(bytes));
+        }
+    }
+
+    fn write(&mut self, registers: Registers, stored: Option<(Place, NonZeroU8)>) {
         if let Some((place, bytes)) = stored {
-            if let Value::Address { base, offset } = self.state.get(place.base) {
-                self.state.overwrite(base, offset.wrapping_add(place.offset), i64::from(bytes));
-            }
+            self.overwrite(place, bytes.get());
         }
         let pointer = self.machine.stack_pointer;
         registers.iter().for_each(|register| {
@@ -243,7 +248,7 @@ impl Step<'_> {
                 Some(_) if transfer.is_load => *loaded = self.stores.load(self.state, place),
                 _ if transfer.is_load => {}
                 from => {
-                    self.write(Registers::NONE, Some((place, transfer.bytes)));
+                    self.overwrite(place, transfer.bytes);
                     if let Some(from) = from {
                         self.store(Some(place), self.state.get(from));
                     }
@@ -251,7 +256,7 @@ impl Step<'_> {
             }
         }
         if transfer.added != 0 {
-            let moved = self.state.get(transfer.place.base).plus(transfer.added);
+            let moved = self.state.get(transfer.place.base).plus(transfer.added.into());
             self.state.set(transfer.place.base, moved);
         }
         if transfer.is_load {

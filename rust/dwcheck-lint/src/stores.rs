@@ -132,7 +132,7 @@ impl Value {
     /// as it is.
     fn plus_of_place(self, place: Place) -> Value {
         match self {
-            Value::Address { .. } => self.plus(place.offset),
+            Value::Address { .. } => self.plus(place.offset.into()),
             other => other,
         }
     }

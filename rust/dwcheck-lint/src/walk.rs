@@ -1,7 +1,7 @@
 //! Walks through a block, and finds the edges that lead out of it.
 
 use crate::flow::Flow;
-use crate::instruction::{Condition, Effect, Entry, Target};
+use crate::instruction::{Condition, Effect, Entry, Instruction, Target};
 use crate::jumps::{bound, Table};
 use crate::register::Register;
 use crate::rules;
@@ -37,6 +37,8 @@ pub struct Edge {
     pub to: u32,
     /// Why.
     pub kind: EdgeKind,
+    /// Whether what is known may differ from what was known before the instruction.
+    pub is_changed: bool,
 }
 
 /// A way out of the function.
@@ -90,17 +92,17 @@ impl<'m> Flow<'m, '_> {
             if walk.at != leader && self.code.is_leader(walk.at) {
                 return walk.fall(self, before.unwrap_or(leader));
             }
-            let effect = self.code.effect(walk.at);
-            if rules::is_data(&self.code, walk.at, &walk.state) {
+            let Instruction { effect, length } = self.code.instruction(walk.at);
+            if rules::is_data(&self.code, walk.at, &effect, &walk.state) {
                 return walk.visitor.data(self, walk.at);
             }
-            walk.is_padding &= effect == Effect::Padding;
+            walk.is_padding &= matches!(effect, Effect::Padding);
             walk.visitor.instruction(self, walk.at, before, &walk.state);
             if !walk.pass(self, effect) {
                 return;
             }
             before = Some(walk.at);
-            walk.at = self.code.next(walk.at);
+            walk.at += u32::from(length);
         }
     }
 
@@ -118,7 +120,9 @@ impl<'m> Flow<'m, '_> {
 
 impl<'m, V: Visitor<'m>> Walk<'_, V> {
     fn edge(&mut self, flow: &mut Flow<'m, '_>, from: u32, to: u32, kind: EdgeKind) {
-        self.visitor.edge(flow, Edge { block: self.leader, from, to, kind }, &self.state);
+        let is_jump = matches!(flow.code.effect(from), Effect::Jump { .. } | Effect::JumpIf { .. });
+        let is_changed = !is_jump || self.compared.is_some();
+        self.visitor.edge(flow, Edge { block: self.leader, from, to, kind, is_changed }, &self.state);
     }
 
     /// The block ends where another begins.

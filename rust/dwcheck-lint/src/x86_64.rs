@@ -61,10 +61,19 @@ fn by_zydis(bytes: &[u8], address: u64) -> (Instruction, bool) {
         Some(found) => {
             let effect = effect(&found).unwrap_or_else(|| write(&found));
             let is_relative = |operand: &Operand| operand.kind() == OperandKind::Target || operand.base == RIP;
-            (Instruction { length: found.length, effect }, found.operands.iter().any(is_relative))
+            let has_address = !is_only_written(&effect) && found.operands.iter().any(is_relative);
+            (Instruction { length: found.length, effect }, has_address)
         }
         None => (Instruction { length: 1, effect: Effect::Invalid }, true),
     }
+}
+
+/// Whether an instruction does nothing but write registers, wherever its operands are.
+fn is_only_written(effect: &Effect) -> bool {
+    matches!(
+        effect,
+        Effect::Nothing | Effect::Write { .. } | Effect::CompareNumber { .. } | Effect::Store { to: None, .. }
+    )
 }
 
 /// Direct jumps and calls without prefixes, which are a fifth of all instructions: an opcode, and the distance
@@ -109,7 +118,7 @@ impl Operand {
     fn place(&self) -> Option<Place> {
         let is_simple = self.is_memory() && self.index == NO_REGISTER && !self.is_thread_local();
         let base = register(self.base).filter(|_| is_simple)?;
-        Some(Place { base, offset: self.value })
+        Some(Place { base, offset: i32::try_from(self.value).ok()? })
     }
 
     /// An address that is known: relative to RIP, or without registers.
@@ -146,12 +155,11 @@ fn write(found: &Decoded) -> Effect {
         register(written.trailing_zeros() as u8).into_iter().for_each(|register| registers.insert(register));
         written &= written - 1;
     }
-    let base = register(found.stored_base).filter(|_| found.stored_bytes > 0);
-    let stored = base.map(|base| (Place { base, offset: found.stored_offset }, found.stored_bytes));
-    if registers.is_empty() && stored.is_none() {
-        return Effect::Nothing;
+    match register(found.stored_base).filter(|_| found.stored_bytes > 0) {
+        Some(base) => Effect::write(registers, Place { base, offset: found.stored_offset }, found.stored_bytes),
+        None if registers.is_empty() => Effect::Nothing,
+        None => Effect::Write { registers, stored: None },
     }
-    Effect::Write { registers, stored }
 }
 
 /// What an instruction does that is followed. `None` for any other.
@@ -235,7 +243,7 @@ fn lea(first: &Operand, second: &Operand) -> Option<Effect> {
         return Some(Effect::Set { to, number });
     }
     if let Some(Place { base: from, offset: number }) = second.place() {
-        return Some(Effect::Add { to, from, number });
+        return Some(Effect::Add { to, from, number: number.into() });
     }
     Some(Effect::Derive { to, from: register(second.base)? })
 }

@@ -36,7 +36,7 @@ struct instruction {
     uint16_t written;     /* a bit for each general register that it writes */
     uint8_t stored_bytes; /* how many bytes it writes to memory at a base register plus an offset */
     uint8_t stored_base;
-    int64_t stored_offset;
+    int32_t stored_offset; /* displacements have 32 bits */
     struct operand operands[2];
 };
 
@@ -166,7 +166,7 @@ static void add_write(struct instruction *out, const ZydisDecodedOperand *in)
         if (base >= RIP || in->mem.index != ZYDIS_REGISTER_NONE || is_thread_local(in))
             return;
         out->stored_base = base;
-        out->stored_offset = in->mem.disp.has_displacement ? in->mem.disp.value : 0;
+        out->stored_offset = in->mem.disp.has_displacement ? (int32_t)in->mem.disp.value : 0;
         out->stored_bytes = in->size / 8 > 255 ? 255 : (uint8_t)(in->size / 8);
     }
 }

@@ -111,7 +111,7 @@ pub(crate) struct Decoded {
     pub written: u16,
     pub stored_bytes: u8,
     pub stored_base: u8,
-    pub stored_offset: i64,
+    pub stored_offset: i32,
     pub operands: [Operand; 2],
 }
 

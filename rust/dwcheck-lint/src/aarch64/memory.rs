@@ -40,18 +40,19 @@ impl Word {
     }
 
     /// A transfer with this offset.
-    fn transfer(self, mode: Mode, offset: i64, transfer: Transfer) -> Effect {
+    fn transfer(self, mode: Mode, offset: i32, transfer: Transfer) -> Effect {
         let base = self.general_or_sp(5);
         let place = Place { base, offset: if mode == Mode::After { 0 } else { offset } };
         let added = if mode == Mode::Offset { 0 } else { offset };
         if mode != Mode::Offset || transfer.count > 1 || self.bit(26) {
             return Effect::Transfer(Transfer { place, added, ..transfer });
         }
-        match (transfer.registers[0], transfer.is_load, transfer.is_whole) {
+        let first = transfer.registers.iter().next().flatten();
+        match (first, transfer.is_load, transfer.is_whole) {
             (Some(to), true, true) => Effect::Load { to, from: place },
             (Some(from), false, true) => Effect::Store { from, to: Some(place) },
             (register, true, _) => written(register),
-            (_, false, _) => Effect::Write { registers: Registers::NONE, stored: Some((place, transfer.bytes)) },
+            (_, false, _) => Effect::write(Registers::NONE, place, transfer.bytes),
         }
     }
 
@@ -68,10 +69,10 @@ impl Word {
             0b11 => Mode::Before,
             _ => Mode::Offset,
         };
-        let registers = [self.moved(0), self.moved(10), None, None];
+        let registers = [self.moved(0), self.moved(10), None, None].into();
         let place = Place { base: SP, offset: 0 };
         let transfer = Transfer { is_load, registers, count: 2, bytes, is_whole, place, added: 0 };
-        self.transfer(mode, self.signed(21, 15) * i64::from(bytes), transfer)
+        self.transfer(mode, self.signed(21, 15) * i32::from(bytes), transfer)
     }
 
     /// A load or a store of one register.
@@ -86,7 +87,7 @@ impl Word {
             return Effect::Nothing; // A prefetch.
         }
         let (mode, offset) = match (self.bit(24), self.bit(21), self.bits(11, 10)) {
-            (true, ..) => (Mode::Offset, i64::from(self.bits(21, 10)) * i64::from(bytes)),
+            (true, ..) => (Mode::Offset, self.bits(21, 10) as i32 * i32::from(bytes)),
             (false, false, 0b01) => (Mode::After, self.signed(20, 12)),
             (false, false, 0b11) => (Mode::Before, self.signed(20, 12)),
             (false, false, _) => (Mode::Offset, self.signed(20, 12)),
@@ -94,7 +95,7 @@ impl Word {
             (false, true, 0b00) => return self.atomic(bytes),
             (false, true, _) => return self.authenticated(),
         };
-        let registers = [self.moved(0), None, None, None];
+        let registers = [self.moved(0), None, None, None].into();
         let place = Place { base: SP, offset: 0 };
         self.transfer(mode, offset, Transfer { is_load, registers, count: 1, bytes, is_whole, place, added: 0 })
     }
@@ -118,7 +119,7 @@ impl Word {
         let mut registers = Registers::NONE;
         self.general(0).into_iter().for_each(|register| registers.insert(register));
         let place = Place { base: self.general_or_sp(5), offset: 0 };
-        Effect::Write { registers, stored: Some((place, bytes)) }
+        Effect::write(registers, place, bytes)
     }
 
     /// A load at an address that is authenticated first.
@@ -152,7 +153,10 @@ impl Word {
         }
         let bytes = 1 << (self.bits(31, 30) + u32::from(is_pair && !is_ordered));
         let place = Place { base: self.general_or_sp(5), offset: 0 };
-        Effect::Write { registers, stored: Some((place, bytes)).filter(|_| !is_load || is_pair) }
+        match !is_load || is_pair {
+            true => Effect::write(registers, place, bytes),
+            false => Effect::Write { registers, stored: None },
+        }
     }
 
     /// `ldapur` and `stlur`.
@@ -161,7 +165,7 @@ impl Word {
         match (self.bits(23, 22) != 0, self.general(0)) {
             (true, to) => written(to),
             (false, Some(from)) if self.bits(31, 30) == 3 => Effect::Store { from, to: Some(place) },
-            (false, _) => Effect::Write { registers: Registers::NONE, stored: Some((place, 1 << self.bits(31, 30))) },
+            (false, _) => Effect::write(Registers::NONE, place, 1 << self.bits(31, 30)),
         }
     }
 
@@ -209,10 +213,11 @@ impl Word {
         let place = Place { base: self.general_or_sp(5), offset: 0 };
         // A register that isn't known is added, or the number of bytes.
         let is_by_register = is_after && self.bits(20, 16) != 31;
-        let added = if is_after && !is_by_register { i64::from(count) * i64::from(bytes) } else { 0 };
+        let added = if is_after && !is_by_register { count as i32 * i32::from(bytes) } else { 0 };
         if is_by_register && registers.iter().all(Option::is_none) {
             return Effect::Derive { to: place.base, from: place.base };
         }
+        let registers = registers.into();
         Effect::Transfer(Transfer { is_load, registers, count: count as u8, bytes, is_whole, place, added })
     }
 }

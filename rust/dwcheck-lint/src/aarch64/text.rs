@@ -152,7 +152,7 @@ impl Word {
 
     fn memory_text(self) -> Option<String> {
         let base = name(self.bits(9, 5), true, true);
-        let at = |is_before: bool, is_after: bool, offset: i64| match (is_before, is_after, offset) {
+        let at = |is_before: bool, is_after: bool, offset: i32| match (is_before, is_after, offset) {
             (true, _, offset) => format!("[{}, #{}]!", base, offset),
             (_, true, offset) => format!("[{}], #{}", base, offset),
             (_, _, 0) => format!("[{}]", base),
@@ -172,7 +172,7 @@ impl Word {
                 (true, _) => "ldp",
                 (false, _) => "stp",
             };
-            let place = at(self.bits(24, 23) == 3, self.bits(24, 23) == 1, self.signed(21, 15) * i64::from(bytes));
+            let place = at(self.bits(24, 23) == 3, self.bits(24, 23) == 1, self.signed(21, 15) * bytes as i32);
             return Some(format!("{} {}, {}, {}", word, self.moved_text(0, bytes), self.moved_text(10, bytes), place));
         }
         let is_quad = self.bit(26) && self.bits(31, 30) == 0 && self.bit(23);
@@ -180,7 +180,7 @@ impl Word {
         let is_plain = self.bits(29, 27) == 0b111 && bytes >= 4 && (is_quad || !self.bit(23));
         let word = if is_load { "ldr" } else { "str" };
         let place = match (self.bit(24), self.bit(21), self.bits(11, 10)) {
-            (true, ..) => at(false, false, i64::from(self.bits(21, 10)) * i64::from(bytes)),
+            (true, ..) => at(false, false, (self.bits(21, 10) * bytes) as i32),
             (false, false, 0b01) => at(false, true, self.signed(20, 12)),
             (false, false, 0b11) => at(true, false, self.signed(20, 12)),
             _ => return None,

@@ -15,15 +15,11 @@ const ENTRIES: u32 = 15;
 /// For how many beginnings of instructions a length is remembered, as a power of 2.
 const LENGTHS: u32 = 14;
 
-/// An instruction, and its bytes, above which the word has zeros.
-#[derive(Clone, Copy)]
-struct Entry {
-    word: u64,
-    instruction: Instruction,
-}
-
 struct Remembered {
-    entries: Vec<Entry>,
+    /// The bytes of instructions, above which the words have zeros. They are apart from the instructions, so that
+    /// they stay in a cache of the processor.
+    words: Vec<u64>,
+    instructions: Vec<Instruction>,
     /// How long the last instruction was that begins with the same bytes, or with some that share its place.
     lengths: Vec<u8>,
 }
@@ -52,21 +48,27 @@ pub(super) fn remembered(bytes: &[u8], decode: impl FnOnce() -> (Instruction, bo
 
 impl Remembered {
     fn new() -> Self {
-        let none = Entry { word: 0, instruction: Instruction { length: 0, effect: Effect::Invalid } };
-        Remembered { entries: vec![none; 1 << ENTRIES], lengths: vec![0; 1 << LENGTHS] }
+        let none = Instruction { length: 0, effect: Effect::Invalid };
+        let (words, instructions) = (vec![0; 1 << ENTRIES], vec![none; 1 << ENTRIES]);
+        Remembered { words, instructions, lengths: vec![0; 1 << LENGTHS] }
     }
 
     fn find(&self, word: u64) -> Option<Instruction> {
         let length = self.lengths[place(word & 0xff_ffff, LENGTHS)];
         let word = first(word, length);
-        let entry = &self.entries[place(word, ENTRIES)];
-        Some(entry.instruction).filter(|found| length > 0 && found.length == length && entry.word == word)
+        let place = place(word, ENTRIES);
+        if length == 0 || self.words[place] != word {
+            return None;
+        }
+        Some(self.instructions[place]).filter(|found| found.length == length)
     }
 
     fn add(&mut self, word: u64, instruction: Instruction) {
         self.lengths[place(word & 0xff_ffff, LENGTHS)] = instruction.length;
         let word = first(word, instruction.length);
-        self.entries[place(word, ENTRIES)] = Entry { word, instruction };
+        let place = place(word, ENTRIES);
+        self.words[place] = word;
+        self.instructions[place] = instruction;
     }
 }
 
