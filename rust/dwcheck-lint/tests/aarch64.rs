@@ -140,6 +140,31 @@ fn rows_that_are_meant_for_calls() {
     AARCH64.planted("calls", "return address", text);
 }
 
+/// Rows for calls: a jump to a part of the function, before there is the frame that its row has for its call.
+#[test]
+fn jumps_to_parts_whose_rows_are_meant_for_calls() {
+    let body = "cbz x0, f.cold
+        stp x29, x30, [sp, #-16]!
+        .cfi_def_cfa_offset 16
+        .cfi_offset w29, -16
+        .cfi_offset w30, -8
+        blr x1
+        ldp x29, x30, [sp], #16
+        ret";
+    let after = ".section .text.unlikely, \"ax\"
+        nop
+        .cfi_startproc
+        .cfi_def_cfa_offset 16
+        .cfi_offset w29, -16
+        .cfi_offset w30, -8
+        f.cold: stp x29, x30, [sp, #-16]!
+        blr x2
+        ldp x29, x30, [sp], #16
+        ret
+        .cfi_endproc";
+    AARCH64.quiet("part-for-calls", body, after);
+}
+
 /// Alignment: the stack pointer is a multiple of 16, so rounding it down to one changes nothing.
 #[test]
 fn stack_pointers_that_are_aligned_already() {

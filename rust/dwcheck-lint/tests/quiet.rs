@@ -517,6 +517,18 @@ fn data_between_instructions() {
     X86_64.quiet("data", body, "");
 }
 
+/// Data in code: bytes that aren't an instruction, after a system call whose number isn't known.
+#[test]
+fn data_after_a_system_call() {
+    let body = "push %rdi
+        .cfi_adjust_cfa_offset 8
+        mov %edx, %eax
+        syscall
+        .cfi_adjust_cfa_offset 24
+        .byte 0x06";
+    X86_64.quiet("data-reached", body, "");
+}
+
 /// What isn't judged: where `longjmp` goes to, `__builtin_eh_return`, the outermost frame.
 #[test]
 fn rows_that_are_not_judged() {
@@ -548,4 +560,7 @@ fn conventions_without_kept_registers() {
 fn registers_that_are_never_given_back() {
     X86_64.quiet("private", "xor %ebx, %ebx\nadd %rdi, %rbx\nret", "");
     X86_64.quiet("private-saved", "mov %rbx, %r8\nxor %ebx, %ebx\nadd %r8, %rbx\nret", "");
+    // It never returns, or jumps to code without an FDE in the place of a return.
+    X86_64.quiet("private-end", "xor %ebx, %ebx\ncall *%rsi\nud2", "");
+    X86_64.quiet("private-jump", "mov %rbx, %r8\nxor %ebx, %ebx\nadd %r8, %rbx\njmp other", "other: ret");
 }
