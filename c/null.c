@@ -44,11 +44,31 @@ uint32_t dwcheck_report(const uint8_t *frame, size_t frame_length, const uint8_t
                                  OR_NO_PLACE(expressions), expressions_length, fault);
 }
 
+/* A module whose section is empty, with an address for it. */
+static dwcheck_module with_address(const dwcheck_module *module) {
+    dwcheck_module copy = *module;
+    copy.frame = nothing;
+    return copy;
+}
+
+PROVED(dwcheck_module_check);
+uint32_t dwcheck_module_check(const dwcheck_module *module, dwcheck_counts *counts, dwcheck_fault *fault) {
+    if (module->frame) return proved_dwcheck_module_check(module, counts, fault);
+    const dwcheck_module copy = with_address(module);
+    return proved_dwcheck_module_check(&copy, counts, fault);
+}
+
+PROVED(dwcheck_record_at);
+uint32_t dwcheck_record_at(const dwcheck_module *module, uint64_t offset, dwcheck_record *record, dwcheck_fault *fault) {
+    if (module->frame) return proved_dwcheck_record_at(module, offset, record, fault);
+    const dwcheck_module copy = with_address(module);
+    return proved_dwcheck_record_at(&copy, offset, record, fault);
+}
+
 PROVED(dwcheck_process_add);
 uint32_t dwcheck_process_add(dwcheck_process *process, const dwcheck_module *module, uint64_t *id, dwcheck_fault *fault) {
     if (module->frame) return proved_dwcheck_process_add(process, module, id, fault);
-    dwcheck_module copy = *module;
-    copy.frame = nothing;
+    const dwcheck_module copy = with_address(module);
     return proved_dwcheck_process_add(process, &copy, id, fault);
 }
 
@@ -114,4 +134,12 @@ uint32_t dwcheck_locations(const uint8_t *lists, size_t lists_length, uint32_t o
                            dwcheck_fault *fault) {
     return proved_dwcheck_locations(OR_NOTHING(lists), lists_length, order, address_size, lookup, OR_NO_PLACE(locations),
                                     locations_length, count, fault);
+}
+
+PROVED(dwcheck_list_locations);
+uint32_t dwcheck_list_locations(const uint8_t *lists, size_t lists_length, uint32_t order, uint32_t address_size,
+                                const dwcheck_lookup *lookup, dwcheck_location *locations, size_t locations_length,
+                                size_t *count, dwcheck_fault *fault) {
+    return proved_dwcheck_list_locations(OR_NOTHING(lists), lists_length, order, address_size, lookup,
+                                         OR_NO_PLACE(locations), locations_length, count, fault);
 }

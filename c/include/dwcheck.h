@@ -37,6 +37,10 @@
      KB. So a signal handler on an alternate stack of the usual 8 KB can walk by dwcheck_backtrace or by a cursor.
    - Fields called `reserved` are set to 0. A later version may give them a meaning.
 
+   Only DONE writes what a call gives or changes, and only REFUSED writes `fault`, unless the call says otherwise. Only
+   calls that may return NO_MEMORY allocate memory, and dwcheck_cursor_step_with. Only these, dwcheck_process_remove and
+   dwcheck_process_close free memory.
+
    A later version may add values to enumerations, so treat a value that you don't know as "something else". It may
    add fields to structures, but only in place of fields named `reserved`. Registers are given by their DWARF numbers.
    A target is a byte order and an address size of 4 or 8 bytes; w is the address size in bits. All modules of a
@@ -92,9 +96,8 @@ enum {
    `within` says what the offset counts. */
 typedef struct dwcheck_fault { uint32_t number, offset, within, reserved; } dwcheck_fault;
 
-/* Writes the name of a fault, such as "NoSuchCie", to `text`, without a NUL at the end and as much as fits. Writes
-   the length of the whole name, at most 22, to `size`. Returns DONE; or NONE if no fault has the number, and then
-   nothing is written. The call neither allocates nor frees. */
+/* Writes the name of a fault, such as "NoSuchCie", to `text`, without a NUL at the end and as much as fits. Writes the
+   length of the whole name, at most 22, to `size`. Returns DONE; or NONE if no fault has the number. */
 uint32_t dwcheck_fault_name(uint32_t number, uint8_t *text, size_t text_length, size_t *size);
 
 /* The text of a fault (the rule that it breaks, and where DWARF 5 or docs/PROFILE.md has it), of a status, and of the
@@ -168,14 +171,14 @@ typedef struct dwcheck_module {
 /* Checks a module's section, compiles all its rows into a table, and adds the module to the process. `id` becomes the
    module's id. Ids count up from 1, so a process doesn't give an id twice while it is open, even if the module is
    removed. A process that dwcheck_process_share makes counts on from the same number, so of two processes that share
-   modules, only one should get new ones. No two modules may answer for the same address. Returns DONE; or the first
-   of these for which there is a reason: TOO_LONG; BAD_KIND; BAD_TARGET; REFUSED with the first fault of the section;
+   modules, only one should get new ones. No two modules may answer for the same address. Returns DONE; or the first of
+   these for which there is a reason: TOO_LONG; BAD_KIND; BAD_TARGET; REFUSED with the first fault of the section;
    BAD_RANGE; OVERLAPS, and then `id` becomes the id of a module whose range shares an address with this one's;
    NO_ROOM. NO_MEMORY may come in place of any but the first three. BAD_RANGE means that `first` is above `last` or
    `last` is 2^w or more; or that has_range is 0, and the section covers no address, or covers addresses on both sides
-   of the highest one, 2^w - 1, as loaded. Only DONE changes the process, only DONE and OVERLAPS write `id`, and only
-   REFUSED writes `fault`. The call takes O(n log n) time, where n is the number of bytes of the section's programs
-   and of its rows, and moves the entries of the modules that lie at higher addresses. */
+   of the highest one, 2^w - 1, as loaded. Only DONE changes the process; OVERLAPS also writes `id`. The call takes O(n
+   log n) time, where n is the number of bytes of the section's programs and of its rows, and moves the entries of the
+   modules that lie at higher addresses. */
 uint32_t dwcheck_process_add(dwcheck_process *process, const dwcheck_module *module, uint64_t *id, dwcheck_fault *fault);
 
 /* Removes the module with this id. Returns DONE; or NONE if no module has it. The call allocates nothing, and frees
@@ -183,9 +186,9 @@ uint32_t dwcheck_process_add(dwcheck_process *process, const dwcheck_module *mod
 uint32_t dwcheck_process_remove(dwcheck_process *process, uint64_t id);
 
 /* Makes `other` a process with the modules of `process`, after closing what `other` was before. If `process` is
-   closed, `other` is closed too. The modules keep their ids. The tables are shared, not copied, and are freed with
-   the last process that has them. Adding modules to one of the two processes, or removing them, doesn't change the
-   other. Returns DONE; or NO_MEMORY, and then `other` is unchanged. */
+   closed, `other` is closed too. The modules keep their ids. The tables are shared, not copied, and are freed with the
+   last process that has them. Adding modules to one of the two processes, or removing them, doesn't change the other.
+   Returns DONE; or NO_MEMORY, and then `other` is unchanged. */
 uint32_t dwcheck_process_share(const dwcheck_process *process, dwcheck_process *other);
 
 /* Releases all modules and closes the process. A closed process may be closed again. */
@@ -196,8 +199,33 @@ void dwcheck_process_close(dwcheck_process *process);
 typedef struct dwcheck_loaded { uint64_t id, cookie, load_address, first, last; } dwcheck_loaded;
 
 /* Writes the module that answers for `address`, an address as loaded, in O(log n) time among n modules. Returns DONE;
-   or NONE if no module does, and then nothing is written. The call neither allocates nor frees. */
+   or NONE if no module does. */
 uint32_t dwcheck_module_at(const dwcheck_process *process, uint64_t address, dwcheck_loaded *module);
+
+/* ---- the section of a module --------------------------------------------------------------------------------------- */
+
+/* Checks a module's section as dwcheck_process_add does, but adds it nowhere. DONE writes what the section contains to
+   `counts`, where exact copies of an FDE count once. Returns DONE, or for the same reasons as dwcheck_process_add
+   TOO_LONG, BAD_KIND, BAD_TARGET, REFUSED or NO_MEMORY. Of `module`, this call and the next one use `frame`,
+   frame_length, `order`, address_size, `kind`, and the three fields at the end. */
+uint32_t dwcheck_module_check(const dwcheck_module *module, dwcheck_counts *counts, dwcheck_fault *fault);
+
+/* A record of a section: a CIE, an FDE, or in .eh_frame a record of length 0. Its program is the bytes from `program`
+   up to `next`, the offset after the record. An FDE has the offset of its CIE, and covers the addresses as linked from
+   `start` up to, but not including, `end`. A CIE has its version, its factors, and the register of the return address.
+   Fields that a record doesn't have are 0. */
+enum { DWCHECK_RECORD_CIE = 0, DWCHECK_RECORD_FDE = 1, DWCHECK_RECORD_EMPTY = 2 };
+typedef struct dwcheck_record {
+    uint64_t next, program, cie, start, end, code_alignment_factor;
+    int64_t data_alignment_factor;
+    uint32_t kind, version, return_reg, is_signal_frame;
+} dwcheck_record;
+
+/* Reads the record at `offset` of a module's section. The section's records are the one at offset 0, the one at the
+   `next` of that, and so on. Returns DONE; NONE if the section has no byte at the offset; REFUSED if the record can't
+   be read; TOO_LONG; BAD_KIND; or BAD_TARGET. Programs aren't checked, nor whether an FDE of .debug_frame has a CIE at
+   the offset that it gives. */
+uint32_t dwcheck_record_at(const dwcheck_module *module, uint64_t offset, dwcheck_record *record, dwcheck_fault *fault);
 
 /* ---- the row of an address ----------------------------------------------------------------------------------------- */
 
@@ -228,19 +256,18 @@ typedef struct dwcheck_row {
 
 /* Writes the row that covers `address`, an address as loaded, from the module that answers for the address. The rules
    of registers go into `rules` in ascending order of registers, as many as fit. Returns DONE; or NONE if there is no
-   such row, and then nothing is written. The call neither allocates nor frees. */
+   such row. */
 uint32_t dwcheck_row_at(const dwcheck_process *process, uint64_t address, dwcheck_row *row, dwcheck_rule *rules,
                         size_t rules_length);
 
 /* Writes 1 to `is_signal_frame` if `address`, as loaded, is one of a signal frame, to which a signal handler returns,
-   by the module's .eh_frame, else 0. Walks ask so of the address that they look up for a frame, and look up the
-   caller of a signal frame, which was interrupted, at its own address. Returns DONE. */
+   by the module's .eh_frame, else 0. Walks ask so of the address that they look up for a frame, and look up the caller
+   of a signal frame, which was interrupted, at its own address. Returns DONE. */
 uint32_t dwcheck_is_signal_frame(const dwcheck_process *process, uint64_t address, uint32_t *is_signal_frame);
 
 /* Writes the bytes of a rule's expression to `bytes`, as many as fit, and their number to `size`. The rule is that of
    register `reg`, or of the CFA if `reg` is DWCHECK_CFA_RULE, in the row that dwcheck_row_at gives for `address`.
-   Returns DONE; or NONE if there is no row, or if the rule has no expression, and then nothing is written. The call
-   neither allocates nor frees. */
+   Returns DONE; or NONE if there is no row, or if the rule has no expression. */
 #define DWCHECK_CFA_RULE 0x10000u
 uint32_t dwcheck_rule_bytes(const dwcheck_process *process, uint64_t address, uint32_t reg, uint8_t *bytes,
                             size_t bytes_length, size_t *size);
@@ -255,9 +282,9 @@ typedef struct dwcheck_block { uint64_t base; const uint8_t *bytes; size_t lengt
    blocks; if two blocks contain an address, the byte of the first block counts. The ABI is `kept` (the callee-saved
    registers, 127 at most) and, if has_stack_pointer isn't 0, stack_pointer. The ABI applies to registers to which the
    row gives no rule: in the caller, a register in `kept` has the value that it has now, the stack pointer is the CFA,
-   and any other register is undefined. The ABI names no register twice. `signed_bits` are the bits of a return
-   address that may have its signature (aarch64: the mask for code in NT_ARM_PAC_MASK). They are 0 in each address of
-   code, and walks leave them out of callers' addresses. */
+   and any other register is undefined. The ABI names no register twice. `signed_bits` are the bits of a return address
+   that may have its signature (aarch64: the mask for code in NT_ARM_PAC_MASK). They are 0 in each address of code, and
+   walks leave them out of callers' addresses. */
 typedef struct dwcheck_state {
     const uint64_t *contents;
     size_t contents_length;
@@ -285,16 +312,15 @@ typedef struct dwcheck_answer { uint64_t value; uint32_t kind, reserved; } dwche
 typedef struct dwcheck_register { uint64_t value; uint32_t kind, number; } dwcheck_register;
 
 /* A caller. `cfa` is the canonical frame address of the frame that was called. `return_address` is where the caller
-   continues, just after the call. `count` is the number of registers that have a rule from the row or the ABI, at
-   most DWCHECK_MAX_REGISTERS. */
+   continues, just after the call. `count` is the number of registers that have a rule from the row or the ABI, at most
+   DWCHECK_MAX_REGISTERS. */
 typedef struct dwcheck_caller { dwcheck_answer cfa, return_address; uint64_t count; } dwcheck_caller;
 
 #define DWCHECK_MAX_REGISTERS 256
 /* Writes the caller of the frame at `address`, an address as loaded, by the row that dwcheck_row_at gives for it. The
    address itself is looked up, so to find the caller's own caller, pass the caller's return address, without its
    signed bits, minus 1. The caller's registers go into `registers` in ascending order, as many as fit. Returns DONE;
-   NONE if there is no row; or REFUSED if the ABI names too many registers or names one twice. Only DONE writes
-   `caller` and `registers`, and only REFUSED writes `fault`. The call neither allocates nor frees. */
+   NONE if there is no row; or REFUSED if the ABI names too many registers or names one twice. */
 uint32_t dwcheck_unwind(const dwcheck_process *process, uint64_t address, const dwcheck_state *state, dwcheck_caller *caller,
                         dwcheck_register *registers, size_t registers_length, dwcheck_fault *fault);
 
@@ -317,8 +343,7 @@ enum {
    innermost first, as many as fit. `count` becomes their number, and `stop` the reason why there are no more. Frame 0
    is looked up at its address, and each later frame at its address minus 1; but the caller of a signal frame
    (dwcheck_is_signal_frame) at its address. Returns DONE; or REFUSED if the ABI names too many registers or names one
-   twice. Only DONE writes `frames`, `count` and `stop`, and only REFUSED writes `fault`. The call neither allocates
-   nor frees. */
+   twice. */
 uint32_t dwcheck_backtrace(const dwcheck_process *process, uint64_t address, const dwcheck_state *state, dwcheck_frame *frames,
                            size_t frames_length, size_t *count, uint32_t *stop, dwcheck_fault *fault);
 
@@ -330,8 +355,8 @@ enum {
 };
 
 /* Where a walk up a stack is: the address of a frame, and its registers. The value of register n is contents[n], if
-   known[n] isn't 0; registers with numbers of 96 or more have no place. A cursor is plain data of the caller's. It
-   may be read, copied, changed and dropped at any time, and a walk may be taken up again from a copy. Any bytes are a
+   known[n] isn't 0; registers with numbers of 96 or more have no place. A cursor is plain data of the caller's. It may
+   be read, copied, changed and dropped at any time, and a walk may be taken up again from a copy. Any bytes are a
    cursor. */
 typedef struct dwcheck_cursor {
     uint64_t contents[96];
@@ -343,8 +368,7 @@ typedef struct dwcheck_cursor {
 /* Places a cursor at the frame at `address`, an address as loaded, with the registers of `state`. The frame is looked
    up at its address if `exact` isn't 0, as dwcheck_backtrace looks up its first frame, and at its address minus 1 if
    it is. Returns DONE; REFUSED if the ABI names too many registers or names one twice; or NO_PLACE if a register with
-   a number of 96 or more is known. Only DONE writes `cursor`, and only REFUSED writes `fault`. The call neither
-   allocates nor frees. */
+   a number of 96 or more is known. */
 uint32_t dwcheck_cursor_init(dwcheck_cursor *cursor, uint64_t address, const dwcheck_state *state, uint32_t exact,
                              dwcheck_fault *fault);
 
@@ -352,13 +376,12 @@ uint32_t dwcheck_cursor_init(dwcheck_cursor *cursor, uint64_t address, const dwc
    are those of `state`, and the registers those of the cursor. Whether the ABI is faulty isn't looked at:
    dwcheck_cursor_init has done that. If there is no caller, the cursor keeps the frame's address and registers, and
    its stage says why. So n steps give what dwcheck_backtrace writes to n frames. Returns DONE; NONE if the walk has
-   ended; or NO_PLACE if a register of the caller with a number of 96 or more has a rule. Only DONE changes `cursor`
-   and `frame`. The call neither allocates nor frees. */
+   ended; or NO_PLACE if a register of the caller with a number of 96 or more has a rule. */
 uint32_t dwcheck_cursor_step(const dwcheck_process *process, dwcheck_cursor *cursor, const dwcheck_state *state,
                              dwcheck_frame *frame);
 
-/* Reads `length` bytes of memory at `address` into `bytes`, and returns whether it could. `order` and address_size
-   are those of the process. */
+/* Reads `length` bytes of memory at `address` into `bytes`, and returns whether it could. `order` and address_size are
+   those of the process. */
 typedef struct dwcheck_reader {
     bool (*read)(void *data, uint64_t address, uint8_t *bytes, size_t length);
     void *data;
@@ -415,9 +438,8 @@ typedef struct dwcheck_piece { uint64_t value; uint32_t kind, size, bit_offset, 
 /* Checks all paths of an expression, and runs it with the registers and memory of `state`, whose ABI isn't used. The
    pieces of the result go into `pieces`, as many as fit. If the result is DWCHECK_LOCATION_BYTES, or if piece `n`
    (counted from 0) is, these bytes go into `bytes`, as many as fit. Returns DONE; REFUSED with the first fault of the
-   expression; NO_MEMORY; BAD_TARGET; TOO_LONG; or BAD_KIND. Only DONE writes `value`, `pieces` and `bytes`, and only
-   REFUSED writes `fault`. The call allocates memory only if the expression has more than 16 operations and also
-   either has branches or is refused, and frees the memory. */
+   expression; NO_MEMORY; BAD_TARGET; TOO_LONG; or BAD_KIND. The call allocates memory only if the expression has more
+   than 16 operations and also either has branches or is refused, and frees the memory. */
 uint32_t dwcheck_evaluate(const uint8_t *expression, size_t expression_length, uint32_t order, uint32_t address_size,
                           uint32_t kind, const dwcheck_context *context, const dwcheck_state *state, uint32_t n,
                           dwcheck_value *value, dwcheck_piece *pieces, size_t pieces_length, uint8_t *bytes,
@@ -432,14 +454,21 @@ typedef struct dwcheck_lookup { uint64_t base, address; uint32_t list, reserved;
 /* An expression: the offset in the section where it begins, and its length in bytes. */
 typedef struct dwcheck_location { uint64_t offset, length; } dwcheck_location;
 
-/* Checks a .debug_loclists section, and writes the expressions of a list that apply at an address into `locations`,
-   in the order of the list, as many as fit. `count` becomes the number written; if it is `locations_length`, there
-   may be more. Returns DONE; NONE if no list begins at lookup->list; REFUSED with the first fault; NO_MEMORY;
-   BAD_TARGET; or TOO_LONG. Only DONE writes `locations` and `count`, and only REFUSED writes `fault`. The call takes
-   time and memory in proportion to the section, and frees the memory. */
+/* Checks a .debug_loclists section, and writes the expressions of a list that apply at an address into `locations`, in
+   the order of the list, as many as fit. `count` becomes the number written; if it is `locations_length`, there may be
+   more. Returns DONE; NONE if no list begins at lookup->list; REFUSED with the first fault; NO_MEMORY; BAD_TARGET; or
+   TOO_LONG. The call takes time and memory in proportion to the section, and frees the memory. */
 uint32_t dwcheck_locations(const uint8_t *lists, size_t lists_length, uint32_t order, uint32_t address_size,
                            const dwcheck_lookup *lookup, dwcheck_location *locations, size_t locations_length,
                            size_t *count, dwcheck_fault *fault);
+
+/* The same, but reads only the list at lookup->list, in time in proportion to the list. In a section that
+   dwcheck_check accepts, lists have the same locations by both calls; but this one doesn't know where lists begin, so
+   it may find one in bytes that belong to another. NONE here means that the section has no byte at lookup->list, and
+   REFUSED that the bytes there are no list. */
+uint32_t dwcheck_list_locations(const uint8_t *lists, size_t lists_length, uint32_t order, uint32_t address_size,
+                                const dwcheck_lookup *lookup, dwcheck_location *locations, size_t locations_length,
+                                size_t *count, dwcheck_fault *fault);
 
 #ifdef __cplusplus
 }

@@ -429,6 +429,75 @@ static void eh_frames(void) {
     dwcheck_process_close(&p);
 }
 
+/* The CIE and the FDE of `eh` and of `good`, read one after another, and what their sections contain. */
+static void records(void) {
+    dwcheck_module m = module_of(eh, sizeof eh, 0x10000);
+    dwcheck_record found;
+    uint8_t later[sizeof eh + 4] = {0};
+    m.kind = DWCHECK_EH_FRAME; m.section_address = 0x2000;
+    IS(dwcheck_record_at(&m, 0, &found, &fault), DWCHECK_DONE); IS(found.kind, DWCHECK_RECORD_CIE); IS(found.next, 24);
+    IS(found.program, 18); IS(found.version, 1); IS(found.code_alignment_factor, 1); IS(found.data_alignment_factor, -8);
+    IS(found.return_reg, 16); IS(found.is_signal_frame, 1); IS(found.cie, 0); IS(found.end, 0);
+    IS(dwcheck_record_at(&m, found.next, &found, &fault), DWCHECK_DONE); IS(found.kind, DWCHECK_RECORD_FDE);
+    IS(found.next, sizeof eh); IS(found.cie, 0); IS(found.start, 0x1009); IS(found.end, 0x100c); IS(found.program, 41);
+    IS(found.is_signal_frame, 1); IS(found.version, 0);
+    IS(dwcheck_record_at(&m, sizeof eh, &found, &fault), DWCHECK_NONE); IS(found.start, 0x1009);
+    IS(dwcheck_record_at(&m, UINT64_MAX, &found, &fault), DWCHECK_NONE);
+    IS(dwcheck_record_at(&m, 28, &found, &fault), DWCHECK_REFUSED); IS(fault.within, DWCHECK_IN_FRAME); IS(found.start, 0x1009);
+    memcpy(later + 4, eh, sizeof eh); /* a record of length 0 before them */
+    m.frame = later; m.frame_length = sizeof later;
+    IS(dwcheck_record_at(&m, 0, &found, &fault), DWCHECK_DONE); IS(found.kind, DWCHECK_RECORD_EMPTY); IS(found.next, 4);
+    IS(dwcheck_record_at(&m, 28, &found, &fault), DWCHECK_DONE); IS(found.cie, 4); IS(found.start, 0x100d);
+    m = module_of(good, sizeof good, 0);
+    IS(dwcheck_record_at(&m, 24, &found, &fault), DWCHECK_DONE); IS(found.kind, DWCHECK_RECORD_FDE);
+    IS(found.next, sizeof good); IS(found.cie, 0); IS(found.start, 0x1000); IS(found.is_signal_frame, 0);
+    m.order = 2;
+    IS(dwcheck_record_at(&m, 24, &found, &fault), DWCHECK_BAD_TARGET);
+    m.kind = 3;
+    IS(dwcheck_record_at(&m, 24, &found, &fault), DWCHECK_BAD_KIND);
+    m.frame_length = (size_t)1 << 32;
+    IS(dwcheck_record_at(&m, 24, &found, &fault), DWCHECK_TOO_LONG);
+    m = module_of(NULL, 0, 0);
+    IS(dwcheck_record_at(&m, 0, &found, &fault), DWCHECK_NONE);
+}
+
+static void module_checks(void) {
+    dwcheck_module m = module_of(eh, sizeof eh, 0x10000);
+    dwcheck_counts counts = {9, 9, 9, 9, 9, 9, 9};
+    uint8_t twice[sizeof eh + 32];
+    long n, left, before = held;
+    uint32_t got;
+    m.kind = DWCHECK_EH_FRAME; m.section_address = 0x2000;
+    IS(dwcheck_module_check(&m, &counts, &fault), DWCHECK_DONE); IS(counts.cies, 1); IS(counts.fdes, 1); IS(counts.rows, 2);
+    IS(counts.frame_expressions, 2); IS(counts.tables, 0); IS(counts.lists, 0); IS(counts.list_expressions, 0);
+    memcpy(twice, eh, sizeof eh); /* an exact copy of the FDE: 32 bytes later, so its pointers are 32 more and 32 less */
+    memcpy(twice + sizeof eh, eh + 24, 32);
+    twice[60] = 0x3c; twice[64] = 0xc9;
+    m.frame = twice; m.frame_length = sizeof twice;
+    IS(dwcheck_module_check(&m, &counts, &fault), DWCHECK_DONE); IS(counts.fdes, 1);
+    twice[68] = 2; /* one address less: no copy, but an overlap */
+    IS(dwcheck_module_check(&m, &counts, &fault), DWCHECK_REFUSED); IS(fault.number, 23); IS(fault.offset, 56); IS(counts.fdes, 1);
+    m = module_of(good, sizeof good, 0);
+    IS(dwcheck_module_check(&m, &counts, &fault), DWCHECK_DONE); IS(counts.rows, 1); IS(counts.frame_expressions, 0);
+    for (n = 0;; n++) { /* each allocation fails in turn */
+        until = n;
+        got = dwcheck_module_check(&m, &counts, &fault);
+        left = until;
+        until = -1;
+        IS(got, left >= 0 ? DWCHECK_DONE : DWCHECK_NO_MEMORY);
+        if (left >= 0) break;
+    }
+    IS(held - before, 0);
+    m.address_size = 5;
+    IS(dwcheck_module_check(&m, &counts, &fault), DWCHECK_BAD_TARGET);
+    m.kind = 3;
+    IS(dwcheck_module_check(&m, &counts, &fault), DWCHECK_BAD_KIND);
+    m.frame_length = (size_t)1 << 32;
+    IS(dwcheck_module_check(&m, &counts, &fault), DWCHECK_TOO_LONG);
+    m = module_of(NULL, 0, 0);
+    IS(dwcheck_module_check(&m, &counts, &fault), DWCHECK_DONE); IS(counts.cies, 0);
+}
+
 /* A handler that returns to the signal frame of `eh`, which interrupted a function at its first address: the
    address before belongs to no function. `registers` are known, of which 97 have no place in a cursor. */
 static void signal_walks(size_t its_registers) {
@@ -712,6 +781,41 @@ static void location_lists(void) {
     }
 }
 
+/* The same list without its table, after a byte that isn't its. */
+static void one_list(void) {
+    static const uint8_t bytes_of_one[] = {0xff, 4, 0, 0x10, 1, 0x50, 5, 2, 0x30, 0x9f, 0};
+    dwcheck_lookup lookup = {0x1000, 0x1005, 1, 0};
+    long m, left;
+    uint32_t got;
+    count = 99;
+    IS(dwcheck_list_locations(bytes_of_one, 11, 0, 8, &lookup, locations, 2, &count, &fault), DWCHECK_DONE);
+    IS(count, 1); IS(locations[0].offset, 5); IS(locations[0].length, 1);
+    lookup.address = 0x1010;
+    IS(dwcheck_list_locations(bytes_of_one, 11, 0, 8, &lookup, locations, 2, &count, &fault), DWCHECK_DONE);
+    IS(count, 1); IS(locations[0].offset, 8); IS(locations[0].length, 2);
+    IS(dwcheck_list_locations(bytes_of_one, 11, 0, 8, &lookup, NULL, 0, &count, &fault), DWCHECK_DONE); IS(count, 0);
+    count = 99;
+    IS(dwcheck_list_locations(bytes_of_one, 10, 0, 8, &lookup, locations, 2, &count, &fault), DWCHECK_REFUSED);
+    IS(fault.number, 54); IS(fault.offset, 10); IS(fault.within, DWCHECK_IN_LISTS);
+    lookup.list = 0;
+    IS(dwcheck_list_locations(bytes_of_one, 11, 0, 8, &lookup, locations, 2, &count, &fault), DWCHECK_REFUSED);
+    IS(fault.number, 51); IS(fault.offset, 0);
+    lookup.list = 11;
+    IS(dwcheck_list_locations(bytes_of_one, 11, 0, 8, &lookup, locations, 2, &count, &fault), DWCHECK_NONE);
+    IS(dwcheck_list_locations(NULL, 0, 0, 8, &lookup, NULL, 0, &count, &fault), DWCHECK_NONE);
+    IS(dwcheck_list_locations(bytes_of_one, (size_t)1 << 32, 0, 8, &lookup, locations, 2, &count, &fault), DWCHECK_TOO_LONG);
+    IS(dwcheck_list_locations(bytes_of_one, 11, 2, 8, &lookup, locations, 2, &count, &fault), DWCHECK_BAD_TARGET); IS(count, 99);
+    lookup.list = 1;
+    for (m = 0;; m++) { /* each allocation fails in turn */
+        until = m;
+        got = dwcheck_list_locations(bytes_of_one, 11, 0, 8, &lookup, locations, 2, &count, &fault);
+        left = until;
+        until = -1;
+        IS(got == DWCHECK_DONE || got == DWCHECK_NO_MEMORY, 1); /* some may fail without harm */
+        if (left >= 0) break;
+    }
+}
+
 /* a word that extends past the highest 4-byte address, 2^32 - 1, is unreadable, although the block
    contains the bytes after that address */
 static void reads_past_the_top(void) {
@@ -964,6 +1068,8 @@ int main(void) {
     reports();
     texts();
     eh_frames();
+    records();
+    module_checks();
     signal_walks(17);
     signal_walks(97);
     signed_walks(17);
@@ -974,6 +1080,7 @@ int main(void) {
     names();
     expressions();
     location_lists();
+    one_list();
     reads_past_the_top();
     rules_of_each_kind();
     ends_of_walks();

@@ -3,11 +3,13 @@ mod Assembled
 mod CursorSteps
 mod CursorWalks
 mod FirstBlock
+mod FirstEntries
 mod FirstTwice
 mod ContentAt
 mod NameLengths
 mod PartFields
 mod Putting
+mod Tops
 mod Uncovered
 mod RightFields
 mod Shown

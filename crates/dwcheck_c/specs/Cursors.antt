@@ -7,7 +7,7 @@ use Rattle.dw_unwind.specs.Walks.{IsFrameAt, Place, WalkedFrame, address_before,
 use Rattle.dw_unwind.specs.declared.frames.Stop.{Stop}
 use Rattle.dw_process.specs.Processes.{ProcessState}
 use Rattle.dwcheck_c.specs.Frames.{cframe_of, stop_number}
-use Rattle.dwcheck_c.specs.ProcessWalks.{AreFramesBy, Unwinding, over_held, place_after, through_held}
+use Rattle.dwcheck_c.specs.ProcessWalks.{AreFramesBy, Unwinding, looked_up_after, over_held, place_after, through_held}
 use Rattle.dwcheck_c.specs.declared.answer.CFrame.{CFrame}
 use Rattle.dwcheck_c.specs.declared.cursor.CCursor.{CCursor}
 
@@ -18,7 +18,7 @@ registers_in c = contents_in c.registers
 -- the address that is looked up for a frame at `address`: at stage 0 the address itself, at any
 -- other the address minus 1
 abbrev pub looked_up_by : ℕ → ℕ → Option ℕ
-looked_up_by stage address = if stage == 0 then Some address else address_before address
+looked_up_by stage address = looked_up_after (stage == 0) address
 
 -- where the walk of a cursor is
 abbrev pub place_of : CCursor → Place

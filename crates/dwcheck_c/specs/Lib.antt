@@ -10,11 +10,13 @@ pub mod Lent
 pub mod LoadedModules
 pub mod Locations
 pub mod Machine
+pub mod ModuleChecks
 pub mod NotAdded
 pub mod ProcessWalks
 pub mod Reports
 pub mod Rows
 pub mod RuleBytes
+pub mod SectionRecords
 pub mod SignalFrames
 pub mod Slots
 pub mod Targets

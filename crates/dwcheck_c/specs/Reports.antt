@@ -11,7 +11,19 @@ use Rattle.dwcheck_c.specs.declared.reports.CCounts.{CCounts}
 use Rattle.dwcheck_c.specs.declared.reports.CExpression.{CExpression}
 use Rattle.dwcheck_c.specs.Slots.{put_into}
 
--- C's struct for what two sections contain; a number of rows of 2^64 or more is shown as 2^64 - 1
+-- C's struct for what a frame section contains; a number of rows of 2^64 or more is shown as 2^64 - 1
+abbrev pub frame_counts : FrameSection → CCounts
+frame_counts frame = record {
+  cies = length frame.cies;
+  fdes = length frame.fdes;
+  rows = min (row_count frame) (2 ^ 64 - 1);
+  frame_expressions = length frame.expressions;
+  tables = 0;
+  lists = 0;
+  list_expressions = 0;
+}
+
+-- the same for two sections
 abbrev pub counts_of : FrameSection → ListSection → CCounts
 counts_of frame lists = record {
   cies = length frame.cies;

@@ -5,7 +5,7 @@ ghost use Rattle.dw_rows.specs.AbiViews.{roles_of};
 ghost use Rattle.dw_unwind.specs.UnwoundViews.{caller_with};
 ghost use Rattle.dw_unwind.specs.CallerViews.{answer_in};
 ghost use Rattle.dw_unwind.specs.Walks.{UnwindsAt, content_of, contents_of};
-ghost use Rattle.dwcheck_c.specs.ProcessWalks.{looked_up_after as looked_up_by, over_process, signal_at};
+ghost use Rattle.dwcheck_c.specs.ProcessWalks.{looked_up_after as lookup_after, over_process, signal_at};
 ghost use Rattle.dw_process.specs.Processes.{is_signal_in};
 
 use crate::callers::caller_through;
@@ -153,7 +153,7 @@ pub(crate) fn looked_up_after(
     looked_up: Option<u64>,
     address: u64,
 ) -> Option<u64>
-    ensures { result ≡ looked_up_by (signal_at (is_signal_in process.now) looked_up) address }
+    ensures { result ≡ lookup_after (signal_at (is_signal_in process.now) looked_up) address }
 {
     match looked_up {
         Some(callee) if process.is_signal_frame(callee) => Some(address),

@@ -7,7 +7,7 @@ ghost use Rattle.dw_loclists.specs.Reading.{located_in};
 ghost use Rattle.dw_rows.specs.Section.{frame_of};
 ghost use Rattle.dw_stack.specs.Located.{all_located, located_of};
 ghost use Rattle.dwcheck_c.specs.Checks.{ReportsOf};
-ghost use Rattle.dwcheck_c.specs.Reports.{AreReported, AreShown, ShowsExpression, counts_of, kind_number};
+ghost use Rattle.dwcheck_c.specs.Reports.{AreReported, AreShown, ShowsExpression, counts_of, frame_counts, kind_number};
 ghost use Rattle.dwcheck_c.specs.Slots.{put_into};
 ghost use Rattle.dwcheck_c.specs.Targets.{target_by};
 ghost use Rattle.dwcheck_c.specs.declared.reports.CExpression.{CExpression as Slot};
@@ -20,6 +20,7 @@ use crate::target::target;
 use dw_bytes::FaultKind;
 use dw_check::{Checked, check};
 use dw_loclists::Expressions;
+use dw_rows::CheckedFrame;
 use dw_stack::{CheckedExpression, Kind};
 use std::alloc::Global;
 
@@ -125,19 +126,31 @@ fn row_number(rows: u128) -> u64
     }
 }
 
-/// Counts what two checked sections contain.
-fn counted(checked: &Checked<'_>) -> CCounts
-    ensures { result ≡ counts_of checked.now.frame checked.now.lists }
+/// Counts what a checked frame section contains.
+pub(crate) fn frame_counted(frame: &CheckedFrame<'_>) -> CCounts
+    ensures { result ≡ frame_counts frame.now }
 {
-    let (frame, lists) = (checked.frame(), checked.lists());
     CCounts {
         cies: frame.cies().len() as u64,
         fdes: frame.fdes().len() as u64,
         rows: row_number(frame.row_count()),
         frame_expressions: frame.expressions().len() as u64,
+        tables: 0,
+        lists: 0,
+        list_expressions: 0,
+    }
+}
+
+/// Counts what two checked sections contain.
+fn counted(checked: &Checked<'_>) -> CCounts
+    ensures { result ≡ counts_of checked.now.frame checked.now.lists }
+{
+    let lists = checked.lists();
+    CCounts {
         tables: lists.tables().len() as u64,
         lists: lists.lists().len() as u64,
         list_expressions: lists.expressions().len() as u64,
+        ..frame_counted(checked.frame())
     }
 }
 
