@@ -42,6 +42,8 @@ fn layouts() -> (String, String) {
     let all = [
         layout!(Fault, "dwcheck_fault": number offset within reserved),
         layout!(Counts, "dwcheck_counts": cies fdes rows frame_expressions tables lists list_expressions),
+        layout!(Record, "dwcheck_record": next program cie start end code_alignment_factor data_alignment_factor
+            kind version return_reg is_signal_frame),
         layout!(Expression, "dwcheck_expression": offset length within kind operations depth),
         layout!(Process, "dwcheck_process": opaque opaque_open),
         layout!(Module, "dwcheck_module": frame frame_length load_address first last cookie room
@@ -82,6 +84,7 @@ fn constants() -> (String, String) {
         NONE "NONE" OVERLAPS "OVERLAPS" BAD_RANGE "BAD_RANGE" NO_PLACE "NO_PLACE" LITTLE "LITTLE" BIG "BIG"
         IN_FRAME "IN_FRAME" IN_LISTS "IN_LISTS" IN_EXPRESSION "IN_EXPRESSION" IN_ABI "IN_ABI"
         DEBUG_FRAME "DEBUG_FRAME" EH_FRAME "EH_FRAME" EH_FRAME_AARCH64 "EH_FRAME_AARCH64"
+        RECORD_CIE "RECORD_CIE" RECORD_FDE "RECORD_FDE" RECORD_EMPTY "RECORD_EMPTY"
         CFA_RULE "CFA_RULE" RULE_UNDEFINED "RULE_UNDEFINED"
         RULE_SAME_VALUE "RULE_SAME_VALUE" RULE_OFFSET "RULE_OFFSET"
         RULE_VAL_OFFSET "RULE_VAL_OFFSET" RULE_REGISTER "RULE_REGISTER"

@@ -104,6 +104,26 @@ pub struct Expression {
     pub depth: u32,
 }
 
+/// A record of a module's section: a CIE, an FDE, or in .eh_frame a record of length 0 (`kind` is a RECORD_
+/// constant). Its program is the bytes from `program` up to `next`, the offset after the record. An FDE has the
+/// offset of its CIE, and covers the addresses as linked from `start` up to, but not including, `end`. A CIE has its
+/// version, its factors, and the register of the return address. Fields that a record doesn't have are 0.
+#[repr(C)]
+#[derive(Clone, Copy, Debug, Default)]
+pub struct Record {
+    pub next: u64,
+    pub program: u64,
+    pub cie: u64,
+    pub start: u64,
+    pub end: u64,
+    pub code_alignment_factor: u64,
+    pub data_alignment_factor: i64,
+    pub kind: u32,
+    pub version: u32,
+    pub return_reg: u32,
+    pub is_signal_frame: u32,
+}
+
 /// A process: its modules, each a compiled .debug_frame or .eh_frame section with a load address. The
 /// fields are private. A process whose bytes are all 0 is closed: it has no module, and every call accepts it.
 /// The library writes one byte of `opaque_open`, and may leave its other bytes uninitialized.
@@ -119,6 +139,10 @@ pub const DEBUG_FRAME: u32 = 0;
 pub const EH_FRAME: u32 = 1;
 /// .eh_frame of aarch64, which has instructions of its own.
 pub const EH_FRAME_AARCH64: u32 = 2;
+
+pub const RECORD_CIE: u32 = 0;
+pub const RECORD_FDE: u32 = 1;
+pub const RECORD_EMPTY: u32 = 2;
 
 /// A module to be added: `frame_length` bytes of its section, its load address and, if has_range isn't
 /// 0, the first and the last address, as loaded, that it answers for. Otherwise these are the first
@@ -479,6 +503,23 @@ extern "C" {
         fault: *mut Fault,
     ) -> u32;
 
+    /// Checks a module's section as `dwcheck_process_add` does, but adds it nowhere. DONE writes what the section
+    /// contains to `counts`, where exact copies of an FDE count once.
+    pub fn dwcheck_module_check(
+        module: *const Module,
+        counts: *mut Counts,
+        fault: *mut Fault,
+    ) -> u32;
+
+    /// Reads the record at `offset` of a module's section. Returns NONE if the section has no byte there.
+    /// The call neither allocates nor frees.
+    pub fn dwcheck_record_at(
+        module: *const Module,
+        offset: u64,
+        record: *mut Record,
+        fault: *mut Fault,
+    ) -> u32;
+
     /// Checks as `dwcheck_check` does. DONE also writes what the sections contain to `counts`, and
     /// their expressions to `expressions`, those of the frame section first, as many as fit.
     pub fn dwcheck_report(
@@ -668,6 +709,20 @@ extern "C" {
     /// TOO_LONG. Only DONE writes `locations` and `count`, and only REFUSED writes `fault`. The
     /// call takes time and memory in proportion to the section, and frees the memory.
     pub fn dwcheck_locations(
+        lists: *const u8,
+        lists_length: usize,
+        order: u32,
+        address_size: u32,
+        lookup: *const Lookup,
+        locations: *mut Location,
+        locations_length: usize,
+        count: *mut usize,
+        fault: *mut Fault,
+    ) -> u32;
+
+    /// The same, but reads only the list at `lookup.list`. NONE means that the section has no byte
+    /// there, and REFUSED that the bytes there are no list.
+    pub fn dwcheck_list_locations(
         lists: *const u8,
         lists_length: usize,
         order: u32,

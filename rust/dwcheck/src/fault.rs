@@ -368,6 +368,13 @@ impl Error {
         }
     }
 
+    /// Makes a call of the C interface that writes its fault to a place, and turns its status into a result.
+    pub(crate) fn of_call(call: impl FnOnce(&mut ffi::Fault) -> u32) -> Result<(), Error> {
+        let mut fault = ffi::Fault::default();
+        let status = call(&mut fault);
+        Error::check(status, fault)
+    }
+
     /// Turns the status that a call returned into a result. `fault` is used only if the status is
     /// `REFUSED`. Only adding a module has the status `OVERLAPS`, which isn't known here.
     pub(crate) fn check(status: u32, fault: ffi::Fault) -> Result<(), Error> {

@@ -7,9 +7,10 @@
 //! [`FaultKind::rule`]. They don't cover this crate, which uses `unsafe` to call the C interface.
 //!
 //! - [`check`] checks a frame section and location lists, and [`report`] also says what they contain.
+//! - A [`FrameSection`] is checked by itself, `.eh_frame` too, or read record by record.
 //! - A [`Process`] has modules, each a frame section with a load address and a range of addresses.
 //!   It gives the [`Row`] of an address, the [`Caller`] of a frame, and the frames of a stack.
-//! - [`locations`] gives the expressions of a location list that apply at an address.
+//! - [`locations`] and [`list_locations`] give the expressions of a location list that apply at an address.
 //! - [`evaluate`] gives the result of an expression.
 //!
 //! Sections are passed as bytes. They have to come from a linked file and be uncompressed. For
@@ -55,6 +56,7 @@ mod process;
 mod report;
 mod row;
 mod rows;
+mod section;
 mod state;
 mod steps;
 #[cfg(test)]
@@ -69,12 +71,13 @@ pub use expression::{
     evaluate, Context, Evaluation, ExpressionKind, Location, Outcome, Piece, PieceSize,
 };
 pub use fault::{Error, Fault, FaultKind, Section};
-pub use lists::{locations, Lookup};
+pub use lists::{list_locations, locations, Lookup};
 pub use module::{EhFrame, LoadedModule, Module, ModuleId};
 pub use process::Process;
 pub use report::{report, CheckedExpression, Report};
 pub use row::{CfaRule, Row, Rule, Span};
 pub use rows::Rows;
+pub use section::{Contents, FrameSection, Record, RecordKind, Records};
 pub use state::{Block, Registers, State};
 pub use steps::{Step, Steps};
 pub use target::{AddressSize, Order, Target};
@@ -99,10 +102,9 @@ pub struct DebugLoclists<'a>(pub &'a [u8]);
 /// is refused with [`FaultKind::SectionTooLong`].
 pub fn check(frame: DebugFrame<'_>, lists: DebugLoclists<'_>, target: Target) -> Result<(), Error> {
     let (DebugFrame(frame), DebugLoclists(lists)) = (frame, lists);
-    let mut fault = ffi::Fault::default();
-    // SAFETY: the pointers and lengths are those of slices that are only read, and `fault` is a
-    // local variable.
-    let status = unsafe {
+    // SAFETY: the pointers and lengths are those of slices that are only read, and the fault's place is
+    // borrowed exclusively.
+    Error::of_call(|fault| unsafe {
         ffi::dwcheck_check(
             frame.as_ptr(),
             frame.len(),
@@ -110,10 +112,9 @@ pub fn check(frame: DebugFrame<'_>, lists: DebugLoclists<'_>, target: Target) ->
             lists.len(),
             target.order_number(),
             target.address_bytes(),
-            &mut fault,
+            fault,
         )
-    };
-    Error::check(status, fault)
+    })
 }
 
 /// The version of the library's interface: the major number, then the minor number. A new minor

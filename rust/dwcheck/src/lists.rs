@@ -51,13 +51,65 @@ pub fn locations(
     target: Target,
     lookup: &Lookup,
 ) -> Result<Option<Vec<Span>>, Error> {
+    all_locations(ffi::dwcheck_locations, lists, target, lookup)
+}
+
+/// The same, but reads only the list at `lookup.list`, in time and memory in proportion to that list.
+///
+/// In a section that [`check`](crate::check) accepts, lists have the same locations by both functions.
+/// But this one doesn't know where lists begin, so it may find one in bytes that belong to another. The
+/// result is `None` if the section has no byte at `lookup.list`.
+///
+/// # Errors
+///
+/// [`Error::Refused`] if the bytes at `lookup.list` are no list, [`Error::NoMemory`] or
+/// [`Error::TooLong`].
+///
+/// ```
+/// use dwcheck::{list_locations, Lookup, Target};
+///
+/// // A list by itself: register 0 from base to base + 0xf, else the value 0.
+/// let list = [4, 0, 0x10, 1, 0x50, 5, 2, 0x30, 0x9f, 0];
+/// let lookup = Lookup { list: 0, base: 0x1000, address: 0x1010 };
+/// let found = list_locations(&list, Target::LITTLE_64, &lookup)?.unwrap();
+/// assert_eq!(found[0].of(&list), Some(&[0x30, 0x9f][..]));
+/// # Ok::<(), dwcheck::Error>(())
+/// ```
+pub fn list_locations(
+    lists: &[u8],
+    target: Target,
+    lookup: &Lookup,
+) -> Result<Option<Vec<Span>>, Error> {
+    all_locations(ffi::dwcheck_list_locations, lists, target, lookup)
+}
+
+/// A call of the C interface that looks up a location list.
+type Call = unsafe extern "C" fn(
+    *const u8,
+    usize,
+    u32,
+    u32,
+    *const ffi::Lookup,
+    *mut ffi::Location,
+    usize,
+    *mut usize,
+    *mut ffi::Fault,
+) -> u32;
+
+/// Looks up a list with more and more room, until all its expressions that apply fit.
+fn all_locations(
+    call: Call,
+    lists: &[u8],
+    target: Target,
+    lookup: &Lookup,
+) -> Result<Option<Vec<Span>>, Error> {
     let mut found = Vec::new();
     let mut slots = FIRST_LOCATIONS;
     loop {
         let more = slots - found.len();
         found.try_reserve_exact(more).map_err(|_| Error::NoMemory)?;
         found.resize(slots, Span::default());
-        match look_up(lists, target, lookup, &mut found)? {
+        match look_up(call, lists, target, lookup, &mut found)? {
             None => return Ok(None),
             Some(count) if count < slots => {
                 found.truncate(count);
@@ -69,8 +121,9 @@ pub fn locations(
 }
 
 /// Writes to `slots` the expressions that apply at the address, as many as fit, and returns the
-/// number written. `None` if no list begins at `lookup.list`.
+/// number written. `None` if the call says that there is no list.
 fn look_up(
+    call: Call,
     lists: &[u8],
     target: Target,
     lookup: &Lookup,
@@ -85,10 +138,10 @@ fn look_up(
     let length = slots.len();
     let mut count = 0;
     let mut fault = ffi::Fault::default();
-    // SAFETY: the section is only read, `slots` is borrowed exclusively, and the other pointers are
-    // to locals.
+    // SAFETY: both calls have the same rules. The section is only read, `slots` is borrowed exclusively,
+    // and the other pointers are to locals.
     let status = unsafe {
-        ffi::dwcheck_locations(
+        call(
             lists.as_ptr(),
             lists.len(),
             target.order_number(),

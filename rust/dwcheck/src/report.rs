@@ -121,10 +121,9 @@ fn report_into(
     slots: &mut [ffi::Expression],
 ) -> Result<ffi::Counts, Error> {
     let mut counts = ffi::Counts::default();
-    let mut fault = ffi::Fault::default();
-    // SAFETY: the sections are only read, `slots` is borrowed exclusively, and the other pointers
-    // are to locals.
-    let status = unsafe {
+    // SAFETY: the sections are only read, `slots` and the fault's place are borrowed exclusively, and the
+    // other pointer is to a local.
+    Error::of_call(|fault| unsafe {
         ffi::dwcheck_report(
             frame.as_ptr(),
             frame.len(),
@@ -135,9 +134,8 @@ fn report_into(
             &mut counts,
             slots.as_mut_ptr(),
             slots.len(),
-            &mut fault,
+            fault,
         )
-    };
-    Error::check(status, fault)?;
+    })?;
     Ok(counts)
 }
