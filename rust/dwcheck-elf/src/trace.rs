@@ -9,7 +9,8 @@
 //! - [`files`] and [`space`] say which code is where, and [`breakpoints`] changes it.
 //! - [`shadow`] is what is true of a thread's frames, [`follow`] keeps it step by step, and [`judge`]
 //!   compares it with the rows, but for what [`rules`] leaves out.
-//! - [`tracer`] handles what threads report, [`windows`] decides what is stepped, and [`release`] lets go.
+//! - [`tracer`] handles what threads report, [`windows`] decides what is stepped, [`stretch`]
+//!   what is run at once, and [`release`] lets go.
 //! - [`sample`] steps a process that runs already, for which [`guard`] makes a process.
 //! - [`confirm`] says of each finding of the lint whether it is so.
 //! - [`report`] makes findings and counts of what was seen.
@@ -31,6 +32,7 @@ mod shadow;
 mod site;
 mod space;
 mod start;
+mod stretch;
 mod thread;
 mod tracer;
 mod windows;

@@ -271,7 +271,50 @@ fn a_function_that_is_entered_again() {
     assert_eq!(traced.found(), Vec::<[String; 3]>::new(), "{}", traced.log);
 }
 
-/// Rules \"outermost\" and \"unknown-frame\": nothing is known of the frames before the first call.
+/// A function that is called, and whose row says that its frame is the outermost one.
+const OUTERMOST: &str = "
+#include <stdio.h>
+long ends(long);
+__asm__(\"ends: .cfi_startproc\\n .cfi_undefined rip\\n lea 1(%rdi), %rax\\n ret\\n .cfi_endproc\");
+int main(void) { printf(\"%ld\\n\", ends(1) + ends(2)); return 0; }
+";
+
+/// Rule "outermost".
+#[test]
+fn rows_without_a_return_address() {
+    quiet("outermost", "outermost", "gcc -O1", OUTERMOST);
+}
+
+/// A handler that returns to code of the program's own, whose rows don't say that the frame there is that of a
+/// signal.
+const RETURNS: &str = "
+#include <signal.h>
+#include <stdio.h>
+#include <sys/syscall.h>
+#include <unistd.h>
+struct action { void (*handler)(int); unsigned long flags; void (*restorer)(void); unsigned long mask; };
+void restores(void);
+__asm__(\"restores: .cfi_startproc\\n mov $15, %rax\\n syscall\\n .cfi_endproc\");
+static volatile int sum;
+static void handler(int number) { sum += number; }
+int main(void) {
+    struct action action = {handler, 0x04000000, restores, 0};
+    syscall(SYS_rt_sigaction, SIGUSR1, &action, NULL, 8);
+    for (int i = 0; i < 3; i++) raise(SIGUSR1);
+    printf(\"%d\\n\", sum);
+    return 0;
+}
+";
+
+/// Rule "signal-return".
+#[test]
+fn handlers_that_return_to_code_without_rows_for_signals() {
+    if let Some(traced) = quiet("returns", "signal-return", "gcc -O1", RETURNS) {
+        assert_eq!(traced.count("signals"), 3.0, "{}", traced.log);
+    }
+}
+
+/// Rule "unknown-frame": nothing is known of the frames before the first call.
 #[test]
 fn the_first_frames() {
     if let Some(traced) = quiet("first", "unknown-frame", "gcc -O1 -static", "int main(void) { return 0; }\n") {

@@ -3,7 +3,7 @@
 use super::files::Files;
 use super::site::Sites;
 use super::space::Space;
-use std::collections::HashMap;
+use rustc_hash::FxHashMap;
 use std::ops::Range;
 
 /// The instruction that traps, `int3`.
@@ -27,7 +27,7 @@ pub(super) struct Breakpoint {
 /// The breakpoints of a process. Those that aren't wanted anymore stay known.
 #[derive(Clone, Debug, Default)]
 pub(super) struct Breakpoints {
-    all: HashMap<u64, Breakpoint>,
+    all: FxHashMap<u64, Breakpoint>,
     /// The parts of executable memory whose functions have got breakpoints.
     planted: Vec<(Range<u64>, usize)>,
     /// For how many reasons they are all out of the code for a time.

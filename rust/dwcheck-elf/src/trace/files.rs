@@ -1,7 +1,7 @@
 //! The files whose code processes run: their FDEs, rows and functions.
 
 use super::confirm::{suspects, Suspect};
-use super::registers::KEPT_NUMBERS;
+use super::registers::{KEPT, KEPT_NUMBERS};
 use super::rules::Rule;
 use super::site::{Judged, Kept, Site};
 use crate::functions::Functions;
@@ -13,9 +13,10 @@ use crate::program::{Program, ProgramError, Segment};
 use dwcheck::Process;
 use dwcheck_lint::flow::is_entry_row;
 use dwcheck_lint::judge::unjudged;
+use dwcheck_lint::machine::Machine;
 use dwcheck_lint::module::{Convention, Module};
-use dwcheck_lint::register::Register;
-use dwcheck_lint::table::{Row, Rule as RowRule};
+use dwcheck_lint::register::{Register, Registers};
+use dwcheck_lint::table::{Cfa, Row, Rule as RowRule};
 use std::collections::{BTreeSet, HashMap};
 use std::ffi::OsStr;
 use std::fmt;
@@ -266,8 +267,39 @@ impl<'s> ModuleFile<'s> {
             None | Some(RowRule::Same) => Kept::InPlace,
             Some(_) => Kept::Elsewhere,
         });
-        Ok(Judged { section, kept, is_signal })
+        let reads = reads(self.module.machine, &row, &kept);
+        Ok(Judged { section, kept, begin: row.begin, reads, lowest: lowest(&row), is_signal })
     }
+}
+
+/// The registers by which a row finds the CFA, the return address and the callee-saved registers. `None` if it has
+/// an expression for one of them.
+fn reads(machine: &Machine, row: &Row<'_>, kept: &[Kept; KEPT]) -> Option<Registers> {
+    let mut reads = Registers::NONE;
+    match row.cfa {
+        Cfa::Offset(register, _) => reads.insert(register),
+        Cfa::Expression(_) => return None,
+    }
+    let judged = KEPT_NUMBERS.iter().zip(kept).filter(|(_, kept)| **kept != Kept::Unknown);
+    let judged = judged.map(|(number, _)| Register(*number as u8)).chain([machine.return_address]);
+    for register in judged {
+        match row.rule(register) {
+            None | Some(RowRule::Same) => reads.insert(register),
+            Some(RowRule::Register(other)) => reads.insert(other),
+            Some(RowRule::Offset(_) | RowRule::Undefined) => {}
+            Some(RowRule::Expression(_) | RowRule::Value) => return None,
+        }
+    }
+    Some(reads)
+}
+
+/// The lowest offset from the CFA at which a row finds a register.
+fn lowest(row: &Row<'_>) -> i64 {
+    let offsets = row.rules.iter().filter_map(|(_, rule)| match rule {
+        RowRule::Offset(offset) => Some(*offset),
+        _ => None,
+    });
+    offsets.min().unwrap_or(0)
 }
 
 impl Selection {

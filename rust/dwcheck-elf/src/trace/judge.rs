@@ -95,6 +95,7 @@ impl Tracer<'_, '_> {
     pub(super) fn judge(&mut self, thread: &mut Thread, space: &mut Space) {
         self.counts.steps += 1;
         self.sites.at_mut(thread.here.site).visits += 1;
+        thread.is_right = false;
         if !self.trusts_top(thread) {
             return;
         }
@@ -107,8 +108,7 @@ impl Tracer<'_, '_> {
             Ok(_) => return self.counts.rules.add(Rule::SignalReturn),
             Err(rule) => return self.counts.rules.add(rule),
         };
-        let unwound = self.unwind(thread.here.site, judged, &thread.registers, frame.cfa, space);
-        let verdict = verdict(judged, &unwound, frame);
+        let verdict = self.verdict_on(thread.here.site, judged, &thread.registers, frame, space);
         if !verdict.wrong.is_empty() && frame.origin != Origin::Signal {
             // What isn't where the call put it isn't known anymore.
             if space.word(frame.slot) != Some(frame.return_address) {
@@ -121,6 +121,7 @@ impl Tracer<'_, '_> {
         }
         self.counts.add_judged(&verdict);
         self.sites.at_mut(thread.here.site).judged += 1;
+        thread.is_right = verdict.wrong.is_empty();
         if !verdict.wrong.is_empty() {
             self.note_wrong(thread, space, verdict);
         }
@@ -132,12 +133,33 @@ impl Tracer<'_, '_> {
         let judged = self.sites.at(thread.here.site).row.ok().filter(|judged| !judged.is_signal);
         match (judged, thread.shadow.frames.last()) {
             (Some(judged), Some(frame)) => {
-                let unwound = self.unwind(thread.here.site, judged, &thread.registers, frame.cfa, space);
-                let wrong = verdict(judged, &unwound, frame).wrong;
+                let wrong = self.verdict_on(thread.here.site, judged, &thread.registers, frame, space).wrong;
                 !wrong.registers().without(frame.wrong).is_empty()
             }
             _ => false,
         }
+    }
+
+    /// Counts an instruction that was executed, and whose row is right.
+    pub(super) fn count_right(&mut self, site: usize) {
+        self.counts.steps += 1;
+        self.counts.add_judged(&Verdict::default());
+        let site = self.sites.at_mut(site);
+        site.visits += 1;
+        site.judged += 1;
+    }
+
+    /// Compares the row of an instruction, where a thread has these registers, with a frame.
+    pub(super) fn verdict_on(
+        &mut self,
+        site: usize,
+        judged: Judged,
+        registers: &Registers,
+        frame: &Frame,
+        space: &Space,
+    ) -> Verdict {
+        let unwound = self.unwind(site, judged, registers, frame.cfa, space);
+        verdict(judged, &unwound, frame)
     }
 
     /// What `dwcheck` computes by the row of an instruction. Its frame has these registers, and its CFA

@@ -17,6 +17,9 @@ use std::ptr::null_mut;
 /// The id of a thread, as the kernel gives it.
 pub type Tid = pid_t;
 
+/// Where the kernel's structure for a thread has the debug registers: they are its last field.
+const DEBUG_REGISTERS: usize = std::mem::size_of::<libc::user>() - 8 * std::mem::size_of::<u64>();
+
 /// What a thread reports.
 #[derive(Clone, Copy, Debug, PartialEq, Eq)]
 pub enum Report {
@@ -113,6 +116,14 @@ pub fn set_program_counter(tid: Tid, address: u64) {
         raw.orig_rax = u64::MAX;
         let _ = ptrace::setregs(Pid::from_raw(tid), raw);
     }
+}
+
+/// Sets a debug register of a stopped thread.
+pub fn set_debug_register(tid: Tid, index: usize, value: u64) -> Result<(), Errno> {
+    let offset = DEBUG_REGISTERS + std::mem::size_of::<u64>() * index;
+    // SAFETY: the request takes an offset in the kernel's structure, and a number.
+    let result = unsafe { libc::ptrace(libc::PTRACE_POKEUSER, tid, offset, value) };
+    Errno::result(result).map(|_| ())
 }
 
 /// The number and the first two arguments of the system call that a thread has stopped in.

@@ -22,7 +22,8 @@ impl Tracer<'_, '_> {
         for thread in &mut threads {
             thread.space.borrow_mut().take_out();
         }
-        for thread in threads.iter().filter(|thread| thread.is_stopped) {
+        for thread in threads.iter_mut().filter(|thread| thread.is_stopped) {
+            thread.hardware.clear(thread.tid);
             ptrace::detach(thread.tid, signals.get(&thread.tid).copied().unwrap_or(0));
         }
         for tid in std::mem::take(&mut self.early) {

@@ -103,6 +103,13 @@ impl Frame {
     }
 }
 
+impl Frame {
+    /// Notes that instructions of the function were executed, of which one is new or none.
+    pub fn add_idle(&mut self, count: u64, is_new: bool) {
+        self.idle = if is_new { 0 } else { self.idle + count };
+    }
+}
+
 impl Shadow {
     /// Whether the stack pointer is still on the same stack.
     pub fn is_on(&self, stack_pointer: u64) -> bool {

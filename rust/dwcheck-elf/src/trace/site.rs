@@ -5,7 +5,8 @@ use super::rules::Rule;
 use super::shadow::FdeId;
 use dwcheck_lint::instruction::{Effect, Instruction};
 use dwcheck_lint::judge::Verdict;
-use std::collections::HashMap;
+use dwcheck_lint::register::Registers;
+use rustc_hash::FxHashMap;
 
 /// An instruction of a file, at one address, wherever the file is loaded.
 #[derive(Debug)]
@@ -41,6 +42,13 @@ pub struct Judged {
     pub section: usize,
     /// Where it finds each callee-saved register.
     pub kept: [Kept; KEPT],
+    /// The first address of the row, in the file.
+    pub begin: u64,
+    /// The registers by which it finds the CFA, the return address and these registers. `None` if it has an
+    /// expression for one of them.
+    pub reads: Option<Registers>,
+    /// The lowest offset from the CFA at which it finds one of them.
+    pub lowest: i64,
     /// Whether it describes the frame of a signal.
     pub is_signal: bool,
 }
@@ -54,6 +62,13 @@ pub enum Kept {
     Elsewhere,
     /// Nowhere, or the function doesn't have to give it back.
     Unknown,
+}
+
+impl Judged {
+    /// Whether it is the same row as another one in the same file.
+    pub fn is_same_row(&self, other: &Judged) -> bool {
+        (self.section, self.begin) == (other.section, other.begin)
+    }
 }
 
 /// What was wrong at an instruction.
@@ -89,7 +104,7 @@ pub struct Sites {
     /// The place of an instruction that isn't remembered.
     passing: Option<usize>,
     /// The index of each one, by its file and its address there.
-    places: HashMap<(usize, u64), usize>,
+    places: FxHashMap<(usize, u64), usize>,
 }
 
 impl Site {

@@ -6,7 +6,7 @@ use super::ptrace::Tid;
 use super::site::{Site, Sites};
 use crate::live::{Map, Process};
 use dwcheck_lint::x86_64::X86_64;
-use std::collections::HashMap;
+use rustc_hash::FxHashMap;
 use std::fs::{File, OpenOptions};
 use std::io;
 use std::ops::Range;
@@ -33,7 +33,7 @@ pub(super) struct Space {
     writable: Vec<Range<u64>>,
     pub breakpoints: Breakpoints,
     /// The index of the instruction at each address that was stepped.
-    sites: HashMap<u64, usize>,
+    sites: FxHashMap<u64, usize>,
 }
 
 /// A part of executable memory.
@@ -50,7 +50,7 @@ impl Space {
     /// The memory of a process, of which nothing is known yet.
     pub fn of(pid: Tid) -> io::Result<Space> {
         let memory = OpenOptions::new().read(true).write(true).open(format!("/proc/{}/mem", pid))?;
-        let (code, writable, sites) = (Vec::new(), Vec::new(), HashMap::new());
+        let (code, writable, sites) = (Vec::new(), Vec::new(), FxHashMap::default());
         Ok(Space { pid, memory, code, writable, breakpoints: Breakpoints::default(), sites })
     }
 

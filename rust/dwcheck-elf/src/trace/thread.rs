@@ -4,6 +4,7 @@ use super::ptrace::Tid;
 use super::registers::Registers;
 use super::shadow::{FdeId, Shadow};
 use super::space::Space;
+use super::stretch::{Hardware, Stretch};
 use dwcheck_lint::instruction::Effect;
 use std::cell::RefCell;
 use std::rc::Rc;
@@ -33,6 +34,11 @@ pub(super) struct Thread {
     pub shadow: Shadow,
     /// The address of a breakpoint that is out of the code, so that the thread can pass it.
     pub lifted: Option<u64>,
+    /// Whether the row of the instruction before which it is was judged, and is right.
+    pub is_right: bool,
+    /// The stretch that it runs.
+    pub stretch: Option<Stretch>,
+    pub hardware: Hardware,
     /// Whether it was given a signal when it went on.
     pub got_signal: bool,
     /// Whether it is stopped.
@@ -68,6 +74,9 @@ impl Thread {
             before: Here::NOWHERE,
             shadow: Shadow::default(),
             lifted: None,
+            is_right: false,
+            stretch: None,
+            hardware: Hardware::default(),
             got_signal: false,
             is_stopped: false,
         }

@@ -10,6 +10,7 @@ use super::shadow::FdeId;
 use super::site::Sites;
 use super::space::Space;
 use super::start::start;
+use super::stretch::Stretch;
 use super::thread::{Mode, Thread};
 use super::{End, Options, TraceError};
 use crate::lint::Sections;
@@ -27,6 +28,9 @@ use typed_arena::Arena;
 
 /// The kernel itself sent the signal, as for a breakpoint (`SI_KERNEL`).
 pub(super) const BY_KERNEL: i32 = 0x80;
+
+/// The processor came to one of its breakpoints (`TRAP_HWBKPT`).
+const HARDWARE: i32 = 4;
 
 /// The bits of a file's mode that give a program another user's or group's rights.
 const PRIVILEGED: u32 = 0o6000;
@@ -158,6 +162,9 @@ impl Tracer<'_, '_> {
             None => return self.stopped_first(tid),
         };
         thread.is_stopped = true;
+        if report != Report::Signal(libc::SIGTRAP) {
+            self.interrupted(&mut thread);
+        }
         let signal = match report {
             Report::Signal(libc::SIGTRAP) => self.trapped(&mut thread),
             Report::Signal(signal) => Some(signal),
@@ -177,9 +184,36 @@ impl Tracer<'_, '_> {
             _ => Some(0),
         };
         if let Some(signal) = signal {
-            resume(&mut thread, signal);
+            self.resume(&mut thread, signal);
         }
         self.threads.insert(tid, thread);
+    }
+
+    /// A thread stopped for another reason than a trap. If it ran a stretch, this ends that.
+    fn interrupted(&mut self, thread: &mut Thread) {
+        let space = Rc::clone(&thread.space);
+        if let (Some(stretch), Ok(registers)) = (thread.stretch.take(), ptrace::registers(thread.tid)) {
+            self.arrived(thread, &mut space.borrow_mut(), &stretch, &registers);
+        }
+    }
+
+    /// A thread that ran a stretch got the signal of a trap. Returns the signal that it gets, 0 if none.
+    fn ran(&mut self, thread: &mut Thread, space: &mut Space, stretch: &Stretch, registers: Registers) -> i32 {
+        let code = ptrace::signal_code(thread.tid).unwrap_or(BY_KERNEL);
+        let at_breakpoint = registers.program_counter().wrapping_sub(1);
+        // Another thread may have set a breakpoint in the code meanwhile.
+        let is_rewound = code == BY_KERNEL && space.breakpoints.is_known(at_breakpoint);
+        let registers = if is_rewound { registers.at(at_breakpoint) } else { registers };
+        if is_rewound {
+            ptrace::set_program_counter(thread.tid, at_breakpoint);
+        }
+        self.arrived(thread, space, stretch, &registers);
+        let is_own = code <= 0 || code == BY_KERNEL && !is_rewound;
+        if is_own {
+            libc::SIGTRAP
+        } else {
+            0
+        }
     }
 
     /// A thread got the signal of a trap. Returns the signal that it gets, 0 if none; `None` if it ended.
@@ -189,6 +223,9 @@ impl Tracer<'_, '_> {
         let mut space = space.borrow_mut();
         // The thread by which the memory was known may have ended.
         space.pid = thread.tid;
+        if let Some(stretch) = thread.stretch.take() {
+            return Some(self.ran(thread, &mut space, &stretch, registers));
+        }
         let address = thread.program_counter();
         // Traps that are the program's own, and system calls by which it sends itself the signal.
         let is_own_trap = matches!(thread.here.effect, Effect::Stop | Effect::Padding | Effect::System { .. });
@@ -204,6 +241,10 @@ impl Tracer<'_, '_> {
         }
         if thread.mode == Mode::Running || code == BY_KERNEL {
             return Some(self.trapped_running(thread, &mut space, registers, code));
+        }
+        if code == HARDWARE && is_same {
+            // An old breakpoint of the processor. Nothing was executed.
+            return Some(0);
         }
         // What a process sends isn't a step, but the kernel gives one signal for both.
         let sent = if may_be_other && code <= 0 { libc::SIGTRAP } else { 0 };
@@ -300,7 +341,7 @@ impl Tracer<'_, '_> {
         };
         let mut thread = Thread::new(tid, space);
         self.set_out(&mut thread);
-        resume(&mut thread, 0);
+        self.resume(&mut thread, 0);
         self.threads.insert(tid, thread);
     }
 
@@ -351,8 +392,34 @@ impl Tracer<'_, '_> {
         self.plant(&mut space);
         let mut thread = Thread::new(tid, Rc::new(RefCell::new(space)));
         self.set_out(&mut thread);
-        resume(&mut thread, 0);
+        self.resume(&mut thread, 0);
         self.threads.insert(tid, thread);
+    }
+
+    /// Lets a thread go on. It gets the signal, if that isn't 0.
+    fn resume(&mut self, thread: &mut Thread, signal: i32) {
+        thread.got_signal = signal != 0 && thread.mode == Mode::Stepping;
+        thread.is_stopped = false;
+        if thread.mode != Mode::Stepping {
+            thread.hardware.clear(thread.tid);
+        }
+        if thread.mode == Mode::Running || thread.mode == Mode::Stepping && signal == 0 && self.begins_stretch(thread) {
+            ptrace::run(thread.tid, signal);
+            return;
+        }
+        let address = thread.program_counter();
+        if thread.space.borrow_mut().lift(address) {
+            thread.lifted = Some(address);
+        }
+        ptrace::step(thread.tid, signal);
+    }
+
+    /// Whether a thread that is stepped runs a stretch next.
+    fn begins_stretch(&mut self, thread: &mut Thread) -> bool {
+        let space = Rc::clone(&thread.space);
+        let stretch = self.stretch(thread, &mut space.borrow_mut());
+        thread.stretch = stretch.filter(|stretch| thread.hardware.set(thread.tid, stretch.ends()));
+        thread.stretch.is_some()
     }
 
     fn ended(&mut self, tid: Tid, end: End) {
@@ -365,21 +432,6 @@ impl Tracer<'_, '_> {
             self.end = Some(end);
         }
     }
-}
-
-/// Lets a thread go on. It gets the signal, if that isn't 0.
-pub(super) fn resume(thread: &mut Thread, signal: i32) {
-    thread.got_signal = signal != 0 && thread.mode == Mode::Stepping;
-    thread.is_stopped = false;
-    if thread.mode == Mode::Running {
-        ptrace::run(thread.tid, signal);
-        return;
-    }
-    let address = thread.program_counter();
-    if thread.space.borrow_mut().lift(address) {
-        thread.lifted = Some(address);
-    }
-    ptrace::step(thread.tid, signal);
 }
 
 /// Whether what a thread makes uses its memory, by the arguments of the system call.

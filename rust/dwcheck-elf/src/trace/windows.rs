@@ -170,7 +170,7 @@ impl Tracer<'_, '_> {
             None => return true,
         };
         let is_begin = frame.slot == stack && frame.origin != Origin::Signal;
-        frame.idle = if site.visits == 0 { 0 } else { frame.idle + 1 };
+        frame.add_idle(1, site.visits == 0);
         if is_begin && site.is_entry && is_stepped && site.visits + 1 == self.options.calls {
             space.forget_entry(thread.registers.program_counter());
         }
