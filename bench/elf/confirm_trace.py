@@ -88,7 +88,7 @@ class Place(gdb.Breakpoint):
 
 gdb.execute("file " + WORDS[0])
 gdb.execute("set args " + " ".join(WORDS[1:]))
-gdb.execute("run > /dev/null 2>&1", to_string=True)
+gdb.execute("run", to_string=True)
 set_up = set()
 while True:
     try:
@@ -108,7 +108,7 @@ while True:
         gdb.execute("continue", to_string=True)
     except gdb.error:
         break
-print("VERDICTS " + json.dumps(verdicts))
+print("\nVERDICTS " + json.dumps(verdicts))
 """
 
 
