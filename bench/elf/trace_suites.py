@@ -50,7 +50,7 @@ int main(int count, char **words) {
 """
 
 # What differs from one run to the next.
-CHANGING = [(re.compile(rb"in [0-9.]+s"), b"in TIME"), (re.compile(rb"0x[0-9a-f]{6,}"), b"ADDRESS"),
+CHANGING = [(re.compile(rb"in [0-9.]+s"), b"in TIME"), (re.compile(rb"\d\d:\d\d:\d\d"), b"TIME"), (re.compile(rb"0x[0-9a-f]{6,}"), b"ADDRESS"),
             (re.compile(rb"/tmp/[\w./@-]+"), b"TEMPORARY")]
 
 

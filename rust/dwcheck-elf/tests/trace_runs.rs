@@ -205,7 +205,7 @@ fn what_it_starts_goes_on() {
     }
     let folder = Folder::new("trace-starts");
     for option in ["", "--follow-fork"] {
-        let traced = trace(&folder, option, "bash -c '(sleep 1; echo late > late) > /dev/null 2>&1 & echo first'");
+        let traced = trace(&folder, option, "bash -c '(sleep 4; echo late > late) > /dev/null 2>&1 & echo first'");
         assert_eq!((traced.status, traced.out.as_str()), (0, "first\n"), "{}", traced.log);
         assert!(!folder.file("late").exists());
         assert!(comes_true(|| folder.file("late").exists()), "{:?}", option);
