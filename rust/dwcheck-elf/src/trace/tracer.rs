@@ -223,9 +223,14 @@ impl Tracer<'_, '_> {
         let mut space = space.borrow_mut();
         // The thread by which the memory was known may have ended.
         space.pid = thread.tid;
-        if let Some(stretch) = thread.stretch.take() {
-            return Some(self.ran(thread, &mut space, &stretch, registers));
+        match thread.stretch.take() {
+            Some(stretch) => Some(self.ran(thread, &mut space, &stretch, registers)),
+            None => self.trapped_at(thread, &mut space, registers),
         }
+    }
+
+    /// A thread that made a step, or runs, got the signal of a trap, and has these registers.
+    fn trapped_at(&mut self, thread: &mut Thread, space: &mut Space, registers: Registers) -> Option<i32> {
         let address = thread.program_counter();
         // Traps that are the program's own, and system calls by which it sends itself the signal.
         let is_own_trap = matches!(thread.here.effect, Effect::Stop | Effect::Padding | Effect::System { .. });
@@ -240,7 +245,7 @@ impl Tracer<'_, '_> {
             return Some(0);
         }
         if thread.mode == Mode::Running || code == BY_KERNEL {
-            return Some(self.trapped_running(thread, &mut space, registers, code));
+            return Some(self.trapped_running(thread, space, registers, code));
         }
         if code == HARDWARE && is_same {
             // An old breakpoint of the processor. Nothing was executed.
@@ -259,7 +264,7 @@ impl Tracer<'_, '_> {
                 thread.registers = registers;
                 thread.mode = Mode::Running;
             }
-            _ => self.stepped(thread, &mut space, &registers),
+            _ => self.stepped(thread, space, &registers),
         }
         Some(sent)
     }
