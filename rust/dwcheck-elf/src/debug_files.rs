@@ -103,6 +103,17 @@ impl DebugFiles {
         self.open(&file).ok()?.filter(|bytes| same_id(bytes, id).is_ok())
     }
 
+    /// The file at an absolute path. `None` if it isn't there, or can't be read.
+    pub(crate) fn at(&self, path: &Path) -> Option<&Bytes> {
+        let inner = path.strip_prefix("/").ok()?;
+        let goes_down = inner.components().all(|part| matches!(part, Component::Normal(_)));
+        if goes_down {
+            self.open(&self.root.join(inner)).ok()?
+        } else {
+            None
+        }
+    }
+
     /// Opens a regular file. `None` if it isn't there.
     fn open(&self, path: &Path) -> Result<Option<&Bytes>, (PathBuf, NotUsed)> {
         let read = || -> io::Result<Option<Bytes>> {

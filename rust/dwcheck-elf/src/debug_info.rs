@@ -1,7 +1,9 @@
 //! The sections of debug information of a program, as gimli takes them.
 
+mod split;
 mod units;
 
+pub(crate) use split::SplitFile;
 pub(crate) use units::{Die, Units};
 
 use crate::program::{Program, ProgramError};
@@ -20,7 +22,16 @@ pub(crate) fn section<'a>(
     id: SectionId,
     unpacked: &'a Arena<Vec<u8>>,
 ) -> Result<Slice<'a>, ProgramError> {
-    let bytes = match program.debug_section(id.name())? {
+    named(program, id.name(), unpacked)
+}
+
+/// The same by the section's name.
+fn named<'a>(
+    program: &Program<'a>,
+    name: &'static str,
+    unpacked: &'a Arena<Vec<u8>>,
+) -> Result<Slice<'a>, ProgramError> {
+    let bytes = match program.debug_section(name)? {
         Some(Cow::Borrowed(bytes)) => bytes,
         Some(Cow::Owned(bytes)) => unpacked.alloc(bytes),
         None => &[],

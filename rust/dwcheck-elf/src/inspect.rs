@@ -37,6 +37,9 @@ pub struct Check {
 pub struct Inspected<'data> {
     /// The name of the section.
     pub name: Name,
+    /// The file of a single unit that has the section (`-gsplit-dwarf`). `None` if it is in the program or
+    /// in its separate file.
+    pub file: Option<PathBuf>,
     /// The number of bytes of the section in the file, decompressed. 0 if it couldn't be read.
     pub bytes: usize,
     /// The frame section. `None` for location lists, and for a frame section that couldn't be read.
@@ -79,7 +82,8 @@ pub enum InspectError {
     List(Name, lists::Difference),
     /// No unit refers to location lists, though the file has some.
     NoReferences(Name),
-    /// This many units have their debug information in files of their own, one of which has this name.
+    /// This many units have their debug information in files of their own that aren't there or can't be used,
+    /// one of which has this name.
     Split(usize, Option<String>),
 }
 
@@ -106,7 +110,7 @@ pub fn inspect_lists<'data>(
     check: Check,
 ) -> Vec<Inspected<'data>> {
     if program.has_bytes(".debug_info") {
-        return lists::inspect_lists(program, shared, check.all);
+        return lists::inspect_lists(program, shared, None, check.all);
     }
     let (bytes, verdict) = match program.debug_loclists() {
         Ok(Some(lists)) => (lists.bytes.len(), inspect_section_of_lists(&lists.bytes, program.target())),
@@ -114,7 +118,7 @@ pub fn inspect_lists<'data>(
         Err(error) => (0, Err(InspectError::Program(error))),
     };
     let verdict = verdict.unwrap_or_else(Verdict::Unread);
-    vec![Inspected { name: Name::DebugLoclists, bytes, frames: None, lists: None, verdict }]
+    vec![Inspected { name: Name::DebugLoclists, bytes, file: None, frames: None, lists: None, verdict }]
 }
 
 /// Checks the location lists of a program as [`inspect_lists`] does, but those of its separate file of debug
@@ -135,7 +139,7 @@ pub fn inspect_lists_of_file<'data>(
     };
     let lists = |program: &Program<'_>| {
         let shared = files.shared(program).and_then(|bytes| Program::read(bytes).ok());
-        lists::inspect_lists(program, shared.as_ref(), check.all)
+        lists::inspect_lists(program, shared.as_ref(), Some(files), check.all)
     };
     match separate {
         Some((path, bytes)) => match Program::read(bytes) {
@@ -166,12 +170,19 @@ fn unread_frames<'data>(error: FramesError) -> Inspected<'data> {
             (name, Verdict::Refused(vec![Defect { section: name, ..defect }]))
         }
     };
-    Inspected { name, bytes: 0, frames: None, lists: None, verdict }
+    Inspected { name, file: None, bytes: 0, frames: None, lists: None, verdict }
 }
 
 fn inspect_frames<'data>(program: &Program<'data>, frames: Frames<'data>, check: Check) -> Inspected<'data> {
     let verdict = verdict_on(program, &frames, check).unwrap_or_else(Verdict::Unread);
-    Inspected { name: frames.name(), bytes: frames.source().bytes.len(), frames: Some(frames), lists: None, verdict }
+    Inspected {
+        name: frames.name(),
+        file: None,
+        bytes: frames.source().bytes.len(),
+        frames: Some(frames),
+        lists: None,
+        verdict,
+    }
 }
 
 fn verdict_on(program: &Program<'_>, frames: &Frames<'_>, check: Check) -> Result<Verdict, InspectError> {
@@ -236,7 +247,7 @@ impl Rest<'_> {
 impl<'data> Inspected<'data> {
     /// A section that can't be read or checked.
     pub(crate) fn unread(name: Name, error: InspectError) -> Self {
-        Inspected { name, bytes: 0, frames: None, lists: None, verdict: Verdict::Unread(error) }
+        Inspected { name, file: None, bytes: 0, frames: None, lists: None, verdict: Verdict::Unread(error) }
     }
 
     /// What is left of a refused frame section. `None` for any other section, and for one that can't
@@ -320,10 +331,12 @@ impl fmt::Display for InspectError {
             InspectError::Split(count, name) => {
                 let name = name.as_deref().unwrap_or("without a name");
                 match count {
-                    1 => write!(f, "1 unit has its location lists in another file, {}, which isn't read", Plain(name)),
+                    1 => {
+                        write!(f, "1 unit has its location lists in another file, {}, which can't be used", Plain(name))
+                    }
                     _ => write!(
                         f,
-                        "{} units have their location lists in other files, such as {}, which aren't read",
+                        "{} units have their location lists in other files, such as {}, which can't be used",
                         count,
                         Plain(name)
                     ),

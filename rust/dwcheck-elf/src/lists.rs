@@ -15,6 +15,7 @@ mod entry;
 mod expression;
 mod hole;
 mod lints;
+mod look_ups;
 mod operations;
 mod problem;
 mod references;
@@ -24,11 +25,12 @@ mod single;
 mod unit;
 mod validate;
 
-pub use check::inspect_lists;
+pub use check::{compare_look_ups, inspect_lists};
 pub use contents::Contents;
 pub use coverage::Bytes;
 pub use hole::{Hole, Spot};
 pub use lints::Lints;
+pub use look_ups::LookUps;
 pub use problem::Limit;
 pub use validate::Difference;
 

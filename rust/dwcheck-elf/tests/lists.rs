@@ -129,13 +129,44 @@ fn a_separate_file_is_found() {
     assert!(ran.status == 0 && !ran.out.contains("loclists"), "{}", ran.out);
 }
 
-/// With -gsplit-dwarf, the lists are in a file of their own.
+/// With -gsplit-dwarf, the lists are in files of their own.
 #[test]
-fn lists_of_other_files_are_not_accepted() {
+fn lists_of_other_files_are_found() {
     let folder = Folder::new("lists-split");
+    folder.write("a.c", SOURCE);
+    folder.write("b.c", SOURCE.replace("main", "more").replace("first", "second").replace("mixed", "other"));
+    for compiler in ["gcc", "clang"] {
+        if !has(compiler) {
+            continue;
+        }
+        folder.run(&format!("{} -O2 -g -gsplit-dwarf -gdwarf-5 a.c b.c -o program", compiler));
+        let ran = dwcheck_elf(&folder, "check program");
+        assert!(ran.status == 0 && ran.error.is_empty(), "{}: {:?}", compiler, ran);
+        let names = folder.run("ls *.dwo");
+        for name in names.lines() {
+            let line = format!("program: .debug_loclists (in {}): accepted", folder.file(name).display());
+            assert!(ran.lines().contains(&line.as_str()), "{}", ran.out);
+        }
+        assert_eq!(ran.out.matches(" unused 0 gaps 0\n").count(), 2, "{}", ran.out);
+        // Another build of one of the files.
+        folder
+            .run(&format!("{} -O1 -g -gsplit-dwarf -gdwarf-5 -c a.c -o other.o; rm -f a.dwo program-a.dwo", compiler));
+        folder.run(&format!("cp other.dwo {}", names.lines().next().unwrap()));
+        let ran = dwcheck_elf(&folder, "check program");
+        assert_eq!((ran.status, ran.out.matches(" unused 0 gaps 0\n").count()), (3, 1), "{:?}", ran);
+        folder.run("rm *.dwo");
+    }
+}
+
+#[test]
+fn lists_of_other_files_that_are_not_there() {
+    let folder = Folder::new("lists-no-split");
     folder.write("a.c", SOURCE);
     for version in [4, 5] {
         folder.run(&format!("gcc -O2 -g -gsplit-dwarf -gdwarf-{} a.c -o program", version));
+        if version == 5 {
+            folder.run("rm program-a.dwo");
+        }
         let ran = dwcheck_elf(&folder, "check program");
         assert!(ran.status == 3 && !ran.out.contains("loc"), "{:?}", ran);
         assert!(ran.error.contains("1 unit has its location lists in another file, program-a.dwo"), "{}", ran.error);

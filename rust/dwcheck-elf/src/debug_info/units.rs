@@ -25,6 +25,8 @@ pub(crate) struct Units<'a> {
     types: RefCell<Option<HashMap<DebugTypeSignature, usize>>>,
     /// The units that several files share (`.gnu_debugaltlink`).
     shared: Option<Box<Units<'a>>>,
+    /// The unit of the program of which this file has the rest.
+    skeleton: Option<Rc<Unit<Slice<'a>>>>,
 }
 
 /// An entry of debug information.
@@ -50,7 +52,17 @@ impl<'a> Units<'a> {
         }
         let shared = shared.map(|shared| Units::read(shared, None).map(Box::new)).transpose()?;
         let (read, types) = (RefCell::default(), RefCell::default());
-        Ok(Units { dwarf, headers, in_info, read, types, shared })
+        Ok(Units { dwarf, headers, in_info, read, types, shared, skeleton: None })
+    }
+
+    /// Reads the headers of the units of a file that has the rest of a unit (`-gsplit-dwarf`).
+    pub fn read_split(dwarf: Dwarf<Slice<'a>>, skeleton: Rc<Unit<Slice<'a>>>) -> Result<Self, gimli::Error> {
+        Ok(Units { skeleton: Some(skeleton), ..Units::read(dwarf, None)? })
+    }
+
+    /// Whether the units are those of a file that has the rest of a unit.
+    pub fn are_split(&self) -> bool {
+        self.skeleton.is_some()
     }
 
     /// The unit with an index among [`Self::headers`], which stays in memory.
@@ -59,7 +71,12 @@ impl<'a> Units<'a> {
             return Ok(Rc::clone(unit));
         }
         let header = self.headers.get(index).ok_or(gimli::Error::MissingUnitDie)?;
-        let unit = Rc::new(self.dwarf.unit(*header)?);
+        let mut unit = self.dwarf.unit(*header)?;
+        if let Some(skeleton) = &self.skeleton {
+            unit.copy_relocated_attributes(skeleton);
+            unit.line_program = unit.line_program.or_else(|| skeleton.line_program.clone());
+        }
+        let unit = Rc::new(unit);
         self.read.borrow_mut().insert(index, Rc::clone(&unit));
         Ok(unit)
     }
@@ -180,6 +197,13 @@ impl<'u, 'a> Die<'u, 'a> {
     pub fn name(&self) -> Option<String> {
         let (die, value) = self.inherited(gimli::DW_AT_name)?;
         die.string(value)
+    }
+
+    /// The name of the file that has the rest of the unit, if this is the first entry of a unit whose debug
+    /// information is in a file of its own (`-gsplit-dwarf`).
+    pub fn split_file(&self) -> Option<String> {
+        let name = self.attribute(gimli::DW_AT_dwo_name).or_else(|| self.attribute(gimli::DW_AT_GNU_dwo_name));
+        self.string(name?)
     }
 
     /// The text of an attribute of this entry.

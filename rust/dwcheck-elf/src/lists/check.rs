@@ -1,17 +1,20 @@
 //! Checks all location lists of a program.
 
 use super::expression::Scope;
+use super::look_ups::LookUps;
 use super::references::{abbreviations_length, references, Reference};
-use super::report::report;
+use super::report::{report, units, NAMES};
 use super::section::{checked, every_problem, Section};
 use super::unit::{Source, UnitLists};
 use super::validate::validate;
-use crate::debug_info::{ranges_of, section, Slice};
+use crate::debug_files::DebugFiles;
+use crate::debug_info::{ranges_of, section, Slice, SplitFile, Units};
 use crate::frames::Name;
 use crate::inspect::{InspectError, Inspected};
 use crate::program::Program;
 use crate::target::Target;
 use gimli::{DebugAddrIndex, Dwarf, Reader, Section as _, SectionId, Unit, UnitHeader, UnitSectionOffset};
+use std::rc::Rc;
 use typed_arena::Arena;
 
 /// The sections that a check needs.
@@ -42,23 +45,92 @@ struct Lists<'a> {
     abbreviations: usize,
     /// The indexes of units whose debug information is in files of their own.
     split: Vec<usize>,
+    /// The look-ups that were compared with gimli's, if they are to be compared.
+    look_ups: Option<LookUps>,
+    /// For the file of a unit: what the program has of the unit.
+    skeleton: Option<Rc<Unit<Slice<'a>>>>,
 }
 
 /// Checks the location lists to which the debug information of a program refers. `shared` is the file that
-/// its `.gnu_debugaltlink` names. If `all`, every refused expression is a fault of the result, else only the
+/// its `.gnu_debugaltlink` names. With `files`, those in files of single units are checked too, each as a
+/// section of its own (DWARF 5, section 7.3.2). If `all`, every refused expression is a fault of the result, else only the
 /// first one.
 ///
 /// The memory that this takes is in proportion to the sections of lists, and to a unit of `.debug_info`.
-pub fn inspect_lists<'d>(program: &Program<'_>, shared: Option<&Program<'_>>, all: bool) -> Vec<Inspected<'d>> {
+pub fn inspect_lists<'d>(
+    program: &Program<'_>,
+    shared: Option<&Program<'_>>,
+    files: Option<&DebugFiles>,
+    all: bool,
+) -> Vec<Inspected<'d>> {
     let unpacked = Arena::new();
     let checked = Lists::open(program, &unpacked).and_then(|mut lists| {
         lists.check()?;
         Ok(lists)
     });
     match checked {
-        Ok(Lists { sections, split, .. }) => report(program, shared, sections, &split, all),
+        Ok(Lists { sections, split, lowest, .. }) => {
+            let names = || units(program, shared, &unpacked);
+            let mut results = report(sections, names, all);
+            if !split.is_empty() {
+                results.extend(inspect_split(names(), files, (&split, lowest), all));
+            }
+            results
+        }
         Err(error) => vec![Inspected::unread(Name::DebugLoclists, error)],
     }
+}
+
+/// Checks the lists of units, by their indexes, that are in files of their own. The last result says how many of
+/// these aren't there, and names one.
+fn inspect_split<'d, 'a>(
+    units: Option<Units<'a>>,
+    files: Option<&'a DebugFiles>,
+    (split, lowest): (&[usize], u64),
+    all: bool,
+) -> Vec<Inspected<'d>> {
+    let mut results = Vec::new();
+    let mut missing = Vec::new();
+    for index in split {
+        let root = units.as_ref().and_then(|units| units.root(*index));
+        let opened = files.and_then(|files| SplitFile::open(root.as_ref()?, files));
+        match opened.filter(|opened| opened.skeleton.encoding().version >= 5) {
+            Some(opened) => results.extend(of_split(&opened, lowest, all)),
+            None => missing.push(root.and_then(|root| root.split_file())),
+        }
+    }
+    if let Some(name) = missing.first().cloned() {
+        results.push(Inspected::unread(Name::DebugLoclists, InspectError::Split(missing.len(), name)));
+    }
+    results
+}
+
+/// Checks the lists in the file of a unit.
+fn of_split<'d>(opened: &SplitFile<'_>, lowest: u64, all: bool) -> Vec<Inspected<'d>> {
+    let checked = Lists::open_split(opened, lowest).and_then(|mut lists| {
+        lists.check()?;
+        Ok(lists.sections)
+    });
+    let results = match checked {
+        Ok(sections) => report(sections, || opened.units(&NAMES), all),
+        Err(error) => vec![Inspected::unread(Name::DebugLoclists, error)],
+    };
+    let in_file = |result| Inspected { file: Some(opened.path.clone()), ..result };
+    results.into_iter().map(in_file).collect()
+}
+
+/// Looks up addresses of each list to which the debug information of a program refers: by `dwcheck`, in the
+/// rewritten list, and by gimli, in the original. Returns how many look-ups had the same expressions.
+///
+/// # Errors
+///
+/// If a list can't be read, or a look-up has other expressions.
+pub fn compare_look_ups(program: &Program<'_>) -> Result<LookUps, InspectError> {
+    let unpacked = Arena::new();
+    let mut lists = Lists::open(program, &unpacked)?;
+    lists.look_ups = Some(LookUps::default());
+    lists.check()?;
+    Ok(lists.look_ups.unwrap_or_default())
 }
 
 impl<'a> Lists<'a> {
@@ -78,7 +150,17 @@ impl<'a> Lists<'a> {
         let abbreviations = dwarf.debug_abbrev.reader().len().saturating_mul(MAX_SHARED_ABBREVIATIONS);
         let sections = [Section::new(Name::DebugLoc, loc.slice()), Section::new(Name::DebugLoclists, loclists.slice())];
         let lowest = program.code(0).map_or(0, |code| *code.start());
-        Ok(Lists { dwarf, sections, lowest, target: program.target(), abbreviations, split: Vec::new() })
+        let (target, split, look_ups) = (program.target(), Vec::new(), None);
+        Ok(Lists { dwarf, sections, lowest, target, abbreviations, split, look_ups, skeleton: None })
+    }
+
+    fn open_split(opened: &SplitFile<'a>, lowest: u64) -> Result<Self, InspectError> {
+        let dwarf = opened.dwarf(&NEEDED).map_err(InspectError::Program)?;
+        let loclists = opened.loclists().map_err(InspectError::Program)?;
+        let sections = [Section::new(Name::DebugLoc, &[]), Section::new(Name::DebugLoclists, loclists)];
+        let abbreviations = dwarf.debug_abbrev.reader().len().saturating_mul(MAX_SHARED_ABBREVIATIONS);
+        let (target, skeleton) = (opened.target(), Some(Rc::clone(&opened.skeleton)));
+        Ok(Lists { dwarf, sections, lowest, target, abbreviations, split: Vec::new(), look_ups: None, skeleton })
     }
 
     /// Checks the lists of all units.
@@ -114,9 +196,11 @@ impl<'a> Lists<'a> {
         let length = abbreviations_length(self.dwarf.debug_abbrev.reader(), header.debug_abbrev_offset().0);
         let left = self.abbreviations.checked_sub(length);
         self.abbreviations = left.ok_or_else(|| fail("units share too many abbreviations".to_string()))?;
-        let unit = self.dwarf.unit(header).map_err(|error| fail(error.to_string()))?;
-        if unit.dwo_id.is_some() {
-            self.split.push(index);
+        let mut unit = self.dwarf.unit(header).map_err(|error| fail(error.to_string()))?;
+        match &self.skeleton {
+            Some(skeleton) => unit.copy_relocated_attributes(skeleton),
+            None if unit.dwo_id.is_some() => self.split.push(index),
+            None => {}
         }
         let references = match references(&self.dwarf, &unit) {
             Ok(references) => references,
@@ -156,6 +240,10 @@ impl<'a> Lists<'a> {
         }
         let compared = validate(dwarf, unit, &lists, name, source.new_base(unit.low_pc));
         section.contents.not_compared += compared.map_err(|difference| InspectError::List(name, difference))?;
+        if let Some(look_ups) = &mut self.look_ups {
+            let compared = look_ups.compare(dwarf, unit, &lists, &source);
+            compared.map_err(|difference| InspectError::List(name, difference))?;
+        }
         let mut ranges = dwarf.unit_ranges(unit).map(ranges_of).unwrap_or_default();
         ranges.sort_by_key(|range| range.start);
         section.contents.lints.count(&lists, section.bytes, &ranges, self.lowest, self.target);

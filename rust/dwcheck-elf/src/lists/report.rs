@@ -13,7 +13,7 @@ use std::collections::{BTreeMap, BTreeSet, HashMap};
 use typed_arena::Arena;
 
 /// The sections with the names of variables, functions and files.
-const NEEDED: [SectionId; 8] = [
+pub(super) const NAMES: [SectionId; 8] = [
     SectionId::DebugAbbrev,
     SectionId::DebugAddr,
     SectionId::DebugInfo,
@@ -24,38 +24,27 @@ const NEEDED: [SectionId; 8] = [
     SectionId::DebugTypes,
 ];
 
-/// The result for each section with bytes or faults, and one for units that are in files of their own.
-pub(super) fn report<'d>(
-    program: &Program<'_>,
-    shared: Option<&Program<'_>>,
+/// The result for each section with bytes or faults. `units` reads the units with their names.
+pub(super) fn report<'d, 'a>(
     sections: [Section<'_>; 2],
-    split: &[usize],
+    units: impl FnOnce() -> Option<Units<'a>>,
     all: bool,
 ) -> Vec<Inspected<'d>> {
-    let unpacked = Arena::new();
-    let needs_names = !split.is_empty() || sections.iter().any(|section| !section.problems.is_empty());
-    let units = if needs_names { units(program, shared, &unpacked) } else { None };
+    let needs_names = sections.iter().any(|section| !section.problems.is_empty());
+    let units = if needs_names { units() } else { None };
     let has_content = |section: &Section<'_>| !section.bytes.is_empty() || !section.problems.is_empty();
     let sections = sections.into_iter().filter(has_content);
-    let mut results: Vec<_> = sections.map(|section| result(section, units.as_ref(), all)).collect();
-    if let Some(first) = split.first() {
-        let name = units.as_ref().and_then(|units| file_of(units, *first));
-        results.push(Inspected::unread(Name::DebugLoclists, InspectError::Split(split.len(), name)));
-    }
-    results
+    sections.map(|section| result(section, units.as_ref(), all)).collect()
 }
 
 /// The units with their names. `None` if they can't be read.
-fn units<'a>(program: &Program<'a>, shared: Option<&Program<'a>>, unpacked: &'a Arena<Vec<u8>>) -> Option<Units<'a>> {
-    let shared = shared.map(|shared| dwarf(shared, &NEEDED, unpacked)).transpose().ok()?;
-    Units::read(dwarf(program, &NEEDED, unpacked).ok()?, shared).ok()
-}
-
-/// The name of the file that has the debug information of a unit.
-fn file_of(units: &Units<'_>, index: usize) -> Option<String> {
-    let root = units.root(index)?;
-    let name = root.attribute(gimli::DW_AT_dwo_name).or_else(|| root.attribute(gimli::DW_AT_GNU_dwo_name));
-    root.string(name?)
+pub(super) fn units<'a>(
+    program: &Program<'a>,
+    shared: Option<&Program<'a>>,
+    unpacked: &'a Arena<Vec<u8>>,
+) -> Option<Units<'a>> {
+    let shared = shared.map(|shared| dwarf(shared, &NAMES, unpacked)).transpose().ok()?;
+    Units::read(dwarf(program, &NAMES, unpacked).ok()?, shared).ok()
 }
 
 fn result<'d>(mut section: Section<'_>, units: Option<&Units<'_>>, all: bool) -> Inspected<'d> {
@@ -86,7 +75,7 @@ fn result<'d>(mut section: Section<'_>, units: Option<&Units<'_>>, all: bool) ->
     } else {
         Verdict::Refused(defects)
     };
-    Inspected { name, bytes: section.bytes.len(), frames: None, lists: Some(contents), verdict }
+    Inspected { name, file: None, bytes: section.bytes.len(), frames: None, lists: Some(contents), verdict }
 }
 
 /// The variables of problems in words, by the index of the unit and the entry's offset in it.

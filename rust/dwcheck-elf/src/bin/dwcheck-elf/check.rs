@@ -58,7 +58,7 @@ fn check_one(words: &CheckWords, path: &Path, out: &mut impl Write) -> Result<Do
         writeln!(out, "{}: no {}", shown(path), names)?;
     }
     for section in &sections {
-        let file = separate.as_deref().filter(|_| section.lists.is_some());
+        let file = section.file.as_deref().or(separate.as_deref()).filter(|_| section.lists.is_some());
         match &section.verdict {
             Verdict::Refused(defects) => {
                 defects.iter().try_for_each(|defect| write_defect(out, file.unwrap_or(path), defect))?;

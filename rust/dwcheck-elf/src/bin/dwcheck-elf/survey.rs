@@ -156,7 +156,7 @@ impl Surveyed {
 
 impl Section {
     fn of(inspected: Inspected<'_>) -> Self {
-        let Inspected { name, bytes, frames, lists, verdict } = inspected;
+        let Inspected { name, bytes, frames, lists, verdict, .. } = inspected;
         let bridged = frames.as_ref().map(|frames| frames.bridged());
         let counts = bridged.map_or(Counts::default(), |bridged| *bridged.counts());
         let mended = bridged.map_or(0, |bridged| bridged.mended().len());
