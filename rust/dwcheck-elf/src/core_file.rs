@@ -16,7 +16,7 @@ pub use registers::Thread;
 pub use signal::Signal;
 
 use crate::abi::{abi, Abi};
-use crate::live::{Map, Snapshot};
+use crate::live::Snapshot;
 use crate::target::{AddressSize, Order, Target};
 use notes::Notes;
 use object::elf::{self, FileHeader32, FileHeader64, ET_CORE, PF_X, PT_LOAD};
@@ -132,8 +132,8 @@ impl<'data> CoreFile<'data> {
 
     /// The copy of a process as a core file. The bytes of its segments are those that were copied.
     pub(crate) fn of_live(live: &'data Snapshot) -> Self {
-        let Snapshot { process, target, abi, threads, blocks, pac_mask, .. } = live;
-        let copied = blocks.iter().map(|(address, bytes)| CoreSegment {
+        let Snapshot { process, target, abi, threads, blocks, data, pac_mask, .. } = live;
+        let copied = blocks.iter().chain(data.iter().flatten()).map(|(address, bytes)| CoreSegment {
             address: *address,
             bytes,
             size: bytes.len() as u64,
@@ -149,8 +149,7 @@ impl<'data> CoreFile<'data> {
         });
         let segments: Vec<_> = copied.chain(listed).collect();
         let files = process.maps.iter().filter(|map| map.path.starts_with(b"/"));
-        let mapping = |map: &'data Map| Mapping { begin: map.begin, end: map.end, offset: map.offset, path: &map.path };
-        let mappings: Vec<_> = files.map(mapping).collect();
+        let mappings: Vec<_> = files.map(Mapping::of_live).collect();
         let auxiliary = |kind| notes::auxiliary(&process.auxiliary, *target, kind);
         CoreFile {
             target: *target,

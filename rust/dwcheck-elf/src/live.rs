@@ -1,12 +1,14 @@
 //! Copies what a walk needs of a process that runs: the registers of its threads and the used part of
-//! their stacks.
+//! their stacks, and, for the values of variables, the memory that it can write to.
 //!
 //! Each thread is stopped only while it is copied. If this program ends meanwhile, also by a signal,
 //! the kernel lets the thread go on.
 
+mod data;
 mod maps;
 mod trace;
 
+pub use data::DATA_LIMIT;
 pub use maps::Map;
 pub(crate) use maps::Process;
 
@@ -31,8 +33,11 @@ pub struct Snapshot {
     pub(crate) target: Target,
     pub(crate) abi: &'static Abi,
     pub(crate) threads: Vec<Thread>,
-    /// Copied memory: its address and bytes.
+    /// Copied memory: its address and bytes. Where two blocks have an address, the first one counts.
     pub(crate) blocks: Vec<(u64, Vec<u8>)>,
+    /// The memory that the process can write to, as it was when the first thread was stopped. What `blocks`
+    /// have counts before it. `None` if it isn't copied.
+    pub(crate) data: Option<Vec<(u64, Vec<u8>)>>,
     /// The bits of a return address that hold an authentication code (aarch64).
     pub(crate) pac_mask: Option<u64>,
     skipped: Vec<(u32, TraceError)>,
@@ -60,6 +65,20 @@ impl Snapshot {
     /// If no thread can be copied. Single threads that can't be copied are listed in
     /// [`skipped`](Self::skipped).
     pub fn take(pid: u32, wanted: &[u32]) -> Result<Snapshot, LiveError> {
+        Snapshot::copy(pid, wanted, None)
+    }
+
+    /// Copies a process as [`take`](Self::take) does, and the memory that it can write to, up to
+    /// [`DATA_LIMIT`] bytes, while the first of the threads is stopped. The other threads run meanwhile.
+    ///
+    /// # Errors
+    ///
+    /// The same.
+    pub fn take_with_data(pid: u32, wanted: &[u32]) -> Result<Snapshot, LiveError> {
+        Snapshot::copy(pid, wanted, Some(Vec::new()))
+    }
+
+    fn copy(pid: u32, wanted: &[u32], data: Option<Vec<(u64, Vec<u8>)>>) -> Result<Snapshot, LiveError> {
         let process = Process::read(pid)?;
         let (target, abi) = process.machine()?;
         let mut copy = Snapshot {
@@ -68,6 +87,7 @@ impl Snapshot {
             abi,
             threads: Vec::new(),
             blocks: Vec::new(),
+            data,
             pac_mask: None,
             skipped: Vec::new(),
             longest: Duration::ZERO,
@@ -131,6 +151,9 @@ impl Snapshot {
         let stack = registers.as_ref().and_then(|registers| self.stack(registers));
         let own = registers.as_ref().and_then(|registers| self.own_stack(tid, registers, stack.as_ref()));
         self.pac_mask = self.pac_mask.or_else(|| stopped.pac_mask());
+        if let Some(data) = self.data.as_mut().filter(|data| data.is_empty()) {
+            *data = data::data(&self.process);
+        }
         self.longest = self.longest.max(stopped.resume());
         if let Some(registers) = registers {
             self.blocks.extend(stack.into_iter().chain(own));

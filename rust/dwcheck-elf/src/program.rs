@@ -140,6 +140,12 @@ impl<'data> Program<'data> {
         self.kind
     }
 
+    /// Whether the file names a dynamic linker, or is always loaded at the same addresses, as programs do. So
+    /// does the C library.
+    pub fn is_program(&self) -> bool {
+        self.kind == Kind::Executable || self.has_bytes(".interp")
+    }
+
     /// The address of the program's first instruction (`e_entry`), 0 if the file has none.
     pub fn entry(&self) -> u64 {
         self.file.entry()

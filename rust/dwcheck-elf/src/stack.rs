@@ -23,11 +23,12 @@ pub use names::{Inlined, NameOptions, Place};
 pub use text::Lines;
 
 use crate::core_file::{CoreFile, Files, Memory, Thread};
+use crate::text::Plain;
 use crate::variables::{Shape, Variables};
 use dwcheck::{Block, Registers};
 use names::Names;
 use std::cell::RefCell;
-use std::collections::{HashMap, HashSet};
+use std::collections::{BTreeMap, HashMap, HashSet};
 use std::fmt;
 use std::path::{Path, PathBuf};
 use tables::Tables;
@@ -64,6 +65,8 @@ pub struct Stacks<'a> {
     names: RefCell<HashMap<usize, Names<'a>>>,
     /// The debug information of each module of whose frames the variables were asked for, by its index.
     variables: RefCell<HashMap<usize, Option<Variables<'a>>>>,
+    /// The modules of which debug information is in files that aren't read, each with one of these.
+    split: RefCell<BTreeMap<PathBuf, String>>,
     /// How much of variables texts and JSON show. `None` if they show none.
     shape: Option<Shape>,
     /// Whether texts and JSON show the registers of frames that have them.
@@ -207,6 +210,7 @@ impl<'a> Stacks<'a> {
             name_options: NameOptions::default(),
             names: RefCell::default(),
             variables: RefCell::default(),
+            split: RefCell::default(),
             shape: None,
             shows_registers: true,
         }
@@ -237,13 +241,19 @@ impl<'a> Stacks<'a> {
     }
 
     /// The files that can't be read; after walks, the parts of their unwind tables that the walks
-    /// needed but that can't be used; and, after frames were named, the files of debug information that
-    /// can't be used; each with the reason.
+    /// needed but that can't be used; after frames were named, the files of debug information that
+    /// can't be used; and, after variables were asked for, what has debug information that isn't read; each
+    /// with the reason.
     pub fn missing(&self) -> Vec<(PathBuf, String)> {
         let (tables, names) = (self.tables.borrow(), self.names.borrow());
         let mut named: Vec<_> = names.values().flat_map(|names| &names.problems).cloned().collect();
         named.sort();
-        self.unread.iter().chain(tables.problems()).cloned().chain(named).collect()
+        let split = self.split.borrow();
+        let split = split.iter().map(|(path, name)| {
+            let why = format!("its debug information is in another file, {}, which isn't there", Plain(name));
+            (path.clone(), why)
+        });
+        self.unread.iter().chain(tables.problems()).cloned().chain(named).chain(split).collect()
     }
 
     /// Whether a file is a module of the process.

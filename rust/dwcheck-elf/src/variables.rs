@@ -10,14 +10,18 @@ mod json;
 mod location;
 mod place;
 mod scopes;
+mod split;
 mod text;
+mod thread_local;
 mod types;
 mod value;
 
 pub use place::{Machine, Missing, Place};
 pub use text::Lines;
+pub use thread_local::Loaded;
 pub use value::{Shape, Value};
 
+use crate::debug_files::DebugFiles;
 use crate::debug_info::{dwarf, section, Units};
 use crate::program::{Program, ProgramError};
 use crate::target::Target;
@@ -26,8 +30,10 @@ use functions::FunctionIndex;
 use gimli::SectionId;
 use location::Locator;
 use scopes::{scopes, Scope};
+use std::cell::RefCell;
+use std::collections::HashMap;
 use std::fmt;
-use typed_arena::Arena;
+use std::rc::Rc;
 
 /// The sections that are needed.
 const NEEDED: [SectionId; 13] = [
@@ -53,6 +59,9 @@ pub struct Variables<'a> {
     target: Target,
     loc: &'a [u8],
     loclists: &'a [u8],
+    files: &'a DebugFiles,
+    /// What was opened of units whose debug information is in files of their own, by the units' indexes.
+    splits: RefCell<HashMap<usize, Option<Rc<Variables<'a>>>>>,
 }
 
 /// What is known of a frame by unwinding.
@@ -79,6 +88,10 @@ pub struct Frame<'f> {
     pub steps: &'f [Step],
     /// The memory that is known.
     pub memory: &'f [Block<'f>],
+    /// The file, for variables of the thread. `None` if it isn't known.
+    pub file: Option<Loaded<'f>>,
+    /// The thread pointer (fs_base on x86-64), which is the same in all frames of a thread.
+    pub thread_pointer: Option<u64>,
 }
 
 impl<'f> Frame<'f> {
@@ -102,6 +115,11 @@ impl<'f> Frame<'f> {
 
     fn cfa(&self) -> Option<u64> {
         self.steps.first()?.cfa
+    }
+
+    /// Where the thread's variables of the file are.
+    fn thread_block(&self) -> Option<u64> {
+        thread_local::block(self.file.as_ref()?, self.thread_pointer?, &self.machine()?)
     }
 
     /// The registers and the memory.
@@ -150,7 +168,7 @@ pub enum VariablesError {
 
 impl<'a> Variables<'a> {
     /// Opens the debug information of a program. `shared` is the file that its `.gnu_debugaltlink` names.
-    /// What is compressed is decompressed into `unpacked`.
+    /// `files` keeps what is decompressed, and files that have the debug information of single units.
     ///
     /// # Errors
     ///
@@ -158,16 +176,17 @@ impl<'a> Variables<'a> {
     pub fn read(
         program: &Program<'a>,
         shared: Option<&Program<'a>>,
-        unpacked: &'a Arena<Vec<u8>>,
+        files: &'a DebugFiles,
     ) -> Result<Self, VariablesError> {
-        let fail = VariablesError::Program;
+        let (fail, unpacked) = (VariablesError::Program, files.unpacked());
         let loc = section(program, SectionId::DebugLoc, unpacked).map_err(fail)?.slice();
         let loclists = section(program, SectionId::DebugLocLists, unpacked).map_err(fail)?.slice();
         let shared = shared.map(|shared| dwarf(shared, &NEEDED, unpacked)).transpose().map_err(fail)?;
         let units = Units::read(dwarf(program, &NEEDED, unpacked).map_err(fail)?, shared);
         let units = units.map_err(|error| VariablesError::DebugInfo(error.to_string()))?;
         let functions = FunctionIndex::of(&units);
-        Ok(Variables { units, functions, target: program.target(), loc, loclists })
+        let (target, splits) = (program.target(), RefCell::default());
+        Ok(Variables { units, functions, target, loc, loclists, files, splits })
     }
 
     /// The functions at the address of a frame with their variables, the outermost first: the function, then
@@ -176,11 +195,22 @@ impl<'a> Variables<'a> {
         let function = self.functions.function(&self.units, frame.looked_up());
         let (function, machine) = match (function, frame.machine()) {
             (Some(function), Some(machine)) => (function, machine),
+            (None, Some(_)) => {
+                let split = self.split_at(frame.looked_up());
+                return split.map_or_else(Vec::new, |split| split.at(frame, shape));
+            }
             _ => return Vec::new(),
         };
         let locator = Locator::new(self, function.clone(), *frame, machine);
         let scopes = scopes(function, frame.looked_up());
         scopes.iter().map(|scope| self.function(scope, &locator, shape)).collect()
+    }
+
+    /// The name of the file that should have the debug information of a frame's address (`-gsplit-dwarf`), but
+    /// isn't there or can't be used.
+    pub fn missing_file(&self, frame: &Frame<'_>) -> Option<String> {
+        let name = self.functions.units_at(frame.looked_up()).find_map(|index| self.split_name(index));
+        name.filter(|_| self.split_at(frame.looked_up()).is_none())
     }
 
     fn function(&self, scope: &Scope<'_, 'a>, locator: &Locator<'_, 'a>, shape: Shape) -> Function {

@@ -2,7 +2,7 @@
 
 mod common;
 
-use common::run::dwcheck_elf;
+use common::run::{dwcheck_elf, Ran};
 use common::{has, may_trace, Folder};
 use std::io::Read;
 use std::process::{Child, Command, Stdio};
@@ -159,4 +159,73 @@ fn a_process_that_waits() {
         (ended.status, ended.error),
         (3, format!("dwcheck-elf: process {}: there is no such process, or it ended\n", pid))
     );
+}
+
+/// A program in which a thread, a file's data and the heap have other values than at the start.
+const CHANGES: &str = "
+#include <pthread.h>
+#include <stdio.h>
+#include <stdlib.h>
+#include <string.h>
+#include <unistd.h>
+static char text[] = \"before\";
+__attribute__((noinline)) static void work(int n) {
+    static int initial = 5, zero;
+    static __thread int own = 40;
+    const char *shown = text, *copied = strdup(\"in the heap\");
+    initial += n, zero -= n, own += n;
+    memcpy(text, \"after!\", 6);
+    if (n == 2) { puts(\"ready\"); fflush(stdout); }
+    for (;;) pause();
+}
+static void *other(void *unused) { work(2); return unused; }
+int main(void) { pthread_t thread; if (pthread_create(&thread, NULL, other, NULL) == 0) work(1); }
+";
+
+/// Checks the variables of `work` in the thread that called it with `n`.
+fn has_values_of(n: i32, ran: &Ran) {
+    let values: Vec<_> = ran.lines().iter().map(|line| line.trim().split(" (").next().unwrap().to_string()).collect();
+    let expected = [
+        format!("param n: int = {}", n),
+        format!("var own: int = {}", 40 + n),
+        "var initial: int = 8".to_string(),
+        "var zero: int = -3".to_string(),
+    ];
+    for wanted in &expected {
+        assert!(values.contains(wanted), "{}: {:?}", wanted, ran);
+    }
+    for wanted in [" \"after!\"", " \"in the heap\""] {
+        assert!(values.iter().any(|value| value.ends_with(wanted)), "{}: {:?}", wanted, ran);
+    }
+}
+
+/// The variables of a process are those that it has now. It goes on.
+#[test]
+fn variables_of_a_process() {
+    let folder = Folder::new("live-vars");
+    if !may_trace() {
+        return;
+    }
+    folder.write("waits.c", CHANGES);
+    folder.run("gcc -O0 -g waits.c -o waits -pthread");
+    let process = Waiting::start(&folder);
+    let pid = process.0.id();
+    let frame = |ran: &Ran| {
+        let line = ran.lines().into_iter().find(|line| line.contains(" work+")).unwrap_or_else(|| panic!("{:?}", ran));
+        line[1..line.find(' ').unwrap()].to_string()
+    };
+    let stack = dwcheck_elf(&folder, &format!("stack --no-source --pid {}", pid));
+    let first = dwcheck_elf(&folder, &format!("vars --pid {} --frame {}", pid, frame(&stack)));
+    assert_eq!((first.status, first.error.as_str(), process.state()), (0, "", 'S'), "{}", first.out);
+    has_values_of(1, &first);
+    let tasks = std::fs::read_dir(format!("/proc/{}/task", pid)).unwrap();
+    let tids = tasks.map(|task| task.unwrap().file_name().into_string().unwrap());
+    let tid = tids.filter(|tid| *tid != pid.to_string()).max().unwrap();
+    let stack = dwcheck_elf(&folder, &format!("stack --no-source --pid {} --tid {}", pid, tid));
+    let second = dwcheck_elf(&folder, &format!("vars --pid {} --thread {} --frame {}", pid, tid, frame(&stack)));
+    has_values_of(2, &second);
+    let both = dwcheck_elf(&folder, &format!("stack --vars --no-source --pid {}", pid));
+    assert_eq!(both.out.matches("    var initial: int = 8 ").count(), 2, "{}", both.out);
+    let none = dwcheck_elf(&folder, &format!("vars --pid {} --thread 1", pid));
+    assert_eq!((none.status, none.out.as_str()), (3, ""), "{}", none.error);
 }

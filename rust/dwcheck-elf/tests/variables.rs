@@ -12,13 +12,14 @@ struct inner { double d; };
 struct point { int x; char name[8]; struct inner in; unsigned bits : 5; };
 __attribute__((noinline)) int work(struct point p, enum color c, const char *text, float f, _Bool yes, char letter) {
     int local[3] = {1, -2, 3};
+    short many[256] = {[255] = 7};
     long long big = -5000000000;
     struct point *self = &p;
     {
         unsigned char in_block = 200;
         __builtin_trap();
     }
-    return local[0] + big + self->x + text[0] + f + yes + letter + c;
+    return local[0] + many[c] + big + self->x + text[0] + f + yes + letter + c;
 }
 int main(int argc, char **argv) { struct point p = {4, \"abc\", {1.5}, 9}; return work(p, BLUE, \"hello\", 2.5f, 1, 'q'); }
 ";
@@ -50,6 +51,7 @@ fn values_of_each_kind_of_type() {
             "param yes: _Bool = true",
             "param letter: char = 113 'q'",
             "var local: int [3] = {1, -2, 3}",
+            "var many: short int [256] = {0, 0, 0",
             "var big: long long int = -5000000000",
             "var self: struct point * = 0x",
             "var in_block: unsigned char = 200 '\\xc8'",
@@ -60,10 +62,11 @@ fn values_of_each_kind_of_type() {
             assert!(found.starts_with(expected), "{}: {} isn't {}", flags, found, expected);
         }
         assert!(found[2].ends_with("\"hello\""), "{}", found[2]);
+        assert!(found[7].ends_with(", 0, 56 more}"), "{}", found[7]);
         let deeper = dwcheck_elf(&folder, "vars --core core --depth 2");
         assert!(deeper.out.contains("in = {d = 1.5}"), "{}", deeper.out);
         let main = dwcheck_elf(&folder, "vars --core core --frame 1");
-        assert!(main.out.starts_with("function main (a.c:15)\n    param argc: int = 1 "), "{}", main.out);
+        assert!(main.out.starts_with("function main (a.c:16)\n    param argc: int = 1 "), "{}", main.out);
     }
 }
 
@@ -109,6 +112,7 @@ fn work(byte: &u8) {
     let pair = Token::Pair { left: 3, right: 400 };
     let (some, none): (Option<u32>, Option<u32>) = (Some(9), None);
     let (full, empty): (Option<&u8>, Option<&u8>) = (Some(byte), None);
+    let text = \"a text of bytes\".split(\" of\").next().unwrap();
     unsafe { std::arch::asm!(\"ud2\") }
 }
 fn main() { work(&7) }
@@ -136,4 +140,6 @@ fn variants_of_enums_of_rust() {
     for expected in expected {
         assert!(ran.out.contains(expected), "{}: {} {}", expected, ran.out, ran.error);
     }
+    let text = values(&ran).into_iter().find(|value| value.starts_with("var text: &str = 0x"));
+    assert!(text.map_or(false, |text| text.ends_with(" \"a text\"")), "{}", ran.out);
 }

@@ -56,7 +56,7 @@ impl<'data> CoreFile<'data> {
         for segment in &self.segments {
             memory.add(Block { address: segment.address, bytes: segment.bytes, origin: Origin::Core });
         }
-        for mapping in self.mappings() {
+        for mapping in self.mappings().iter().filter(|mapping| !mapping.has_changed) {
             let found = files.find(mapping.path).and_then(|(place, bytes)| {
                 let begin = usize::try_from(mapping.offset).ok()?;
                 let size = usize::try_from(mapping.end.checked_sub(mapping.begin)?).ok()?;

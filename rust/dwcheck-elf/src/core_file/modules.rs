@@ -110,6 +110,11 @@ impl CoreFile<'_> {
         self.mappings().iter().find(holds).map(|mapping| mapping.path)
     }
 
+    /// Whether the program's first instruction is in a module: whether this is the program, and not a library.
+    pub(crate) fn begins_in(&self, module: &Module<'_>) -> bool {
+        self.entry.map_or(false, |entry| (module.begin..module.end).contains(&entry))
+    }
+
     /// Whether the mappings of a file are those of a program with these bytes: each segment is
     /// mapped, and all have the bias of the program's first instruction.
     pub(super) fn maps_segments(&self, path: &[u8], bytes: &[u8]) -> bool {

@@ -4,6 +4,7 @@ use super::registers::{thread, Thread};
 use super::{CoreError, Signal};
 use crate::abi::Abi;
 use crate::bytes::{Cursor, ReadError};
+use crate::live::Map;
 use crate::target::{AddressSize, Target};
 use object::elf::{NT_AUXV, NT_FILE, NT_PRPSINFO, NT_PRSTATUS, NT_SIGINFO};
 
@@ -31,6 +32,17 @@ pub struct Mapping<'data> {
     pub offset: u64,
     /// The file's name, as the kernel gave it.
     pub path: &'data [u8],
+    /// Whether the memory may have other bytes than the file where none were copied: in a process that
+    /// runs, whether it can be written to. False in core files, which have the bytes that were changed.
+    pub has_changed: bool,
+}
+
+impl<'data> Mapping<'data> {
+    /// The mapping of a process that runs.
+    pub(super) fn of_live(map: &'data Map) -> Self {
+        let Map { begin, end, offset, is_writable, path, .. } = map;
+        Mapping { begin: *begin, end: *end, offset: *offset, path, has_changed: *is_writable }
+    }
 }
 
 /// What a core file says about its process.
@@ -111,7 +123,7 @@ impl<'data> Notes<'data> {
             let name = names.at();
             while names.byte()? != 0 {}
             let path = names.since(name).strip_suffix(&[0]).unwrap_or(&[]);
-            self.mappings.push(Mapping { begin, end, offset, path });
+            self.mappings.push(Mapping { begin, end, offset, path, has_changed: false });
         }
         Ok(())
     }

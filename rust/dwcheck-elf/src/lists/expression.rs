@@ -18,7 +18,8 @@ pub(crate) struct Scope<'a> {
     pub address: &'a dyn Fn(u64) -> Option<u64>,
     /// What is added to addresses of the file to get those in the process.
     pub load: u64,
-    /// The value of an operation that becomes a hole without it, by its operands. `None` if it isn't known.
+    /// The value of an operation that becomes a hole without it, by its operands; for `form_tls_address` what
+    /// is added to the entry that it takes. `None` if it isn't known.
     pub known: &'a dyn Fn(Hole, &[u8]) -> Option<u64>,
 }
 
@@ -44,6 +45,8 @@ enum Act {
     Branch(i64),
     Address(u64),
     Constant(u64),
+    /// What is added to the topmost entry.
+    Plus(u64),
     Drop,
     NoAddress,
     /// A hole that takes this many entries from the stack and pushes one.
@@ -134,6 +137,7 @@ fn act(cursor: &mut Cursor<'_>, scope: &Scope<'_>) -> Result<Act, ReadError> {
         0xf0 => Act::Drop,
         _ => match hole(cursor, code, scope)? {
             Some((hole, takes)) => match (scope.known)(hole, cursor.since(operands)) {
+                Some(value) if hole == Hole::FormTlsAddress => Act::Plus(value),
                 Some(value) => Act::Constant(value),
                 None => Act::Hole(hole, takes),
             },
@@ -184,6 +188,7 @@ const ADDR: u8 = 0x03;
 const CONST4U: u8 = 0x0c;
 const CONST8U: u8 = 0x0e;
 const DROP: u8 = 0x13;
+const PLUS: u8 = 0x22;
 const STACK_VALUE: u8 = 0x9f;
 
 /// How many bytes an operation has once it is rewritten.
@@ -191,6 +196,7 @@ fn length(operation: &Operation, target: Target) -> usize {
     match operation.act {
         Act::Copy | Act::Branch(_) => operation.end - operation.begin,
         Act::Address(_) | Act::Constant(_) | Act::NoAddress => 1 + usize::from(target.address_size.bytes()),
+        Act::Plus(_) => 2 + usize::from(target.address_size.bytes()),
         Act::Drop => 0,
         Act::Hole(_, takes) => takes + UNREADABLE.len(),
         Act::Value(_) => UNREADABLE.len() + 1,
@@ -228,6 +234,10 @@ fn write<'a>(expression: &'a [u8], operations: &[Operation], scope: &Scope<'_>) 
             },
             Act::Address(number) => push_word(&mut bytes, ADDR, number, target),
             Act::Constant(number) => push_word(&mut bytes, constant(target), number, target),
+            Act::Plus(number) => {
+                push_word(&mut bytes, constant(target), number, target);
+                bytes.push(PLUS);
+            }
             Act::NoAddress => push_word(&mut bytes, ADDR, 0, target),
             Act::Drop => {}
             Act::Hole(hole, takes) => {

@@ -3,7 +3,7 @@
 use super::{Frame, Stack, Stacks};
 use crate::core_file::{Files, Module};
 use crate::program::Program;
-use crate::variables::{self, Function, Shape, Step, Variables};
+use crate::variables::{self, Function, Loaded, Shape, Step, Variables};
 
 /// How many callers of a frame may be asked for entry values.
 const MAX_CALLERS: usize = 16;
@@ -28,12 +28,38 @@ impl<'a> Stacks<'a> {
         let mut opened = self.variables.borrow_mut();
         let opened = opened.entry(place).or_insert_with(|| open(module, self.files));
         let (target, load) = (self.core.target(), module.bias);
-        let frame = variables::Frame { target, load, steps: &steps, memory: &blocks };
-        opened.as_ref().map_or_else(Vec::new, |variables| variables.at(&frame, shape))
+        let file = Some(self.loaded(module, tables.modules()));
+        let thread_pointer = stack.thread_pointer();
+        let frame = variables::Frame { target, load, steps: &steps, memory: &blocks, file, thread_pointer };
+        let variables = match opened {
+            Some(variables) => variables,
+            None => return Vec::new(),
+        };
+        let functions = variables.at(&frame, shape);
+        let missing = if functions.is_empty() { variables.missing_file(&frame) } else { None };
+        if let Some(name) = missing {
+            self.split.borrow_mut().insert(module.path.clone(), name);
+        }
+        functions
+    }
+}
+
+impl<'a> Stacks<'a> {
+    fn loaded(&self, module: &Module<'a>, modules: &[Module<'a>]) -> Loaded<'a> {
+        let has_glibc = modules.iter().any(|module| module.path.ends_with("libc.so.6"));
+        let (bytes, bias) = (module.image.bytes(), module.bias);
+        Loaded { bytes, bias, is_program: self.core.begins_in(module), has_glibc }
     }
 }
 
 impl Stack<'_, '_> {
+    /// The thread pointer, which rows say nothing of: callers have the one of the thread.
+    fn thread_pointer(&self) -> Option<u64> {
+        let number = self.stacks.core.abi().thread_pointer?;
+        let (_, pointer) = self.frames.first()?.registers.iter().find(|(one, _)| *one == number)?;
+        Some(*pointer)
+    }
+
     /// The same for a frame, if variables are shown.
     pub(super) fn functions(&self, frame: usize) -> Vec<Function> {
         self.stacks.shape.map_or_else(Vec::new, |shape| self.stacks.variables(self, frame, shape))
@@ -56,5 +82,5 @@ fn open<'a>(module: &Module<'a>, files: &'a Files) -> Option<Variables<'a>> {
     let separate = separate.and_then(|bytes| Program::read(bytes).ok());
     let debug = separate.filter(|_| !program.has_bytes(".debug_info")).unwrap_or(program);
     let shared = files.debug_files().shared(&debug).and_then(|bytes| Program::read(bytes).ok());
-    Variables::read(&debug, shared.as_ref(), files.debug_files().unpacked()).ok()
+    Variables::read(&debug, shared.as_ref(), files.debug_files()).ok()
 }

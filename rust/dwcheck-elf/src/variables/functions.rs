@@ -45,6 +45,21 @@ impl FunctionIndex {
         })
     }
 
+    /// The index of the only unit of a file, which has these addresses.
+    pub fn of_split(ranges: Vec<Range<u64>>) -> Self {
+        FunctionIndex { units: ranges.into_iter().map(|range| (range, 0)).collect(), functions: RefCell::default() }
+    }
+
+    /// The units with an address of code, by their indexes.
+    pub fn units_at(&self, address: u64) -> impl Iterator<Item = usize> + '_ {
+        covering(&self.units, address).copied()
+    }
+
+    /// The addresses of a unit, ascending.
+    pub fn ranges_of(&self, index: usize) -> Vec<Range<u64>> {
+        self.units.iter().filter(|(_, one)| *one == index).map(|(range, _)| range.clone()).collect()
+    }
+
     fn functions_of(&self, units: &Units<'_>, index: usize) -> Rc<Ranges<UnitOffset<usize>>> {
         if let Some(functions) = self.functions.borrow().get(&index) {
             return Rc::clone(functions);

@@ -25,22 +25,23 @@ pub(super) struct Locator<'v, 'a> {
     pub machine: Machine<'v>,
     /// The frame base, if it is known.
     frame_base: Cell<Option<u64>>,
+    /// Where the thread's variables of the file are, if that is known. `None` if it wasn't looked for.
+    thread_block: Cell<Option<Option<u64>>>,
     depth: usize,
 }
 
 impl<'v, 'a> Locator<'v, 'a> {
     pub fn new(variables: &'v Variables<'a>, function: Die<'v, 'a>, frame: Frame<'v>, machine: Machine<'v>) -> Self {
-        let locator = Locator { variables, function, frame, machine, frame_base: Cell::new(None), depth: 0 };
+        let (frame_base, thread_block) = (Cell::new(None), Cell::new(None));
+        let locator = Locator { variables, function, frame, machine, frame_base, thread_block, depth: 0 };
         locator.frame_base.set(locator.read_frame_base());
         locator
     }
 
     /// The same for the caller of the frame, in which a call site is evaluated.
     pub fn of_caller(&self, function: Die<'v, 'a>, caller: Frame<'v>) -> Option<Self> {
-        let (machine, frame_base, depth) = (caller.machine()?, Cell::new(None), self.depth + 1);
-        let locator = Locator { variables: self.variables, function, frame: caller, machine, frame_base, depth };
-        locator.frame_base.set(locator.read_frame_base());
-        Some(locator)
+        let locator = Locator::new(self.variables, function, caller, caller.machine()?);
+        Some(Locator { depth: self.depth + 1, ..locator })
     }
 
     /// Where a variable is. `is_abstract` says that nothing but its declaration is known of it.
@@ -70,6 +71,9 @@ impl<'v, 'a> Locator<'v, 'a> {
 
     fn by_list(&self, die: &Die<'v, 'a>, list: LocationListsOffset<usize>) -> Result<Place, Missing> {
         let is_old = die.unit.encoding().version < 5;
+        if is_old && die.units.are_split() {
+            return Err(Missing::Unsupported("a list of GNU's split DWARF 4"));
+        }
         let (section, bytes) = match is_old {
             true => (Name::DebugLoc, self.variables.loc),
             false => (Name::DebugLoclists, self.variables.loclists),
@@ -100,7 +104,8 @@ impl<'v, 'a> Locator<'v, 'a> {
         take(Scope { target, version, offset_size, address: &address, load, known })
     }
 
-    /// The value of an operation that `dwcheck` doesn't know, if the caller's call site has it.
+    /// The value of an operation that `dwcheck` doesn't know, if the caller's call site or the thread's data have
+    /// it.
     fn known(&self, die: &Die<'v, 'a>, hole: Hole, operands: &[u8]) -> Option<u64> {
         if self.depth >= MAX_DEPTH {
             return None;
@@ -115,8 +120,15 @@ impl<'v, 'a> Locator<'v, 'a> {
                 let offset = usize::try_from(cursor.number(4).ok()?).ok()?;
                 self.parameter(&Die { offset: gimli::UnitOffset(offset), ..die.clone() })
             }
+            Hole::FormTlsAddress => self.thread_block(),
             _ => None,
         }
+    }
+
+    fn thread_block(&self) -> Option<u64> {
+        let block = self.thread_block.get().unwrap_or_else(|| self.frame.thread_block());
+        self.thread_block.set(Some(block));
+        block
     }
 
     /// Evaluates an expression of an entry's unit.
@@ -271,9 +283,10 @@ fn unreadable(bytes: &[u8], at: usize, target: Target) -> Missing {
 fn constant(value: AttributeValue<Slice<'_>>, target: Target) -> Option<Place> {
     match value {
         AttributeValue::Block(block) => Some(Place::Bytes(block.slice().to_vec())),
-        AttributeValue::Data1(number) => Some(Place::Value(i64::from(number as i8) as u64)),
-        AttributeValue::Data2(number) => Some(Place::Value(i64::from(number as i16) as u64)),
-        AttributeValue::Data4(number) => Some(Place::Value(i64::from(number as i32) as u64)),
+        // gcc writes numbers that aren't negative in these forms, and others as DW_FORM_sdata.
+        AttributeValue::Data1(number) => Some(Place::Value(number.into())),
+        AttributeValue::Data2(number) => Some(Place::Value(number.into())),
+        AttributeValue::Data4(number) => Some(Place::Value(number.into())),
         AttributeValue::Data8(number) => Some(Place::Value(number)),
         AttributeValue::Sdata(number) => Some(Place::Value(number as u64)),
         AttributeValue::Udata(number) => Some(Place::Value(number)),

@@ -34,7 +34,8 @@ fn is_other_name(tag: DwTag) -> bool {
     )
 }
 
-/// A number that an attribute of a type has. `None` if it is an expression or isn't there.
+/// A number that an attribute of a type has. Forms of a fixed size, such as `DW_FORM_data1`, are unsigned, as
+/// gcc writes them. `None` if it is an expression or isn't there.
 pub(super) fn number(die: &Die<'_, '_>, name: gimli::DwAt) -> Option<u64> {
     let value = die.attribute(name)?;
     value.udata_value().or_else(|| value.sdata_value().map(|number| number as u64))
@@ -91,12 +92,9 @@ fn count_of(range: &Die<'_, '_>) -> Option<u64> {
     if let Some(count) = number(range, gimli::DW_AT_count) {
         return Some(count);
     }
-    let upper = range.attribute(gimli::DW_AT_upper_bound)?;
-    let upper = upper.sdata_value().or_else(|| upper.udata_value().map(|number| number as i64))?;
-    let lower = match range.attribute(gimli::DW_AT_lower_bound) {
-        Some(value) => value.sdata_value().or_else(|| value.udata_value().map(|number| number as i64))?,
-        None => lowest(range),
-    };
+    let bound = |name| range.attribute(name).map(|_| number(range, name).map(|bound| bound as i64));
+    let upper = bound(gimli::DW_AT_upper_bound)??;
+    let lower = bound(gimli::DW_AT_lower_bound).unwrap_or_else(|| Some(lowest(range)))?;
     u64::try_from(upper.checked_sub(lower)?.checked_add(1)?).ok()
 }
 
@@ -141,7 +139,11 @@ fn named(of: Option<Die<'_, '_>>, left: usize) -> String {
         Some(gimli::DW_TAG_array_type) => {
             let count = |count: Option<u64>| count.map_or_else(|| "[]".to_string(), |count| format!("[{}]", count));
             let counts: String = dimensions(&die).into_iter().map(count).collect();
-            format!("{} {}", inner(), counts)
+            die.name().unwrap_or_else(|| format!("{} {}", inner(), counts))
+        }
+        Some(gimli::DW_TAG_string_type) => {
+            let size = size_of(&die).map_or_else(|| "*".to_string(), |size| size.to_string());
+            die.name().unwrap_or_else(|| format!("character({})", size))
         }
         Some(gimli::DW_TAG_subroutine_type) => format!("{} ()", inner()),
         Some(gimli::DW_TAG_structure_type) => aggregate(&die, "struct ", own()),

@@ -1,5 +1,6 @@
 //! Reads the values of variables by their types.
 
+mod strings;
 mod variants;
 
 use super::location::Locator;
@@ -62,7 +63,9 @@ impl<'v, 'a> Locator<'v, 'a> {
             return Ok(Value::Plain(place.to_string()));
         }
         let size = size_of(kind).and_then(|size| usize::try_from(size).ok());
-        let size = size.ok_or(Missing::Unsupported("a type whose size isn't a constant"))?;
+        let is_declared = plain(kind).map_or(false, |kind| kind.attribute(gimli::DW_AT_declaration).is_some());
+        let why = if is_declared { "a type that is only declared" } else { "a type whose size isn't a constant" };
+        let size = size.ok_or(Missing::Unsupported(why))?;
         let shape = Shape { depth: shape.depth.min(MAX_DEPTH), ..shape };
         let mut left = MAX_MEMBERS;
         self.part(kind, Part { place, size, offset: 0 }, shape, &mut left)
@@ -75,8 +78,12 @@ impl<'v, 'a> Locator<'v, 'a> {
             gimli::DW_TAG_base_type | gimli::DW_TAG_unspecified_type => self.base(&kind, part),
             gimli::DW_TAG_enumeration_type => self.constant(&kind, part),
             gimli::DW_TAG_array_type => self.array(&kind, part, shape, left),
+            gimli::DW_TAG_string_type => self.string(&kind, part, shape),
             gimli::DW_TAG_structure_type | gimli::DW_TAG_class_type | gimli::DW_TAG_union_type => {
-                self.members(&kind, part, shape, left)
+                match self.counted_text(&kind, part, shape) {
+                    Some(text) => Ok(text),
+                    None => self.members(&kind, part, shape, left),
+                }
             }
             tag if is_pointer(tag) => self.pointer(&kind, part, shape),
             _ => Err(Missing::Unsupported("a type of this kind")),
@@ -130,25 +137,6 @@ impl<'v, 'a> Locator<'v, 'a> {
         }
     }
 
-    /// The text at an address, up to its 0 or to `length` bytes. `None` if no byte of it can be read.
-    fn text(&self, address: u64, length: usize) -> Option<String> {
-        let machine = &self.machine;
-        let mut bytes = Vec::new();
-        while bytes.len() < length {
-            let byte = machine
-                .memory(address.checked_add(bytes.len() as u64)?, 1)
-                .ok()
-                .and_then(|found| found.first().copied());
-            match byte {
-                Some(0) => return Some(escaped(&bytes)),
-                Some(byte) => bytes.push(byte),
-                None if bytes.is_empty() => return None,
-                None => break,
-            }
-        }
-        Some(escaped(&bytes) + "..")
-    }
-
     fn array(&self, kind: &Die<'v, 'a>, part: Part<'_>, shape: Shape, left: &mut usize) -> Result<Value, Missing> {
         let element = type_of(kind).ok_or(Missing::Unsupported("an array without a type"))?;
         let size = size_of(&element).and_then(|size| usize::try_from(size).ok()).filter(|size| *size > 0);
@@ -156,10 +144,7 @@ impl<'v, 'a> Locator<'v, 'a> {
         let count = dimensions(kind).into_iter().try_fold(1u64, |all, count| all.checked_mul(count?));
         let count = count.ok_or(Missing::Unsupported("a length that isn't a constant"))?;
         if plain(&element).map_or(false, |element| is_character(&element)) {
-            let length = usize::try_from(count).unwrap_or(usize::MAX).min(shape.length);
-            let bytes = self.machine.bytes(part.place, part.size, part.offset, length)?;
-            let end = bytes.iter().position(|byte| *byte == 0).unwrap_or(bytes.len());
-            return Ok(Value::Plain(format!("\"{}\"", escaped(&bytes[..end]))));
+            return self.characters(part, usize::try_from(count).unwrap_or(usize::MAX), shape);
         }
         if shape.depth == 0 {
             return Ok(Value::Deeper);

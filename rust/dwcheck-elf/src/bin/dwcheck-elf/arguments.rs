@@ -228,12 +228,12 @@ pub struct StackWords {
 #[derive(Args, Debug)]
 pub struct VarsWords {
     /// An ELF file
-    #[arg(required_unless_present = "core", requires = "address")]
+    #[arg(required_unless_present_any = ["core", "pid"], requires = "address")]
     pub program: Option<PathBuf>,
     /// An address, such as 0x1130, or a function, such as main, main+4 or 'twice(int)+4'
     pub address: Option<String>,
     /// A state file: registers and memory of the process at the address
-    #[arg(long, value_name = "FILE", conflicts_with = "core")]
+    #[arg(long, value_name = "FILE", conflicts_with_all = ["core", "pid"])]
     pub state: Option<PathBuf>,
     /// Where the program is loaded
     #[arg(long, value_name = "ADDRESS", default_value = "0x0")]
@@ -241,8 +241,11 @@ pub struct VarsWords {
     /// A core file of x86-64, i386 or aarch64, instead of a program
     #[arg(long, value_name = "CORE", conflicts_with = "program")]
     pub core: Option<PathBuf>,
-    /// The thread of the core file, instead of the first one
-    #[arg(long, value_name = "TID", requires = "core")]
+    /// A process of x86-64, i386 or aarch64 that runs, instead of a program
+    #[arg(long, value_name = "PID", conflicts_with_all = ["program", "core"])]
+    pub pid: Option<u32>,
+    /// The thread of the core file or of the process, instead of the first one
+    #[arg(long, value_name = "TID", conflicts_with = "program")]
     pub thread: Option<u32>,
     /// The frame of the thread, counted from 0
     #[arg(long, value_name = "N", default_value_t = 0)]

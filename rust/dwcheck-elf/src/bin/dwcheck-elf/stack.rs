@@ -68,7 +68,7 @@ fn of_core(words: &StackWords, program: Option<&PathBuf>, path: &Path, out: &mut
 }
 
 fn of_process(words: &StackWords, pid: u32, out: &mut impl Write) -> Result<Done, Failure> {
-    let copy = Snapshot::take(pid, &words.tid);
+    let copy = if words.vars { Snapshot::take_with_data(pid, &words.tid) } else { Snapshot::take(pid, &words.tid) };
     let copy = copy.map_err(|error| Failure::File(format!("process {}: {}", pid, error)))?;
     let core = copy.core();
     let files = Files::of_live(&core, pid);

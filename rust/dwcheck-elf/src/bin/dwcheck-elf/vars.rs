@@ -6,14 +6,17 @@ use crate::end::{shown, Done, Failure};
 use crate::opened::{address, note, number_argument, program, read, Opened};
 use crate::walks::state_file;
 use dwcheck::{Process, State};
+use dwcheck_elf::abi::abi;
 use dwcheck_elf::bridge::Options;
 use dwcheck_elf::core_file::{CoreFile, Files};
 use dwcheck_elf::debug_files::DebugFiles;
+use dwcheck_elf::live::Snapshot;
 use dwcheck_elf::modules::Modules;
 use dwcheck_elf::program::Program;
 use dwcheck_elf::stack::{Stacks, WalkOptions};
 use dwcheck_elf::state_file::StateFile;
-use dwcheck_elf::variables::{Frame, Function, Shape, Step, Variables};
+use dwcheck_elf::text::Plain;
+use dwcheck_elf::variables::{Frame, Function, Loaded, Shape, Step, Variables};
 use serde_json::json;
 use std::io::Write;
 use std::path::Path;
@@ -24,10 +27,11 @@ const MAX_CALLERS: usize = 16;
 /// Writes the functions at the address with their variables, the innermost first.
 pub fn vars(words: &VarsWords, out: &mut impl Write) -> Result<Done, Failure> {
     let shape = Shape { depth: words.depth, ..Shape::default() };
-    let functions = match (&words.core, &words.program, &words.address) {
-        (Some(core), None, None) => of_core(words, core, shape)?,
-        (None, Some(program), Some(address)) => of_program(words, program, address, shape)?,
-        _ => return Err(Failure::Argument("give PROGRAM ADDRESS, or --core".to_string())),
+    let functions = match (words.pid, &words.core, &words.program, &words.address) {
+        (Some(pid), None, None, None) => of_process(words, pid, shape)?,
+        (None, Some(core), None, None) => of_core(words, core, shape)?,
+        (None, None, Some(program), Some(address)) => of_program(words, program, address, shape)?,
+        _ => return Err(Failure::Argument("give PROGRAM ADDRESS, --core or --pid".to_string())),
     };
     if words.json {
         let functions: Vec<_> = functions.iter().rev().map(Function::json).collect();
@@ -44,12 +48,24 @@ pub fn vars(words: &VarsWords, out: &mut impl Write) -> Result<Done, Failure> {
 fn of_core(words: &VarsWords, path: &Path, shape: Shape) -> Result<Vec<Function>, Failure> {
     let bytes = read(path)?;
     let core = CoreFile::read(&bytes).map_err(|error| Failure::File(format!("{}: {}", shown(path), error)))?;
-    let files = Files::read(&core, &words.root);
-    let stacks = Stacks::of(&core, &files);
+    of_frame(words, &core, &Files::read(&core, &words.root), shape)
+}
+
+/// The process goes on once the thread's registers and the memory are copied.
+fn of_process(words: &VarsWords, pid: u32, shape: Shape) -> Result<Vec<Function>, Failure> {
+    let tid = words.thread.unwrap_or(pid);
+    let failed = |why: String| Failure::File(format!("process {}: {}", pid, why));
+    let copy = Snapshot::take_with_data(pid, &[tid]).map_err(|error| failed(error.to_string()))?;
+    let core = copy.core();
+    of_frame(words, &core, &Files::of_live(&core, pid), shape)
+}
+
+/// The functions of the frame that is asked for.
+fn of_frame(words: &VarsWords, core: &CoreFile<'_>, files: &Files, shape: Shape) -> Result<Vec<Function>, Failure> {
+    let stacks = Stacks::of(core, files);
     let is_wanted = |tid: u32| words.thread.map_or(true, |wanted| wanted == tid);
     let thread = core.threads().iter().find(|thread| is_wanted(thread.id));
-    let thread =
-        thread.ok_or_else(|| Failure::Argument("bad argument: the core file has no such thread".to_string()))?;
+    let thread = thread.ok_or_else(|| Failure::Argument("bad argument: there is no such thread".to_string()))?;
     let limit = words.frame.saturating_add(1 + MAX_CALLERS);
     let options = WalkOptions { limit, keeps_registers: true, ..WalkOptions::default() };
     let stack = stacks.walk(thread, options).map_err(|error| Failure::File(error.to_string()))?;
@@ -71,29 +87,46 @@ fn of_program(words: &VarsWords, path: &Path, at: &str, shape: Shape) -> Result<
     let address = address(at, target, &program.functions(), load)?;
     let state = words.state.as_ref().map_or(Ok(StateFile::default()), |path| state_file(path, target))?;
     let files = DebugFiles::default();
-    let whole = path.canonicalize().unwrap_or_else(|_| path.to_path_buf());
-    let failed = |why: String| Failure::File(format!("{}: {}", shown(path), why));
-    let separate = match program.has_bytes(".debug_info") {
-        true => None,
-        false => {
-            files.of(&whole, &program).map_err(|(file, why)| Failure::File(format!("{}: {}", shown(&file), why)))?
-        }
-    };
-    let separate = separate.map(|bytes| Program::read(bytes)).transpose().map_err(|error| failed(error.to_string()))?;
-    let debug = separate.as_ref().unwrap_or(&program);
-    if !debug.has_bytes(".debug_info") {
-        return Err(failed("no .debug_info, and no separate file of debug information".to_string()));
-    }
-    let shared = files.shared(debug).and_then(|bytes| Program::read(bytes).ok());
-    let variables = Variables::read(debug, shared.as_ref(), files.unpacked());
-    let variables = variables.map_err(|error| failed(error.to_string()))?;
+    let variables = variables(path, &program, &files)?;
     let process = match &words.state {
         Some(_) => unwinder(path, &program, load)?,
         None => Modules::new(target),
     };
     let steps = steps(process.process(), address, &state)?;
     let blocks = state.blocks();
-    Ok(variables.at(&Frame { target, load, steps: &steps, memory: &blocks }, shape))
+    let (is_program, has_glibc) = (program.is_program(), false);
+    let file = Some(Loaded { bytes: &data, bias: load, is_program, has_glibc });
+    let pointer = abi(program.machine(), target.address_size).and_then(|abi| abi.thread_pointer);
+    let thread_pointer = pointer.and_then(|pointer| state.registers.get(pointer));
+    let frame = Frame { target, load, steps: &steps, memory: &blocks, file, thread_pointer };
+    let functions = variables.at(&frame, shape);
+    let missing = if functions.is_empty() { variables.missing_file(&frame) } else { None };
+    match missing {
+        Some(name) => {
+            let why = format!("its debug information is in another file, {}, which isn't there", Plain(&name));
+            Err(Failure::File(format!("{}: {}", shown(path), why)))
+        }
+        None => Ok(functions),
+    }
+}
+
+/// The debug information of a program, which may be in a file of its own.
+fn variables<'a>(path: &Path, program: &Program<'a>, files: &'a DebugFiles) -> Result<Variables<'a>, Failure> {
+    let failed = |why: String| Failure::File(format!("{}: {}", shown(path), why));
+    let whole = path.canonicalize().unwrap_or_else(|_| path.to_path_buf());
+    let separate = match program.has_bytes(".debug_info") {
+        true => None,
+        false => {
+            files.of(&whole, program).map_err(|(file, why)| Failure::File(format!("{}: {}", shown(&file), why)))?
+        }
+    };
+    let separate = separate.map(|bytes| Program::read(bytes)).transpose().map_err(|error| failed(error.to_string()))?;
+    let debug = separate.as_ref().unwrap_or(program);
+    if !debug.has_bytes(".debug_info") {
+        return Err(failed("no .debug_info, and no separate file of debug information".to_string()));
+    }
+    let shared = files.shared(debug).and_then(|bytes| Program::read(bytes).ok());
+    Variables::read(debug, shared.as_ref(), files).map_err(|error| failed(error.to_string()))
 }
 
 /// The program's unwind tables, which give the CFA and the callers.
