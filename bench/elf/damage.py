@@ -10,7 +10,7 @@ run on each core file, and, for the kind `program`, with `--vars` on a core file
 its program, which is: its tables, symbols, debug information and .gnu_debugdata. Each run must end within 60
 seconds, in 1 GB of address space, with an exit status that dwcheck-elf documents, and without a
 panic. A survey must write a line of JSON for each different file that still begins as an ELF file
-does, and one line of totals. This needs gcc, gdb, binutils and xz.
+does, and one line of totals. This needs gcc, clang, gdb, binutils and xz.
 """
 import argparse
 import json
@@ -32,7 +32,15 @@ __attribute__((noinline)) int deep(int n) {
     if (n == 0) abort();
     return deep(n - 1) + p[0];
 }
-int main(int argc, char **argv) { return deep(argc + 3); }
+struct point { int x, y; };
+static inline int squared(int v) { int w = v * v; return w + v; }
+__attribute__((noinline)) double mixed(double d, int n) {
+    struct point p = {n, n + 1};
+    double sum = 0;
+    for (int i = 0; i < n; i++) { int k = squared(i) + p.x; sum += d * k; }
+    return sum + p.y;
+}
+int main(int argc, char **argv) { return mixed(argc, argc) + deep(argc + 3); }
 """
 IN_A_FOLDER = 250
 # How many bytes of address space a run may take.
@@ -63,6 +71,8 @@ def made(folder):
         "gcc -O2 -g -gdwarf-5 -fno-asynchronous-unwind-tables -gz a.c -o compressed",
         "gcc -O2 -g -gdwarf-5 -c a.c -o object.o",
         "gcc -O2 -g -gdwarf-4 a.c -o old",
+        # Lists with indexes of addresses.
+        "clang -O2 -g -gdwarf-5 -ffunction-sections a.c -o indexed",
         "gcc -O2 -static -Wl,-s a.c -o crash",
         "gdb --batch -ex 'set startup-with-shell off' -ex run -ex 'gcore core' ./crash < /dev/null",
         "gcc -O2 -g -gz a.c -o program",
@@ -73,7 +83,7 @@ def made(folder):
     for line in lines:
         subprocess.run(line, shell=True, cwd=folder, check=True, capture_output=True)
     elf = {}
-    for name in ["linked", "compressed", "object.o", "old"]:
+    for name in ["linked", "compressed", "object.o", "old", "indexed"]:
         with open(os.path.join(folder, name), "rb") as file:
             elf[name] = file.read()
     with open(os.path.join(folder, "core"), "rb") as file:
@@ -146,7 +156,7 @@ def elf_files(program, made_elf, work, seed, count):
     for number in range(0, count, 50):
         name = f"{number:04}"
         for words in [["check", "--all", "--notes", name], ["rows", name], ["row", name, "main+4"], ["locs", name, "0xc", "0x0", "deep"],
-                      ["vars", "--depth", "3", name, "main+4"], ["vars", "--json", name, "deep+8"]]:
+                      ["vars", "--depth", "3", name, "mixed+20"], ["vars", "--json", name, "deep+8"]]:
             _, wrong = run([program, *words], folder, (0, 1, 2, 3))
             if wrong:
                 problems.append(f"seed {seed}: {words}: {wrong}")

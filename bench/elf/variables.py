@@ -1,16 +1,18 @@
 #!/usr/bin/env python3
 """Compares the variables that `dwcheck-elf vars` shows with those of gdb, at random instructions of a program.
 
-    bench/elf/variables.py DWCHECK_ELF STOPS SEED PROGRAM [ARGUMENT]..
+    bench/elf/variables.py [--only WORD] DWCHECK_ELF STOPS SEED PROGRAM [ARGUMENT]..
 
 gdb runs the program, which has debug information, and stops at up to STOPS instructions that are drawn at
-random. At each stop it writes a state file with the registers, the stack and the program's own data, and the
+random: of functions whose name in the symbol table contains WORD, if it is given, such as those of one crate
+of a program in Rust. At each stop it writes a state file with the registers, the stack and the program's own data, and the
 values of the variables that it has in scope, in the function and in those that are inlined there. `vars` gets
 the state file. Each variable is counted in one of these lines; all but the first two have examples:
 
     equal                    both have the same value
     neither                  neither of the two has a value
     not evaluated: WHY       gdb has a value, and vars says why it has none
+    implicit pointer         vars says to which variable without an address it points; gdb shows a number
     only dwcheck-elf         gdb says that the variable is optimized out, or can't read it
     only gdb                 vars doesn't show the variable, of which gdb has a value
     not in gdb               gdb doesn't list the variable, such as one without a name
@@ -19,6 +21,7 @@ the state file. Each variable is counted in one of these lines; all but the firs
 The exit status is 1 if a variable is DIFFERENT or `only gdb` has it. This needs gdb and binutils,
 and a machine that lets gdb run programs; it is for x86-64. Texts that pointers lead to aren't compared.
 """
+import argparse
 import collections
 import json
 import os
@@ -40,8 +43,9 @@ REGISTERS = ["rax", "rdx", "rcx", "rbx", "rsi", "rdi", "rbp", "rsp", "r8", "r9",
 STACK = 65536
 # How many bytes of these are below the stack pointer, where a function has its variables before it makes room.
 BELOW = 4096
-# Breakpoints that are set at once.
-AT_ONCE = 300
+# Breakpoints that are set at once, and how often the program is run at most. Breakpoints that a run doesn't
+# reach are dropped, and the next run has others.
+AT_ONCE, RUNS = 300, 40
 
 
 def plain(value, depth=1):
@@ -144,15 +148,22 @@ def in_gdb():
         asked = json.load(file)
     for line in ("pagination off", "confirm off", "width 0", "disable-randomization on", "startup-with-shell off"):
         gdb.execute("set " + line)
-    gdb.execute("starti " + " ".join(asked["arguments"]) + " > /dev/null 2>&1", to_string=True)
-    own, load = own_data(asked["program"])
-    load = load if asked["pie"] else 0
-    places = [place + load for place in asked["places"]]
-    stops = []
+    stops, runs = [], 0
+    while asked["places"] and len(stops) < asked["stops"] and runs < RUNS:
+        run(asked, stops)
+        runs += 1
+    with open(os.path.join(asked["folder"], "stops"), "w") as file:
+        json.dump(stops, file)
+
+
+def run(asked, stops):
+    """Runs the program once, and adds what gdb knows where it stops."""
+    gdb.execute("starti " + " ".join(asked["arguments"]), to_string=True)
+    load = own_data(asked["program"])[1] if asked["pie"] else 0
     waiting = []
-    while (places or waiting) and len(stops) < asked["stops"]:
-        while places and len(waiting) < AT_ONCE:
-            waiting.append(gdb.Breakpoint("*%#x" % places.pop(), temporary=True, internal=True))
+    while (asked["places"] or waiting) and len(stops) < asked["stops"]:
+        while asked["places"] and len(waiting) < AT_ONCE:
+            waiting.append(gdb.Breakpoint("*%#x" % (asked["places"].pop() + load), temporary=True, internal=True))
         try:
             gdb.execute("continue", to_string=True)
         except gdb.error:
@@ -160,26 +171,31 @@ def in_gdb():
         if not gdb.selected_inferior().pid:
             break
         waiting = [point for point in waiting if point.is_valid()]
-        frame = gdb.newest_frame()
-        frames = [frame]
-        while frames[-1].type() == gdb.INLINE_FRAME:
-            frames.append(frames[-1].older())
-        path = os.path.join(asked["folder"], "state%d" % len(stops))
-        write_state(path, frame, own_data(asked["program"])[0])
-        found = [one for place, each in enumerate(reversed(frames)) for one in variables(each, place)]
-        stops.append({"address": frame.pc(), "load": load, "state": path, "variables": found})
-    with open(os.path.join(asked["folder"], "stops"), "w") as file:
-        json.dump(stops, file)
-    try:
-        gdb.execute("kill")
-    except gdb.error:
-        pass
+        stops.append(stop(asked, load, len(stops)))
+    for point in waiting:
+        if point.is_valid():
+            point.delete()
+    if gdb.selected_inferior().pid:
+        gdb.execute("kill", to_string=True)
+
+
+def stop(asked, load, number):
+    """What gdb knows where the program is, with a state file."""
+    frame = gdb.newest_frame()
+    frames = [frame]
+    while frames[-1].type() == gdb.INLINE_FRAME:
+        frames.append(frames[-1].older())
+    path = os.path.join(asked["folder"], "state%d" % number)
+    write_state(path, frame, own_data(asked["program"])[0])
+    found = [one for place, each in enumerate(reversed(frames)) for one in variables(each, place)]
+    return {"address": frame.pc(), "load": load, "state": path, "variables": found}
 
 
 def same(one, other):
     """Whether a value of gdb and one of vars are the same, as far as they can be compared."""
-    if isinstance(other, dict) and "address" in other and "text" in other and isinstance(one, str):
-        other = other["address"]
+    if isinstance(other, dict) and "address" in other and "text" in other:
+        # A text of Rust or Go is a structure whose first member is the address.
+        other, one = other["address"], next(iter(one.values()), None) if isinstance(one, dict) else one
     if one == "?" or one == other:
         return True
     if isinstance(one, dict) and isinstance(other, dict):
@@ -219,6 +235,8 @@ def compare(stop, shown, count):
             count("neither" if one["value"] is None else "only dwcheck-elf", f"{where}: {one}")
         elif one["value"] is None:
             count(f"not evaluated: {missing}", f"{where}: {value}")
+        elif isinstance(one["value"], str) and one["value"].startswith("points to "):
+            count("implicit pointer", f"{where}: {value}, {one}")
         else:
             count("equal" if same(value, one["value"]) else "DIFFERENT", f"{where}: {value}, {one}")
     for (depth, name), left in ours.items():
@@ -226,19 +244,25 @@ def compare(stop, shown, count):
             count("neither" if one["value"] is None else "not in gdb", f"{stop['address']:#x} {name}: {one}")
 
 
-def instructions(program):
-    """The addresses of the instructions of the program's own code."""
+def instructions(program, word):
+    """The addresses of the instructions of the program's own functions whose names contain a word."""
     shown = subprocess.run(["objdump", "-d", "-j", ".text", program], capture_output=True, text=True, check=True).stdout
-    return [int(found, 16) for found in re.findall(r"^ +([0-9a-f]+):\t", shown, re.M)]
+    functions = re.split(r"^[0-9a-f]+ <(.*)>:$", shown, flags=re.M)
+    own = [text for name, text in zip(functions[1::2], functions[2::2]) if word in name]
+    return [int(found, 16) for text in own for found in re.findall(r"^ +([0-9a-f]+):\t", text, re.M)]
 
 
 def main():
-    if len(sys.argv) < 5:
-        sys.exit(__doc__)
-    dwcheck_elf, stops, seed, program, *arguments = sys.argv[1:]
+    words = argparse.ArgumentParser(description=__doc__, formatter_class=argparse.RawDescriptionHelpFormatter)
+    words.add_argument("--only", metavar="WORD", default="")
+    for name in ("dwcheck_elf", "stops", "seed", "program"):
+        words.add_argument(name)
+    words.add_argument("arguments", nargs=argparse.REMAINDER)
+    words = words.parse_args()
+    dwcheck_elf, stops, seed, program, arguments = words.dwcheck_elf, words.stops, words.seed, words.program, words.arguments
     header = subprocess.run(["readelf", "-h", program], capture_output=True, text=True, check=True).stdout
     numbers = random.Random(int(seed))
-    places = instructions(program)
+    places = instructions(program, words.only)
     numbers.shuffle(places)
     counts, examples = collections.Counter(), collections.defaultdict(list)
 
@@ -255,14 +279,14 @@ def main():
         environment = dict(os.environ, VARIABLES_PY=os.path.join(folder, "asked"))
         with open(environment["VARIABLES_PY"], "w") as file:
             json.dump(asked, file)
-        words = ["gdb", "--batch", "-nx", "-x", os.path.abspath(__file__), program]
-        subprocess.run(words, env=environment, capture_output=True, stdin=subprocess.DEVNULL, check=True)
+        line = ["gdb", "--batch", "-nx", "-x", os.path.abspath(__file__), program]
+        subprocess.run(line, env=environment, capture_output=True, stdin=subprocess.DEVNULL, check=True)
         with open(os.path.join(folder, "stops")) as file:
             found = json.load(file)
         for stop in found:
-            words = [dwcheck_elf, "vars", "--json", "--load", hex(stop["load"]), "--state", stop["state"], program,
-                     hex(stop["address"])]
-            ran = subprocess.run(words, capture_output=True, text=True, check=True)
+            line = [dwcheck_elf, "vars", "--json", "--load", hex(stop["load"]), "--state", stop["state"], program,
+                    hex(stop["address"])]
+            ran = subprocess.run(line, capture_output=True, text=True, check=True)
             compare(stop, json.loads(ran.stdout), count)
     print(f"stops {len(found)} variables {sum(counts.values())}")
     for what, number in counts.most_common():
