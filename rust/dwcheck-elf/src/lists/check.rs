@@ -14,6 +14,7 @@ use crate::inspect::{InspectError, Inspected};
 use crate::program::Program;
 use crate::target::Target;
 use gimli::{DebugAddrIndex, Dwarf, Reader, Section as _, SectionId, Unit, UnitHeader, UnitSectionOffset};
+use std::collections::HashMap;
 use std::rc::Rc;
 use typed_arena::Arena;
 
@@ -30,8 +31,10 @@ const NEEDED: [SectionId; 9] = [
     SectionId::DebugTypes,
 ];
 
-/// Units may have tables of abbreviations of this many times the bytes of `.debug_abbrev` in all.
+/// Units may have tables of abbreviations of this many times the bytes of `.debug_abbrev` in all, or of
+/// [`MIN_ABBREVIATIONS`] bytes if that is more. The units of a file that dwz wrote share one table.
 const MAX_SHARED_ABBREVIATIONS: usize = 64;
+const MIN_ABBREVIATIONS: usize = 256 << 20;
 
 /// The lists of a program while they are checked.
 struct Lists<'a> {
@@ -41,14 +44,39 @@ struct Lists<'a> {
     target: Target,
     /// The lowest address of the program's code, 0 if it isn't known.
     lowest: u64,
-    /// How many more bytes tables of abbreviations may have.
-    abbreviations: usize,
+    abbreviations: Abbreviations,
     /// The indexes of units whose debug information is in files of their own.
     split: Vec<usize>,
     /// The look-ups that were compared with gimli's, if they are to be compared.
     look_ups: Option<LookUps>,
     /// For the file of a unit: what the program has of the unit.
     skeleton: Option<Rc<Unit<Slice<'a>>>>,
+}
+
+/// The tables of abbreviations of the units that were read.
+struct Abbreviations {
+    /// The length of each table, by its offset.
+    lengths: HashMap<usize, usize>,
+    /// How many more bytes those of further units may have.
+    left: usize,
+}
+
+impl Abbreviations {
+    fn of(dwarf: &Dwarf<Slice<'_>>) -> Self {
+        let left = dwarf.debug_abbrev.reader().len().saturating_mul(MAX_SHARED_ABBREVIATIONS);
+        Abbreviations { lengths: HashMap::new(), left: left.max(MIN_ABBREVIATIONS) }
+    }
+
+    /// Notes the table of a unit. False if units have too many bytes of tables.
+    fn note(&mut self, dwarf: &Dwarf<Slice<'_>>, offset: usize) -> bool {
+        // gimli keeps the table at offset 0, and reads others again for each unit.
+        if offset == 0 && self.lengths.contains_key(&0) {
+            return true;
+        }
+        let read = || abbreviations_length(dwarf.debug_abbrev.reader(), offset);
+        let length = *self.lengths.entry(offset).or_insert_with(read);
+        self.left.checked_sub(length).map(|left| self.left = left).is_some()
+    }
 }
 
 /// Checks the location lists to which the debug information of a program refers. `shared` is the file that
@@ -147,7 +175,7 @@ impl<'a> Lists<'a> {
             Ok(bytes)
         });
         let dwarf = dwarf.map_err(InspectError::Program)?;
-        let abbreviations = dwarf.debug_abbrev.reader().len().saturating_mul(MAX_SHARED_ABBREVIATIONS);
+        let abbreviations = Abbreviations::of(&dwarf);
         let sections = [Section::new(Name::DebugLoc, loc.slice()), Section::new(Name::DebugLoclists, loclists.slice())];
         let lowest = program.code(0).map_or(0, |code| *code.start());
         let (target, split, look_ups) = (program.target(), Vec::new(), None);
@@ -158,7 +186,7 @@ impl<'a> Lists<'a> {
         let dwarf = opened.dwarf(&NEEDED).map_err(InspectError::Program)?;
         let loclists = opened.loclists().map_err(InspectError::Program)?;
         let sections = [Section::new(Name::DebugLoc, &[]), Section::new(Name::DebugLoclists, loclists)];
-        let abbreviations = dwarf.debug_abbrev.reader().len().saturating_mul(MAX_SHARED_ABBREVIATIONS);
+        let abbreviations = Abbreviations::of(&dwarf);
         let (target, skeleton) = (opened.target(), Some(Rc::clone(&opened.skeleton)));
         Ok(Lists { dwarf, sections, lowest, target, abbreviations, split: Vec::new(), look_ups: None, skeleton })
     }
@@ -193,9 +221,9 @@ impl<'a> Lists<'a> {
         if header.encoding().address_size != self.target.address_size.bytes() {
             return Err(fail(format!("addresses of {} bytes", header.encoding().address_size)));
         }
-        let length = abbreviations_length(self.dwarf.debug_abbrev.reader(), header.debug_abbrev_offset().0);
-        let left = self.abbreviations.checked_sub(length);
-        self.abbreviations = left.ok_or_else(|| fail("units share too many abbreviations".to_string()))?;
+        if !self.abbreviations.note(&self.dwarf, header.debug_abbrev_offset().0) {
+            return Err(fail("units share too many abbreviations".to_string()));
+        }
         let mut unit = self.dwarf.unit(header).map_err(|error| fail(error.to_string()))?;
         match &self.skeleton {
             Some(skeleton) => unit.copy_relocated_attributes(skeleton),
