@@ -1,7 +1,7 @@
 //! Finds the location lists that a unit of `.debug_info` refers to.
 
 use crate::debug_info::Slice;
-use gimli::{Abbreviation, AttributeValue, DwAt, DwForm, EntriesRaw, Reader, Unit, UnitOffset};
+use gimli::{Abbreviation, AttributeValue, DwAt, DwForm, DwarfFileType, EntriesRaw, Reader, Unit, UnitOffset};
 use std::fmt;
 
 /// `DW_AT_GNU_locviews`: where the view numbers of a list are.
@@ -92,7 +92,7 @@ fn of_entry<'a>(
                 dwarf.locations_offset(unit, index).ok().map(|list| list.0 as u64)
             }
             AttributeValue::SecOffset(offset) if attribute.name() == LOCVIEWS => {
-                views = Some(offset as u64);
+                views = Some(offset as u64 + views_base(dwarf, unit));
                 continue;
             }
             _ => continue,
@@ -104,6 +104,14 @@ fn of_entry<'a>(
         reference.views = views;
     }
     Ok(())
+}
+
+/// From where offsets of view numbers count. In files of single units, gcc counts them from the array of offsets.
+fn views_base(dwarf: &gimli::Dwarf<Slice<'_>>, unit: &Unit<Slice<'_>>) -> u64 {
+    match dwarf.file_type {
+        DwarfFileType::Dwo => unit.loclists_base.0 as u64,
+        DwarfFileType::Main => 0,
+    }
 }
 
 /// The number of bytes of a table of abbreviations, up to the 0 that ends it.
