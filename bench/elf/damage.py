@@ -1,13 +1,14 @@
 #!/usr/bin/env python3
-"""Runs dwcheck-elf on ELF files and core files whose bytes were changed at random.
+"""Runs dwcheck-elf on ELF files, core files and recordings of perf whose bytes were changed at random.
 
-    bench/elf/damage.py DWCHECK_ELF COUNT SEED [--jobs N] [--kinds elf,core,program]
+    bench/elf/damage.py DWCHECK_ELF COUNT SEED [--jobs N] [--kinds elf,core,program,recording]
 
 gcc makes a few ELF files, and gdb core files. From these, COUNT files of each kind are made: bytes
 are changed in headers, in sections and anywhere, and some files are cut short. `survey` is run on
 folders of 250 ELF files, and `check`, `rows`, `row`, `locs` and `vars` on every 50th file. `stack` is
 run on each core file, and, for the kind `program`, with `--vars` on a core file that isn't changed with
-its program, which is: its tables, symbols, debug information and .gnu_debugdata. Each run must end within 60
+its program, which is: its tables, symbols, debug information and .gnu_debugdata. `profile` is run on
+each recording, which is one of rust/dwcheck-elf/tests/recordings, with each format in turn. Each run must end within 60
 seconds, in 1 GB of address space, with an exit status that dwcheck-elf documents, and without a
 panic. A survey must write a line of JSON for each different file that still begins as an ELF file
 does, and one line of totals. This needs gcc, clang, gdb, binutils and xz.
@@ -43,6 +44,8 @@ __attribute__((noinline)) double mixed(double d, int n) {
 int main(int argc, char **argv) { return mixed(argc, argc) + deep(argc + 3); }
 """
 IN_A_FOLDER = 250
+RECORDINGS = os.path.join(os.path.dirname(os.path.abspath(__file__)), "../../rust/dwcheck-elf/tests/recordings")
+FORMATS = ["script", "folded", "html", "speedscope", "pprof", "top"]
 # How many bytes of address space a run may take.
 MEMORY = 1 << 30
 ODD = [0, 1, 0x7F, 0x80, 0xFF, 0xFE, 0x10, 0x9B, 0x2E, 0x0D]
@@ -90,7 +93,12 @@ def made(folder):
         core = file.read()
     with open(os.path.join(folder, "program"), "rb") as file:
         program = file.read()
-    return {"elf": elf, "core": core, "program": program}
+    recordings = {}
+    for name in sorted(os.listdir(RECORDINGS)):
+        if name.endswith(".perf"):
+            with open(os.path.join(RECORDINGS, name), "rb") as file:
+                recordings[name] = file.read()
+    return {"elf": elf, "core": core, "program": program, "recording": recordings}
 
 
 def sections(bytes_of_file):
@@ -207,19 +215,38 @@ def programs(program, original, work, seed, count):
     return came, problems
 
 
+def recording_files(program, recordings, work, seed, count):
+    """Runs dwcheck-elf on `count` changed recordings, one after another. Returns the same as elf_files()."""
+    numbers = random.Random(seed)
+    problems, came = [], Counter()
+    path = os.path.join(work, f"recording-{seed}")
+    for number in range(count):
+        original = recordings[numbers.choice(sorted(recordings))]
+        with open(path, "wb") as file:
+            file.write(changed(numbers, original, [(0, 400), (0, len(original)), (len(original) - 3000, len(original))]))
+        words = ["profile", "--root", RECORDINGS, "--stops", "--format", FORMATS[number % len(FORMATS)], path]
+        ran, wrong = run([program, *words], work, (0, 3))
+        if wrong:
+            problems.append(f"seed {seed}: recording {number}: {wrong}")
+            shutil.copy(path, f"{path}-{number}")
+        came[f"status {ran.returncode}" if ran else "no end"] += 1
+    os.remove(path)
+    return came, problems
+
+
 def main():
     words = argparse.ArgumentParser()
     words.add_argument("program")
     words.add_argument("count", type=int)
     words.add_argument("seed", type=int)
     words.add_argument("--jobs", type=int, default=1)
-    words.add_argument("--kinds", default="elf,core,program")
+    words.add_argument("--kinds", default="elf,core,program,recording")
     words = words.parse_args()
     program = os.path.abspath(words.program)
     work = tempfile.mkdtemp()
     originals = made(work)
     problems = []
-    tasks_of = {"elf": elf_files, "core": core_files, "program": programs}
+    tasks_of = {"elf": elf_files, "core": core_files, "program": programs, "recording": recording_files}
     for kind in words.kinds.split(","):
         task, given = tasks_of[kind], originals[kind]
         starts = range(0, words.count, IN_A_FOLDER)

@@ -4,6 +4,7 @@ use crate::bridge::{bridge, plain, Bridged, Edge, EhFrame, Options, Place, Recor
 use crate::program::{Program, ProgramError, Section};
 use crate::target::Target;
 use dwcheck::{Error, Module, Process};
+use std::borrow::Cow;
 use std::collections::HashSet;
 use std::fmt;
 
@@ -77,6 +78,12 @@ impl<'data> FrameSection<'data> {
         };
         let EhFrame { target, machine, text, data, .. } = program.eh_frame_of(&source);
         Ok(Some(FrameSection { name, target, machine, source, text, data }))
+    }
+
+    /// The same section with its own copy of the bytes.
+    pub fn into_owned(self) -> FrameSection<'static> {
+        let source = Section { bytes: Cow::Owned(self.source.bytes.into_owned()), ..self.source };
+        FrameSection { source, ..self }
     }
 
     /// The section as [`bridge`] takes it.

@@ -8,6 +8,7 @@
 //!   section.
 //! - [`lint`] gives the crate `dwcheck-lint` a program's code and rows.
 //! - [`trace`] compares rows with values while a program runs.
+//! - [`profile`] reads what `perf record` wrote, and walks the stacks of its samples.
 //! - [`core_file`] opens a core file and gives its threads, memory and modules.
 //!
 //! No function here trusts its input: a malformed file gives an error.
@@ -42,6 +43,7 @@ pub mod modules;
 pub mod names;
 mod pieces;
 mod plt;
+pub mod profile;
 pub mod program;
 pub mod relocate;
 pub mod row;

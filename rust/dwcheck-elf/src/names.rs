@@ -27,7 +27,11 @@ const NESTED: u32 = 64;
 /// assert_eq!(demangled("_Z5twicei@plt"), "twice(int)@plt");
 /// ```
 pub fn demangled(name: &str) -> Cow<'_, str> {
-    match name.strip_suffix(STUB).map(demangled) {
+    demangled_with(name, DemangleOptions::new())
+}
+
+fn demangled_with(name: &str, options: DemangleOptions) -> Cow<'_, str> {
+    match name.strip_suffix(STUB).map(|function| demangled_with(function, options)) {
         Some(Cow::Owned(function)) => return Cow::Owned(function + STUB),
         Some(Cow::Borrowed(_)) => return Cow::Borrowed(name),
         None => {}
@@ -38,7 +42,7 @@ pub fn demangled(name: &str) -> Cow<'_, str> {
     let mut text = Bounded(String::new());
     let written = match rustc_demangle::try_demangle(name) {
         Ok(name) => write!(text, "{:#}", name).is_ok(),
-        Err(_) => cpp(name, &mut text),
+        Err(_) => cpp(name, options, &mut text),
     };
     if written {
         Cow::Owned(text.0)
@@ -47,9 +51,9 @@ pub fn demangled(name: &str) -> Cow<'_, str> {
     }
 }
 
-fn cpp(name: &str, text: &mut Bounded) -> bool {
+fn cpp(name: &str, options: DemangleOptions, text: &mut Bounded) -> bool {
     let parsed = Symbol::new_with_options(name, &ParseOptions::default().recursion_limit(NESTED));
-    let options = DemangleOptions::new().recursion_limit(NESTED);
+    let options = options.recursion_limit(NESTED);
     parsed.map_or(false, |symbol| symbol.structured_demangle(text, &options).is_ok())
 }
 
@@ -62,6 +66,11 @@ fn shown(demangled: &str) -> impl Iterator<Item = char> + '_ {
 /// A function's name as it is shown: demangled, without control characters.
 pub(crate) fn shown_name(symbol: &str) -> String {
     shown(&demangled(symbol)).collect()
+}
+
+/// The same without the return type and the parameters of C++ functions, as perf shows names.
+pub(crate) fn short_name(symbol: &str) -> String {
+    shown(&demangled_with(symbol, DemangleOptions::new().no_params().no_return_type())).collect()
 }
 
 /// A function's name as it is in the file, without control characters.

@@ -19,6 +19,7 @@ mod walker;
 pub use crate::lines::SourceLine;
 pub(crate) use guess::ends_with_call;
 pub use instruction::Instruction;
+pub(crate) use names::Names;
 pub use names::{Inlined, NameOptions, Place};
 pub use text::Lines;
 
@@ -26,11 +27,12 @@ use crate::core_file::{CoreFile, Files, Memory, Thread};
 use crate::text::Plain;
 use crate::variables::{Shape, Variables};
 use dwcheck::{Block, Registers};
-use names::Names;
+pub(crate) use section::SectionTable;
 use std::cell::RefCell;
 use std::collections::{BTreeMap, HashMap, HashSet};
 use std::fmt;
 use std::path::{Path, PathBuf};
+pub(crate) use tables::add as add_fde;
 use tables::Tables;
 use walker::Walker;
 
@@ -306,7 +308,8 @@ impl<'a> Stacks<'a> {
             None => return Place::default(),
         };
         let mut names = self.names.borrow_mut();
-        let names = names.entry(place).or_insert_with(|| Names::read(module, self.files, self.name_options));
+        let read = || Names::read(&module.path, module.image.bytes(), self.files.debug_files(), self.name_options);
+        let names = names.entry(place).or_insert_with(read);
         let linked = |address: u64| self.core.target().wrap(address.wrapping_sub(module.bias));
         let found = names.place(linked(frame.address), linked(looked_up), self.name_options);
         Place { module: Some(module.path.clone()), ..found }

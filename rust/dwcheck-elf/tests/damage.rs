@@ -7,9 +7,12 @@ use common::{has, Folder, C, CXX};
 use dwcheck_elf::bridge::{bridge, Edge, EhFrame, Options};
 use dwcheck_elf::core_file::{CoreFile, Files};
 use dwcheck_elf::inspect::{inspect, Check, Inspected, Verdict};
+use dwcheck_elf::profile::script::{self, ScriptOptions};
+use dwcheck_elf::profile::{self, folded, html, pprof, speedscope, top, Names, Places, Profile, Recording};
 use dwcheck_elf::program::Program;
 use dwcheck_elf::stack::{Stacks, WalkOptions};
 use dwcheck_elf::validate::{validate, What};
+use std::io::Cursor;
 use std::path::Path;
 
 /// Pseudorandom numbers, the same in each run (xorshift).
@@ -117,6 +120,49 @@ fn core(bytes: &[u8]) -> bool {
         assert!(stack.frames.len() <= 50 && stack.to_string().ends_with('\n') && stack.json().is_object());
     }
     true
+}
+
+/// Reads a recording, and writes its profile in all formats. Returns false if its header can't be read.
+fn recording(bytes: &[u8], root: &Path) -> bool {
+    let opened = Recording::of_file(Cursor::new(bytes));
+    let mut recording = match opened {
+        Ok(recording) => recording,
+        Err(damage) => {
+            assert!(!damage.to_string().is_empty());
+            return false;
+        }
+    };
+    let places = Places { root: root.to_path_buf(), cache: None };
+    let options = profile::Options { places, ..profile::Options::default() };
+    let profile = Profile::read(&mut recording, &options, |_| true);
+    let names = Names::read(&profile, &Default::default());
+    let event = profile.sampled_events().first().copied().unwrap_or(0);
+    let mut out = Vec::new();
+    folded::write(&profile, &names, event, &mut out).unwrap();
+    script::write(&profile, &names, ScriptOptions { stops: true }, &mut out).unwrap();
+    html::write(&profile, &names, event, "title", &mut out).unwrap();
+    speedscope::write(&profile, &names, event, &mut out).unwrap();
+    pprof::write(&profile, &names, &mut out).unwrap();
+    top::write(&profile, &names, event, 10, &mut out).unwrap();
+    assert!(out.len() < 10_000_000, "{}", out.len());
+    true
+}
+
+#[test]
+fn recordings() {
+    let root = Path::new(env!("CARGO_MANIFEST_DIR")).join("tests/recordings");
+    let mut numbers = Numbers(0x4567_89ab_cdef_1234);
+    let mut read = 0;
+    for name in ["dwarf", "zstd", "pipe", "two", "group", "chain"] {
+        let whole = std::fs::read(root.join(format!("{}.perf", name))).unwrap();
+        for number in 0..60 {
+            let mut bytes = whole.clone();
+            let (begin, end) = if number % 3 == 0 { (0, 400) } else { (0, bytes.len()) };
+            numbers.damage(&mut bytes, begin, end);
+            read += usize::from(recording(&bytes, &root));
+        }
+    }
+    assert!(read > 200, "{}", read);
 }
 
 /// Changes only bytes of the `.eh_frame` section.

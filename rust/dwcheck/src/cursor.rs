@@ -96,6 +96,19 @@ impl Cursor {
         self.raw.address
     }
 
+    /// Moves the cursor to another address without changing the registers. So one process can have the
+    /// tables of a file as linked and serve wherever the file is loaded: before each step, move the cursor
+    /// to the address as linked. A step leaves it at the caller's address as loaded.
+    pub fn set_address(&mut self, address: u64) {
+        self.raw.address = address;
+    }
+
+    /// Whether the frame is looked up at its address, because it was interrupted or is the first one. If not,
+    /// it is looked up at its address minus 1, or the walk has ended.
+    pub fn is_exact(&self) -> bool {
+        self.raw.stage == ffi::CURSOR_EXACT
+    }
+
     /// The content of a register in the frame. `None` if it isn't known.
     pub fn register(&self, number: u16) -> Option<u64> {
         let index = usize::from(number);

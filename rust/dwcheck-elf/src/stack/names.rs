@@ -1,11 +1,11 @@
 //! Names of functions, and lines of source files.
 
-use crate::core_file::{Files, Module};
+use crate::debug_files::DebugFiles;
 use crate::functions::Functions;
 use crate::lines::{At, Lines, SourceLine};
 use crate::names::{raw_name, shown_name, Spot, STUB};
 use crate::program::Program;
-use std::path::PathBuf;
+use std::path::{Path, PathBuf};
 
 /// Which names a stack shows.
 #[derive(Clone, Copy, Debug, PartialEq, Eq)]
@@ -55,7 +55,7 @@ pub struct Place {
 }
 
 /// The names of a module.
-pub(super) struct Names<'a> {
+pub(crate) struct Names<'a> {
     functions: Functions<'a>,
     lines: Option<Lines<'a>>,
     /// The files of debug information that aren't used, and why.
@@ -69,18 +69,18 @@ impl Default for NameOptions {
 }
 
 impl<'a> Names<'a> {
-    /// Reads the symbols and the debug information of a module, also those of its separate file of
-    /// debug information.
-    pub fn read(module: &Module<'a>, files: &'a Files, options: NameOptions) -> Self {
+    /// Reads the symbols and the debug information of a file with these bytes, also those of its separate
+    /// file of debug information.
+    pub fn read(path: &Path, bytes: &'a [u8], debug_files: &'a DebugFiles, options: NameOptions) -> Self {
         let mut names = Names { functions: Functions::default(), lines: None, problems: Vec::new() };
-        let program = match Program::read(module.image.bytes()) {
+        let program = match Program::read(bytes) {
             Ok(program) => program,
             Err(_) => return names,
         };
         let (functions, problem) = program.all_functions();
         names.functions = functions;
-        names.problems.extend(problem.map(|problem| (module.path.clone(), problem.to_string())));
-        let debug = match files.debug_files().of(&module.path, &program) {
+        names.problems.extend(problem.map(|problem| (path.to_path_buf(), problem.to_string())));
+        let debug = match debug_files.of(path, &program) {
             Ok(debug) => debug.and_then(|bytes| Program::read(bytes).ok()),
             Err((path, why)) => {
                 names.problems.push((path, why.to_string()));
@@ -92,8 +92,8 @@ impl<'a> Names<'a> {
         }
         if options.source || options.inlined {
             let source = debug.filter(|_| !program.has_section(".debug_info")).unwrap_or(program);
-            let shared = files.debug_files().shared(&source).and_then(|bytes| Program::read(bytes).ok());
-            names.lines = Lines::read(&source, shared.as_ref(), files.debug_files().unpacked());
+            let shared = debug_files.shared(&source).and_then(|bytes| Program::read(bytes).ok());
+            names.lines = Lines::read(&source, shared.as_ref(), debug_files.unpacked());
         }
         names
     }

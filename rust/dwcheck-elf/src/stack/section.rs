@@ -12,7 +12,7 @@ use std::ops::Range;
 
 /// The FDEs of a frame section, by address.
 #[derive(Debug)]
-pub(super) struct SectionTable<'a> {
+pub(crate) struct SectionTable<'a> {
     section: FrameSection<'a>,
     fdes: Vec<FdeHeader>,
     pieces: Pieces,
@@ -20,7 +20,7 @@ pub(super) struct SectionTable<'a> {
 
 /// An FDE with its CIE, as a section for `dwcheck`.
 #[derive(Debug)]
-pub(super) struct OneFde {
+pub(crate) struct OneFde {
     pub bytes: Vec<u8>,
     pub target: Target,
     pub is_signal_frame: bool,
@@ -49,6 +49,16 @@ impl<'a> SectionTable<'a> {
         };
         let pieces = Pieces::of(fdes.iter().map(|fde| fde.range.clone()));
         SectionTable { section, fdes, pieces }
+    }
+
+    /// The addresses of signal frames.
+    pub fn signal_frames(&self) -> impl Iterator<Item = Range<u64>> + '_ {
+        self.fdes.iter().filter(|fde| fde.is_signal_frame).map(|fde| fde.range.clone())
+    }
+
+    /// The same table with its own copy of the section's bytes.
+    pub fn into_owned(self) -> SectionTable<'static> {
+        SectionTable { section: self.section.into_owned(), fdes: self.fdes, pieces: self.pieces }
     }
 
     /// The FDE that counts at an address, and the addresses around it at which it counts.

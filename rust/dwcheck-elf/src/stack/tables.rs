@@ -242,7 +242,7 @@ fn read<'a>(module: &Module<'a>) -> (FileTables<'a>, Vec<String>) {
 /// Adds an FDE to a process, for the addresses of `loaded`, or, if another FDE answers for one of
 /// these, for `address` alone. A remember_state that is left over at the end of the FDE changes no
 /// row, so the rows of such an FDE are used too.
-fn add(process: &mut Process, one: &OneFde, loaded: &dwcheck::Module, address: u64) -> Result<(), Error> {
+pub(crate) fn add(process: &mut Process, one: &OneFde, loaded: &dwcheck::Module, address: u64) -> Result<(), Error> {
     let loaded = loaded.clone().room(room(&one.bytes));
     let mut add = |bytes: &[u8]| match process.add(bytes, loaded.clone()) {
         Err(Error::Overlaps(_)) => process.add(bytes, loaded.clone().range(address..=address)),

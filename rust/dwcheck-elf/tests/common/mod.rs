@@ -2,6 +2,7 @@
 #![allow(dead_code)]
 
 pub mod cores;
+pub mod recordings;
 pub mod run;
 pub mod trace;
 

@@ -1,6 +1,6 @@
 //! The arguments of the command line.
 
-use clap::{Args, Parser, Subcommand};
+use clap::{Args, Parser, Subcommand, ValueEnum};
 use dwcheck_elf::bridge::Options;
 use dwcheck_elf::inspect::Check;
 use std::ffi::OsString;
@@ -54,7 +54,14 @@ pub enum Command {
     /// Run a program, and compare rows with what is so meanwhile (x86-64)
     #[command(after_help = TRACE_STATUS)]
     Trace(TraceWords),
+    /// Write the stacks that perf recorded, as folded stacks or in another format
+    #[command(after_help = PROFILE_EXAMPLE)]
+    Profile(ProfileWords),
 }
+
+const PROFILE_EXAMPLE: &str =
+    "Example: perf record -e cpu-clock --call-graph dwarf ./program && dwcheck-elf profile > stacks.folded
+Exit status: 0 written; 2 a bad argument; 3 a recording that can't be read to its end";
 
 const TRACE_STATUS: &str = "Example: dwcheck-elf trace --module 'libcrypto*' -- openssl speed rsa512
 Exit status: that of the program, or 128 plus the number of the signal that ended it. With --status, and of
@@ -357,4 +364,70 @@ pub struct TraceWords {
     /// End with the status 1 if something is found, and 0 if not, in place of the program's own status
     #[arg(long)]
     pub status: bool,
+}
+
+/// The format in which a profile is written.
+#[derive(Clone, Copy, Debug, PartialEq, Eq, ValueEnum)]
+pub enum Format {
+    /// A line for each stack, which flamegraph.pl, inferno and speedscope read
+    Folded,
+    /// The lines of `perf script`
+    Script,
+    /// One page with a flame graph, which any browser shows without a network
+    Html,
+    /// speedscope's JSON
+    Speedscope,
+    /// pprof's profile, compressed by gzip
+    Pprof,
+    /// A table of the functions that weigh most by themselves
+    Top,
+}
+
+#[derive(Args, Debug)]
+pub struct ProfileWords {
+    /// What perf recorded; - for what `perf record -o -` writes to a pipe
+    #[arg(default_value = "perf.data")]
+    pub recording: PathBuf,
+    /// What to write
+    #[arg(long, value_enum, default_value_t = Format::Folded)]
+    pub format: Format,
+    /// Write to this file, not to standard output
+    #[arg(long, short, value_name = "FILE")]
+    pub output: Option<PathBuf>,
+    /// Only threads with this name. Can be given several times
+    #[arg(long, value_name = "NAME")]
+    pub comm: Vec<String>,
+    /// Only this process. Can be given several times
+    #[arg(long, value_name = "PID")]
+    pub pid: Vec<u32>,
+    /// Only this thread. Can be given several times
+    #[arg(long, value_name = "TID")]
+    pub tid: Vec<u32>,
+    /// Only samples between these times in seconds, as --format script shows them; either may be left out
+    #[arg(long, value_name = "BEGIN,END")]
+    pub time: Option<String>,
+    /// Only this event. Without it, folded stacks are those of the first event
+    #[arg(long, value_name = "NAME")]
+    pub event: Option<String>,
+    /// Leave out inlined functions
+    #[arg(long)]
+    pub no_inline: bool,
+    /// Show files and lines of source code
+    #[arg(long)]
+    pub lines: bool,
+    /// The most frames of a program's stack
+    #[arg(long, value_name = "N", default_value_t = dwcheck_elf::profile::MOST_FRAMES)]
+    pub max_stack: usize,
+    /// Say why stacks have no more frames: how many for each reason, and with --format script of each
+    #[arg(long)]
+    pub stops: bool,
+    /// The folder in which the paths of the recording are looked up
+    #[arg(long, value_name = "FOLDER", default_value = "/")]
+    pub root: PathBuf,
+    /// A list of the kernel's functions: /proc/kallsyms or System.map of the machine that was recorded
+    #[arg(long, value_name = "FILE")]
+    pub kallsyms: Option<PathBuf>,
+    /// Write no summary, only what is wrong
+    #[arg(long, short)]
+    pub quiet: bool,
 }

@@ -1,5 +1,5 @@
 //! Checks the unwind tables of ELF programs, shows their rows, unwinds by them, compares them with
-//! the code and with programs that run, and prints the stacks of core files.
+//! the code and with programs that run, and prints the stacks of core files and of recordings of perf.
 
 mod arguments;
 mod check;
@@ -7,6 +7,7 @@ mod end;
 mod lint;
 mod lists;
 mod opened;
+mod profile;
 mod rows;
 mod stack;
 mod survey;
@@ -58,5 +59,6 @@ fn run(command: Command, out: &mut impl Write) -> Result<Done, Failure> {
         Command::Lint(words) if words.confirm => trace::confirm(&words, out),
         Command::Lint(words) => lint::lint(&words, out),
         Command::Trace(words) => trace::trace(&words),
+        Command::Profile(words) => profile::profile(&words, out),
     }
 }

@@ -1,0 +1,115 @@
+#!/usr/bin/env python3
+"""Opens the page of `dwcheck-elf profile --format html` in chromium, without a network, and uses it.
+
+    bench/elf/profile_page.py DWCHECK_ELF [--screenshot FILE]
+
+The page is that of a recording of spin.c (rust/dwcheck-elf/tests/recordings). A click on a function has
+to give it the whole width, a search has to mark what it names, `inverted` has to put what ran at the top,
+and a time range has to leave out the samples before and after it. Needs chromium. The last line is `ok`,
+or the exit status is 1.
+"""
+import argparse
+import json
+import os
+import re
+import subprocess
+import sys
+import tempfile
+
+TOP = os.path.dirname(os.path.dirname(os.path.dirname(os.path.abspath(__file__))))
+RECORDINGS = os.path.join(TOP, "rust/dwcheck-elf/tests/recordings")
+
+# What is done with the page. `say` collects what is seen.
+ACTIONS = """
+<script>
+const said = {};
+const names = () => boxes.map(box => label(box[3]));
+const boxOf = name => boxes.find(box => label(box[3]) === name);
+const click = name => {
+  const [x, y, wide] = boxOf(name), area = at("stacks").getBoundingClientRect();
+  const where = { clientX: area.left + x + wide / 2, clientY: area.top + y + 5, bubbles: true };
+  at("stacks").dispatchEvent(new MouseEvent("mousemove", where));
+  said.tip = at("tip").textContent;
+  at("stacks").dispatchEvent(new MouseEvent("click", where));
+};
+const set = (id, value, kind) => { at(id).value = value; at(id).dispatchEvent(new Event(kind)); };
+const pixel = name => {
+  const [x, y] = boxOf(name), scale = window.devicePixelRatio || 1;
+  return [...at("stacks").getContext("2d").getImageData((x + 1) * scale, (y + 2) * scale, 1, 1).data].slice(0, 3);
+};
+said.first = names();
+said.title = document.title;
+const whole = shown.total[0];
+click("twice");
+said.zoomed = boxOf("twice")[2] === at("stacks").clientWidth;
+set("search", "leaf", "input");
+said.found = at("found").textContent;
+said.marked = pixel("leaf"); said.plain = pixel("twice");
+at("inverted").checked = true;
+at("inverted").dispatchEvent(new Event("change"));
+said.inverted = names().slice(0, 3);
+at("inverted").checked = false;
+at("inverted").dispatchEvent(new Event("change"));
+const times = at("times").getBoundingClientRect();
+const mouse = (kind, part) => new MouseEvent(kind, { clientX: times.left + times.width * part, bubbles: true });
+at("times").dispatchEvent(mouse("mousedown", 0.5));
+window.dispatchEvent(mouse("mouseup", 1));
+said.part = shown.total[0] / whole;
+at("reset").click();
+said.reset = shown.total[0] === whole && at("search").value === "";
+const result = document.createElement("pre");
+result.id = "said";
+result.textContent = JSON.stringify(said);
+document.body.append(result);
+</script>
+</body>"""
+
+
+def chromium(*words):
+    program = ["chromium", "--headless", "--no-sandbox", "--disable-gpu", "--window-size=1100,420"]
+    ran = subprocess.run(program + list(words), capture_output=True, text=True, timeout=120)
+    return ran.stdout
+
+
+def main():
+    parser = argparse.ArgumentParser(description=__doc__.split("\n\n", maxsplit=1)[0])
+    parser.add_argument("program")
+    parser.add_argument("--screenshot")
+    words = parser.parse_args()
+    with tempfile.TemporaryDirectory() as folder:
+        page = os.path.join(folder, "page.html")
+        recording = os.path.join(RECORDINGS, "dwarf.perf")
+        command = [words.program, "profile", "-q", "--root", RECORDINGS, "--format", "html", "-o", page, recording]
+        subprocess.run(command, check=True)
+        if words.screenshot:
+            chromium(f"--screenshot={words.screenshot}", "file://" + page)
+        used = os.path.join(folder, "used.html")
+        with open(page) as file, open(used, "w") as out:
+            out.write(file.read().replace("</body>", ACTIONS))
+        text = chromium("--dump-dom", "file://" + used)
+    said = re.search(r'<pre id="said">(.*?)</pre>', text, re.S)
+    if said is None:
+        sys.exit("the page's script didn't run to its end")
+    said = json.loads(said[1].replace("&gt;", ">").replace("&lt;", "<").replace("&amp;", "&"))
+    wrong = [
+        what
+        for what, holds in {
+            "functions": said["first"] == ["all", "_start", "main", "middle", "twice", "leaf"],
+            "title": said["title"].endswith("./spin"),
+            "a click zooms": said["zoomed"],
+            "the tip": said["tip"].startswith("twice\n/home/user/session/spin, inlined\n"),
+            "a search finds": said["found"] == "found in 100.00%",
+            "a search marks": said["marked"] == [0xd9, 0x4f, 0xc6] and said["plain"] != said["marked"],
+            "inverted": said["inverted"] == ["all", "leaf", "twice"],
+            "a time range": 0.3 < said["part"] < 0.7,
+            "show all": said["reset"],
+        }.items()
+        if not holds
+    ]
+    if wrong:
+        sys.exit(f"wrong: {', '.join(wrong)}\n{said}")
+    print("ok")
+
+
+if __name__ == "__main__":
+    main()

@@ -1,0 +1,147 @@
+//! The command `profile`: writes the stacks that perf recorded.
+
+mod output;
+mod summary;
+
+use crate::arguments::{Format, ProfileWords};
+use crate::end::{shown, Done, Failure};
+use dwcheck_elf::profile::script::ScriptOptions;
+use dwcheck_elf::profile::{folded, html, pprof, script, speedscope, top};
+use dwcheck_elf::profile::{NameOptions, Names, Options, Places, Profile, Recording};
+use indicatif::{ProgressBar, ProgressStyle};
+use output::Output;
+use std::fs::File;
+use std::io::Write;
+use std::ops::RangeInclusive;
+use std::path::Path;
+
+/// How many functions the table of them has.
+const TOP: usize = 50;
+
+/// Writes the profile of a recording on `out` or to a file, and a summary on standard error.
+pub fn profile(words: &ProfileWords, out: &mut impl Write) -> Result<Done, Failure> {
+    let options = options(words)?;
+    let mut recording = open(&words.recording)?;
+    let bar = bar(&words.recording);
+    let profile = Profile::read(&mut recording, &options, |position| {
+        bar.set_position(position);
+        true
+    });
+    bar.finish_and_clear();
+    let kernel = words.kallsyms.clone();
+    if let Some(path) = &kernel {
+        File::open(path).map_err(|error| Failure::File(format!("cannot read {}: {}", shown(path), error)))?;
+    }
+    let names = Names::read(&profile, &NameOptions { inlined: !words.no_inline, lines: words.lines, kernel });
+    match &words.output {
+        None => write(words, &profile, &names, out)?,
+        Some(path) => {
+            let mut output = Output::create(path)?;
+            write(words, &profile, &names, output.writer())?;
+            output.finish()?;
+        }
+    }
+    out.flush()?;
+    summary::write(words, &profile, &names);
+    Ok(if profile.damage.is_some() { Done::Unread } else { Done::Accepted })
+}
+
+fn write(words: &ProfileWords, profile: &Profile, names: &Names, out: &mut impl Write) -> Result<(), Failure> {
+    let event = profile.sampled_events().first().copied().unwrap_or(0);
+    match words.format {
+        Format::Folded => folded::write(profile, names, event, out)?,
+        Format::Script => script::write(profile, names, ScriptOptions { stops: words.stops }, out)?,
+        Format::Html => html::write(profile, names, event, &title(words, profile), out)?,
+        Format::Speedscope => speedscope::write(profile, names, event, out)?,
+        Format::Pprof => pprof::write(profile, names, out)?,
+        Format::Top => top::write(profile, names, event, TOP, out)?,
+    }
+    Ok(())
+}
+
+/// What was recorded: perf's command line, or else the recording's name.
+fn title(words: &ProfileWords, profile: &Profile) -> String {
+    match profile.features.command.as_slice() {
+        [] => shown(&words.recording),
+        command => command.join(" "),
+    }
+}
+
+fn open(path: &Path) -> Result<Recording<'static>, Failure> {
+    let is_stdin = path == Path::new("-");
+    let opened = if is_stdin { Path::new("/dev/stdin") } else { path };
+    let failed = |why: &dyn std::fmt::Display| Failure::File(format!("{}: {}", shown(path), why));
+    let cannot = |error: &dyn std::fmt::Display| Failure::File(format!("cannot read {}: {}", shown(path), error));
+    let file = File::open(opened).map_err(|error| cannot(&error))?;
+    let metadata = file.metadata().map_err(|error| cannot(&error))?;
+    if metadata.is_dir() {
+        return Err(failed(&"is a folder; perf record --threads writes such, which aren't read"));
+    }
+    let recording = if metadata.is_file() { Recording::of_file(file) } else { Recording::of_pipe(file) };
+    recording.map_err(|damage| failed(&damage))
+}
+
+/// Shows on a terminal how much of the recording was read.
+fn bar(path: &Path) -> ProgressBar {
+    let size = path.metadata().ok().filter(|file| file.is_file()).map(|file| file.len());
+    let bar = match size {
+        Some(size) => ProgressBar::new(size),
+        None => return ProgressBar::hidden(),
+    };
+    match ProgressStyle::with_template("{bar:40} {bytes} of {total_bytes}, {eta} left") {
+        Ok(style) => bar.with_style(style),
+        Err(_) => bar,
+    }
+}
+
+fn options(words: &ProfileWords) -> Result<Options, Failure> {
+    let times = words.time.as_deref().map_or(Ok(0..=u64::MAX), times)?;
+    Ok(Options {
+        comms: words.comm.clone(),
+        pids: words.pid.clone(),
+        tids: words.tid.clone(),
+        times,
+        event: words.event.clone(),
+        limit: words.max_stack,
+        places: Places { root: words.root.clone(), ..Places::default() },
+    })
+}
+
+/// Times in nanoseconds, from two numbers of seconds, either of which may be left out.
+fn times(text: &str) -> Result<RangeInclusive<u64>, Failure> {
+    let wrong = || Failure::Argument(format!("--time {}: give two times in seconds, such as 12.5,13", text));
+    let (begin, end) = text.split_once(',').ok_or_else(wrong)?;
+    let begin = if begin.is_empty() { Some(0) } else { nanoseconds(begin) };
+    let end = if end.is_empty() { Some(u64::MAX) } else { nanoseconds(end) };
+    let (begin, end) = begin.zip(end).ok_or_else(wrong)?;
+    if begin > end {
+        return Err(wrong());
+    }
+    Ok(begin..=end)
+}
+
+fn nanoseconds(text: &str) -> Option<u64> {
+    const DIGITS: usize = 9;
+    let (whole, part) = text.split_once('.').unwrap_or((text, "0"));
+    let is_number = |text: &str| !text.is_empty() && text.bytes().all(|byte| byte.is_ascii_digit());
+    if !is_number(whole) || !is_number(part) || part.len() > DIGITS {
+        return None;
+    }
+    let part: u64 = format!("{:0<9}", part).parse().ok()?;
+    whole.parse::<u64>().ok()?.checked_mul(1_000_000_000)?.checked_add(part)
+}
+
+#[cfg(test)]
+mod tests {
+    use super::times;
+
+    #[test]
+    fn times_are_seconds_and_either_may_be_left_out() {
+        assert_eq!(times("1.5,2").unwrap(), 1_500_000_000..=2_000_000_000);
+        assert_eq!(times(",0.000001").unwrap(), 0..=1000);
+        assert_eq!(times("3,").unwrap(), 3_000_000_000..=u64::MAX);
+        for wrong in ["", "1", "2,1", "-1,2", "1.2.3,", "1e3,", "99999999999,", "1,2,3"] {
+            assert!(times(wrong).is_err(), "{}", wrong);
+        }
+    }
+}

@@ -1,0 +1,154 @@
+//! Puts records into the order of their times.
+//!
+//! Each processor has a buffer of its own, and perf empties one after another. After each round it writes
+//! a record that says so. What comes after the end of a round isn't older than what was the newest at
+//! the end of the round before.
+
+use super::RecordHead;
+
+/// The most bytes that wait. If there are more, the older half is given free.
+pub(super) const MOST_HELD: usize = 32 << 20;
+
+/// A record that waits: where its body is in the bytes of the queue.
+#[derive(Clone, Copy, Debug)]
+pub(super) struct Held {
+    /// When it was recorded. Records without a time have 0, and come first.
+    pub time: u64,
+    pub head: RecordHead,
+    pub start: usize,
+    pub end: usize,
+}
+
+/// The records that were read and not given yet.
+#[derive(Debug, Default)]
+pub(super) struct Queue {
+    bytes: Vec<u8>,
+    /// The records, in the order in which they were read; those that are free come first, in the
+    /// order of their times.
+    held: Vec<Held>,
+    /// How many of `held` are free.
+    free: usize,
+    /// How many of `held` were given.
+    given: usize,
+    /// The latest time so far.
+    latest: u64,
+    /// The latest time at the end of the last round.
+    limit: u64,
+}
+
+impl Queue {
+    /// Where the next record's body is read to: the end of the bytes.
+    pub fn room(&mut self) -> &mut Vec<u8> {
+        &mut self.bytes
+    }
+
+    /// The bytes that were read since the bytes had this length.
+    pub fn read_since(&self, start: usize) -> &[u8] {
+        self.bytes.get(start..).unwrap_or(&[])
+    }
+
+    /// Forgets the bytes that were read since the bytes had this length.
+    pub fn drop_last(&mut self, start: usize) {
+        self.bytes.truncate(start);
+    }
+
+    /// Adds a record whose body was just read.
+    pub fn push(&mut self, record: Held) {
+        self.latest = self.latest.max(record.time);
+        self.held.push(record);
+    }
+
+    /// The body of a record that [`next`](Self::next) gave.
+    pub fn body(&self, record: &Held) -> &[u8] {
+        self.bytes.get(record.start..record.end).unwrap_or(&[])
+    }
+
+    /// The next record that is free. `None` if there is none: then more have to be read.
+    pub fn next(&mut self) -> Option<Held> {
+        if self.given >= self.free {
+            self.forget_given();
+            return None;
+        }
+        let record = self.held.get(self.given).copied();
+        self.given += 1;
+        record
+    }
+
+    /// Whether no more records should be read before some are given.
+    pub fn is_full(&self) -> bool {
+        self.bytes.len() > MOST_HELD
+    }
+
+    /// At the end of a round: gives those free that aren't newer than the newest of the round before.
+    pub fn release_round(&mut self) {
+        self.release(self.limit);
+        self.limit = self.latest;
+    }
+
+    /// Gives the older half free.
+    pub fn release_half(&mut self) {
+        let mut times: Vec<u64> = self.held.iter().map(|record| record.time).collect();
+        let middle = times.len() / 2;
+        times.select_nth_unstable(middle);
+        self.release(times[middle]);
+    }
+
+    /// At the end of the recording: gives all free.
+    pub fn release_all(&mut self) {
+        self.release(u64::MAX);
+    }
+
+    fn release(&mut self, limit: u64) {
+        // The sort is stable: of records with the same time, the first one that was read comes first.
+        self.held.sort_by_key(|record| record.time);
+        self.free = self.held.partition_point(|record| record.time <= limit);
+    }
+
+    /// Drops the records that were given, and moves the bytes of the others to the beginning.
+    fn forget_given(&mut self) {
+        if self.given == 0 {
+            return;
+        }
+        self.held.drain(..self.given);
+        self.held.sort_by_key(|record| record.start);
+        let mut end = 0;
+        for record in &mut self.held {
+            self.bytes.copy_within(record.start..record.end, end);
+            let length = record.end - record.start;
+            (record.start, record.end) = (end, end + length);
+            end += length;
+        }
+        self.bytes.truncate(end);
+        (self.free, self.given) = (0, 0);
+    }
+}
+
+#[cfg(test)]
+mod tests {
+    use super::*;
+
+    fn held(queue: &mut Queue, time: u64) {
+        let start = queue.room().len();
+        queue.room().push(time as u8);
+        queue.push(Held { time, head: RecordHead::default(), start, end: start + 1 });
+    }
+
+    fn given(queue: &mut Queue) -> Vec<(u64, Vec<u8>)> {
+        std::iter::from_fn(|| queue.next().map(|record| (record.time, queue.body(&record).to_vec()))).collect()
+    }
+
+    /// As the kernel's documentation of PERF_RECORD_FINISHED_ROUND says in its example.
+    #[test]
+    fn a_round_gives_what_the_round_before_had_reached() {
+        let mut queue = Queue::default();
+        [50, 30, 40].into_iter().for_each(|time| held(&mut queue, time));
+        queue.release_round();
+        assert_eq!(given(&mut queue), []);
+        [60, 45].into_iter().for_each(|time| held(&mut queue, time));
+        queue.release_round();
+        assert_eq!(given(&mut queue), [30, 40, 45, 50].map(|time| (time, vec![time as u8])));
+        queue.release_all();
+        assert_eq!(given(&mut queue), [(60, vec![60])]);
+        assert_eq!(given(&mut queue), []);
+    }
+}

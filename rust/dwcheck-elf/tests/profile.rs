@@ -1,0 +1,155 @@
+//! The stacks of recordings of perf, beside those that `perf script` writes for them.
+//!
+//! tests/recordings has recordings of spin.c, each with the lines that perf 6.1 wrote for it.
+
+mod common;
+
+use common::run::{dwcheck_elf_words, Ran};
+use common::Folder;
+use std::path::PathBuf;
+
+fn recordings() -> PathBuf {
+    PathBuf::from(env!("CARGO_MANIFEST_DIR")).join("tests/recordings")
+}
+
+/// Runs `profile` on a recording of spin.c.
+fn profile(folder: &Folder, name: &str, words: &[&str]) -> Ran {
+    let (root, file) = (recordings(), recordings().join(name));
+    let first = ["profile", "--root", root.to_str().unwrap(), file.to_str().unwrap()];
+    let ran = dwcheck_elf_words(folder, &[&first, words].concat());
+    assert_eq!(ran.status, 0, "{}", ran.error);
+    ran
+}
+
+/// What perf wrote for a recording.
+fn script(name: &str) -> String {
+    std::fs::read_to_string(recordings().join(name)).unwrap()
+}
+
+/// The sum of what samples of an event weigh, by perf's lines.
+fn weight(script: &str, event: &str) -> u64 {
+    let heads = script.lines().filter(|line| line.trim_end().ends_with(&format!(" {}:", event)));
+    heads.map(|head| head.split_whitespace().nth(3).unwrap().parse::<u64>().unwrap()).sum()
+}
+
+#[test]
+fn the_lines_are_those_of_perf() {
+    let folder = Folder::new("profile-script");
+    for name in ["dwarf", "zstd", "pipe", "two", "group", "chain"] {
+        let ran = profile(&folder, &format!("{}.perf", name), &["--format", "script", "--no-inline"]);
+        assert_eq!(ran.out, script(&format!("{}.script", name)), "{}", name);
+    }
+}
+
+#[test]
+fn a_pipe_is_read_while_it_is_written() {
+    let folder = Folder::new("profile-pipe");
+    let (program, root) = (env!("CARGO_BIN_EXE_dwcheck-elf"), recordings());
+    let root = root.display();
+    let words = format!("{} profile - --root {} --format script --no-inline --quiet", program, root);
+    let out = folder.run(&format!("(head -c 9000; sleep 0.1; cat) < {}/pipe.perf | {}", root, words));
+    assert_eq!(out, script("pipe.script"));
+}
+
+#[test]
+fn folded_stacks_have_inlined_functions_and_are_weighted_by_period() {
+    let folder = Folder::new("profile-folded");
+    let ran = profile(&folder, "dwarf.perf", &[]);
+    let sum = weight(&script("dwarf.script"), "cpu-clock:u");
+    assert_eq!(ran.out, format!("spin;_start;main;middle;twice;leaf {}\n", sum));
+    assert_eq!(ran.error, "samples 17 frames 68 truncated 0\n");
+    let ran = profile(&folder, "dwarf.perf", &["--no-inline", "--quiet", "--max-stack", "2"]);
+    assert_eq!((ran.out, ran.error), (format!("spin;middle;leaf {}\n", sum), String::new()));
+}
+
+#[test]
+fn one_event_is_shown_and_the_others_are_named() {
+    let folder = Folder::new("profile-events");
+    let ran = profile(&folder, "two.perf", &["--quiet"]);
+    assert_eq!(ran.error, "dwcheck-elf: shown is cpu-clock:u; give --event for task-clock:u\n");
+    let ran = profile(&folder, "group.perf", &["--event", "page-faults", "--quiet"]);
+    let sum = weight(&script("group.script"), "page-faults");
+    assert_eq!(ran.out.rsplit(' ').next().unwrap().trim(), sum.to_string());
+    assert_eq!(ran.error, "");
+}
+
+#[test]
+fn options_choose_samples() {
+    let folder = Folder::new("profile-options");
+    let perf = script("dwarf.script");
+    let heads: Vec<&str> = perf.lines().filter(|line| line.starts_with("spin")).collect();
+    let words: Vec<&str> = heads[3].split_whitespace().collect();
+    let (tid, time) = (words[1], words[2].trim_end_matches(':'));
+    let samples = |words: &[&str]| {
+        let ran = profile(&folder, "dwarf.perf", &[words, &["--format", "script"]].concat());
+        ran.out.lines().filter(|line| line.starts_with("spin")).count()
+    };
+    assert_eq!(samples(&["--tid", tid, "--comm", "spin", "--pid", tid]), heads.len());
+    assert_eq!(samples(&["--tid", "1"]) + samples(&["--comm", "other"]) + samples(&["--event", "cycles"]), 0);
+    assert_eq!(samples(&["--time", &format!(",{}", time)]), 3);
+    assert_eq!(samples(&["--time", &format!("{},", time)]), heads.len() - 3);
+}
+
+#[test]
+fn stops_are_counted() {
+    let folder = Folder::new("profile-stops");
+    let ran = profile(&folder, "dwarf.perf", &["--stops"]);
+    assert_eq!(ran.error.lines().last(), Some("stop complete: 17"));
+    let ran = profile(&folder, "dwarf.perf", &["--stops", "--max-stack", "3", "--format", "script"]);
+    assert_eq!(ran.error.lines().last(), Some("stop limit: 17"));
+    assert_eq!(ran.out.matches("\n# stop: limit\n\n").count(), 17);
+}
+
+#[test]
+fn lines_of_source_are_shown() {
+    let folder = Folder::new("profile-lines");
+    let ran = profile(&folder, "dwarf.perf", &["--lines"]);
+    let line = ran.out.lines().next().unwrap();
+    // main calls in line 18, and middle in line 14, in whose place the calls of lines 8 and 9 are inlined.
+    assert!(
+        line.starts_with("spin;_start;main (spin.c:18);middle (spin.c:14);twice (spin.c:8);leaf (spin.c:5) "),
+        "{}",
+        line
+    );
+}
+
+#[test]
+fn a_file_with_another_build_id_is_named_and_not_used() {
+    let folder = Folder::new("profile-other");
+    std::fs::create_dir_all(folder.file("home/user/session")).unwrap();
+    let spin = std::fs::read(recordings().join("home/user/session/spin")).unwrap();
+    let note = spin.windows(4).position(|window| window == b"GNU\0").unwrap();
+    let mut other = spin.clone();
+    other[note + 4] ^= 1;
+    folder.write("home/user/session/spin", other);
+    let (program, file) = (env!("CARGO_BIN_EXE_dwcheck-elf"), recordings().join("dwarf.perf"));
+    // perf's cache is in the home folder.
+    let words = format!("HOME=$PWD {} profile --root . --stops {} 2> error", program, file.display());
+    let out = folder.run(&words);
+    let error = String::from_utf8(folder.bytes("error")).unwrap();
+    let why = "/home/user/session/spin: isn't the file that was recorded: its build id is another";
+    assert!(error.contains(why), "{}", error);
+    assert_eq!(error.lines().last(), Some("stop no table: 17"));
+    assert!(out.starts_with("spin;[spin] "), "{}", out);
+    let id: String = spin[note + 4..note + 24].iter().map(|byte| format!("{:02x}", byte)).collect();
+    let cache = format!(".debug/.build-id/{}/{}", &id[..2], &id[2..]);
+    std::fs::create_dir_all(folder.file(&cache)).unwrap();
+    folder.write(&format!("{}/elf", cache), spin);
+    assert!(folder.run(&words).starts_with("spin;_start;main;middle;twice;leaf "));
+    std::fs::remove_dir_all(folder.file(".debug")).unwrap();
+    std::fs::remove_file(folder.file("home/user/session/spin")).unwrap();
+    folder.run(&words);
+    let error = String::from_utf8(folder.bytes("error")).unwrap();
+    assert!(error.contains("/home/user/session/spin: can't be read: "), "{}", error);
+}
+
+#[test]
+fn an_output_file_is_written_as_a_whole() {
+    let folder = Folder::new("profile-output");
+    folder.write("out", "before");
+    let ran = profile(&folder, "dwarf.perf", &["-o", folder.file("out").to_str().unwrap()]);
+    assert_eq!(ran.out, "");
+    assert!(folder.bytes("out").starts_with(b"spin;_start;main;"));
+    let names: Vec<_> = std::fs::read_dir(folder.path()).unwrap().map(|entry| entry.unwrap().file_name()).collect();
+    assert_eq!(names, ["out"]);
+}
