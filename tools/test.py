@@ -74,6 +74,12 @@ def counted_lines(text):
     return Counts(len(re.findall(r"^ok .", text, re.MULTILINE)), re.findall(r"^FAILED (.*)", text, re.MULTILINE))
 
 
+def counted_by_unittest(text):
+    """The lines of Python's unittest with `-v`: `test_name (..) ... ok`."""
+    return Counts(len(re.findall(r"\.\.\. ok$", text, re.MULTILINE)),
+                  re.findall(r"^(\S+) .*\.\.\. (?:FAIL|ERROR|skipped)", text, re.MULTILINE) or re.findall(r"^(\w*Error: .*)", text, re.MULTILINE))
+
+
 def counted_refusals(text):
     """The lines of bench/stress/refused_memory.py, one for each run that was tried."""
     return Counts(len(re.findall(r"^ *\d+ \w", text, re.MULTILINE)))
@@ -116,6 +122,8 @@ STAGES = [
     Stage("elf", "rust/dwcheck-elf", "cd rust/dwcheck-elf && ../cargo.sh test", counted_by_cargo,
           environment=RUST | {"DWCHECK": str(BUILD / "dwcheck")}),
     Stage("code", "rust/dwcheck-lint", "cd rust/dwcheck-lint && ../cargo.sh test", counted_by_cargo, environment=RUST),
+    Stage("python", "python/dwcheck.py, beside pyelftools", "/usr/bin/python3 python/test_dwcheck.py -v", counted_by_unittest,
+          environment={"DWCHECK_LIBRARY": str(BUILD / "libdwcheck.so.2.0.0")}),
     Stage("memory", "each request for memory refused in turn, in tests and in dwcheck",
           "bench/stress/refused_memory.py crates/dw_tests/out/dw_tests_tests build/dwcheck", counted_refusals),
     Stage("c", "the C library, with sanitizers and valgrind", "c/tests/run.sh", counted_lines, progress="^(ok .*)",
