@@ -57,6 +57,16 @@ pub enum Command {
     /// Write the stacks that perf recorded, as folded stacks or in another format
     #[command(after_help = PROFILE_EXAMPLE)]
     Profile(ProfileWords),
+    /// Print the completions of a shell, for its folder of completions
+    Completions(CompletionsWords),
+}
+
+/// The arguments of `completions`.
+#[derive(Args, Debug)]
+pub struct CompletionsWords {
+    /// The shell
+    #[arg(value_enum)]
+    pub shell: clap_complete::Shell,
 }
 
 const PROFILE_EXAMPLE: &str =

@@ -16,7 +16,7 @@ mod vars;
 mod walks;
 
 use arguments::{Command, Words};
-use clap::Parser;
+use clap::{CommandFactory, Parser};
 use end::{Done, Failure};
 use std::io::{self, BufWriter, Write};
 use std::process::ExitCode;
@@ -60,5 +60,9 @@ fn run(command: Command, out: &mut impl Write) -> Result<Done, Failure> {
         Command::Lint(words) => lint::lint(&words, out),
         Command::Trace(words) => trace::trace(&words),
         Command::Profile(words) => profile::profile(&words, out),
+        Command::Completions(words) => {
+            clap_complete::generate(words.shell, &mut Words::command(), "dwcheck-elf", out);
+            Ok(Done::Accepted)
+        }
     }
 }
