@@ -6,6 +6,7 @@
 #                   tests of everything else. It installs the Debian packages that it needs.
 #   make install    does what make does; then installs the results in $(DESTDIR)$(PREFIX)
 #   make packages   installs the Debian packages that dwcheck-elf is built with
+#   make dist       after make, an archive for machines without the kit, in build/dist/
 # make also needs cc, ar and objcopy. If cargo or a package is missing, dwcheck-elf is left out, and a line
 # says so. JOBS is the number of cargo's parallel jobs (all processors if not set).
 PREFIX ?= /usr/local
@@ -25,7 +26,7 @@ major := 2
 kit = $(dir $(shell rt doc))
 built := build/dwcheck build/libdwcheck.a build/libdwcheck.so.$(version) build/libdwcheck-dl.a build/dwcheck.pc build/dwcheck-dl.pc
 
-.PHONY: all try test packages install clean FORCE
+.PHONY: all try test packages dist install clean FORCE
 
 all: $(built) build/dwcheck-elf
 
@@ -40,6 +41,9 @@ groups = rust$(if $(shell command -v $(or $(CARGO),cargo)),, cargo)
 
 packages:
 	@tools/packages.sh install $(groups)
+
+dist: all
+	@tools/dist.sh
 
 build:
 	mkdir -p $@
@@ -113,7 +117,7 @@ build/dwcheck-elf: build/libdwcheck.a FORCE
 
 install: all
 	$(INSTALL) -d $(DESTDIR)$(BINDIR) $(DESTDIR)$(LIBDIR)/pkgconfig $(DESTDIR)$(INCLUDEDIR) \
-	    $(DESTDIR)$(MANDIR)/man1 $(DESTDIR)$(MANDIR)/man3
+	    $(DESTDIR)$(MANDIR)/man1 $(DESTDIR)$(MANDIR)/man3 $(DESTDIR)$(LIBDIR)/cmake/dwcheck
 	$(INSTALL) -m 755 build/dwcheck $(DESTDIR)$(BINDIR)/
 	if [ -f build/dwcheck-elf ]; then $(INSTALL) -m 755 build/dwcheck-elf $(DESTDIR)$(BINDIR)/; fi
 	$(INSTALL) -m 644 build/libdwcheck.a $(DESTDIR)$(LIBDIR)/
@@ -122,6 +126,8 @@ install: all
 	ln -sf libdwcheck.so.$(major) $(DESTDIR)$(LIBDIR)/libdwcheck.so
 	$(INSTALL) -m 644 build/libdwcheck-dl.a $(DESTDIR)$(LIBDIR)/
 	$(INSTALL) -m 644 build/dwcheck.pc build/dwcheck-dl.pc $(DESTDIR)$(LIBDIR)/pkgconfig/
+	$(INSTALL) -m 644 c/dwcheckConfig.cmake $(DESTDIR)$(LIBDIR)/cmake/dwcheck/
+	sed 's/@VERSION@/$(version)/' c/dwcheckConfigVersion.cmake.in >$(DESTDIR)$(LIBDIR)/cmake/dwcheck/dwcheckConfigVersion.cmake
 	$(INSTALL) -m 644 c/include/dwcheck.h c/include/dwcheck.hpp c/include/dwcheck-dl.h $(DESTDIR)$(INCLUDEDIR)/
 	$(INSTALL) -m 644 man/dwcheck.1 $(DESTDIR)$(MANDIR)/man1/
 	if [ -f build/dwcheck-elf ]; then $(INSTALL) -m 644 man/dwcheck-elf.1 $(DESTDIR)$(MANDIR)/man1/; fi

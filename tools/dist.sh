@@ -1,0 +1,73 @@
+#!/usr/bin/env bash
+# Makes build/dist/dwcheck-VERSION-x86_64-linux.tar.xz: what a machine without the kit can use. It has the
+# programs, the C libraries with header, pkg-config and CMake files, the Python module, manual pages,
+# completions, docs, checksums, and a page that says what was proved, by which kit, from which commit.
+# Two runs from the same commit give the same bytes. The tree must be clean, and `make` must have built it.
+set -eu
+top=$(dirname "$(dirname "$(realpath "$0")")")
+cd "$top"
+version=$(sed -n 's/^version := //p' Makefile)
+name=dwcheck-$version-x86_64-linux
+out=build/dist/$name
+
+[ -z "$(git status --porcelain)" ] || { echo "the tree has changes that aren't committed" >&2; exit 1; }
+for file in dwcheck dwcheck-elf libdwcheck.a "libdwcheck.so.$version" libdwcheck-dl.a; do
+    [ -f "build/$file" ] || { echo "build/$file isn't there: run make first" >&2; exit 1; }
+done
+
+put() { # MODE FOLDER FILE..
+    local mode=$1 folder=$2
+    shift 2
+    install -d "$out/$folder"
+    install -m "$mode" "$@" "$out/$folder/"
+}
+
+# The pkg-config files of an installed library, but relative to where the archive is unpacked.
+relocatable() { # NAME
+    sed -e 's|@PREFIX@|${pcfiledir}/../..|' -e 's|@LIBDIR@|${prefix}/lib|' -e 's|@INCLUDEDIR@|${prefix}/include|' \
+        -e "s|@VERSION@|$version|" "c/$1.pc.in" > "$out/lib/pkgconfig/$1.pc"
+}
+
+completions() { # SHELL FILE
+    install -d "$(dirname "$out/share/$2")"
+    build/dwcheck-elf completions "$1" > "$out/share/$2"
+}
+
+# What was proved: the commit, the kit, and a checksum of everything that a proof reads.
+provenance() {
+    echo "dwcheck $version"
+    echo "commit $(git rev-parse HEAD)"
+    echo "kit $(rt version)"
+    echo "proved files, sha256 $(tools/build.sh sum)"
+    echo
+    echo "Each function of these crates is proved to meet its contract (docs/PROVED.md):"
+    sed -n 's/^\([a-z_]*\)\( staticlib\)\?:.*/\1/p' crates.txt
+    echo
+    echo "Not proved: dwcheck-elf, libdwcheck-dl, dwcheck.hpp, dwcheck.py, and the C files of c/."
+}
+
+rm -rf build/dist
+put 755 bin build/dwcheck build/dwcheck-elf
+put 644 lib build/libdwcheck.a build/libdwcheck-dl.a
+put 755 lib "build/libdwcheck.so.$version"
+ln -s "libdwcheck.so.$version" "$out/lib/libdwcheck.so.2"
+ln -s libdwcheck.so.2 "$out/lib/libdwcheck.so"
+put 644 include c/include/dwcheck.h c/include/dwcheck.hpp c/include/dwcheck-dl.h
+install -d "$out/lib/pkgconfig"
+relocatable dwcheck
+relocatable dwcheck-dl
+put 644 lib/cmake/dwcheck c/dwcheckConfig.cmake
+sed "s/@VERSION@/$version/" c/dwcheckConfigVersion.cmake.in > "$out/lib/cmake/dwcheck/dwcheckConfigVersion.cmake"
+put 644 share/python python/dwcheck.py
+put 644 share/man/man1 man/dwcheck.1 man/dwcheck-elf.1
+put 644 share/man/man3 man/dwcheck.3
+put 644 share/doc/dwcheck README.md CHANGES.md docs/*.md
+completions bash bash-completion/completions/dwcheck-elf
+completions zsh zsh/site-functions/_dwcheck-elf
+completions fish fish/vendor_completions.d/dwcheck-elf.fish
+provenance > "$out/share/doc/dwcheck/PROVENANCE"
+(cd "$out" && find . -type f ! -name SHA256SUMS -print0 | LC_ALL=C sort -z | xargs -0 sha256sum > SHA256SUMS)
+# No date, owner or order of this machine goes into the archive.
+tar --sort=name --owner=0 --group=0 --numeric-owner --mtime="@$(git log -1 --format=%ct)" --format=gnu \
+    -C build/dist -cf - "$name" | xz -T1 -6 > "build/dist/$name.tar.xz"
+(cd build/dist && sha256sum "$name.tar.xz" | tee "$name.tar.xz.sha256")
