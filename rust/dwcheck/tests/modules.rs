@@ -139,17 +139,6 @@ fn room_is_a_bound_and_no_request() {
     assert!(process.row(0x1000).is_some());
 }
 
-/// An `.eh_frame` section at 0x2000, by GNU as and ld for x86-64: the functions 0x1000..0x1009 and
-/// 0x1009..0x100c, the second a signal frame whose CFA is the value of an expression.
-fn eh_frame() -> Vec<u8> {
-    hex(
-        "1c000000 00000000 01 7a504c5200 01 78 10 07 9bed0f0000 1b 1b 0c0708 9001 0000
-         24000000 24000000 d8efffff 09000000 04 cf1f0000 41 0e10 8602 43 0d06 41 2e10 41 0a 41 0c0708 41 0b 00000000
-         14000000 00000000 01 7a525300 01 78 10 01 1b 0c0708 9001 00
-         1c000000 1c000000 9defffff 03000000 00 0f03770806 16030223 08 42 0803 0000",
-    )
-}
-
 #[test]
 fn an_eh_frame_module_has_the_rows_that_readelf_prints() {
     let mut process = Process::new(Target::LITTLE_64);

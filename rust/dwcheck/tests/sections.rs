@@ -1,10 +1,11 @@
-//! Tests of `check` and `report`. Most sections and what they contain are from docs/WORKED.md.
+//! Tests of `check`, `report` and `FrameSection`. Most sections and what they contain are from docs/WORKED.md.
 
 mod common;
 
 use common::*;
 use dwcheck::{
-    check, report, DebugFrame, DebugLoclists, Error, ExpressionKind, FaultKind, Section, Target,
+    check, report, DebugFrame, DebugLoclists, EhFrame, Error, ExpressionKind, FaultKind,
+    FrameSection, RecordKind, Section, Target,
 };
 
 fn frame(bytes: &[u8]) -> Option<(&'static str, u32)> {
@@ -266,4 +267,112 @@ fn a_report_on_a_refused_section_is_its_fault() {
     );
     let fault = refused.unwrap_err().fault().unwrap();
     assert_eq!((fault.kind, fault.offset), (FaultKind::Truncated, 28));
+}
+
+/// The `.eh_frame` section of `common`, with these bytes.
+fn eh_section(bytes: &[u8]) -> FrameSection<'_> {
+    FrameSection::eh_frame(bytes, EhFrame::at(0x2000), Target::LITTLE_64)
+}
+
+/// The records of `.eh_frame` as readelf prints them. There is a record of length 0 after the first
+/// FDE, and only the second CIE has the letter S.
+#[test]
+fn records_are_read_one_after_another() {
+    let bytes = eh_frame();
+    let records: Vec<_> = eh_section(&bytes).records().map(Result::unwrap).collect();
+    let places = records
+        .iter()
+        .map(|one| (one.offset, one.next, one.program, one.is_signal_frame));
+    let expected = [
+        (0, 32, 25, false),
+        (32, 72, 53, false),
+        (72, 76, 72, false),
+        (76, 100, 94, true),
+        (100, 132, 117, true),
+    ];
+    assert_eq!(places.collect::<Vec<_>>(), expected);
+    let cie = RecordKind::Cie {
+        version: 1,
+        code_alignment_factor: 1,
+        data_alignment_factor: -8,
+        return_register: 16,
+    };
+    let fde = |cie, addresses| RecordKind::Fde { cie, addresses };
+    let kinds = [
+        cie.clone(),
+        fde(0, 0x1000..0x1009),
+        RecordKind::Empty,
+        cie,
+        fde(76, 0x1009..0x100c),
+    ];
+    assert_eq!(
+        records.into_iter().map(|one| one.kind).collect::<Vec<_>>(),
+        kinds
+    );
+    assert_eq!(eh_section(&bytes).record(132), Ok(None));
+    let debug = row_1();
+    let debug = FrameSection::debug_frame(&debug, Target::LITTLE_64);
+    assert_eq!(
+        debug.record(24).unwrap().unwrap().kind,
+        fde(0, 0x1000..0x1020)
+    );
+}
+
+/// A record that can't be read is the last one. The others can still be read by their offsets.
+#[test]
+fn a_record_that_cannot_be_read() {
+    let mut bytes = eh_frame();
+    bytes[84] = 2; // the version of the second CIE
+    let mut records = eh_section(&bytes).records();
+    assert_eq!(records.by_ref().filter(|one| one.is_ok()).count(), 3);
+    assert_eq!(records.next(), None);
+    assert_eq!(
+        refusal(eh_section(&bytes).record(76)),
+        Some(("Version", 84))
+    );
+    // the FDE's CIE can't be read, so its pointer leads to none
+    assert_eq!(
+        refusal(eh_section(&bytes).record(100)),
+        Some(("NoSuchCie", 104))
+    );
+    assert!(eh_section(&bytes).record(32).is_ok());
+    assert_eq!(refusal(eh_section(&bytes).check()), Some(("Version", 84)));
+}
+
+#[test]
+fn a_section_is_checked_without_a_process() {
+    let bytes = eh_frame();
+    let contents = eh_section(&bytes).check().unwrap();
+    assert_eq!((contents.cies, contents.fdes), (2, 2));
+    assert_eq!((contents.rows, contents.expressions), (9, 2));
+    let debug = FrameSection::debug_frame(&bytes, Target::LITTLE_64);
+    assert!(debug.check().is_err(), "another format");
+    let empty = FrameSection::debug_frame(&[], Target::LITTLE_64);
+    assert_eq!(empty.check().unwrap().fdes, 0);
+}
+
+/// Each fault of a section is also that of its record, or of the check of what the records say.
+#[test]
+fn the_check_refuses_what_a_record_refuses() {
+    let whole = eh_frame();
+    for place in 0..whole.len() {
+        for byte in [0, 1, 0x7f, 0x80, 0xff] {
+            let mut bytes = whole.clone();
+            bytes[place] = byte;
+            let section = eh_section(&bytes);
+            if let Some(Err(error)) = section.records().find(|one| one.is_err()) {
+                let checked = section.check().unwrap_err().fault().unwrap();
+                let read = error.fault().unwrap();
+                // an FDE may lead to a CIE that isn't one of the records before it
+                assert!(
+                    checked.offset <= read.offset,
+                    "{:#x} at {}: {} {}",
+                    byte,
+                    place,
+                    checked,
+                    read
+                );
+            }
+        }
+    }
 }

@@ -56,6 +56,17 @@ pub fn l() -> Vec<u8> {
     )
 }
 
+/// An `.eh_frame` section at 0x2000, by GNU as and ld for x86-64: the functions 0x1000..0x1009 and
+/// 0x1009..0x100c, the second a signal frame whose CFA is the value of an expression.
+pub fn eh_frame() -> Vec<u8> {
+    hex(
+        "1c000000 00000000 01 7a504c5200 01 78 10 07 9bed0f0000 1b 1b 0c0708 9001 0000
+         24000000 24000000 d8efffff 09000000 04 cf1f0000 41 0e10 8602 43 0d06 41 2e10 41 0a 41 0c0708 41 0b 00000000
+         14000000 00000000 01 7a525300 01 78 10 01 1b 0c0708 9001 00
+         1c000000 1c000000 9defffff 03000000 00 0f03770806 16030223 08 42 0803 0000",
+    )
+}
+
 /// An FDE with this initial location, this address range, and a program of eight nops. Its CIE is
 /// at offset 0.
 pub fn fde(initial: u64, range: u64) -> Vec<u8> {
