@@ -1,17 +1,18 @@
 #!/usr/bin/env python3
 """Times `dwcheck check` and gimli on the frame sections of all programs and libraries in folders.
 
-    bench/times/machine.py DWCHECK DEBUG_FRAME BESIDE FOLDER ..        some minutes
+    bench/times/machine.py DWCHECK BESIDE FOLDER ..        some minutes
 
-DEBUG_FRAME is the program that rust/dwcheck-elf builds from its example of that name; it rewrites a
-file's `.eh_frame` section as `.debug_frame`. BESIDE is the program that bench/beside_gimli/run.sh
-builds; `BESIDE rows SECTION` lets gimli compute all rows, and checks nothing. Each ELF file for
-x86-64 in the FOLDERs and the folders below them is taken once, and its section is read by one
-process of each program. The output is thrown away. The time that a process needs to start is
-measured with an empty section, and subtracted.
+BESIDE is the program that bench/beside_gimli/run.sh builds; `BESIDE rows SECTION` lets gimli
+compute all rows, and checks nothing. Each ELF file for x86-64 in the FOLDERs and the folders below
+them is taken once. Its `.eh_frame` section is rewritten as `.debug_frame` (eh_frame.py), and read
+by one process of each program. The output is thrown away. The time that a process needs to start
+is measured with an empty section, and subtracted.
 """
+import eh_frame
 import os
 import resource
+import struct
 import subprocess
 import sys
 import tempfile
@@ -36,13 +37,18 @@ def programs(folders):
                     yield path
 
 
-def rewritten(debug_frame, folders, into):
+def rewritten(folders, into):
     """Rewrites the `.eh_frame` section of each program that has one. Returns the paths of the
     files with the rewritten sections."""
     for number, path in enumerate(programs(folders)):
-        out = os.path.join(into, f"{number}.frame")
-        made = subprocess.run([debug_frame, path, out], stdout=subprocess.DEVNULL, stderr=subprocess.DEVNULL)
-        if made.returncode == 0:
+        try:
+            made = eh_frame.of_program(path)
+        except (ValueError, LookupError, struct.error, subprocess.CalledProcessError):
+            continue
+        if made is not None:
+            out = os.path.join(into, f"{number}.frame")
+            with open(out, "wb") as file:
+                file.write(made)
             yield out
 
 
@@ -57,13 +63,13 @@ def processor_time(commands):
 
 
 def main():
-    if len(sys.argv) < 5:
+    if len(sys.argv) < 4:
         sys.exit(__doc__)
-    dwcheck, debug_frame, beside = sys.argv[1:4]
+    dwcheck, beside = sys.argv[1:3]
     with tempfile.TemporaryDirectory() as into:
         empty = os.path.join(into, "empty")
         open(empty, "wb").close()
-        sections = list(rewritten(debug_frame, sys.argv[4:], into))
+        sections = list(rewritten(sys.argv[3:], into))
         size = sum(os.path.getsize(section) for section in sections)
         print(f"{len(sections)} sections, {size:,} bytes")
         ways = {
