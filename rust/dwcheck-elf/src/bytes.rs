@@ -98,6 +98,16 @@ impl<'a> Cursor<'a> {
         Ok((((number << unused) as i64) >> unused) as u64)
     }
 
+    /// The next initial length, in the 32-bit or the 64-bit format (DWARF 5, section 7.4). `None` if it
+    /// is cut off or reserved.
+    pub fn initial_length(&mut self) -> Option<u64> {
+        match self.number(4).ok()? {
+            0xffff_ffff => self.number(8).ok(),
+            0xffff_fff0..=0xffff_fffe => None,
+            length => Some(length),
+        }
+    }
+
     /// The next unsigned LEB128 number.
     pub fn uleb(&mut self) -> Result<u64, ReadError> {
         let (mut value, mut shift) = (0u64, 0u32);

@@ -1,8 +1,10 @@
 //! Call frame instructions: their codes, operands and names.
 
+mod instructions;
 mod signing;
 
-pub(crate) use signing::Signing;
+pub(crate) use instructions::{instructions, Instruction};
+pub(crate) use signing::signed;
 
 use crate::bytes::{Cursor, ReadError};
 use crate::target::Target;
@@ -22,6 +24,7 @@ pub(crate) enum Operands {
     Address,
 }
 
+pub(crate) const NOP: u8 = dw::DW_CFA_nop.0;
 pub(crate) const ADVANCE_LOC1: u8 = dw::DW_CFA_advance_loc1.0;
 pub(crate) const ADVANCE_LOC2: u8 = dw::DW_CFA_advance_loc2.0;
 pub(crate) const ADVANCE_LOC4: u8 = dw::DW_CFA_advance_loc4.0;
@@ -31,10 +34,10 @@ pub(crate) const RESTORE_STATE: u8 = dw::DW_CFA_restore_state.0;
 pub(crate) const DEF_CFA: u8 = dw::DW_CFA_def_cfa.0;
 pub(crate) const DEF_CFA_REGISTER: u8 = dw::DW_CFA_def_cfa_register.0;
 pub(crate) const DEF_CFA_EXPRESSION: u8 = dw::DW_CFA_def_cfa_expression.0;
-pub(crate) const DEF_CFA_SF: u8 = dw::DW_CFA_def_cfa_sf.0;
-pub(crate) const DEF_CFA_OFFSET_SF: u8 = dw::DW_CFA_def_cfa_offset_sf.0;
 /// `DW_CFA_AARCH64_negate_ra_state`. Other machines use the code for another instruction.
 pub(crate) const NEGATE_RA_STATE: u8 = dw::DW_CFA_GNU_window_save.0;
+/// `DW_CFA_AARCH64_negate_ra_state_with_pc`, which gimli doesn't name.
+pub(crate) const NEGATE_RA_STATE_WITH_PC: u8 = 0x2c;
 pub(crate) const GNU_ARGS_SIZE: u8 = dw::DW_CFA_GNU_args_size.0;
 
 /// The operands of the instruction with this code. `None` if the code isn't known.
@@ -55,7 +58,7 @@ pub(crate) fn operands(code: u8) -> Option<Operands> {
         dw::DW_CFA_val_offset | dw::DW_CFA_val_offset_sf => Operands::TwoLebs,
         dw::DW_CFA_def_cfa_expression => Operands::Block,
         dw::DW_CFA_expression | dw::DW_CFA_val_expression => Operands::LebAndBlock,
-        dw::DwCfa(NEGATE_RA_STATE) => Operands::None,
+        dw::DwCfa(NEGATE_RA_STATE | NEGATE_RA_STATE_WITH_PC) => Operands::None,
         dw::DW_CFA_GNU_args_size => Operands::Leb,
         dw::DW_CFA_GNU_negative_offset_extended => Operands::TwoLebs,
         _ => return None,
@@ -104,11 +107,11 @@ pub(crate) fn name_of(code: u8, machine: u16) -> Option<&'static str> {
 }
 
 /// A section in which the bytes at these offsets, which are those of whole instructions, are `DW_CFA_nop`.
-pub(crate) fn with_nops<'a>(section: &'a [u8], places: &[u64]) -> Cow<'a, [u8]> {
+pub(crate) fn with_nops<'a>(section: &'a [u8], places: &[usize]) -> Cow<'a, [u8]> {
     let mut bytes = Cow::Borrowed(section);
     for place in places {
-        if let Some(byte) = bytes.to_mut().get_mut(*place as usize) {
-            *byte = 0;
+        if let Some(byte) = bytes.to_mut().get_mut(*place) {
+            *byte = NOP;
         }
     }
     bytes

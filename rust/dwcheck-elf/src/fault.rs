@@ -1,11 +1,10 @@
 //! Describes the faults that `dwcheck` finds in terms of the ELF file: which section, which CIE or
 //! FDE, which instruction or operation, and which function.
 
-use crate::alone::Shared;
-use crate::bridge::{BridgeError, Edge, RecordKind};
-use crate::debug_frame::{self, Instruction, Record};
+use crate::alone::{Found, Shared};
+use crate::cfi::{instructions, Instruction};
 use crate::expression;
-use crate::frames::{Frames, Name};
+use crate::frames::{Frames, Kind, Name, Record};
 use crate::functions::Functions;
 use crate::names::Spot;
 use crate::target::Target;
@@ -51,7 +50,7 @@ pub enum Within {
     Cie(u64),
     /// An FDE, by its range of addresses.
     Fde(Range<u64>),
-    /// A CIE or FDE that can't be read or can't be rewritten, or a table of location lists, by its
+    /// A CIE or FDE that can't be read, or whose address isn't known, or a table of location lists, by its
     /// offset in the section.
     Record(u64),
     /// A location list, by its offset in the section.
@@ -62,45 +61,35 @@ pub enum Within {
 pub struct Terms<'a> {
     frames: &'a Frames<'a>,
     functions: &'a Functions<'a>,
-    /// The CIEs and FDEs of [`Frames::bytes`], in order.
-    records: Vec<Record>,
     /// The FDEs that share an address with an earlier one.
     shared: Shared,
 }
 
 impl<'a> Terms<'a> {
-    /// Reads the CIEs and FDEs of a section, whose faults can then be described.
+    /// Finds the FDEs of a section that share addresses. Its faults can then be described.
     pub fn of(frames: &'a Frames<'a>, functions: &'a Functions<'a>) -> Self {
-        let records = debug_frame::records(frames.bytes(), frames.target());
-        Terms { frames, functions, records, shared: Shared::of(frames.bridged().records()) }
+        Terms { frames, functions, shared: Shared::of(frames) }
     }
 
-    /// The CIEs and FDEs of [`Frames::bytes`], in order.
-    pub fn records(&self) -> &[Record] {
-        &self.records
+    /// Describes the first fault of the section.
+    pub fn first(&self, fault: Fault) -> Defect {
+        self.described(fault, self.frames.record_of(&fault))
     }
 
-    /// Describes a fault that `dwcheck` found. The fault's offset is relative to [`Frames::bytes`].
-    pub fn defect(&self, fault: Fault) -> Defect {
-        let offset = fault.offset as usize;
-        let edge = if fault.kind == FaultKind::Overlap { Edge::Begin } else { Edge::End };
-        let place = self.frames.place(u64::from(fault.offset), edge);
-        let after = self.records.partition_point(|record| match edge {
-            Edge::Begin => record.offset <= offset,
-            Edge::End => record.offset < offset,
-        });
-        let record = after.checked_sub(1).and_then(|before| self.records.get(before));
-        let record = record.filter(|record| offset <= record.end);
+    /// Describes a fault of a record.
+    pub fn defect(&self, found: &Found) -> Defect {
+        self.described(found.fault, self.frames.record(found.record))
+    }
+
+    fn described(&self, fault: Fault, record: Option<&Record>) -> Defect {
         let what = record.map_or_else(|| "a record".to_string(), |record| what(self, &fault, record));
-        let within = place.map(|place| match place.kind {
-            RecordKind::Fde { begin, size, .. } => Within::Fde(begin..begin.saturating_add(size)),
-            RecordKind::Cie if record.is_some() => Within::Cie(place.record),
-            RecordKind::Cie => Within::Record(place.record),
-        });
+        let within = record.map(Within::of);
+        let offset = u64::from(fault.offset);
         Defect {
             section: self.frames.name(),
-            offset: place.map_or(u64::from(fault.offset), |place| place.offset),
-            at: place.map_or(u64::from(fault.offset), |place| place.record),
+            // A record that took bytes of those after it ends where they end.
+            offset: record.map_or(offset, |record| offset.min(record.next)),
+            at: record.map_or(offset, |record| record.offset),
             fault: fault.name(),
             what,
             function: within.as_ref().and_then(|within| within.function(self.functions)),
@@ -112,18 +101,28 @@ impl<'a> Terms<'a> {
 }
 
 impl Defect {
-    /// Describes an error of [`bridge`](crate::bridge::bridge): a CIE or FDE that has no
-    /// counterpart in `.debug_frame`, or that can't be read.
-    pub fn of_bridge(error: &BridgeError) -> Self {
+    /// Describes an FDE whose first address has a relocation against a symbol that the object doesn't define.
+    pub(crate) fn unresolved(section: Name, record: u64, field: u64) -> Self {
+        let rule = "the address belongs to a symbol that the object doesn't define";
+        let within = Some(Within::Record(record));
+        Defect { offset: field, record: within, ..Defect::of_section(section, record, "Unresolved", rule) }
+    }
+
+    /// Describes a section that has 2^32 bytes or more.
+    pub(crate) fn too_long(section: Name) -> Self {
+        Defect::of_section(section, 0, "SectionTooLong", "the section has 2^32 bytes or more")
+    }
+
+    fn of_section(section: Name, at: u64, fault: &'static str, rule: &str) -> Self {
         Defect {
-            section: Name::EhFrame,
-            offset: error.field,
-            at: error.record,
-            fault: error.reason.name(),
+            section,
+            offset: at,
+            at,
+            fault,
             what: "a field".to_string(),
-            record: Some(Within::Record(error.record)),
+            record: Some(Within::Record(at)),
             function: None,
-            rule: error.reason.to_string(),
+            rule: rule.to_string(),
             hint: None,
         }
     }
@@ -159,6 +158,14 @@ pub(crate) fn what_of_lists(kind: FaultKind, code: Option<u8>) -> String {
 }
 
 impl Within {
+    fn of(record: &Record) -> Self {
+        match record.kind {
+            Kind::Cie { .. } => Within::Cie(record.offset),
+            Kind::Fde { begin, end, .. } => Within::Fde(begin..end),
+            Kind::Empty | Kind::Unread(_) => Within::Record(record.offset),
+        }
+    }
+
     /// The function at an FDE's first address. `None` if this isn't an FDE, or if the file has no
     /// name for the function.
     fn function(&self, functions: &Functions<'_>) -> Option<String> {
@@ -222,18 +229,18 @@ fn in_program(frames: &Frames<'_>, fault: &Fault, record: &Record) -> String {
     // `EndsEmpty` is reported where the expression ends, which is where the next instruction
     // begins.
     let is_end = fault.kind == FaultKind::EndsEmpty;
-    let program = match &record.program {
-        Some(program) if offset >= program.start => program.clone(),
-        _ => return "a field".to_string(),
-    };
+    let program = record.program();
+    if offset < program.start || matches!(record.kind, Kind::Empty | Kind::Unread(_)) {
+        return "a field".to_string();
+    }
     if offset >= program.end && !is_end {
         return "the end of the program".to_string();
     }
     let target = frames.target();
-    let all = debug_frame::instructions(frames.bytes(), program, target);
-    let holds = |instruction: &&Instruction| instruction.offset + usize::from(is_end) <= offset;
-    match all.iter().rev().find(holds) {
-        Some(instruction) => named(frames, instruction, offset),
+    let all = instructions(frames.whole(), program, target);
+    let holds = |instruction: &Instruction| instruction.offset + usize::from(is_end) <= offset;
+    match all.take_while(holds).last() {
+        Some(instruction) => named(frames, &instruction, offset),
         None => "an instruction".to_string(),
     }
 }
@@ -241,26 +248,27 @@ fn in_program(frames: &Frames<'_>, fault: &Fault, record: &Record) -> String {
 /// The name of an instruction. If `offset` is in its expression, also the name of the operation
 /// there. If `offset` is where the expression ends, this says so.
 fn named(frames: &Frames<'_>, instruction: &Instruction, offset: usize) -> String {
+    let machine = frames.format().machine;
     let (begin, length) = match instruction.expression {
         Some((begin, length)) if offset > instruction.offset => (begin, length),
-        _ => return instruction.name(frames.machine()),
+        _ => return instruction.name(machine),
     };
-    let bytes = frames.bytes().get(begin..begin + length).unwrap_or(&[]);
+    let bytes = frames.whole().get(begin..begin + length).unwrap_or(&[]);
     let all = expression::operations(bytes, frames.target());
     match all.iter().rev().find(|operation| begin + operation.offset <= offset) {
         Some(operation) if offset < begin + length => {
-            format!("{} of {}", expression::name_of(operation.code), instruction.name(frames.machine()))
+            format!("{} of {}", expression::name_of(operation.code), instruction.name(machine))
         }
-        _ => format!("the end of the expression of {}", instruction.name(frames.machine())),
+        _ => format!("the end of the expression of {}", instruction.name(machine)),
     }
 }
 
 /// Says which FDE before `record` shares an address with it, and which addresses that FDE covers.
 /// If there are several, this is the first one in the section.
 fn overlap(shared: &Shared, record: &Record) -> String {
-    match shared.first(record.offset as u64).and_then(|first| Some((first, first.kind.range()?))) {
+    match shared.first(record.offset).and_then(|first| Some((first, first.addresses()?))) {
         Some((first, range)) => {
-            format!("shares addresses with {:#x}..{:#x} of the FDE at {:#x}", range.start, range.end, first.source)
+            format!("shares addresses with {:#x}..{:#x} of the FDE at {:#x}", range.start, range.end, first.offset)
         }
         None => "shares addresses with an FDE before it".to_string(),
     }

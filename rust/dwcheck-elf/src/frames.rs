@@ -1,12 +1,33 @@
-//! The frame sections of a program, in the form that `dwcheck` takes.
+//! The frame sections of a program, in the form that the library takes.
+//!
+//! The library gets the bytes of the file, at their offsets. Only what it would refuse and is harmless, or
+//! is left out, is changed in place; `edits` has the list.
 
-use crate::bridge::{bridge, plain, Bridged, Edge, EhFrame, Options, Place, RecordKind};
+mod copies;
+mod edits;
+mod expressions;
+mod format;
+mod notes;
+mod records;
+
+pub use edits::Changes;
+pub use expressions::{Expression, Measured};
+pub use format::Format;
+pub use notes::Notes;
+pub use records::{Kind, Record, Standing};
+
+pub(crate) use records::{body, find};
+
+use crate::cfi::signed;
 use crate::program::{Program, ProgramError, Section};
 use crate::target::Target;
-use dwcheck::{Error, Module, Process};
+use copies::mark_copies;
+use dwcheck::{Error, Fault, FaultKind, Process};
+use edits::{edited, Edited};
 use std::borrow::Cow;
 use std::collections::HashSet;
 use std::fmt;
+use std::ops::Range;
 
 /// A section's compiled rows may take this many times the section's bytes in memory. For sections
 /// that compilers write, they take about 1.5 times the section's bytes.
@@ -17,16 +38,16 @@ const ROOM_TIMES: usize = 64;
 const LEAST_ROOM: usize = 64 << 20;
 
 /// How many bytes the compiled rows of a section may take in memory.
-pub(crate) fn room(section: &[u8]) -> usize {
+fn room(section: &[u8]) -> usize {
     section.len().saturating_mul(ROOM_TIMES).max(LEAST_ROOM)
 }
 
 /// A section that can be checked.
 #[derive(Clone, Copy, Debug, PartialEq, Eq, PartialOrd, Ord)]
 pub enum Name {
-    /// `.debug_frame`, which `dwcheck` takes as it is, but for what [`plain`] leaves out.
+    /// `.debug_frame`.
     DebugFrame,
-    /// `.eh_frame`, which is rewritten as `.debug_frame`.
+    /// `.eh_frame`.
     EhFrame,
     /// `.debug_loc`, the location lists of DWARF 4 and before.
     DebugLoc,
@@ -34,7 +55,16 @@ pub enum Name {
     DebugLoclists,
 }
 
-/// A frame section of a program: its bytes in the file, and the bytes that are passed to `dwcheck`.
+/// How to read a section.
+#[derive(Clone, Copy, Debug, Default)]
+pub struct Options {
+    /// Whether to leave `DW_CFA_def_cfa_register` unchanged where the CFA has no rule yet. The library
+    /// refuses a section with such an instruction. GNU as begins CIEs for alpha, mips and riscv with it.
+    pub strict: bool,
+}
+
+/// A frame section of a program: its bytes in the file, its records, and the bytes that the library takes.
+/// All offsets are in the file's section.
 ///
 /// ```no_run
 /// use dwcheck_elf::frames::Frames;
@@ -52,32 +82,31 @@ pub enum Name {
 #[derive(Clone, Debug)]
 pub struct Frames<'data> {
     section: FrameSection<'data>,
-    bridged: Bridged,
+    options: Options,
+    records: Vec<Record>,
+    /// The bytes with all changes, if there are changes.
+    changed: Option<Vec<u8>>,
+    /// How many of the bytes the library takes.
+    length: usize,
+    changes: Changes,
+    /// The offsets of the FDEs whose address isn't known.
+    unresolved: Vec<u64>,
 }
 
-/// A frame section as it is in the file, with the addresses that its pointers may be relative to.
+/// A frame section as it is in the file.
 #[derive(Clone, Debug)]
-pub(crate) struct FrameSection<'data> {
-    pub name: Name,
-    pub target: Target,
-    /// The machine's number (`e_machine`).
-    pub machine: u16,
+pub struct FrameSection<'data> {
+    /// What has to be known to read it.
+    pub format: Format,
     /// The bytes, decompressed and with relocations applied.
     pub source: Section<'data>,
-    text: Option<u64>,
-    data: Option<u64>,
 }
 
 impl<'data> FrameSection<'data> {
     /// Reads one section of a program. `None` if the program doesn't have it, or if it is empty.
     pub fn read(program: &Program<'data>, name: Name) -> Result<Option<Self>, ProgramError> {
         let read = if name == Name::EhFrame { program.eh_frame() } else { program.debug_frame() };
-        let source = match read? {
-            Some(source) => source,
-            None => return Ok(None),
-        };
-        let EhFrame { target, machine, text, data, .. } = program.eh_frame_of(&source);
-        Ok(Some(FrameSection { name, target, machine, source, text, data }))
+        Ok(read?.map(|source| FrameSection { format: program.format(name, &source), source }))
     }
 
     /// The same section with its own copy of the bytes.
@@ -86,21 +115,18 @@ impl<'data> FrameSection<'data> {
         FrameSection { source, ..self }
     }
 
-    /// The section as [`bridge`] takes it.
-    pub fn eh_frame(&self) -> EhFrame<'_> {
-        EhFrame {
-            bytes: &self.source.bytes,
-            address: self.source.address,
-            target: self.target,
-            machine: self.machine,
-            text: self.text,
-            data: self.data,
-            unresolved: &self.source.unresolved,
-        }
+    /// All records of the section, in order. It has to have less than 2^32 bytes.
+    pub(crate) fn records(&self) -> Vec<Record> {
+        records::records(&self.format, &self.source.bytes)
     }
 }
 
-/// Why a frame section can't be passed to `dwcheck`.
+/// Changes what is harmless in these records of a section, or of a part of it.
+pub(crate) fn harmless<'a>(format: &Format, bytes: &'a [u8], records: &[Record], options: Options) -> Cow<'a, [u8]> {
+    edited(format, bytes, records, options).bytes
+}
+
+/// Why a frame section can't be passed to the library.
 #[derive(Clone, Debug, PartialEq, Eq)]
 pub enum FramesError {
     /// The section can't be read from the file.
@@ -116,39 +142,50 @@ impl<'data> Frames<'data> {
         program: &'a Program<'data>,
         options: Options,
     ) -> impl Iterator<Item = Result<Frames<'data>, FramesError>> + 'a {
-        [Name::DebugFrame, Name::EhFrame]
-            .into_iter()
-            .filter_map(move |name| Frames::read(program, name, options).transpose())
+        let read = move |name| match FrameSection::read(program, name) {
+            Ok(section) => section.map(|section| Frames::of(section, options)),
+            Err(error) => Some(Err(FramesError::Program(name, error))),
+        };
+        [Name::DebugFrame, Name::EhFrame].into_iter().filter_map(read)
     }
 
-    /// Reads one section, and rewrites it for `dwcheck`. `None` if the program doesn't have it, or
-    /// if it is empty.
-    fn read(program: &Program<'data>, name: Name, options: Options) -> Result<Option<Self>, FramesError> {
-        let section = FrameSection::read(program, name).map_err(|error| FramesError::Program(name, error))?;
-        let section = match section {
-            Some(section) => section,
-            None => return Ok(None),
+    /// Reads the records of a section. This takes time in proportion to its length.
+    pub fn of(section: FrameSection<'data>, options: Options) -> Result<Self, FramesError> {
+        let (format, source) = (section.format, &section.source);
+        u32::try_from(source.bytes.len()).map_err(|_| FramesError::TooLong(format.name))?;
+        let mut records = section.records();
+        let unresolved = mark_unresolved(&mut records, &format, source);
+        mark_copies(&mut records, &source.bytes, format.is_eh_frame());
+        let (changed, length, changes) = (None, 0, Changes::default());
+        Ok(Frames { section, options, records, changed, length, changes, unresolved }.edited())
+    }
+
+    /// Makes the bytes that the library takes.
+    fn edited(mut self) -> Self {
+        let Edited { bytes, length, changes } =
+            edited(&self.section.format, &self.section.source.bytes, &self.records, self.options);
+        self.length = length;
+        self.changes = changes;
+        self.changed = match bytes {
+            Cow::Owned(bytes) => Some(bytes),
+            Cow::Borrowed(_) => None,
         };
-        let bridged = match name {
-            Name::EhFrame => bridge(&section.eh_frame(), options).map_err(|_| FramesError::TooLong(name))?,
-            _ => plain(&section.source.bytes, section.target, section.machine).ok_or(FramesError::TooLong(name))?,
-        };
-        Ok(Some(Frames { section, bridged }))
+        self
     }
 
     /// The name of the section.
     pub fn name(&self) -> Name {
-        self.section.name
+        self.section.format.name
     }
 
     /// The byte order and the address size.
     pub fn target(&self) -> Target {
-        self.section.target
+        self.section.format.target
     }
 
-    /// The machine's number (`e_machine`).
-    pub fn machine(&self) -> u16 {
-        self.section.machine
+    /// What has to be known of the section, besides its bytes, to read it.
+    pub fn format(&self) -> &Format {
+        &self.section.format
     }
 
     /// The section's bytes in the file, decompressed and with relocations applied.
@@ -156,44 +193,102 @@ impl<'data> Frames<'data> {
         &self.section.source
     }
 
-    /// The section as [`bridge`] takes it, with the addresses that its pointers may be relative to.
-    pub fn eh_frame(&self) -> EhFrame<'_> {
-        self.section.eh_frame()
-    }
-
-    /// The rewritten section, with a list of its CIEs and FDEs, and the counts of what was dropped
-    /// or changed.
-    pub fn bridged(&self) -> &Bridged {
-        &self.bridged
-    }
-
-    /// The bytes of the rewritten section, which `dwcheck` takes.
+    /// The bytes that the library takes. They may be fewer than the section's.
     pub fn bytes(&self) -> &[u8] {
-        self.bridged.bytes()
+        self.whole().get(..self.length).unwrap_or(&[])
     }
 
-    /// Whether the section has FDEs.
+    /// All bytes of the section, with the changes.
+    pub(crate) fn whole(&self) -> &[u8] {
+        self.changed.as_deref().unwrap_or(&self.section.source.bytes)
+    }
+
+    /// All records of the section, in order.
+    pub fn records(&self) -> &[Record] {
+        &self.records
+    }
+
+    /// The records that are used, in order.
+    pub fn used(&self) -> impl Iterator<Item = &Record> + Clone {
+        self.records.iter().filter(|record| record.is_used())
+    }
+
+    /// The record that begins at an offset.
+    pub fn record(&self, offset: u64) -> Option<&Record> {
+        find(&self.records, offset)
+    }
+
+    /// Whether FDEs are used.
     pub fn has_fdes(&self) -> bool {
-        self.bridged.records().iter().any(|record| matches!(record.kind, RecordKind::Fde { .. }))
+        self.used().any(|record| record.addresses().is_some())
     }
 
-    /// Whether the bytes that `dwcheck` takes differ from the file's.
-    pub fn is_rewritten(&self) -> bool {
-        let counts = self.bridged.counts();
-        let dropped = counts.terminators + counts.copies + counts.args_sizes + self.bridged.left_out().len();
-        self.name() == Name::EhFrame || dropped + self.bridged.negated().len() > 0
+    /// How many records have this standing.
+    pub fn count(&self, standing: Standing) -> usize {
+        self.records.iter().filter(|record| record.standing == standing).count()
     }
 
-    /// The section without the CIEs and FDEs at these offsets of [`bytes`](Self::bytes), without the FDEs
-    /// of such CIEs, and without the bytes after the last record that can be read.
-    pub(crate) fn without(&self, refused: &HashSet<usize>) -> Self {
-        Frames { section: self.section.clone(), bridged: self.bridged.without(refused, self.target()) }
+    /// The instructions that were changed.
+    pub fn changes(&self) -> &Changes {
+        &self.changes
     }
 
-    /// The place in the file's section from which the byte at an offset of [`bytes`](Self::bytes)
-    /// was made. See [`Bridged::place`].
-    pub fn place(&self, offset: u64, edge: Edge) -> Option<Place> {
-        self.bridged.place(offset, edge)
+    /// The offsets of the FDEs that are left out because the relocation of their first address names a symbol
+    /// that the object doesn't define.
+    pub fn unresolved(&self) -> &[u64] {
+        &self.unresolved
+    }
+
+    /// Whether the bytes that the library takes differ from the file's.
+    pub fn is_changed(&self) -> bool {
+        self.changed.is_some() || self.length < self.section.source.bytes.len()
+    }
+
+    /// The ranges of addresses at which the return address is signed (aarch64), in the order of the FDEs.
+    /// This takes time in proportion to the section's length.
+    pub fn signed(&self) -> Vec<Range<u64>> {
+        match self.section.format.is_aarch64() {
+            true => signed(&self.section.source.bytes, &self.records, self.target()),
+            false => Vec::new(),
+        }
+    }
+
+    /// The record that a fault of the library is in. An offset can be both the end of one record and the
+    /// beginning of the next: only an overlap is reported where its FDE begins.
+    pub fn record_of(&self, fault: &Fault) -> Option<&Record> {
+        let offset = u64::from(fault.offset);
+        let after = self.records.partition_point(|record| record.offset <= offset);
+        let upto = self.records.get(..after).unwrap_or(&[]);
+        let begins_there = upto.last().filter(|record| record.offset == offset);
+        let is_meant = |record: &&Record| fault.kind == FaultKind::Overlap || record.kind == Kind::Unread(*fault);
+        match begins_there {
+            Some(record) if is_meant(&record) => Some(record),
+            // In `.debug_frame` a record of length 0 became a part of the record before it. One without a record
+            // before it is cut off, since it has no CIE id.
+            _ => upto.iter().rfind(|record| {
+                record.offset < offset && (record.kind != Kind::Empty || fault.kind == FaultKind::Truncated)
+            }),
+        }
+    }
+
+    /// The section without the records at these offsets, and without the FDEs of such CIEs. If a record can't
+    /// be left out alone, those after it are left out, too.
+    pub fn without(&self, refused: &HashSet<u64>) -> Self {
+        let mut rest = self.clone();
+        for record in &mut rest.records {
+            let is_refused = refused.contains(&record.offset)
+                || matches!(record.kind, Kind::Fde { cie, .. } if refused.contains(&cie));
+            if is_refused {
+                record.standing = Standing::LeftOut;
+            }
+        }
+        let mut rest = rest.edited();
+        let end = rest.length as u64;
+        rest.records
+            .iter_mut()
+            .filter(|record| record.next > end)
+            .for_each(|record| record.standing = Standing::LeftOut);
+        rest
     }
 
     /// Makes a process with this section as its only module, which is loaded at `load` and answers
@@ -205,10 +300,29 @@ impl<'data> Frames<'data> {
     /// rows may take more than 64 times the section's bytes and more than 64 MiB.
     pub fn process(&self, load: u64) -> Result<Process, Error> {
         let mut process = Process::new(self.target().into());
-        let whole = Module::at(load).range(0..=self.target().address_size.highest());
-        process.add(self.bytes(), whole.room(room(self.bytes())))?;
+        let module = self.section.format.module(self.bytes(), load);
+        process.add(self.bytes(), module.range(0..=self.target().address_size.highest()))?;
         Ok(process)
     }
+}
+
+/// Leaves out the FDEs of `.eh_frame` whose first address isn't known, and returns their offsets. That address
+/// follows the four bytes of the CIE pointer.
+fn mark_unresolved(records: &mut [Record], format: &Format, source: &Section<'_>) -> Vec<u64> {
+    let mut marked = Vec::new();
+    if source.unresolved.is_empty() || !format.is_eh_frame() {
+        return marked;
+    }
+    // With a wrong address the library may not be able to read an FDE.
+    let may_be_fde = |record: &&mut Record| matches!(record.kind, Kind::Fde { .. } | Kind::Unread(_));
+    for record in records.iter_mut().filter(may_be_fde) {
+        let place = body(&source.bytes, record.offset, format.target).map(|body| body.start as u64 + 4);
+        if place.map_or(false, |place| source.unresolved.binary_search(&place).is_ok()) {
+            record.standing = Standing::LeftOut;
+            marked.push(record.offset);
+        }
+    }
+    marked
 }
 
 impl fmt::Display for Name {

@@ -1,16 +1,15 @@
 //! Checks the frame sections and the location lists of a program.
 
 use crate::alone::{accepted_part, every_fault};
-use crate::bridge::{BridgeError, Edge, Options, Reason, RecordKind};
 use crate::debug_files::DebugFiles;
 use crate::fault::{Defect, Terms};
-use crate::frames::{Frames, FramesError, Name};
+use crate::frames::{body, Frames, FramesError, Kind, Name, Options, Record, Standing};
 use crate::lists;
 use crate::program::{Program, ProgramError};
 use crate::row::Row;
 use crate::target::Target;
 use crate::text::Plain;
-use crate::validate::{validate, validate_rows, Agreement, Difference, DwcheckRows, RowSource, What};
+use crate::validate::{validate_rows, Agreement, Difference, DwcheckRows, RowSource};
 use dwcheck::{DebugFrame, DebugLoclists, Error, Process, Report};
 use std::fmt;
 use std::path::{Path, PathBuf};
@@ -21,12 +20,12 @@ use std::path::{Path, PathBuf};
 /// use dwcheck_elf::inspect::Check;
 ///
 /// let check = Check { all: true, ..Check::default() };
-/// assert!(!check.bridge.strict);
+/// assert!(!check.options.strict);
 /// ```
 #[derive(Clone, Copy, Debug, Default)]
 pub struct Check {
-    /// How `.eh_frame` is rewritten.
-    pub bridge: Options,
+    /// How `.eh_frame` is read.
+    pub options: Options,
     /// Whether to report every fault of a frame section, not only the first. See
     /// [`crate::alone::every_fault`].
     pub all: bool,
@@ -53,8 +52,8 @@ pub struct Inspected<'data> {
 /// Whether a section was accepted.
 #[derive(Debug)]
 pub enum Verdict {
-    /// A well-formed frame section. If it was rewritten, `dwcheck`'s rows are equal to the rows
-    /// that gimli finds in the section before it was rewritten.
+    /// A well-formed frame section. If it is `.eh_frame`, or had to be changed, the library's rows are equal to
+    /// the rows that gimli finds in the file's section.
     Frames(Agreement),
     /// Well-formed location lists of a file without `.debug_info`, in which the whole section is checked.
     Lists(Report),
@@ -72,7 +71,7 @@ pub enum Verdict {
 pub enum InspectError {
     /// The section can't be read from the file.
     Program(ProgramError),
-    /// A row, CIE or FDE of the rewritten section differs from its original.
+    /// A row differs from the one that gimli finds, or gimli can't read a CIE or FDE.
     Difference(Difference),
     /// `dwcheck` neither accepted nor refused the section, for example because memory ran out.
     Dwcheck(Name, Error),
@@ -153,7 +152,7 @@ pub fn inspect_lists_of_file<'data>(
 
 /// Checks the frame sections of a program that have bytes: `.debug_frame`, `.eh_frame`.
 pub fn inspect_frame_sections<'data>(program: &Program<'data>, check: Check) -> Vec<Inspected<'data>> {
-    let sections = Frames::all(program, check.bridge).map(|frames| match frames {
+    let sections = Frames::all(program, check.options).map(|frames| match frames {
         Ok(frames) => inspect_frames(program, frames, check),
         Err(error) => unread_frames(error),
     });
@@ -165,10 +164,7 @@ pub fn inspect_frame_sections<'data>(program: &Program<'data>, check: Check) -> 
 fn unread_frames<'data>(error: FramesError) -> Inspected<'data> {
     let (name, verdict) = match error {
         FramesError::Program(name, error) => (name, Verdict::Unread(InspectError::Program(error))),
-        FramesError::TooLong(name) => {
-            let defect = Defect::of_bridge(&BridgeError { record: 0, field: 0, reason: Reason::TooLong });
-            (name, Verdict::Refused(vec![Defect { section: name, ..defect }]))
-        }
+        FramesError::TooLong(name) => (name, Verdict::Refused(vec![Defect::too_long(name)])),
     };
     Inspected { name, file: None, bytes: 0, frames: None, lists: None, verdict }
 }
@@ -187,31 +183,41 @@ fn inspect_frames<'data>(program: &Program<'data>, frames: Frames<'data>, check:
 
 fn verdict_on(program: &Program<'_>, frames: &Frames<'_>, check: Check) -> Result<Verdict, InspectError> {
     let fault = match frames.process(0) {
-        Ok(process) if frames.bridged().refused().is_empty() => {
-            return agreement(frames, &process).map(Verdict::Frames);
-        }
+        Ok(process) if frames.unresolved().is_empty() => return agreement(frames, &process).map(Verdict::Frames),
         Ok(_) => None,
         Err(Error::Refused(fault)) => Some(fault),
         Err(error) => return Err(InspectError::Dwcheck(frames.name(), error)),
     };
-    compared_by_gimli(frames)?;
-    let mut defects: Vec<_> = frames.bridged().refused().iter().map(Defect::of_bridge).collect();
+    let mut defects = unresolved(frames);
     if let Some(fault) = fault {
         let functions = program.functions();
         let terms = Terms::of(frames, &functions);
-        let faults = if check.all { every_fault(frames, fault) } else { vec![fault] };
-        defects.extend(faults.into_iter().map(|fault| terms.defect(fault)));
+        match check.all {
+            true => defects.extend(every_fault(frames, fault).iter().map(|found| terms.defect(found))),
+            false => defects.push(terms.first(fault)),
+        }
     }
-    if !frames.bridged().refused().is_empty() {
+    if !frames.unresolved().is_empty() {
         defects.sort_by_key(|defect| defect.offset);
     }
     defects.truncate(if check.all { usize::MAX } else { 1 });
     Ok(Verdict::Refused(defects))
 }
 
-/// Counts what an accepted section has. If it was rewritten, its rows are compared with gimli's.
+/// The FDEs whose first address isn't known, as defects.
+fn unresolved(frames: &Frames<'_>) -> Vec<Defect> {
+    let (name, target, bytes) = (frames.name(), frames.target(), &frames.source().bytes);
+    let defect = |record: &u64| {
+        let pointer = body(bytes, *record, target).map_or(*record, |body| body.start as u64);
+        Defect::unresolved(name, *record, pointer + 4)
+    };
+    frames.unresolved().iter().map(defect).collect()
+}
+
+/// Counts what an accepted section has. The rows of `.eh_frame`, and of a section that had to be changed, are
+/// compared with gimli's.
 fn agreement(frames: &Frames<'_>, process: &Process) -> Result<Agreement, InspectError> {
-    match frames.is_rewritten() {
+    match frames.name() == Name::EhFrame || frames.is_changed() {
         true => validate_rows(frames, process).map_err(InspectError::Difference),
         false => Ok(counted(frames, process)),
     }
@@ -238,9 +244,10 @@ pub struct LeftOut {
 impl Rest<'_> {
     /// How much isn't in it.
     pub fn left_out(&self) -> LeftOut {
-        let bridged = self.frames.bridged();
-        let count = bridged.left_out().len();
-        LeftOut { count, of: count + bridged.records().len() }
+        let is_counted = |record: &&Record| record.kind != Kind::Empty && record.standing != Standing::Copy;
+        let counted = self.frames.records().iter().filter(is_counted);
+        let count = counted.clone().filter(|record| !record.is_used()).count();
+        LeftOut { count, of: counted.count() }
     }
 }
 
@@ -250,8 +257,8 @@ impl<'data> Inspected<'data> {
         Inspected { name, file: None, bytes: 0, frames: None, lists: None, verdict: Verdict::Unread(error) }
     }
 
-    /// What is left of a refused frame section. `None` for any other section, and for one that can't
-    /// be rewritten at all. Each FDE is checked alone, as for [`Check::all`].
+    /// What is left of a refused frame section. `None` for any other section, and for one that is too
+    /// long. Each FDE is checked alone, as for [`Check::all`].
     pub fn rest(&self) -> Result<Option<Rest<'data>>, InspectError> {
         let frames = match (&self.verdict, &self.frames) {
             (Verdict::Refused(_), Some(frames)) => frames,
@@ -271,33 +278,21 @@ impl<'data> Inspected<'data> {
     }
 }
 
-/// Makes sure that a fault isn't due to the rewriting of `.eh_frame`: it is an error if the
-/// rewritten section and the original differ, as gimli reads them. At a CIE or FDE of the original
-/// that gimli can't read, the comparison ends without an error.
-fn compared_by_gimli(frames: &Frames<'_>) -> Result<(), InspectError> {
-    if frames.name() != Name::EhFrame {
-        return Ok(());
-    }
-    match validate(&frames.eh_frame(), frames.bridged()) {
-        Err(difference) if !matches!(difference.what, What::Unreadable(_)) => Err(InspectError::Difference(difference)),
-        _ => Ok(()),
-    }
-}
-
-/// Counts the CIEs, FDEs and rows of a section that wasn't rewritten.
+/// Counts the CIEs, FDEs and rows of a section.
 fn counted(frames: &Frames<'_>, process: &Process) -> Agreement {
     let mut agreement = Agreement::default();
     let mut row = Row::default();
-    for record in frames.bridged().records() {
+    for record in frames.used() {
         match record.kind {
-            RecordKind::Cie => agreement.cies += 1,
-            RecordKind::Fde { begin, size, .. } => {
+            Kind::Cie { .. } => agreement.cies += 1,
+            Kind::Fde { begin, end, .. } => {
                 agreement.fdes += 1;
-                let mut rows = DwcheckRows::new(process, frames.bytes(), begin, begin.saturating_add(size));
+                let mut rows = DwcheckRows::new(process, begin, end);
                 while let Ok(true) = rows.next_row(&mut row) {
                     agreement.rows += 1;
                 }
             }
+            Kind::Empty | Kind::Unread(_) => {}
         }
     }
     agreement
@@ -309,12 +304,6 @@ fn inspect_section_of_lists(lists: &[u8], target: Target) -> Result<Verdict, Ins
         Err(Error::Refused(fault)) => Ok(Verdict::Refused(vec![Defect::of_lists(lists, fault, target)])),
         Err(error) => Err(InspectError::Dwcheck(Name::DebugLoclists, error)),
     }
-}
-
-/// Turns an offset in [`Frames::bytes`], such as that of a CIE, an FDE or an expression, into the
-/// offset in the file's section. An offset that belongs to no CIE or FDE stays the same.
-pub fn source_offset(frames: &Frames<'_>, record: u64) -> u64 {
-    frames.place(record, Edge::Begin).map_or(record, |place| place.offset)
 }
 
 impl fmt::Display for InspectError {

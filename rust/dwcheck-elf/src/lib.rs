@@ -3,9 +3,8 @@
 //!
 //! - [`program`] opens an ELF file and gives its frame sections, location lists, functions and
 //!   segments.
-//! - [`bridge`] rewrites an `.eh_frame` section as a `.debug_frame` section.
-//! - [`validate`] compares the unwind rows of an `.eh_frame` section with those of the rewritten
-//!   section.
+//! - [`frames`] reads the records of its frame sections, and gives the sections to the library.
+//! - [`validate`] compares the library's rows of a frame section with gimli's.
 //! - [`lint`] gives the crate `dwcheck-lint` a program's code and rows.
 //! - [`trace`] compares rows with values while a program runs.
 //! - [`profile`] reads what `perf record` wrote, and walks the stacks of its samples.
@@ -18,13 +17,11 @@
 
 pub mod abi;
 pub mod alone;
-pub mod bridge;
 mod bytes;
 mod cfi;
 pub mod core_file;
 mod covered;
 pub mod debug_files;
-pub mod debug_frame;
 mod debug_info;
 pub mod expression;
 pub mod fault;

@@ -4,18 +4,18 @@
 //! [`Module`](dwcheck_lint::module::Module), which [`dwcheck_lint::lint`] judges.
 
 use crate::alone::accepted;
-use crate::bridge::{Options, RecordKind};
-use crate::frames::{Frames, Name};
+use crate::frames::{Frames, Kind, Name, Options, Record};
 use crate::functions::Functions;
 use crate::image::{Image, Part};
 use crate::program::Program;
 use crate::target::AddressSize;
-use dwcheck::{CfaRule, Process, Span};
+use crate::validate::comparable;
+use dwcheck::{CfaRule, Process};
 use dwcheck_lint::landings::landings;
 use dwcheck_lint::machine::Machine;
 use dwcheck_lint::module::{Convention, Module, Segment};
 use dwcheck_lint::table::{Cfa, Fde, Row, Rows, Rule};
-use gimli::{CallFrameInstruction, CieOrFde, EndianSlice, Pointer, RunTimeEndian, UnwindSection};
+use gimli::{CallFrameInstruction, EndianSlice, Pointer, RunTimeEndian, UnwindSection};
 use std::cell::RefCell;
 use std::collections::HashSet;
 use std::fmt;
@@ -118,13 +118,13 @@ fn convention(program: &Program<'_>, functions: &Functions<'_>, image: &Image<'_
 
 /// The FDEs of a section.
 fn fdes(frames: &Frames<'_>, module: &Module<'_>) -> Vec<Fde> {
-    let signs = Signs::of(frames.bridged().signed());
+    let signs = Signs::of(frames.signed());
     if frames.name() == Name::EhFrame {
         return eh_frame_fdes(frames, module, &signs);
     }
     // What has `.eh_frame` in a program of Go is in C.
     let is_called = module.convention == Convention::Go;
-    let ranges = frames.bridged().records().iter().filter_map(|record| record.kind.range());
+    let ranges = frames.used().filter_map(Record::addresses);
     let fde = |Range { start: begin, end }| {
         let signed = signs.of_fde(begin, end);
         Fde { begin, end, is_called, signed, ..Fde::default() }
@@ -136,8 +136,7 @@ fn fdes(frames: &Frames<'_>, module: &Module<'_>) -> Vec<Fde> {
 struct Signs(Vec<Range<u64>>);
 
 impl Signs {
-    fn of(ranges: &[Range<u64>]) -> Self {
-        let mut ranges = ranges.to_vec();
+    fn of(mut ranges: Vec<Range<u64>>) -> Self {
         ranges.sort_by_key(|range| range.start);
         Signs(ranges)
     }
@@ -151,37 +150,33 @@ impl Signs {
 
 /// The FDEs of `.eh_frame`, with what only their headers have.
 fn eh_frame_fdes(frames: &Frames<'_>, module: &Module<'_>, signs: &Signs) -> Vec<Fde> {
-    let (section, bridged) = (frames.eh_frame(), frames.bridged());
-    let signals = bridged.records().iter().filter_map(|record| match record.kind {
-        RecordKind::Fde { begin, signal: true, .. } => Some(begin),
-        _ => None,
-    });
-    let signals: HashSet<u64> = signals.collect();
-    let bytes = bridged.comparable(section.bytes);
-    let bases = section.bases();
-    let mut read = gimli::EhFrame::new(&bytes, section.target.gimli_order());
-    read.set_address_size(section.target.address_size.bytes());
-    let mut entries = read.entries(&bases);
-    let mut fdes = Vec::new();
-    // What gimli can't read, the bridge refuses.
-    while let Ok(Some(entry)) = entries.next() {
-        let header = match entry {
-            CieOrFde::Fde(partial) => partial.parse(gimli::EhFrame::cie_from_offset),
-            CieOrFde::Cie(_) => continue,
+    let bytes = comparable(frames);
+    let bases = frames.format().bases();
+    let mut section = gimli::EhFrame::new(&bytes, frames.target().gimli_order());
+    section.set_address_size(frames.target().address_size.bytes());
+    let fde = |record: &Record| {
+        let (begin, end, is_signal) = match record.kind {
+            Kind::Fde { begin, end, is_signal_frame, .. } => (begin, end, is_signal_frame),
+            _ => return None,
         };
-        if let Ok(header) = header {
-            let begin = header.initial_address();
-            let landings = match header.lsda() {
-                Some(Pointer::Direct(address)) => landings(module.bytes_at(address), begin),
-                _ => Vec::new(),
-            };
-            let argument_bytes = argument_bytes(&header, header.instructions(&read, &bases));
-            let (end, is_signal) = (begin.saturating_add(header.len()), signals.contains(&begin));
-            let signed = signs.of_fde(begin, end);
-            fdes.push(Fde { begin, end, is_signal, is_called: false, landings, argument_bytes, signed });
-        }
-    }
-    fdes
+        let offset = (record.offset as usize).into();
+        let header = section.fde_from_offset(&bases, offset, gimli::EhFrame::cie_from_offset).ok()?;
+        let landings = match header.lsda() {
+            Some(Pointer::Direct(address)) => landings(module.bytes_at(address), begin),
+            _ => Vec::new(),
+        };
+        let argument_bytes = argument_bytes(&header, header.instructions(&section, &bases));
+        Some(Fde {
+            begin,
+            end,
+            is_signal,
+            is_called: false,
+            landings,
+            argument_bytes,
+            signed: signs.of_fde(begin, end),
+        })
+    };
+    frames.used().filter_map(fde).collect()
 }
 
 /// From which address on how many bytes of arguments are on the stack.
@@ -205,24 +200,32 @@ fn argument_bytes<'a>(
     found
 }
 
-/// `dwcheck`'s rows of all sections, of which those of `.eh_frame` are taken first.
+/// The library's rows of all sections, of which those of `.eh_frame` are taken first.
 struct SectionRows<'a> {
     machine: &'static Machine,
-    all: Vec<(&'a Frames<'a>, RefCell<dwcheck::Rows<'a>>)>,
+    all: Vec<OneSection<'a>>,
+}
+
+/// The rows of a section.
+struct OneSection<'a> {
+    process: &'a Process,
+    rows: RefCell<dwcheck::Rows<'a>>,
+    /// All expressions of the section. The library gives a copy of the one that a rule has.
+    expressions: HashSet<&'a [u8]>,
 }
 
 impl<'a> SectionRows<'a> {
     fn of(sections: &'a Sections<'a>, machine: &'static Machine) -> Self {
-        let all = sections.all.iter().map(|(frames, process)| (frames, RefCell::new(process.rows())));
+        let all = sections.all.iter().map(|(frames, process)| OneSection {
+            process,
+            rows: RefCell::new(process.rows()),
+            expressions: frames.expressions().map(|expression| expression.bytes).collect(),
+        });
         SectionRows { machine, all: all.collect() }
     }
 
     fn row(&self, address: u64) -> Option<Row<'a>> {
-        let found = self.all.iter().find_map(|(frames, rows)| {
-            let mut rows = rows.borrow_mut();
-            rows.row(address).map(|row| row_of(self.machine, row, frames.bytes()))
-        });
-        found.flatten()
+        self.all.iter().find_map(|one| one.rows.borrow_mut().row(address).map(|row| one.row_of(self.machine, row)))?
     }
 }
 
@@ -243,28 +246,35 @@ impl Rows for SectionRows<'_> {
     }
 }
 
-/// A row of `dwcheck`'s. `None` if its rules aren't known.
-fn row_of<'a>(machine: &Machine, row: &dwcheck::Row, bytes: &'a [u8]) -> Option<Row<'a>> {
-    let register = machine.register;
-    let expression = |span: Span| span.of(bytes);
-    let cfa = match row.cfa {
-        CfaRule::RegisterAndOffset { register: number, offset } => Cfa::Offset(register(number), offset),
-        CfaRule::Expression(span) => Cfa::Expression(expression(span)?),
-        _ => return None,
-    };
-    let rule = |rule| {
-        Some(match rule {
-            dwcheck::Rule::Undefined => Rule::Undefined,
-            dwcheck::Rule::SameValue => Rule::Same,
-            dwcheck::Rule::Offset(offset) => Rule::Offset(offset),
-            dwcheck::Rule::Register(number) => Rule::Register(register(number)),
-            dwcheck::Rule::Expression(span) => Rule::Expression(expression(span)?),
-            _ => Rule::Value,
-        })
-    };
-    let rules = row.rules.iter().map(|(number, found)| Some((register(*number), rule(*found)?)));
-    let rules = rules.collect::<Option<_>>()?;
-    Some(Row { begin: row.addresses.start, end: row.addresses.end, cfa, rules })
+impl<'a> OneSection<'a> {
+    /// The expression of a register's rule, or of the CFA's, in the row that has an address.
+    fn expression(&self, address: u64, register: Option<u16>) -> Option<&'a [u8]> {
+        let bytes = self.process.rule_bytes(address, register)?;
+        self.expressions.get(bytes.as_slice()).copied()
+    }
+
+    /// A row of the library's. `None` if its rules aren't known.
+    fn row_of(&self, machine: &Machine, row: &dwcheck::Row) -> Option<Row<'a>> {
+        let (register, begin) = (machine.register, row.addresses.start);
+        let cfa = match row.cfa {
+            CfaRule::RegisterAndOffset { register: number, offset } => Cfa::Offset(register(number), offset),
+            CfaRule::Expression(_) => Cfa::Expression(self.expression(begin, None)?),
+            _ => return None,
+        };
+        let rule = |number: u16, rule| {
+            Some(match rule {
+                dwcheck::Rule::Undefined => Rule::Undefined,
+                dwcheck::Rule::SameValue => Rule::Same,
+                dwcheck::Rule::Offset(offset) => Rule::Offset(offset),
+                dwcheck::Rule::Register(number) => Rule::Register(register(number)),
+                dwcheck::Rule::Expression(_) => Rule::Expression(self.expression(begin, Some(number))?),
+                _ => Rule::Value,
+            })
+        };
+        let rules = row.rules.iter().map(|(number, found)| Some((register(*number), rule(*number, *found)?)));
+        let rules = rules.collect::<Option<_>>()?;
+        Some(Row { begin, end: row.addresses.end, cfa, rules })
+    }
 }
 
 impl LintError {

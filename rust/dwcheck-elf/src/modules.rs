@@ -1,23 +1,20 @@
 //! The modules of a process: files with frame sections, each loaded at some address.
 
-use crate::covered::Covered;
-use crate::debug_frame::{records, Kind, Record};
-use crate::frames::room;
+mod parts;
+
+use crate::frames::Frames;
 use crate::program::Program;
 use crate::target::Target;
-use dwcheck::{Error, Module, ModuleId, Process};
-use std::borrow::Cow;
-use std::collections::HashMap;
+use dwcheck::{Error, ModuleId, Process};
+use parts::{Fdes, Part, MOST_PARTS};
 use std::fmt;
+use std::ops::RangeInclusive;
 use std::path::{Path, PathBuf};
-
-/// The CIE pointer of an FDE whose own CIE pointer leads to no CIE. It leads to none either.
-const NOWHERE: u64 = 0xffff_fffe;
 
 /// The modules of a process, with the paths of their files.
 ///
-/// A module answers for the addresses of its file's executable segments, or, if the file has none,
-/// for those from the first to the last one that its sections cover.
+/// A file answers for the addresses of its executable segments, or, if it has none, for those from
+/// the first to the last one that its sections cover.
 #[derive(Debug)]
 pub struct Modules {
     process: Process,
@@ -39,12 +36,15 @@ pub enum Lost {
     /// This many FDEs aren't used, although an earlier section of the file covers only a part of their
     /// addresses.
     Fdes(usize),
+    /// This many FDEs aren't used, although an earlier section of the file covers only a part of their
+    /// addresses, or none: the sections take turns too often.
+    Turns(usize),
 }
 
 impl Lost {
     /// Whether nothing of the file is used.
     pub fn is_whole(&self) -> bool {
-        !matches!(self, Lost::Fdes(_))
+        !matches!(self, Lost::Fdes(_) | Lost::Turns(_))
     }
 }
 
@@ -59,9 +59,9 @@ impl Modules {
         &self.process
     }
 
-    /// Adds a file that is loaded at `load`. `sections` are its frame sections in the form that
-    /// `dwcheck` takes, each of which `dwcheck` has to accept. If several sections cover an address,
-    /// the first of them counts. Does nothing if there are no sections.
+    /// Adds a file that is loaded at `load`. `sections` are its frame sections, each of which the library has to
+    /// accept. If several sections cover an address, the first of them counts. Does nothing if there are
+    /// no sections.
     ///
     /// Returns what isn't used of the file, if there is such.
     ///
@@ -72,88 +72,96 @@ impl Modules {
         &mut self,
         path: &Path,
         program: &Program<'_>,
-        sections: &[Cow<'_, [u8]>],
+        sections: &[Frames<'_>],
         load: u64,
     ) -> Result<Option<Lost>, Error> {
-        let (first, further) = match sections.split_first() {
-            Some(split) => split,
+        let first = match sections.first() {
+            Some(first) => first,
             None => return Ok(None),
         };
         if program.target() != self.target {
             return Ok(Some(Lost::Target));
         }
-        let Joined { bytes, left_out } = join(first, further, self.target);
+        let mut fdes = Fdes::of(sections);
         let code = program.code(load);
-        let has_addresses = code.is_some() || covers_any(&bytes, self.target);
-        let mut module = Module::at(load).room(room(&bytes));
-        module.range = code;
-        match self.process.add(&bytes, module) {
-            Ok(id) => self.paths.push((id, path.to_path_buf())),
+        let has_addresses = code.is_some() || !fdes.is_empty();
+        let parts = fdes.parts();
+        let added = match parts.as_slice() {
+            [] => self.add_one(first, code, load).map(|id| vec![id]),
+            [part] => self.add_one(&sections[part.section], code, load).map(|id| vec![id]),
+            _ => self.add_parts(&parts, sections, code, load),
+        };
+        match added {
+            Ok(ids) => self.paths.extend(ids.into_iter().map(|id| (id, path.to_path_buf()))),
             Err(Error::Overlaps(other)) => return Ok(Some(Lost::Overlaps(self.path_of(other)))),
             Err(Error::Range) if has_addresses => return Ok(Some(Lost::PastTop)),
             Err(Error::Range) => return Ok(Some(Lost::NoAddress)),
             Err(other) => return Err(other),
         }
-        Ok(Some(Lost::Fdes(left_out)).filter(|_| left_out > 0))
+        Ok(match (fdes.covered_in_part, fdes.between) {
+            (0, 0) => None,
+            (in_part, 0) => Some(Lost::Fdes(in_part)),
+            (in_part, between) => Some(Lost::Turns(in_part + between)),
+        })
+    }
+
+    /// Adds a section as a module that answers for these addresses, as loaded.
+    fn add_one(
+        &mut self,
+        frames: &Frames<'_>,
+        range: Option<RangeInclusive<u64>>,
+        load: u64,
+    ) -> Result<ModuleId, Error> {
+        let mut module = frames.format().module(frames.bytes(), load);
+        module.range = range;
+        self.process.add(frames.bytes(), module)
+    }
+
+    /// Adds each part of a file as a module. Each answers for the addresses from its first one up to that of the
+    /// next part; the first one also for those of the file's code before it. If one can't be added, none is.
+    fn add_parts(
+        &mut self,
+        parts: &[Part],
+        sections: &[Frames<'_>],
+        code: Option<RangeInclusive<u64>>,
+        load: u64,
+    ) -> Result<Vec<ModuleId>, Error> {
+        let loaded = |address: u64| self.target.wrap(address.wrapping_add(load));
+        let (first, last) = match (&code, parts) {
+            (Some(code), _) => (*code.start(), *code.end()),
+            (None, [first, .., last]) => (loaded(first.addresses.start), loaded(last.addresses.end - 1)),
+            (None, _) => return Ok(Vec::new()),
+        };
+        if first > last {
+            return Err(Error::Range);
+        }
+        let starts: Vec<u64> = parts.iter().skip(1).map(|part| loaded(part.addresses.start).max(first)).collect();
+        let begins = std::iter::once(first).chain(starts.iter().copied());
+        let ends = starts.iter().map(|start| start.saturating_sub(1)).chain([last]);
+        let mut added = Vec::new();
+        for (part, (begin, end)) in parts.iter().zip(begins.zip(ends)) {
+            let only = part.only(sections).filter(|_| begin <= end.min(last));
+            let id = match only.map(|frames| self.add_one(&frames, Some(begin..=end.min(last)), load)) {
+                Some(id) => id,
+                None => continue,
+            };
+            match id {
+                Ok(id) => added.push(id),
+                Err(error) => {
+                    for id in added {
+                        self.process.remove(id);
+                    }
+                    return Err(error);
+                }
+            }
+        }
+        Ok(added)
     }
 
     fn path_of(&self, id: ModuleId) -> PathBuf {
         let found = self.paths.iter().find(|(other, _)| *other == id);
         found.map_or_else(PathBuf::new, |(_, path)| path.clone())
     }
-}
-
-/// The frame sections of a file as one section.
-struct Joined<'a> {
-    bytes: Cow<'a, [u8]>,
-    /// The number of FDEs that aren't in it, although an earlier section covers only a part of their
-    /// addresses.
-    left_out: usize,
-}
-
-/// The addresses from the first one up to, not including, the second one, that an FDE covers. `None`
-/// for a CIE, and for an FDE that covers no address.
-fn range(record: &Record) -> Option<(u64, u64)> {
-    match record.kind {
-        Kind::Fde { range: Some((begin, size)), .. } if size > 0 => Some((begin, begin.saturating_add(size))),
-        _ => None,
-    }
-}
-
-fn covers_any(section: &[u8], target: Target) -> bool {
-    records(section, target).iter().any(|record| range(record).is_some())
-}
-
-/// Appends further sections to the first one, without the FDEs that share addresses with an FDE of an
-/// earlier section. The CIE pointers of the others are changed to where their CIEs are then.
-fn join<'a>(first: &'a [u8], further: &[Cow<'_, [u8]>], target: Target) -> Joined<'a> {
-    let mut joined = Joined { bytes: Cow::Borrowed(first), left_out: 0 };
-    for section in further {
-        let mut covered = Covered::default();
-        records(&joined.bytes, target).iter().filter_map(range).for_each(|(begin, end)| covered.insert(begin, end));
-        let bytes = joined.bytes.to_mut();
-        let part = |from, to| section.get(from..to).unwrap_or(&[]);
-        let mut starts = HashMap::new();
-        for record in records(section, target) {
-            if let Some((begin, end)) = range(&record).filter(|(begin, end)| covered.meets(*begin, *end)) {
-                joined.left_out += usize::from(!covered.has_all(begin, end));
-                continue;
-            }
-            match record.kind {
-                Kind::Fde { cie, .. } => {
-                    let size = record.offset_size();
-                    bytes.extend_from_slice(part(record.offset, record.body));
-                    target.push(bytes, starts.get(&cie).copied().unwrap_or(NOWHERE), size);
-                    bytes.extend_from_slice(part(record.body + usize::from(size), record.end));
-                }
-                _ => {
-                    starts.insert(record.offset as u64, bytes.len() as u64);
-                    bytes.extend_from_slice(part(record.offset, record.end));
-                }
-            }
-        }
-    }
-    joined
 }
 
 impl fmt::Display for Lost {
@@ -164,6 +172,9 @@ impl fmt::Display for Lost {
             Lost::NoAddress => f.write_str("not used: its frame sections cover no address"),
             Lost::PastTop => f.write_str("not used: its addresses would pass the highest one"),
             Lost::Fdes(count) => write!(f, "{} FDEs aren't used: another section covers a part of them", count),
+            Lost::Turns(count) => {
+                write!(f, "{} FDEs aren't used: the sections take turns more than {} times", count, MOST_PARTS)
+            }
         }
     }
 }

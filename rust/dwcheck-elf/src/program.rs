@@ -2,7 +2,7 @@
 
 mod by_segment;
 
-use crate::bridge::EhFrame;
+use crate::frames::{Format, Name};
 use crate::functions::Functions;
 use crate::image::Image;
 use crate::layout::{is_loaded, Layout};
@@ -170,21 +170,19 @@ impl<'data> Program<'data> {
         }
     }
 
-    /// A section of this program, with the addresses that its pointers may be relative to, as
-    /// [`crate::bridge::bridge`] takes them.
-    pub fn eh_frame_of<'a>(&self, section: &'a Section<'_>) -> EhFrame<'a> {
+    /// What has to be known of a frame section of this program, besides its bytes, to read it.
+    pub fn format(&self, name: Name, section: &Section<'_>) -> Format {
         let address = |name| {
             let section = self.file.section_by_name(name)?;
             Some(self.layout.address(section.index()))
         };
-        EhFrame {
-            bytes: &section.bytes,
-            address: section.address,
+        Format {
+            name,
             target: self.target,
             machine: self.machine,
+            address: section.address,
             text: address(".text"),
             data: address(".got.plt").or_else(|| address(".got")),
-            unresolved: &section.unresolved,
         }
     }
 

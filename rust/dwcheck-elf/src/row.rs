@@ -1,5 +1,6 @@
 //! The rows of an unwind table, and how they are written.
 
+use std::borrow::Cow;
 use std::fmt;
 
 /// A row of an unwind table: the rules for a range of addresses.
@@ -16,7 +17,7 @@ pub struct Row<'a> {
 }
 
 /// How the canonical frame address is computed.
-#[derive(Clone, Copy, Debug, PartialEq, Eq)]
+#[derive(Clone, Debug, PartialEq, Eq)]
 pub enum Cfa<'a> {
     /// A register plus an offset.
     RegisterOffset {
@@ -26,11 +27,11 @@ pub enum Cfa<'a> {
         offset: i64,
     },
     /// The value of a DWARF expression.
-    Expression(&'a [u8]),
+    Expression(Cow<'a, [u8]>),
 }
 
 /// Where the caller's value of a register is (DWARF 5, section 6.4.1).
-#[derive(Clone, Copy, Debug, PartialEq, Eq)]
+#[derive(Clone, Debug, PartialEq, Eq)]
 pub enum Rule<'a> {
     /// Nowhere: the value can't be recovered.
     Undefined,
@@ -43,16 +44,16 @@ pub enum Rule<'a> {
     /// In another register.
     Register(u16),
     /// In memory, at the address that an expression gives.
-    Expression(&'a [u8]),
+    Expression(Cow<'a, [u8]>),
     /// The value isn't stored: it is what an expression gives.
-    ValExpression(&'a [u8]),
+    ValExpression(Cow<'a, [u8]>),
     /// The CIE's augmentation defines the rule.
     Architectural,
 }
 
 impl Default for Row<'_> {
     fn default() -> Self {
-        Row { begin: 0, end: 0, cfa: Cfa::Expression(&[]), rules: Vec::new() }
+        Row { begin: 0, end: 0, cfa: Cfa::Expression(Cow::Borrowed(&[])), rules: Vec::new() }
     }
 }
 

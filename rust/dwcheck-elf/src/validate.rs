@@ -1,22 +1,18 @@
-//! Compares a frame section of a file, the original, with the section that it was rewritten as.
+//! Compares the library's rows of a frame section with gimli's rows of the file's section.
 //!
-//! [`validate_rows`] compares gimli's rows of the original with `dwcheck`'s rows of the rewritten
-//! section. [`validate`] compares gimli's rows of both sections, which also works if `dwcheck`
-//! refuses the rewritten section. Both functions find the CIEs and FDEs of the original by their
-//! lengths alone, and those of the rewritten section by its bytes alone. So they notice every CIE
-//! or FDE that was lost, added or changed by mistake.
+//! gimli's CIEs and FDEs are found by their lengths alone, and so every record that was lost by mistake is
+//! noticed.
 
+mod comparable;
 mod dwcheck_rows;
 mod gimli_rows;
 
-use crate::bridge::{Bridged, EhFrame};
 use crate::bytes::Cursor;
 use crate::frames::Name;
 use crate::row::Row;
-use gimli::{CieOrFde, DebugFrame, UnwindSection};
-use gimli_rows::{compared_cies, BridgedSection, Original, OriginalEntry};
 use std::fmt;
 
+pub(crate) use comparable::comparable;
 pub use dwcheck_rows::{validate_rows, DwcheckRows};
 pub use gimli_rows::GimliRows;
 
@@ -29,53 +25,45 @@ pub struct Agreement {
     pub fdes: usize,
     /// Rows that are equal. Rows that cover no address aren't counted.
     pub rows: usize,
-    /// FDEs for which gimli gives equal rows of both sections, and then the same error.
-    pub refused: usize,
 }
 
-/// The first difference between a section and the section that it was rewritten as.
+/// The first difference between what gimli reads and what the library reads.
 #[derive(Clone, Debug, PartialEq, Eq)]
 pub struct Difference {
-    /// The name of the original section.
+    /// The name of the section.
     pub section: Name,
-    /// The offset in the original section of the CIE or FDE that differs. If the rewritten section
-    /// has one too many, the original section's length.
+    /// The offset in the section of the CIE or FDE that differs.
     pub record: u64,
     /// What differs.
     pub what: What,
 }
 
-/// What differs between a CIE or FDE of the original section and its counterpart, which is the CIE
-/// or FDE that it was rewritten as.
+/// What differs between a CIE or FDE as gimli reads it, and as the library does.
 #[derive(Clone, Debug, PartialEq, Eq)]
 pub enum What {
-    /// gimli can't read the CIE or FDE in the original section.
+    /// gimli can't read the CIE or FDE.
     Unreadable(String),
-    /// gimli can't read the counterpart in the rewritten section.
-    UnreadableBridged(String),
-    /// The rewritten section has no counterpart.
+    /// The library has no CIE or FDE there.
     Missing,
-    /// The rewritten section has a CIE or FDE that the original doesn't have.
-    Surplus,
-    /// One of the two is a CIE, and the other one is an FDE.
+    /// For one of the two it is a CIE, and for the other one an FDE.
     Kind,
-    /// The CIEs differ in an alignment factor or in the return address register.
+    /// The return address registers differ.
     Numbers,
     /// The FDEs cover different addresses.
     Range {
-        /// The first address and the number of bytes in the original section.
-        section: (u64, u64),
-        /// The first address and the number of bytes in the rewritten section.
-        bridged: (u64, u64),
+        /// The first address and the address after the last one, as gimli reads them.
+        gimli: (u64, u64),
+        /// The same, as the library reads them.
+        library: (u64, u64),
     },
     /// A row of the FDE differs.
     Row {
         /// The row's number in the FDE, counted from 0.
         number: usize,
-        /// The row in the original section, or that there are no more rows, or an error.
-        section: String,
-        /// The row in the rewritten section, or that there are no more rows, or an error.
-        bridged: String,
+        /// gimli's row, or that there are no more rows, or an error.
+        gimli: String,
+        /// The library's row, or that there are no more rows, or an error.
+        library: String,
     },
 }
 
@@ -90,23 +78,21 @@ pub trait RowSource<'a> {
     fn next_row(&mut self, row: &mut Row<'a>) -> Result<bool, String>;
 }
 
-/// Compares the rows of two sources one by one. Returns the number of equal rows, and whether both
-/// sources ended with the same error. If rows differ, the error has the first such pair. `rows` is
-/// a buffer for one row of each source.
+/// Compares the rows of two sources one by one. Returns the number of equal rows. If rows differ, or one of the
+/// sources can't be read, the error has the first such pair. `rows` is a buffer for one row of each source.
 pub fn compare_rows<'a, 'b>(
-    section: &mut impl RowSource<'a>,
-    bridged: &mut impl RowSource<'b>,
+    gimli: &mut impl RowSource<'a>,
+    library: &mut impl RowSource<'b>,
     rows: &mut (Row<'a>, Row<'b>),
-) -> Result<(usize, bool), What> {
+) -> Result<usize, What> {
     let (left, right) = rows;
     let mut number = 0;
     loop {
-        let (one, other) = (section.next_row(left), bridged.next_row(right));
+        let (one, other) = (gimli.next_row(left), library.next_row(right));
         match (&one, &other) {
             (Ok(true), Ok(true)) if same(left, right) => number += 1,
-            (Ok(false), Ok(false)) => return Ok((number, false)),
-            (Err(one), Err(other)) if one == other => return Ok((number, true)),
-            _ => return Err(What::Row { number, section: shown(&one, left), bridged: shown(&other, right) }),
+            (Ok(false), Ok(false)) => return Ok(number),
+            _ => return Err(What::Row { number, gimli: shown(&one, left), library: shown(&other, right) }),
         }
     }
 }
@@ -123,60 +109,12 @@ fn shown(outcome: &Result<bool, String>, row: &Row<'_>) -> String {
     }
 }
 
-/// Compares each CIE and FDE of `.eh_frame` with its counterpart in the rewritten section, as gimli
-/// reads both.
-///
-/// What was left out, as a copy or because it is refused, has no counterpart.
-pub fn validate(section: &EhFrame<'_>, bridged: &Bridged) -> Result<Agreement, Difference> {
-    let comparable = bridged.comparable(section.bytes);
-    let section = &EhFrame { bytes: &comparable, ..*section };
-    let mut original = Original::new(section);
-    let mut other = BridgedSection::new(section.target, bridged.bytes());
-    let frames: DebugFrame<_> = other.section;
-    let bases = gimli::BaseAddresses::default();
-    let mut entries = frames.entries(&bases);
-    let mut agreement = Agreement::default();
-    let mut cursor = Cursor::new(section.bytes, section.target);
-    while let Some(record) = next_record(&mut cursor) {
-        if bridged.is_copy(record as u64) || bridged.is_left_out(record as u64) {
-            continue;
-        }
-        let fail = |what| Difference { section: Name::EhFrame, record: record as u64, what };
-        let theirs = entries.next().map_err(|error| fail(What::UnreadableBridged(error.to_string())))?;
-        let theirs = theirs.ok_or_else(|| fail(What::Missing))?;
-        let ours = original.entry(record).map_err(|error| fail(What::Unreadable(error.to_string())))?;
-        match (ours, theirs) {
-            (OriginalEntry::Cie(cie), CieOrFde::Cie(counterpart)) => {
-                compared_cies(&cie, &counterpart).map_err(fail)?;
-                agreement.cies += 1;
-            }
-            (OriginalEntry::Fde(fde), CieOrFde::Fde(partial)) => {
-                let counterpart = partial
-                    .parse(DebugFrame::cie_from_offset)
-                    .map_err(|error| fail(What::UnreadableBridged(error.to_string())))?;
-                let (rows, refused) = original.compare(&fde, &mut other, &counterpart).map_err(fail)?;
-                agreement.fdes += 1;
-                agreement.rows += rows;
-                agreement.refused += usize::from(refused);
-            }
-            _ => return Err(fail(What::Kind)),
-        }
-    }
-    match entries.next() {
-        Ok(None) => Ok(agreement),
-        _ => Err(Difference { section: Name::EhFrame, record: section.bytes.len() as u64, what: What::Surplus }),
-    }
-}
-
 /// Moves past the next CIE or FDE, which is a record whose length isn't 0, and returns its offset.
 /// `None` if there is no further one, or if a length can't be read.
 fn next_record(cursor: &mut Cursor<'_>) -> Option<usize> {
     while !cursor.is_at_end() {
         let record = cursor.at();
-        let length = match cursor.number(4).ok()? {
-            0xffff_ffff => cursor.number(8).ok()?,
-            length => length,
-        };
+        let length = cursor.initial_length()?;
         cursor.take(length).ok()?;
         if length != 0 {
             return Some(record);
@@ -199,20 +137,16 @@ impl fmt::Display for What {
     fn fmt(&self, f: &mut fmt::Formatter<'_>) -> fmt::Result {
         match self {
             What::Unreadable(error) => write!(f, "not compared, because gimli can't read it: {}", error),
-            What::UnreadableBridged(error) => {
-                write!(f, "not compared, because gimli can't read the bridged record: {}", error)
-            }
             What::Missing => f.write_str("the record was lost"),
-            What::Surplus => f.write_str("there is a bridged record too many"),
             What::Kind => f.write_str("one record is a CIE, the other an FDE"),
-            What::Numbers => f.write_str("the numbers of the CIEs differ"),
-            What::Range { section, bridged } => write!(
+            What::Numbers => f.write_str("the return address registers differ"),
+            What::Range { gimli, library } => write!(
                 f,
-                "the ranges differ: {:#x} with {:#x} bytes, bridged {:#x} with {:#x} bytes",
-                section.0, section.1, bridged.0, bridged.1
+                "the ranges differ: gimli {:#x}..{:#x}, library {:#x}..{:#x}",
+                gimli.0, gimli.1, library.0, library.1
             ),
-            What::Row { number, section, bridged } => {
-                write!(f, "row {} differs: {}, bridged {}", number, section, bridged)
+            What::Row { number, gimli, library } => {
+                write!(f, "row {} differs: gimli {}, library {}", number, gimli, library)
             }
         }
     }
@@ -221,7 +155,7 @@ impl fmt::Display for What {
 impl Difference {
     /// Whether nothing is known to differ, but gimli can't read one of the records.
     pub fn is_unread(&self) -> bool {
-        matches!(self.what, What::Unreadable(_) | What::UnreadableBridged(_))
+        matches!(self.what, What::Unreadable(_))
     }
 }
 

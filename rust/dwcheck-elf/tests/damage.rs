@@ -4,14 +4,15 @@
 mod common;
 
 use common::{has, Folder, C, CXX};
-use dwcheck_elf::bridge::{bridge, Edge, EhFrame, Options};
+use dwcheck_elf::alone::{accepted_part, every_fault};
 use dwcheck_elf::core_file::{CoreFile, Files};
+use dwcheck_elf::frames::{FrameSection, Frames, Name, Options};
 use dwcheck_elf::inspect::{inspect, Check, Inspected, Verdict};
 use dwcheck_elf::profile::script::{self, ScriptOptions};
 use dwcheck_elf::profile::{self, folded, html, pprof, speedscope, top, Names, Places, Profile, Recording};
-use dwcheck_elf::program::Program;
+use dwcheck_elf::program::{Program, Section};
 use dwcheck_elf::stack::{Stacks, WalkOptions};
-use dwcheck_elf::validate::{validate, What};
+use dwcheck_elf::validate::{validate_rows, What};
 use std::io::Cursor;
 use std::path::Path;
 
@@ -44,26 +45,24 @@ impl Numbers {
     }
 }
 
-/// Rewrites a section, and compares gimli's rows of both sections. Returns false if a part of the section
-/// can't be rewritten. The only allowed difference is a CIE or FDE that gimli can't read because of
-/// its augmentation data, which the rewritten section doesn't have.
-fn frames(section: &EhFrame<'_>) -> bool {
-    let bridged = bridge(section, Options::default()).unwrap();
-    for error in bridged.refused() {
-        assert!(error.record <= error.field && error.field <= section.bytes.len() as u64, "{}", error);
-    }
-    let end = bridged.bytes().len() as u64;
-    for offset in (0..end + 4).step_by(7).chain([end, end + 1, u64::MAX]) {
-        for edge in [Edge::Begin, Edge::End] {
-            let place = bridged.place(offset, edge);
-            assert!(place.map_or(true, |place| place.record <= place.offset));
+/// Reads a section, without what the library refuses, and compares gimli's rows with the library's. Returns false if
+/// a part of the section is refused. The only allowed difference is a CIE or FDE that gimli can't read.
+fn frames(program: &Program<'_>, source: Section<'_>) -> bool {
+    let section = FrameSection { format: program.format(Name::EhFrame, &source), source };
+    let frames = Frames::of(section, Options::default()).unwrap();
+    let fault = frames.process(0).err().map(|error| error.fault().unwrap());
+    let rest = match fault {
+        Some(fault) => {
+            assert!(fault.offset as usize <= frames.bytes().len() && frames.record_of(&fault).is_some(), "{}", fault);
+            accepted_part(&frames, &every_fault(&frames, fault))
         }
-    }
-    match validate(section, &bridged) {
-        Ok(agreement) => assert_eq!(agreement.fdes, bridged.counts().fdes),
+        None => frames,
+    };
+    match validate_rows(&rest, &rest.process(0).unwrap()) {
+        Ok(agreement) => assert_eq!(agreement.fdes, rest.used().filter(|one| one.addresses().is_some()).count()),
         Err(difference) => assert!(matches!(difference.what, What::Unreadable(_)), "{}", difference),
     }
-    bridged.refused().is_empty()
+    fault.is_none()
 }
 
 /// Reads everything that a program has.
@@ -80,7 +79,7 @@ fn program(bytes: &[u8]) {
     }
     let _ = (functions.parse("main+4"), program.debug_frame(), program.debug_loclists());
     if let Ok(Some(section)) = program.eh_frame() {
-        frames(&program.eh_frame_of(&section));
+        frames(&program, section);
     }
     inspect(&program, Check { all: true, ..Check::default() }).iter().for_each(told);
 }
@@ -91,7 +90,7 @@ fn told(section: &Inspected<'_>) {
         let end = frames.source().bytes.len() as u64;
         assert!(!defects.is_empty());
         assert!(defects.iter().all(|defect| defect.offset <= end && !defect.to_string().is_empty()), "{:?}", defects);
-        let rest = section.rest().map(|rest| rest.map(|rest| rest.frames.bridged().left_out().len()));
+        let rest = section.rest().map(|rest| rest.map(|rest| rest.left_out().count));
         assert!(matches!(rest, Ok(Some(left_out)) if left_out > 0) || rest.is_err(), "{:?}", rest);
     }
 }
@@ -175,15 +174,15 @@ fn sections() {
     let program = Program::read(&bytes).unwrap();
     let whole = program.eh_frame().unwrap().unwrap();
     let mut numbers = Numbers(0x1234_5678_9abc_def1);
-    let mut bridged = 0;
+    let mut accepted = 0;
     for _ in 0..4000 {
         let mut section = whole.clone();
         let bytes = section.bytes.to_mut();
         let end = bytes.len();
         numbers.damage(bytes, 0, end);
-        bridged += usize::from(frames(&program.eh_frame_of(&section)));
+        accepted += usize::from(frames(&program, section));
     }
-    assert!((1000..4000).contains(&bridged), "{}", bridged);
+    assert!((1000..4000).contains(&accepted), "{}", accepted);
 }
 
 #[test]

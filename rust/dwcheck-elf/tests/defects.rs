@@ -1,185 +1,94 @@
-//! Rewrites sections with defects. Some defects are repaired, some are left for `dwcheck` to
-//! refuse, and some make rewriting impossible.
+//! Sections with defects: what is changed in place so that the library accepts the rest, and what is left out.
 
 mod common;
 
 use common::{place_of, Folder};
-use dwcheck_elf::bridge::{bridge, BridgeError, Bridged, Edge, EhFrame, Options, Reason, RecordKind};
-use dwcheck_elf::frames::Frames;
-use dwcheck_elf::program::Program;
+use dwcheck::FaultKind;
+use dwcheck_elf::alone::{accepted_part, every_fault};
+use dwcheck_elf::frames::{Format, FrameSection, Frames, Kind, Name, Options, Record, Standing};
+use dwcheck_elf::program::{Program, Section};
 use dwcheck_elf::target::{AddressSize, Order, Target};
-use dwcheck_elf::validate::{validate, validate_rows, Agreement, What};
-
-/// Links a function with these directives between its instructions. Returns the bytes of
-/// `.eh_frame`.
-fn function(folder: &Folder, directives: &str) -> Vec<u8> {
-    let text = format!(
-        ".globl _start\n_start: .cfi_startproc\n nop\n{}\n nop\n .cfi_endproc\n\
-         after: .cfi_startproc\n nop\n .cfi_endproc\n",
-        directives
-    );
-    folder.write("a.s", text);
-    folder.run("as a.s -o a.o && ld a.o -o linked");
-    folder.section("linked", ".eh_frame")
-}
-
-fn bridged(folder: &Folder, options: Options) -> (Bridged, Agreement) {
-    let bytes = folder.bytes("linked");
-    let program = Program::read(&bytes).unwrap();
-    let section = program.eh_frame().unwrap().unwrap();
-    let section = program.eh_frame_of(&section);
-    let bridged = bridge(&section, options).unwrap();
-    let agreement = validate(&section, &bridged).unwrap();
-    (bridged, agreement)
-}
-
-/// gimli refuses the instruction in the original and in the rewritten section. The instruction's
-/// offset in the rewritten section is traced back to its offset in the original.
-#[test]
-fn def_cfa_register_after_an_expression() {
-    let folder = Folder::new("expression");
-    let source = function(&folder, ".cfi_escape 0x0f, 2, 0x77, 99\n nop\n.cfi_def_cfa_register 6");
-    let (bridged, agreement) = bridged(&folder, Options::default());
-    assert_eq!((agreement.fdes, agreement.refused), (2, 1));
-    assert!(bridged.mended().is_empty());
-    let defect = [0x77, 99, 0x41, 0x0d, 6];
-    let (there, here) = (place_of(&source, &defect) + 3, place_of(bridged.bytes(), &defect) + 3);
-    let place = bridged.place(here as u64, Edge::End).unwrap();
-    assert_eq!(place.offset, there as u64);
-    let begin = common::hex(folder.run("nm linked | grep -w _start").split(' ').next().unwrap());
-    assert_eq!(place.kind, RecordKind::Fde { begin, size: 3, signal: false });
-}
-
-/// `dwcheck` reports Unrestored at the end of an FDE, where the next CIE or FDE begins. `Edge` says
-/// which of the two is meant.
-#[test]
-fn remember_without_restore() {
-    let folder = Folder::new("remember");
-    function(&folder, ".cfi_remember_state");
-    let (bridged, agreement) = bridged(&folder, Options::default());
-    assert_eq!((agreement.fdes, agreement.refused), (2, 0));
-    let shown = folder.run("readelf --debug-dump=frames linked | grep FDE");
-    let offsets: Vec<_> = shown.lines().map(|line| common::hex(line.split(' ').next().unwrap())).collect();
-    let next = bridged.records()[2].bridged;
-    let ended = bridged.place(next, Edge::End).unwrap();
-    assert_eq!((ended.record, ended.offset), (offsets[0], offsets[1]));
-    let begun = bridged.place(next, Edge::Begin).unwrap();
-    assert_eq!((begun.record, begun.offset), (offsets[1], offsets[1]));
-}
-
-/// An instruction that isn't known or is cut off is copied, with everything that follows it.
-#[test]
-fn instructions_that_are_wrong() {
-    for (directive, bytes) in [
-        (".cfi_escape 0x1c, 0x2e, 0x10", &[0x1c, 0x2e, 0x10][..]),
-        (".cfi_escape 0x3f, 0x2e, 0x10", &[0x3f, 0x2e, 0x10]),
-        (".cfi_escape 0x0f, 0x7f, 0x2e, 0x10", &[0x0f, 0x7f, 0x2e, 0x10]),
-        (".cfi_escape 0x10, 0x06, 0xff, 0xff, 0x7f, 0x2e", &[0x10, 6, 0xff, 0xff, 0x7f, 0x2e]),
-    ] {
-        let folder = Folder::new("wrong");
-        let source = function(&folder, directive);
-        let (bridged, agreement) = bridged(&folder, Options::default());
-        assert_eq!((agreement.refused, bridged.counts().args_sizes), (1, 0), "{}", directive);
-        let (there, here) = (place_of(&source, bytes), place_of(bridged.bytes(), bytes));
-        assert_eq!(bridged.place(here as u64, Edge::End).unwrap().offset, there as u64);
-    }
-}
-
-/// Offsets after an instruction that was dropped are traced back to the right offsets in the
-/// original section.
-#[test]
-fn args_size_is_dropped() {
-    let folder = Folder::new("args");
-    let source = function(&folder, ".cfi_escape 0x2e, 0x90, 0x01, 0x0e, 77\n nop\n .cfi_escape 0x0e, 78, 0x2e, 0");
-    let (bridged, agreement) = bridged(&folder, Options::default());
-    assert_eq!((bridged.counts().args_sizes, agreement.rows), (2, 4));
-    for instruction in [[0x0e, 77], [0x0e, 78]] {
-        let (there, here) = (place_of(&source, &instruction), place_of(bridged.bytes(), &instruction));
-        assert_eq!(bridged.place(here as u64, Edge::End).unwrap().offset, there as u64);
-        assert_eq!(bridged.place(here as u64 + 1, Edge::Begin).unwrap().offset, there as u64 + 1);
-    }
-    assert!(!bridged.bytes().contains(&0x2e));
-}
+use dwcheck_elf::validate::{validate_rows, What};
 
 const TARGET: Target = Target { order: Order::Little, address_size: AddressSize::Eight };
 
-fn section(bytes: &[u8]) -> EhFrame<'_> {
-    EhFrame { bytes, address: 0x1000, target: TARGET, machine: 62, text: None, data: None, unresolved: &[] }
+/// A section at address 0x1000.
+fn section(name: Name, bytes: &[u8]) -> FrameSection<'_> {
+    let format = Format { name, target: TARGET, machine: 62, address: 0x1000, text: None, data: None };
+    FrameSection { format, source: Section { bytes: bytes.into(), address: 0x1000, unresolved: Vec::new() } }
 }
 
-/// A CIE of version 1 with this augmentation string, which includes its NUL. `instructions` may
+fn eh_frame(bytes: &[u8]) -> Frames<'_> {
+    Frames::of(section(Name::EhFrame, bytes), Options::default()).unwrap()
+}
+
+fn debug_frame(bytes: &[u8]) -> Frames<'_> {
+    Frames::of(section(Name::DebugFrame, bytes), Options::default()).unwrap()
+}
+
+/// A CIE of `.eh_frame` of version 1 with this augmentation string, which includes its NUL. `instructions` may
 /// begin with augmentation data.
 fn cie(augmentation: &[u8], instructions: &[u8]) -> Vec<u8> {
     let body = [&[0, 0, 0, 0, 1], augmentation, &[1, 0x78, 16], instructions].concat();
     [&(body.len() as u32).to_le_bytes(), body.as_slice()].concat()
 }
 
-/// An FDE at offset `at`, whose CIE is at offset 0. `rest` follows the CIE pointer.
+/// An FDE of `.eh_frame` at offset `at`, whose CIE is at offset 0. `rest` follows the CIE pointer.
 fn fde(at: usize, rest: &[u8]) -> Vec<u8> {
     let length = rest.len() as u32 + 4;
     [&length.to_le_bytes(), &(at as u32 + 4).to_le_bytes(), rest].concat()
 }
 
-fn refused(bytes: &[u8]) -> BridgeError {
-    bridge(&section(bytes), Options::default()).unwrap().refused()[0].clone()
+/// An FDE of `.debug_frame`, whose CIE is at offset 0, for the eight addresses from `begin` on.
+fn debug_fde(begin: u64, program: &[u8]) -> Vec<u8> {
+    let body = [&[0; 4][..], &begin.to_le_bytes(), &8u64.to_le_bytes(), program].concat();
+    [&(body.len() as u32).to_le_bytes(), body.as_slice()].concat()
 }
 
-fn error(record: u64, field: u64, reason: Reason) -> BridgeError {
-    BridgeError { record, field, reason }
+/// A CIE of `.debug_frame`. Its CFA is register 7 plus 8.
+const DEBUG_CIE: [u8; 16] = [12, 0, 0, 0, 0xff, 0xff, 0xff, 0xff, 1, 0, 1, 0x78, 16, 0x0c, 7, 8];
+
+fn range(begin: u64, size: u64) -> Vec<u8> {
+    [begin.to_le_bytes(), size.to_le_bytes()].concat()
+}
+
+/// The CFA's offset in the row of an address, in the section without what is refused, and the number of records
+/// that are left out.
+fn rest(frames: &Frames<'_>, address: u64) -> (Option<i64>, usize) {
+    let first = frames.process(0).unwrap_err().fault().unwrap();
+    let rest = accepted_part(frames, &every_fault(frames, first));
+    let process = rest.process(0).unwrap();
+    validate_rows(&rest, &process).unwrap();
+    let offset = process.row(address).map(|row| match row.cfa {
+        dwcheck::CfaRule::RegisterAndOffset { offset, .. } => offset,
+        other => panic!("{:?}", other),
+    });
+    (offset, rest.count(Standing::LeftOut))
 }
 
 /// For some machines GNU as begins CIEs with def_cfa_register, where the CFA has no rule yet.
 #[test]
 fn def_cfa_register_without_a_rule() {
-    let cie = cie(b"\0", &[0x0d, 7]);
-    let program =
-        [&0x2000u64.to_le_bytes()[..], &8u64.to_le_bytes(), &[0x41, 0x0e, 16, 0x0d, 6, 0x41, 0x0d, 7]].concat();
+    let cie = cie(b"\0", &[0x0d, 7, 0, 0]);
+    let program = [&range(0x2000, 8)[..], &[0x41, 0x0e, 16, 0x0d, 6, 0x41, 0x0d, 7]].concat();
     let bytes = [cie.clone(), fde(cie.len(), &program)].concat();
-    let mended = bridge(&section(&bytes), Options::default()).unwrap();
-    assert_eq!(mended.mended(), [cie.len() as u64 - 2]);
-    assert!(mended.bytes()[..cie.len() + 1].ends_with(&[0x0c, 7, 0]));
-    assert_eq!(validate(&section(&bytes), &mended).unwrap().rows, 3);
-    let strict = bridge(&section(&bytes), Options { strict: true }).unwrap();
-    assert!(strict.mended().is_empty());
-    assert!(strict.bytes()[..cie.len()].ends_with(&[0x0d, 7]));
-    assert_eq!(validate(&section(&bytes), &strict).unwrap().rows, 3);
+    let mended = eh_frame(&bytes);
+    assert_eq!(mended.changes().mended, [cie.len() as u64 - 4]);
+    assert!(mended.bytes()[..cie.len()].ends_with(&[0x0c, 7, 0, 0]));
+    assert_eq!(validate_rows(&mended, &mended.process(0).unwrap()).unwrap().rows, 3);
+    let strict = Frames::of(section(Name::EhFrame, &bytes), Options { strict: true }).unwrap();
+    let fault = strict.process(0).unwrap_err().fault().unwrap();
+    assert_eq!((fault.kind, fault.offset as usize), (FaultKind::CfaNotRegister, cie.len() - 4));
+    assert!(!strict.is_changed());
 }
 
+/// Without a `DW_CFA_nop` after it there is no room for an offset.
 #[test]
-fn set_loc() {
-    let cie = cie(b"zR\0", &[]);
-    // The augmentation data come after the return address register. They are one byte, for the
-    // encoding pcrel and sdata4.
-    let mut cie = [cie, vec![1, 0x1b, 0x0c, 7, 8]].concat();
-    cie[0] += 5;
-    let at = cie.len();
-    let relative = |offset: usize, address: i32| (address - 0x1000 - offset as i32).to_le_bytes();
-    let bytes =
-        [&relative(at + 8, 0x2000)[..], &8i32.to_le_bytes(), &[0, 0x01], &relative(at + 18, 0x2004), &[0x0e, 16]];
-    let bytes = [cie.clone(), fde(at, &bytes.concat())].concat();
-    let bridged = bridge(&section(&bytes), Options::default()).unwrap();
-    assert_eq!(bridged.counts().set_locs, 1);
-    assert!(bridged.bytes().ends_with(&[&[0x01][..], &0x2004u64.to_le_bytes(), &[0x0e, 16]].concat()));
-    assert_eq!(validate(&section(&bytes), &bridged).unwrap().rows, 2);
-    let operand = bridged.bytes().len() as u64 - 10;
-    assert_eq!(bridged.place(operand, Edge::End).unwrap().offset, at as u64 + 18);
-    assert_eq!(bridged.place(operand + 8, Edge::End).unwrap().offset, at as u64 + 22);
-}
-
-/// A pointer to a personality routine with the aligned encoding. gimli doesn't read that encoding.
-#[test]
-fn aligned_personality() {
-    // The encoding is at offset 17. The pointer begins at 24, after six bytes of padding.
-    let data = [&[16, 0x50][..], &[0xee; 6], &0x1234u64.to_le_bytes(), &[0x1b, 0x0c, 7, 8]].concat();
-    let cie = cie(b"zPR\0", &data);
-    let at = cie.len();
-    let relative = (0x2000 - 0x1000 - (at as i32 + 8)).to_le_bytes();
-    let bytes = [cie, fde(at, &[&relative[..], &8i32.to_le_bytes(), &[0, 0x41, 0x0e, 16]].concat())].concat();
-    let bridged = bridge(&section(&bytes), Options::default()).unwrap();
-    assert_eq!(bridged.records()[1].kind, RecordKind::Fde { begin: 0x2000, size: 8, signal: false });
-    assert_eq!(bridged.counts().personalities, 1);
-    let difference = validate(&section(&bytes), &bridged).unwrap_err();
-    assert!(matches!(difference.what, What::Unreadable(_)));
+fn def_cfa_register_at_the_end_of_a_cie() {
+    let cie = cie(b"\0", &[0x0d, 7]);
+    let frames = eh_frame(&cie);
+    assert_eq!(frames.process(0).unwrap_err().fault().unwrap().kind, FaultKind::CfaNotRegister);
+    assert!(!frames.is_changed());
 }
 
 /// Records of length 0 in the middle of a section, and records in the 64-bit format.
@@ -188,103 +97,146 @@ fn end_marks_and_long_records() {
     let cie = cie(b"\0", &[0x0c, 7, 8]);
     let length = cie.len() as u64 - 4;
     let long = [&[0xff; 4][..], &length.to_le_bytes(), &cie[4..]].concat();
-    let program = [&0x2000u64.to_le_bytes()[..], &8u64.to_le_bytes(), &[0x41, 0x0e, 16]].concat();
+    let program = [&range(0x2000, 8)[..], &[0x41, 0x0e, 16]].concat();
     let at = long.len() + 8;
     let pointer = at as u32 + 12;
     let body = [&pointer.to_le_bytes(), program.as_slice()].concat();
     let long_fde = [&[0xff; 4][..], &(body.len() as u64).to_le_bytes(), &body].concat();
     let bytes = [long.as_slice(), &[0; 8], &long_fde, &[0; 4]].concat();
-    let bridged = bridge(&section(&bytes), Options::default()).unwrap();
-    assert_eq!((bridged.counts().terminators, bridged.counts().fdes), (3, 1));
-    let agreement = validate(&section(&bytes), &bridged).unwrap();
+    let frames = eh_frame(&bytes);
+    assert_eq!(frames.records().iter().filter(|record| record.kind == Kind::Empty).count(), 3);
+    let agreement = validate_rows(&frames, &frames.process(0).unwrap()).unwrap();
     assert_eq!((agreement.cies, agreement.fdes, agreement.rows), (1, 1, 2));
-    assert_eq!(bridged.records()[1].source, at as u64);
-    assert_eq!(bridged.place(bridged.bytes().len() as u64 - 2, Edge::End).unwrap().offset, at as u64 + 33);
+    assert_eq!(frames.record(at as u64).and_then(Record::addresses), Some(0x2000..0x2008));
+    assert!(!frames.is_changed());
 }
 
+/// Each of these records can't be read. It is left out, and the FDE before it and the one after it are used.
 #[test]
-fn records_that_cannot_be_bridged() {
+fn records_that_cannot_be_read() {
     let good = cie(b"\0", &[0x0c, 7, 8]);
-    let at = good.len();
-    let end = at as u64;
-    let with = |record: Vec<u8>| [good.clone(), record].concat();
-    let ranges = |begin: u64, size: u64| [begin.to_le_bytes(), size.to_le_bytes()].concat();
-    assert_eq!(refused(&good[..3]), error(0, 0, Reason::Truncated));
-    assert_eq!(refused(&good[..at - 1]), error(0, 4, Reason::Truncated));
-    assert_eq!(refused(&with(vec![0; 3])), error(end, end, Reason::Truncated));
-    assert_eq!(refused(&with(vec![0xf0, 0xff, 0xff, 0xff])), error(end, end, Reason::ReservedLength));
-    assert_eq!(refused(&with(fde(at + 4, &ranges(0, 0)))), error(end, end + 4, Reason::NoSuchCie));
-    assert_eq!(refused(&with(fde(at - 4, &ranges(0, 0)))), error(end, end + 4, Reason::NoSuchCie));
-    assert_eq!(refused(&with(fde(at, &[0; 7]))), error(end, end + 8, Reason::Truncated));
-    assert_eq!(refused(&with(fde(at, &[0; 15]))), error(end, end + 16, Reason::Truncated));
-    let mut version = good.clone();
-    version[8] = 4;
-    assert_eq!(refused(&version), error(0, 8, Reason::Version(4)));
-    assert_eq!(refused(&cie(b"eh\0", &[])), error(0, 15, Reason::Augmentation("eh".into())));
-    assert_eq!(refused(&cie(b"zX\0", &[1, 0])), error(0, 15, Reason::Augmentation("zX".into())));
-    assert_eq!(refused(&cie(b"zR\0", &[9, 0])), error(0, 15, Reason::Truncated));
-    for (encoding, reason) in [
-        (0xff, Reason::Encoding(0xff)),
-        (0x9b, Reason::Encoding(0x9b)),
-        (0x1d, Reason::Encoding(0x1d)),
-        (0x6b, Reason::Encoding(0x6b)),
-        (0x2b, Reason::NoBase(0x2b)),
-        (0x3b, Reason::NoBase(0x3b)),
-        (0x4b, Reason::NoBase(0x4b)),
-    ] {
-        let cie = cie(b"zR\0", &[1, encoding]);
-        let at = cie.len();
-        let bytes = [cie, fde(at, &ranges(0, 0))].concat();
-        assert_eq!(refused(&bytes), error(at as u64, at as u64 + 8, reason));
+    let first = fde(good.len(), &range(0x2000, 8));
+    let at = good.len() + first.len();
+    let mut version = cie(b"\0", &[0x0c, 7, 8]);
+    version[8] = 2;
+    let cases = [
+        (FaultKind::NoSuchCie, 4, fde(at + 4, &range(0x3000, 8))),
+        (FaultKind::Truncated, 8, fde(at, &[0; 7])),
+        (FaultKind::Truncated, 16, fde(at, &[0; 15])),
+        (FaultKind::RangePastTop, 16, fde(at, &range(u64::MAX, 8))),
+        (FaultKind::Version, 8, version),
+        (FaultKind::Augmentation, 9, cie(b"zX\0", &[1, 0])),
+        (FaultKind::Truncated, 4, vec![1, 0, 0, 0, 9]),
+    ];
+    for (kind, place, record) in cases {
+        let last = fde(at + record.len(), &range(0x4000, 8));
+        let bytes = [good.clone(), first.clone(), record.clone(), last].concat();
+        let frames = eh_frame(&bytes);
+        let fault = frames.process(0).unwrap_err().fault().unwrap();
+        assert_eq!((fault.kind, fault.offset as usize), (kind, at + place), "{:x?}", record);
+        assert_eq!(frames.record_of(&fault).map(|record| record.offset), Some(at as u64));
+        // Five bytes are neither a CIE nor records of length 0, so the section ends before them.
+        let (offset, left_out) = if record.len() == 5 { (None, 2) } else { (Some(8), 1) };
+        assert_eq!(rest(&frames, 0x4000), (offset, left_out), "{:x?}", record);
+        assert_eq!(rest(&frames, 0x2000).0, Some(8), "{:x?}", record);
     }
-    let signed = cie(b"zR\0", &[1, 0x0b]);
-    let at = signed.len();
-    let bytes = [signed, fde(at, &[0, 0x20, 0, 0, 0xff, 0xff, 0xff, 0xff, 0])].concat();
-    assert_eq!(refused(&bytes), error(at as u64, at as u64 + 12, Reason::NegativeRange));
 }
 
-/// The comparison notices a changed range, a changed row, a changed field of a CIE, a CIE or FDE
-/// that is missing, and one too many.
+/// What isn't a record ends a section.
 #[test]
-fn changes_are_seen() {
-    let folder = Folder::new("changes");
-    folder.write("a.c", common::C);
-    folder.run("gcc -O2 a.c -o linked");
-    let bytes = folder.bytes("linked");
-    let program = Program::read(&bytes).unwrap();
-    let eh_frame = program.eh_frame().unwrap().unwrap();
-    let first = bridge(&program.eh_frame_of(&eh_frame), Options::default()).unwrap();
-    let fdes = first.records().iter().filter(|record| record.kind != RecordKind::Cie).count();
-    let mut changed = eh_frame.clone();
-    let record = first.records().iter().rfind(|record| record.kind != RecordKind::Cie).unwrap();
-    changed.bytes.to_mut()[record.source as usize + 12] ^= 1;
-    let difference = validate(&program.eh_frame_of(&changed), &first).unwrap_err();
-    assert_eq!(difference.record, record.source);
-    assert!(matches!(difference.what, What::Range { .. }), "{}", difference);
-    let mut changed = eh_frame.clone();
-    let offset_instruction = place_of(&changed.bytes, &[0x0e, 16, 0x46, 0x0e, 24]);
-    changed.bytes.to_mut()[offset_instruction + 4] = 32;
-    let difference = validate(&program.eh_frame_of(&changed), &first).unwrap_err();
-    assert!(matches!(difference.what, What::Row { number: 1, .. }), "{}", difference);
-    let mut changed = eh_frame.clone();
-    changed.bytes.to_mut()[13] = 0x79;
-    let difference = validate(&program.eh_frame_of(&changed), &first).unwrap_err();
-    assert_eq!((difference.record, difference.what), (0, What::Numbers));
-    let last = record.source as usize;
-    let mut short = eh_frame.clone();
-    short.bytes.to_mut().truncate(last);
-    let difference = validate(&program.eh_frame_of(&short), &first).unwrap_err();
-    assert_eq!((difference.record, difference.what), (last as u64, What::Surplus));
-    let lost = bridge(&program.eh_frame_of(&short), Options::default()).unwrap();
-    let difference = validate(&program.eh_frame_of(&eh_frame), &lost).unwrap_err();
-    assert_eq!((difference.record, difference.what), (last as u64, What::Missing));
-    assert_eq!(lost.counts().fdes, fdes - 1);
+fn bytes_that_are_no_record() {
+    let good = cie(b"\0", &[0x0c, 7, 8]);
+    let first = fde(good.len(), &range(0x2000, 8));
+    let at = good.len() + first.len();
+    for (kind, place, tail) in [
+        (FaultKind::Truncated, 0, vec![0; 3]),
+        (FaultKind::ReservedLength, 0, vec![0xf0, 0xff, 0xff, 0xff, 0, 0, 0, 0]),
+        (FaultKind::Truncated, 4, [&[40, 0, 0, 0][..], &[0x99; 30]].concat()),
+    ] {
+        let bytes = [good.clone(), first.clone(), tail].concat();
+        let frames = eh_frame(&bytes);
+        let fault = frames.process(0).unwrap_err().fault().unwrap();
+        assert_eq!((fault.kind, fault.offset as usize), (kind, at + place));
+        assert_eq!(frames.record_of(&fault).map(|record| record.offset), Some(at as u64));
+        assert_eq!(rest(&frames, 0x2000), (Some(8), 1));
+    }
 }
 
-/// If the process was made from other bytes than those of the rewritten section, its rows differ
-/// from gimli's. The difference shows both rows.
+/// An FDE whose CIE can't be read has no fault of its own, and is left out too.
 #[test]
-fn a_wrong_row_of_dwcheck_is_a_difference() {
+fn a_lost_cie_takes_its_fdes_with_it() {
+    let lost = cie(b"zX\0", &[1, 0]);
+    let good = cie(b"\0", &[0x0c, 7, 8]);
+    let of_lost = fde(lost.len(), &range(0x2000, 8));
+    let at = lost.len() + of_lost.len();
+    let mut of_good = fde(good.len(), &range(0x3000, 8));
+    of_good[4] = good.len() as u8 + 4;
+    let bytes = [lost, of_lost, good, of_good].concat();
+    let frames = eh_frame(&bytes);
+    let first = frames.process(0).unwrap_err().fault().unwrap();
+    let faults = every_fault(&frames, first);
+    assert_eq!(faults.iter().map(|found| found.record).collect::<Vec<_>>(), [0]);
+    assert_eq!(rest(&frames, 0x3000), (Some(8), 2));
+    assert!(at > 0);
+}
+
+/// A record of `.debug_frame` that is too short for a CIE becomes a part of the record before it.
+#[test]
+fn short_records_of_debug_frame() {
+    let (first, last) = (debug_fde(0x2000, &[0x0e, 16]), debug_fde(0x3000, &[0x0e, 24]));
+    for short in [vec![0; 4], vec![0; 8], vec![0xff, 0xff, 0xff, 0xff, 0, 0, 0, 0, 0, 0, 0, 0]] {
+        let bytes = [&DEBUG_CIE[..], &first, &short, &last].concat();
+        let frames = debug_frame(&bytes);
+        let process = frames.process(0).unwrap();
+        assert_eq!(validate_rows(&frames, &process).unwrap().fdes, 2, "{:x?}", short);
+        assert_eq!(frames.bytes().len(), bytes.len());
+    }
+    // One that can't be read: it has no room for a CIE pointer.
+    let bytes = [&DEBUG_CIE[..], &first, &[2, 0, 0, 0, 7, 7], &last].concat();
+    assert_eq!(rest(&debug_frame(&bytes), 0x3000), (Some(24), 1));
+}
+
+/// An instruction whose operand is cut off doesn't get it from a record of length 0 that follows.
+#[test]
+fn an_operand_is_not_taken_from_the_next_record() {
+    let (first, last) = (debug_fde(0x2000, &[0x0e]), debug_fde(0x3000, &[0x0e, 24]));
+    let bytes = [&DEBUG_CIE[..], &first, &[0; 4], &last].concat();
+    let frames = debug_frame(&bytes);
+    let fault = frames.process(0).unwrap_err().fault().unwrap();
+    assert_eq!((fault.kind, fault.offset as usize), (FaultKind::Truncated, DEBUG_CIE.len() + first.len()));
+    assert_eq!(frames.record_of(&fault).map(|record| record.offset), Some(DEBUG_CIE.len() as u64));
+    assert_eq!(rest(&frames, 0x3000), (Some(24), 1));
+    assert_eq!(rest(&frames, 0x2000).0, None);
+}
+
+/// A fault at the end of an FDE has the offset at which the FDE ends in the file.
+#[test]
+fn a_fault_at_the_end_of_an_fde_before_a_record_of_length_0() {
+    let folder = Folder::new("end-of-fde");
+    let fde = ".long 22\n .long 0\n .quad _start\n .quad 4\n .byte 0x0a, 0\n";
+    let cie = ".long 12\n .long -1\n .byte 1, 0, 1, 0x78, 16, 0x0c, 7, 8\n";
+    folder.write("a.s", format!(".globl _start\n_start: .skip 4\n.section .debug_frame\n{}{}.long 0\n", cie, fde));
+    folder.run("as a.s -o a.o && ld a.o -o linked");
+    let ran = common::run::dwcheck_elf(&folder, "check linked");
+    assert!(ran.lines()[0].starts_with("linked: .debug_frame+0x10: Unrestored: the end of the program, FDE "));
+    assert!(ran.lines()[1].starts_with("    at 0x2a: "), "{}", ran.out);
+}
+
+/// Links a function with these directives between its instructions.
+fn function(folder: &Folder, directives: &str) {
+    let text = format!(
+        ".globl _start\n_start: .cfi_startproc\n nop\n{}\n nop\n .cfi_endproc\n\
+         after: .cfi_startproc\n nop\n .cfi_endproc\n",
+        directives
+    );
+    folder.write("a.s", text);
+    folder.run("as a.s -o a.o && ld a.o -o linked");
+}
+
+/// If the process was made from other bytes than those of the section, its rows differ from gimli's. The
+/// difference shows both rows.
+#[test]
+fn a_wrong_row_of_the_library_is_a_difference() {
     let folder = Folder::new("difference");
     function(&folder, ".cfi_def_cfa_offset 16");
     let bytes = folder.bytes("linked");
@@ -296,11 +248,11 @@ fn a_wrong_row_of_dwcheck_is_a_difference() {
     let place = place_of(&changed, &[0x0e, 16]);
     changed[place + 1] = 24;
     let mut process = dwcheck::Process::new(frames.target().into());
-    process.add(&changed, dwcheck::Module::at(0)).unwrap();
+    process.add(&changed, frames.format().module(&changed, 0)).unwrap();
     let difference = validate_rows(&frames, &process).unwrap_err();
     match &difference.what {
-        What::Row { number: 1, section, bridged } => {
-            assert!(section.contains("cfa=r7+16") && bridged.contains("cfa=r7+24"), "{}", difference)
+        What::Row { number: 1, gimli, library } => {
+            assert!(gimli.contains("cfa=r7+16") && library.contains("cfa=r7+24"), "{}", difference)
         }
         other => panic!("{:?}", other),
     }

@@ -5,8 +5,7 @@ mod common;
 
 use common::run::dwcheck_elf;
 use common::{has, Folder};
-use dwcheck_elf::bridge::Options;
-use dwcheck_elf::frames::{Frames, Name};
+use dwcheck_elf::frames::{Frames, Name, Options};
 use dwcheck_elf::program::Program;
 
 /// Two units with the same inline function. The linker keeps one of the two functions, and both FDEs.
@@ -85,17 +84,18 @@ fn signed_return_addresses() {
         let ran = dwcheck_elf(&folder, "check --notes linked");
         assert_eq!((ran.status, ran.error.as_str()), (0, ""), "{}", ran.out);
         assert!(ran.out.starts_with(&format!("linked: {}: accepted\ncies 1 fdes 1 rows 6 ", sections)), "{}", ran.out);
-        assert!(ran.out.contains(": 3 DW_CFA_AARCH64_negate_ra_state dropped"), "{}", ran.out);
+        let is_dropped = ran.out.contains(": 3 DW_CFA_AARCH64_negate_ra_state dropped");
+        assert_eq!(is_dropped, name == Name::DebugFrame, "{}", ran.out);
         let bytes = folder.bytes("linked");
         let program = Program::read(&bytes).unwrap();
         let frames = Frames::all(&program, Options::default()).next().unwrap().unwrap();
         assert_eq!(frames.name(), name);
-        assert_eq!(frames.bridged().signed(), [0x1004..0x100c, 0x1010..0x1014]);
+        assert_eq!(frames.signed(), [0x1004..0x100c, 0x1010..0x1014]);
     }
 }
 
-/// `DW_CFA_GNU_args_size` says nothing about registers. In both sections it is dropped, and the rows are
-/// those that readelf shows.
+/// `DW_CFA_GNU_args_size` says nothing about registers. The library reads it in `.eh_frame`, and in `.debug_frame`
+/// it is dropped. The rows are those that readelf shows.
 #[test]
 fn sizes_of_arguments() {
     let folder = Folder::new("args-size");
@@ -106,7 +106,8 @@ fn sizes_of_arguments() {
         let ran = dwcheck_elf(&folder, "check --notes linked");
         assert_eq!((ran.status, ran.error.as_str()), (0, ""), "{}", ran.out);
         assert!(ran.out.starts_with(&format!("linked: {}: accepted\ncies 1 fdes 1 rows 3 ", section)), "{}", ran.out);
-        assert!(ran.out.contains(": 1 DW_CFA_GNU_args_size dropped"), "{}", ran.out);
+        let is_dropped = ran.out.contains(": 1 DW_CFA_GNU_args_size dropped");
+        assert_eq!(is_dropped, section == ".debug_frame", "{}", ran.out);
     }
 }
 

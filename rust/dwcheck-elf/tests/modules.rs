@@ -95,3 +95,35 @@ fn objects_as_modules() {
     assert_eq!((ran.status, ran.out.as_str()), (0, "none\n"));
     assert_eq!(ran.error, "dwcheck-elf: empty.o: not used: its frame sections cover no address\n");
 }
+
+/// Links a program with this many functions of four bytes. Every other one has its FDE in `.debug_frame`, the
+/// others in `.eh_frame`.
+fn taking_turns(folder: &Folder, count: usize) {
+    let function = |number: usize| match number % 2 {
+        0 => format!("f{}: .skip 4\n", number),
+        _ => format!("f{}: .cfi_startproc\n .skip 4\n .cfi_endproc\n", number),
+    };
+    let fdes: String = (0..count).step_by(2).map(|number| fde(&format!("f{}", number), 4)).collect();
+    let code: String = (0..count).map(function).collect();
+    folder.write("a.s", format!(".globl f0\n{}.section .debug_frame\n{}{}", code, CIE, fdes));
+    folder.run("as a.s -o a.o && ld -e f0 a.o -o turns");
+    folder.write("state", format!("sp 7\nreg 7 0x7f00\nmem 0x7f00 {}\n", "00".repeat(64)));
+}
+
+/// The sections of a file may take turns up to 64 times. If they do so more often, the first one counts from its first
+/// to its last address.
+#[test]
+fn sections_that_take_turns() {
+    let folder = Folder::new("turns");
+    taking_turns(&folder, 64);
+    for number in [0, 1, 30, 31, 63] {
+        let offset = if number % 2 == 0 { 32 } else { 8 };
+        assert_eq!(cfa(&folder, &format!("turns f{}", number)), Some(offset), "{}", number);
+    }
+    taking_turns(&folder, 80);
+    let ran = dwcheck_elf(&folder, "unwind turns f40 state");
+    assert!(ran.out.starts_with("cfa value 0x0000000000007f20\n"), "{}", ran.out);
+    assert_eq!(ran.error, "dwcheck-elf: turns: 39 FDEs aren't used: the sections take turns more than 64 times\n");
+    assert_eq!(dwcheck_elf(&folder, "unwind turns f41 state").out, "none\n");
+    assert!(dwcheck_elf(&folder, "unwind turns f79 state").out.starts_with("cfa value 0x0000000000007f08\n"));
+}

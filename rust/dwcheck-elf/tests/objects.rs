@@ -3,10 +3,11 @@
 
 mod common;
 
+use common::run::dwcheck_elf;
 use common::{has, hex, Folder, C, CXX, MACHINES};
-use dwcheck_elf::bridge::{bridge, BridgeError, Options, Reason, RecordKind};
+use dwcheck_elf::frames::{Frames, Options, Record};
 use dwcheck_elf::program::{Program, ProgramError, Section};
-use dwcheck_elf::validate::validate;
+use dwcheck_elf::validate::validate_rows;
 use std::collections::HashMap;
 
 /// What readelf shows for the relocations of the FDEs' initial locations, in the order of the FDEs:
@@ -72,16 +73,11 @@ fn functions_of_frames(folder: &Folder, file: &str, section: &str, ranges: &[(u6
 fn ranges_of_eh_frame(folder: &Folder, file: &str) -> Vec<(u64, u64)> {
     let bytes = folder.bytes(file);
     let program = Program::read(&bytes).unwrap();
-    let section = program.eh_frame().unwrap().unwrap();
-    let section = program.eh_frame_of(&section);
-    let bridged = bridge(&section, Options::default()).unwrap();
-    let agreement = validate(&section, &bridged).unwrap();
-    assert_eq!((agreement.fdes, agreement.refused), (bridged.counts().fdes, 0));
-    let range = |kind: RecordKind| match kind {
-        RecordKind::Cie => None,
-        RecordKind::Fde { begin, size, .. } => Some((begin, size)),
-    };
-    bridged.records().iter().filter_map(|record| range(record.kind)).collect()
+    let frames = Frames::all(&program, Options::default()).last().unwrap().unwrap();
+    let agreement = validate_rows(&frames, &frames.process(0).unwrap()).unwrap();
+    let addresses: Vec<_> = frames.used().filter_map(Record::addresses).collect();
+    assert_eq!(agreement.fdes, addresses.len());
+    addresses.into_iter().map(|range| (range.start, range.end - range.start)).collect()
 }
 
 #[test]
@@ -212,8 +208,13 @@ fde_end:
     let section = program.eh_frame().unwrap().unwrap();
     let record = folder.section("a.o", ".eh_frame").len() as u64 - 17;
     assert_eq!(section.unresolved, [record + 8]);
-    let bridged = bridge(&program.eh_frame_of(&section), Options::default()).unwrap();
-    assert_eq!(bridged.refused(), [BridgeError { record, field: record + 8, reason: Reason::Unresolved }]);
+    let frames = Frames::all(&program, Options::default()).next().unwrap().unwrap();
+    assert_eq!(frames.unresolved(), [record]);
+    let ran = dwcheck_elf(&folder, "check a.o");
+    let expected = format!("a.o: .eh_frame+{:#x}: Unresolved: a field, record {0:#x}", record);
+    assert_eq!((ran.status, ran.lines()[0]), (1, expected.as_str()));
+    assert!(ran.lines()[1].starts_with(&format!("    at {:#x}: ", record + 8)), "{}", ran.out);
+    assert_eq!(ran.lines()[2], "a.o: .eh_frame: 1 of 2 records left out");
 }
 
 /// An empty section with the same name is ignored. Two sections with bytes are refused.

@@ -1,13 +1,10 @@
 //! Compares the frames of a core file's threads with those that gdb finds. This library reads the
-//! modules, registers and memory. From these, the program `dwcheck` finds the frames.
-//!
-//! This needs the path of a built `dwcheck` in the environment variable DWCHECK. If it isn't set,
-//! the tests are skipped.
+//! modules, registers and memory. From these, the command `backtrace` finds the frames.
 
 mod common;
 
+use common::run::dwcheck_elf;
 use common::{has, hex, skipped, Folder};
-use dwcheck_elf::bridge::{bridge, Options};
 use dwcheck_elf::core_file::{CoreFile, Files, Memory, Module, Thread};
 use dwcheck_elf::program::Program;
 use std::collections::HashMap;
@@ -52,14 +49,12 @@ for thread in gdb.selected_inferior().threads():
 end
 ";
 
-/// Writes the rewritten `.eh_frame` of a module to a file. Returns the module as `LOAD=FILE`, as
-/// `dwcheck` takes it. `None` if the module has no such section.
+/// Writes the file of a module to the folder. Returns the module as `LOAD=FILE`. `None` if it has no `.eh_frame`.
 fn module_word(folder: &Folder, number: usize, module: &Module<'_>) -> Option<String> {
     let program = Program::read(module.image.bytes()).ok()?;
-    let section = program.eh_frame().unwrap()?;
-    let bridged = bridge(&program.eh_frame_of(&section), Options::default()).unwrap();
-    let name = format!("{}.frame", number);
-    folder.write(&name, bridged.bytes());
+    program.eh_frame().unwrap()?;
+    let name = format!("{}.module", number);
+    folder.write(&name, module.image.bytes());
     Some(format!("{:#x}={}", module.bias, name))
 }
 
@@ -95,18 +90,9 @@ fn frames_by_gdb(folder: &Folder, program: &str) -> HashMap<u32, Vec<u64>> {
     threads.collect()
 }
 
-/// The path of the built `dwcheck`. `None` if DWCHECK isn't set, or if gdb isn't installed.
-fn dwcheck() -> Option<String> {
-    let dwcheck = std::env::var("DWCHECK").ok().filter(|_| has("gdb"));
-    if dwcheck.is_none() {
-        skipped("DWCHECK names no built dwcheck");
-    }
-    dwcheck
-}
-
 /// Compares the frames of all threads in the file `core`, which is a core file of `program`, with
 /// gdb's. Returns the number of modules with an `.eh_frame`.
-fn compare_walks(folder: &Folder, dwcheck: &str, program: &str) -> usize {
+fn compare_walks(folder: &Folder, program: &str) -> usize {
     let bytes = folder.bytes("core");
     let core = CoreFile::read(&bytes).unwrap();
     let files = Files::read(&core, Path::new("/"));
@@ -119,9 +105,9 @@ fn compare_walks(folder: &Folder, dwcheck: &str, program: &str) -> usize {
         let (load, first) = words[0].split_once('=').unwrap();
         let others: String = words[1..].iter().map(|word| format!(" --module {}", word)).collect();
         let start = thread.register(core.abi().program_counter).unwrap();
-        let line = format!("{} backtrace --load {}{} {} {:#x} state 1000", dwcheck, load, others, first, start);
-        let walk = folder.run(&line);
-        let frames = walk.lines().filter(|line| line.starts_with("frame ") && !line.ends_with(" none"));
+        let line = format!("backtrace --load {}{} {} {:#x} state 1000", load, others, first, start);
+        let walk = dwcheck_elf(folder, &line).out;
+        let frames = walk.lines().filter(|line| line.starts_with("frame ") && line.contains(" cfa "));
         let frames: Vec<_> = frames.map(|line| hex(line.split(' ').nth(2).unwrap())).collect();
         assert_eq!(frames, expected[&thread.id], "{}", walk);
         eprintln!("thread {}: {} frames", thread.id, frames.len());
@@ -132,14 +118,15 @@ fn compare_walks(folder: &Folder, dwcheck: &str, program: &str) -> usize {
 
 #[test]
 fn frames_of_a_c_program() {
-    if let Some(dwcheck) = dwcheck() {
-        let folder = Folder::new("walk-c");
-        folder.write("crash.c", CRASH);
-        folder.run("gcc -O1 -g crash.c -o crash -lpthread");
-        folder.make_core("./crash");
-        let modules = compare_walks(&folder, &dwcheck, "crash");
-        assert_eq!(modules, 4, "the program, the C library, the loader, the vDSO");
+    let folder = Folder::new("walk-c");
+    if !has("gdb") {
+        return;
     }
+    folder.write("crash.c", CRASH);
+    folder.run("gcc -O1 -g crash.c -o crash -lpthread");
+    folder.make_core("./crash");
+    let modules = compare_walks(&folder, "crash");
+    assert_eq!(modules, 4, "the program, the C library, the loader, the vDSO");
 }
 
 /// A larger program: the system's Python, with one thread that waits deep in calls, and one that
@@ -161,10 +148,11 @@ fn frames_of_python() {
     if !python.is_file() {
         return skipped("/usr/bin/python3 isn't installed");
     }
-    if let Some(dwcheck) = dwcheck() {
-        let folder = Folder::new("walk-python");
-        folder.write("crash.py", PYTHON);
-        folder.make_core("/usr/bin/python3 crash.py");
-        assert!(compare_walks(&folder, &dwcheck, "/usr/bin/python3") > 10);
+    let folder = Folder::new("walk-python");
+    if !has("gdb") {
+        return;
     }
+    folder.write("crash.py", PYTHON);
+    folder.make_core("/usr/bin/python3 crash.py");
+    assert!(compare_walks(&folder, "/usr/bin/python3") > 10);
 }

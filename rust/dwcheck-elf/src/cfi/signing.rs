@@ -5,13 +5,39 @@
 //! the return address is signed from the instruction's location on. A `DW_CFA_restore_state` gives
 //! back what a `DW_CFA_remember_state` remembered.
 
-use super::{ADVANCE_LOC1, ADVANCE_LOC2, ADVANCE_LOC4, NEGATE_RA_STATE, REMEMBER_STATE, RESTORE_STATE, SET_LOC};
+use super::{
+    instructions, ADVANCE_LOC1, ADVANCE_LOC2, ADVANCE_LOC4, NEGATE_RA_STATE, NEGATE_RA_STATE_WITH_PC, REMEMBER_STATE,
+    RESTORE_STATE, SET_LOC,
+};
+use crate::frames::{Kind, Record};
 use crate::target::Target;
+use std::collections::HashMap;
 use std::ops::Range;
+
+/// The ranges of addresses at which the return address is signed, for all FDEs of a section of aarch64, in
+/// the order of the FDEs. This takes time in proportion to the section's length.
+pub(crate) fn signed(section: &[u8], records: &[Record], target: Target) -> Vec<Range<u64>> {
+    let initial = |record: &Record| match record.kind {
+        Kind::Cie { code_alignment_factor: factor, .. } => {
+            let signing = Signing::new(0, factor, false).followed(section, record, target);
+            Some((record.offset, (factor, signing.is_signed())))
+        }
+        _ => None,
+    };
+    let cies: HashMap<u64, (u64, bool)> = records.iter().filter_map(initial).collect();
+    let of_fde = |record: &Record| match record.kind {
+        Kind::Fde { cie, begin, end, .. } => {
+            let (factor, is_signed) = *cies.get(&cie)?;
+            Some(Signing::new(begin, factor, is_signed).followed(section, record, target).ranges(end))
+        }
+        _ => None,
+    };
+    records.iter().filter_map(of_fde).flatten().collect()
+}
 
 /// Follows the instructions of an FDE to find the addresses at which the return address is signed.
 #[derive(Clone, Debug)]
-pub(crate) struct Signing {
+struct Signing {
     location: u64,
     /// The code alignment factor, by which the operands of advances are multiplied.
     factor: u64,
@@ -23,19 +49,19 @@ pub(crate) struct Signing {
 
 impl Signing {
     /// The state before the first instruction of a CIE or an FDE, whose location is `begin`.
-    pub fn new(begin: u64, factor: u64, is_signed: bool) -> Self {
+    fn new(begin: u64, factor: u64, is_signed: bool) -> Self {
         let since = if is_signed { Some(begin) } else { None };
         Signing { location: begin, factor, since, remembered: Vec::new(), ranges: Vec::new() }
     }
 
     /// Whether the return address is signed after the instructions so far.
-    pub fn is_signed(&self) -> bool {
+    fn is_signed(&self) -> bool {
         self.since.is_some()
     }
 
     /// Follows an instruction. `rest` begins with its operands; an address in them has the target's
     /// address size.
-    pub fn step(&mut self, code: u8, rest: &[u8], target: Target) {
+    fn step(&mut self, code: u8, rest: &[u8], target: Target) {
         let number = |size: u8| target.number(rest.get(..usize::from(size)).unwrap_or(&[]));
         match code {
             0x40..=0x7f => self.advance(u64::from(code & 0x3f)),
@@ -48,9 +74,17 @@ impl Signing {
                 let is_signed = self.remembered.pop().unwrap_or_else(|| self.is_signed());
                 self.set(is_signed);
             }
-            NEGATE_RA_STATE => self.set(!self.is_signed()),
+            NEGATE_RA_STATE | NEGATE_RA_STATE_WITH_PC => self.set(!self.is_signed()),
             _ => {}
         }
+    }
+
+    /// Follows the instructions of a CIE or an FDE.
+    fn followed(mut self, section: &[u8], record: &Record, target: Target) -> Self {
+        for one in instructions(section, record.program(), target) {
+            self.step(one.code, section.get(one.offset + 1..).unwrap_or(&[]), target);
+        }
+        self
     }
 
     fn advance(&mut self, count: u64) {
@@ -69,7 +103,7 @@ impl Signing {
     }
 
     /// The ranges of addresses, up to the FDE's end, at which the return address is signed.
-    pub fn ranges(mut self, end: u64) -> impl Iterator<Item = Range<u64>> {
+    fn ranges(mut self, end: u64) -> impl Iterator<Item = Range<u64>> {
         self.location = end;
         self.set(false);
         self.ranges.into_iter().filter(|range| range.start < range.end)

@@ -92,10 +92,11 @@ impl Table {
                 Some(piece) => piece,
                 None => continue,
             };
-            let module = dwcheck::Module::at(0).range(piece.range.start..=piece.range.end - 1);
-            let added = section
-                .one(piece.fde)
-                .and_then(|one| add_fde(&mut self.process, &one, &module, address).map_err(|error| error.to_string()));
+            let range = piece.range.start..=piece.range.end - 1;
+            let added = section.one(piece.fde).map_err(str::to_string).and_then(|one| {
+                let module = one.format.module(&one.bytes, 0).range(range);
+                add_fde(&mut self.process, &one, &module, address).map_err(|error| error.to_string())
+            });
             match added {
                 Ok(()) => return true,
                 Err(why) if self.seen.insert((place, piece.fde)) => problems.push(section.problem(piece.fde, &why)),

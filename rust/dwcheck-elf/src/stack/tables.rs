@@ -3,7 +3,6 @@
 
 use super::section::{OneFde, SectionTable};
 use crate::core_file::{Image, Module};
-use crate::frames::room;
 use crate::program::Program;
 use crate::target::Target;
 use dwcheck::{Caller, Error, Fault, FaultKind, Process, State};
@@ -195,9 +194,11 @@ impl<'a> Tables<'a> {
         let after = piece.range.end - wanted.linked;
         let begin = wanted.address.saturating_sub(before).max(wanted.code.range.start);
         let end = wanted.address.saturating_add(after).min(wanted.code.range.end);
-        let loaded = dwcheck::Module::at(module.bias).cookie(self.compiled.len() as u64).range(begin..=end - 1);
-        let one = table.one(piece.fde);
-        let added = one.map(|one| (add(&mut self.process, &one, &loaded, wanted.address), one));
+        let cookie = self.compiled.len() as u64;
+        let added = table.one(piece.fde).map(|one| {
+            let loaded = one.format.module(&one.bytes, module.bias).cookie(cookie).range(begin..=end - 1);
+            (add(&mut self.process, &one, &loaded, wanted.address), one)
+        });
         let reason = match added {
             Ok((Ok(()), one)) => {
                 let move_by =
@@ -208,11 +209,11 @@ impl<'a> Tables<'a> {
                 self.compiled.push(Compiled { begin, is_signal_frame, is_signal_return: one.is_signal_frame, signed });
                 return Ok(true);
             }
-            Ok((Err(Error::Refused(fault)), _)) => fault.name().to_string(),
+            Ok((Err(Error::Refused(fault)), _)) => fault.name(),
             Ok((Err(error), _)) => return Err(error),
             Err(reason) => reason,
         };
-        self.problems.push((module.path.clone(), table.problem(piece.fde, &reason)));
+        self.problems.push((module.path.clone(), table.problem(piece.fde, reason)));
         self.refused.insert((wanted.file, section, piece.fde));
         Ok(false)
     }
@@ -243,7 +244,6 @@ fn read<'a>(module: &Module<'a>) -> (FileTables<'a>, Vec<String>) {
 /// these, for `address` alone. A remember_state that is left over at the end of the FDE changes no
 /// row, so the rows of such an FDE are used too.
 pub(crate) fn add(process: &mut Process, one: &OneFde, loaded: &dwcheck::Module, address: u64) -> Result<(), Error> {
-    let loaded = loaded.clone().room(room(&one.bytes));
     let mut add = |bytes: &[u8]| match process.add(bytes, loaded.clone()) {
         Err(Error::Overlaps(_)) => process.add(bytes, loaded.clone().range(address..=address)),
         added => added,

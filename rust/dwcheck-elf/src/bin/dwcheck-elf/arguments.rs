@@ -1,7 +1,7 @@
 //! The arguments of the command line.
 
 use clap::{Args, Parser, Subcommand, ValueEnum};
-use dwcheck_elf::bridge::Options;
+use dwcheck_elf::frames::Options;
 use dwcheck_elf::inspect::Check;
 use std::ffi::OsString;
 use std::path::PathBuf;
@@ -89,21 +89,21 @@ pub struct Reading {
 }
 
 impl Reading {
-    /// The options for rewriting `.eh_frame`.
+    /// The options for reading `.eh_frame`.
     pub fn options(self) -> Options {
         Options { strict: self.strict }
     }
 
     /// The options for a check. If `all`, the check reports every fault, not only the first.
     pub fn check(self, all: bool) -> Check {
-        Check { bridge: self.options(), all }
+        Check { options: self.options(), all }
     }
 }
 
 /// What to print in addition to the result.
 #[derive(Args, Clone, Copy, Debug)]
 pub struct Notes {
-    /// List what was dropped or changed when .eh_frame was rewritten
+    /// List what frame sections have that isn't a rule, and what was read in another way
     #[arg(long)]
     pub notes: bool,
 }

@@ -3,11 +3,10 @@
 use crate::arguments::CheckWords;
 use crate::end::{shown, Done, Failure};
 use crate::opened::{note, program, read, write_defect};
-use dwcheck::{CheckedExpression, DebugFrame, DebugLoclists, ExpressionKind, Report};
-use dwcheck_elf::bridge::{Bridged, Counts};
+use dwcheck::{CheckedExpression, Report};
 use dwcheck_elf::debug_files::DebugFiles;
-use dwcheck_elf::frames::{Frames, Name};
-use dwcheck_elf::inspect::{inspect_frame_sections, inspect_lists_of_file, source_offset, Check, Inspected, Verdict};
+use dwcheck_elf::frames::{Frames, Measured, Name, Notes};
+use dwcheck_elf::inspect::{inspect_frame_sections, inspect_lists_of_file, Check, Inspected, Verdict};
 use dwcheck_elf::lists::{self, Bytes as ListBytes};
 use dwcheck_elf::mapped::Bytes;
 use dwcheck_elf::program::Program;
@@ -78,7 +77,7 @@ fn check_one(words: &CheckWords, path: &Path, out: &mut impl Write) -> Result<Do
             }
         }
         if let Some(frames) = section.frames.as_ref().filter(|_| words.notes.notes) {
-            write_notes(out, section.name, frames.bridged())?;
+            write_notes(out, frames)?;
         }
     }
     Ok(done)
@@ -177,14 +176,12 @@ fn write_rest(out: &mut impl Write, path: &Path, section: &Inspected<'_>) -> io:
 
 fn write_frames(out: &mut impl Write, agreement: &Agreement, frames: &Frames<'_>) -> io::Result<()> {
     let Agreement { cies, fdes, rows, .. } = agreement;
-    // Accepted sections are refused again only if memory runs out.
-    let report = dwcheck::report(DebugFrame(frames.bytes()), DebugLoclists(&[]), frames.target().into())
-        .map_err(|_| io::ErrorKind::OutOfMemory)?;
-    writeln!(out, "cies {} fdes {} rows {} expressions {}", cies, fdes, rows, report.expressions.len())?;
-    for CheckedExpression { offset, kind, operations, depth, .. } in report.expressions {
-        let kind = if kind == Some(ExpressionKind::FrameCfa) { "cfa" } else { "register" };
-        let offset = Offset(source_offset(frames, offset));
-        writeln!(out, "expr {} {} {} ops {} depth {}", frames.name(), offset, kind, operations, depth)?;
+    // Accepted expressions are refused again only if memory runs out.
+    let expressions = frames.measured().map_err(|_| io::ErrorKind::OutOfMemory)?;
+    writeln!(out, "cies {} fdes {} rows {} expressions {}", cies, fdes, rows, expressions.len())?;
+    for Measured { offset, is_cfa, operations, depth } in expressions {
+        let kind = if is_cfa { "cfa" } else { "register" };
+        writeln!(out, "expr {} {} {} ops {} depth {}", frames.name(), Offset(offset), kind, operations, depth)?;
     }
     Ok(())
 }
@@ -198,31 +195,19 @@ fn write_lists(out: &mut impl Write, report: &Report) -> io::Result<()> {
     Ok(())
 }
 
-/// Writes what was dropped or changed when a section was rewritten, with a line for each kind of
-/// change.
-pub fn write_notes(out: &mut impl Write, name: Name, bridged: &Bridged) -> io::Result<()> {
-    let Counts { terminators, augmentations, personalities, data_areas, signal_frames, .. } = *bridged.counts();
-    let Counts { args_sizes, set_locs, copies, .. } = *bridged.counts();
-    let notes = [
-        (augmentations, "augmentations of CIEs dropped"),
-        (personalities, "CIEs had a personality routine"),
-        (data_areas, "CIEs had language-specific data in their FDEs"),
-        (signal_frames, "FDEs are of signal frames, whose caller was interrupted and didn't call"),
-        (args_sizes, "DW_CFA_GNU_args_size dropped"),
-        (
-            bridged.negated().len(),
-            "DW_CFA_AARCH64_negate_ra_state dropped, which says where return addresses are signed",
-        ),
-        (set_locs, "DW_CFA_set_loc decoded"),
-        (terminators, "records of length 0 left out"),
-        (copies, "FDEs left out that are exact copies of an earlier one"),
-        (
-            bridged.mended().len(),
-            "DW_CFA_def_cfa_register before a rule for the CFA, read as DW_CFA_def_cfa with offset 0",
-        ),
+/// Writes what a section has that isn't a rule, and what was read in another way, with a line for each kind.
+pub fn write_notes(out: &mut impl Write, frames: &Frames<'_>) -> io::Result<()> {
+    let notes = Notes::of(frames);
+    let lines = [
+        (notes.signal_frames, "FDEs are of signal frames, whose caller was interrupted and didn't call"),
+        (notes.args_sizes, "DW_CFA_GNU_args_size dropped"),
+        (notes.negated, "DW_CFA_AARCH64_negate_ra_state dropped, which says where return addresses are signed"),
+        (notes.empty_records, "records of length 0 left out"),
+        (notes.copies, "FDEs left out that are exact copies of an earlier one"),
+        (notes.mended, "DW_CFA_def_cfa_register before a rule for the CFA, read as DW_CFA_def_cfa with offset 0"),
     ];
-    notes
+    lines
         .iter()
         .filter(|(count, _)| *count > 0)
-        .try_for_each(|(count, what)| writeln!(out, "note {}: {} {}", name, count, what))
+        .try_for_each(|(count, what)| writeln!(out, "note {}: {} {}", frames.name(), count, what))
 }

@@ -5,14 +5,11 @@ use crate::check::write_notes;
 use crate::end::{Done, Failure};
 use crate::opened::{address, named, number_argument, process, program, read, write_defect, Opened};
 use dwcheck::Process;
-use dwcheck_elf::debug_frame::{records, Kind, Record};
-use dwcheck_elf::frames::Frames;
+use dwcheck_elf::frames::{Frames, Kind};
 use dwcheck_elf::functions::Functions;
-use dwcheck_elf::inspect::source_offset;
 use dwcheck_elf::row::Row;
 use dwcheck_elf::text::{Address, Offset, RowLine};
 use dwcheck_elf::validate::{DwcheckRows, RowSource};
-use std::collections::HashMap;
 use std::io::Write;
 
 /// Shows all FDEs and rows of a program, but those of FDEs that are refused, whose faults are shown on
@@ -27,7 +24,7 @@ pub fn rows(words: &RowsWords, out: &mut impl Write) -> Result<Done, Failure> {
         writeln!(out, "section {}", frames.name())?;
         write_section(out, frames, &process, &functions)?;
         if words.notes.notes {
-            write_notes(out, frames.name(), frames.bridged())?;
+            write_notes(out, frames)?;
         }
     }
     out.flush()?;
@@ -41,26 +38,20 @@ fn write_section(
     process: &Process,
     functions: &Functions<'_>,
 ) -> Result<(), Failure> {
-    let records = records(frames.bytes(), frames.target());
-    let returns: HashMap<u64, u64> = records
-        .iter()
-        .filter_map(|record| match record.kind {
-            Kind::Cie { return_register } => Some((record.offset as u64, return_register?)),
-            _ => None,
-        })
-        .collect();
-    for record in &records {
-        if let Record { kind: Kind::Fde { cie, range: Some((begin, size)) }, .. } = *record {
-            let target = frames.target();
-            let end = begin.saturating_add(size);
-            let offset = Offset(source_offset(frames, record.offset as u64));
-            let cie_offset = Offset(source_offset(frames, cie));
-            let (first, last) = (Address(target, begin), Address(target, end));
-            let register = returns.get(&cie).copied().unwrap_or(0);
-            let name = named(functions, begin);
-            writeln!(out, "fde {} cie {} {}..{} ra r{}{}", offset, cie_offset, first, last, register, name)?;
-            write_rows(out, frames, DwcheckRows::whole(process, frames.bytes(), begin, end))?;
-        }
+    let target = frames.target();
+    for record in frames.used() {
+        let (cie, begin, end) = match record.kind {
+            Kind::Fde { cie, begin, end, .. } => (cie, begin, end),
+            _ => continue,
+        };
+        let register = match frames.record(cie).map(|cie| cie.kind) {
+            Some(Kind::Cie { return_register, .. }) => return_register,
+            _ => 0,
+        };
+        let (offset, cie) = (Offset(record.offset), Offset(cie));
+        let (first, last) = (Address(target, begin), Address(target, end));
+        writeln!(out, "fde {} cie {} {}..{} ra r{}{}", offset, cie, first, last, register, named(functions, begin))?;
+        write_rows(out, frames, DwcheckRows::whole(process, begin, end))?;
     }
     Ok(())
 }
@@ -89,7 +80,7 @@ pub fn row(words: &RowWords, out: &mut impl Write) -> Result<Done, Failure> {
         if process.row(linked).is_some() {
             let mut row = Row::default();
             let end = linked.saturating_add(1);
-            let found = DwcheckRows::whole(&process, frames.bytes(), linked, end).next_row(&mut row);
+            let found = DwcheckRows::whole(&process, linked, end).next_row(&mut row);
             found.map_err(Failure::File)?;
             writeln!(out, "section {}", frames.name())?;
             writeln!(out, "{}{}", RowLine(target, &row), named(&functions, linked))?;

@@ -7,9 +7,8 @@ mod totals;
 use crate::arguments::SurveyWords;
 use crate::end::{shown, Done, Failure};
 use crate::opened::{note, write_defect};
-use dwcheck_elf::bridge::Counts;
 use dwcheck_elf::fault::Defect;
-use dwcheck_elf::frames::Name;
+use dwcheck_elf::frames::{Name, Notes};
 use dwcheck_elf::inspect::{inspect, inspect_frame_sections, Check, Inspected, Verdict};
 use dwcheck_elf::lists;
 use dwcheck_elf::program::Program;
@@ -45,12 +44,9 @@ pub struct Section {
     defects: Vec<Defect>,
     /// Why the section can't be read or checked.
     error: Option<String>,
-    counts: Counts,
+    notes: Notes,
     /// What location lists have that were found by `.debug_info`.
     lists: Option<lists::Contents>,
-    mended: usize,
-    /// The instructions `DW_CFA_AARCH64_negate_ra_state` that were dropped.
-    negated: usize,
 }
 
 /// How much an accepted section holds.
@@ -157,10 +153,7 @@ impl Surveyed {
 impl Section {
     fn of(inspected: Inspected<'_>) -> Self {
         let Inspected { name, bytes, frames, lists, verdict, .. } = inspected;
-        let bridged = frames.as_ref().map(|frames| frames.bridged());
-        let counts = bridged.map_or(Counts::default(), |bridged| *bridged.counts());
-        let mended = bridged.map_or(0, |bridged| bridged.mended().len());
-        let negated = bridged.map_or(0, |bridged| bridged.negated().len());
+        let notes = frames.as_ref().map(Notes::of).unwrap_or_default();
         let mut error = None;
         let (held, defects) = match verdict {
             Verdict::Frames(Agreement { cies, fdes, rows, .. }) => (Held::Frames { cies, fdes, rows }, Vec::new()),
@@ -177,7 +170,7 @@ impl Section {
                 (Held::Unknown, Vec::new())
             }
         };
-        Section { name, bytes, held, defects, error, counts, lists, mended, negated }
+        Section { name, bytes, held, defects, error, notes, lists }
     }
 }
 

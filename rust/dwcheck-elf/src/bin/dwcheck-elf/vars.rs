@@ -7,9 +7,9 @@ use crate::opened::{address, note, number_argument, program, read, Opened};
 use crate::walks::state_file;
 use dwcheck::{Process, State};
 use dwcheck_elf::abi::abi;
-use dwcheck_elf::bridge::Options;
 use dwcheck_elf::core_file::{CoreFile, Files};
 use dwcheck_elf::debug_files::DebugFiles;
+use dwcheck_elf::frames::Options;
 use dwcheck_elf::live::Snapshot;
 use dwcheck_elf::modules::Modules;
 use dwcheck_elf::program::Program;
@@ -134,8 +134,7 @@ fn unwinder(path: &Path, program: &Program<'_>, load: u64) -> Result<Modules, Fa
     let opened = Opened::read(path, program, Options::default())?;
     opened.note_refused(path, false);
     let mut modules = Modules::new(program.target());
-    let sections: Vec<_> = opened.frames.iter().map(|one| one.bytes().into()).collect();
-    let added = modules.add(path, program, &sections, load);
+    let added = modules.add(path, program, &opened.frames, load);
     if let Some(lost) = added.map_err(|error| Failure::File(format!("{}: {}", shown(path), error)))? {
         note(path, lost);
     }

@@ -97,8 +97,7 @@ fn loaded<'a>(words: &UnwindWords, given: &'a [Given], target: Target) -> Result
         }
         let opened = Opened::read(path, &program, options)?;
         opened.note_refused(path, false);
-        let sections: Vec<_> = opened.frames.iter().map(|one| one.bytes().into()).collect();
-        let added = all.modules.add(path, &program, &sections, *load);
+        let added = all.modules.add(path, &program, &opened.frames, *load);
         all.opened.push((path, *load, opened));
         let lost = added.map_err(|error| Failure::File(format!("{}: {}", shown(path), error)))?;
         if let Some(lost) = &lost {

@@ -3,6 +3,7 @@
 use super::files::Files;
 use super::{Held, Section, Surveyed};
 use crate::end::Done;
+use dwcheck_elf::frames::Notes;
 use std::io::{self, Write};
 
 /// Counts over all files.
@@ -29,19 +30,8 @@ pub struct Totals {
     /// Lists and expressions of accepted location lists, in this field and the next.
     pub lists: usize,
     pub expressions: usize,
-    /// What was dropped or changed when `.eh_frame` was rewritten, in this field and the four that
-    /// follow. See `Counts` in the library's module `bridge`.
-    pub augmentations: usize,
-    pub signal_frames: usize,
-    pub args_sizes: usize,
-    pub set_locs: usize,
-    pub mended: usize,
-    /// Records of length 0, which were left out.
-    pub empty_records: usize,
-    /// FDEs that were left out because they are exact copies of an earlier one.
-    pub copies: usize,
-    /// `DW_CFA_AARCH64_negate_ra_state`, which were dropped.
-    pub negated: usize,
+    /// What frame sections have that isn't a rule, and what was read in another way.
+    pub notes: Notes,
 }
 
 impl Totals {
@@ -77,14 +67,7 @@ impl Totals {
             }
             Held::Unknown => {}
         }
-        self.augmentations += section.counts.augmentations;
-        self.signal_frames += section.counts.signal_frames;
-        self.args_sizes += section.counts.args_sizes;
-        self.set_locs += section.counts.set_locs;
-        self.empty_records += section.counts.terminators;
-        self.mended += section.mended;
-        self.copies += section.counts.copies;
-        self.negated += section.negated;
+        self.notes += section.notes;
     }
 
     /// How the survey ended, for the exit status.
@@ -97,7 +80,7 @@ impl Totals {
     }
 
     /// Each count with its name, in the order in which they are written.
-    pub fn named(&self) -> [(&'static str, usize); 20] {
+    pub fn named(&self) -> [(&'static str, usize); 18] {
         [
             ("files", self.files),
             ("repeated", self.repeated),
@@ -111,19 +94,17 @@ impl Totals {
             ("rows", self.rows),
             ("lists", self.lists),
             ("expressions", self.expressions),
-            ("augmentations", self.augmentations),
-            ("signal-frames", self.signal_frames),
-            ("args-sizes", self.args_sizes),
-            ("set-locs", self.set_locs),
-            ("mended", self.mended),
-            ("empty-records", self.empty_records),
-            ("copies", self.copies),
-            ("negated", self.negated),
+            ("signal-frames", self.notes.signal_frames),
+            ("args-sizes", self.notes.args_sizes),
+            ("mended", self.notes.mended),
+            ("empty-records", self.notes.empty_records),
+            ("copies", self.notes.copies),
+            ("negated", self.notes.negated),
         ]
     }
 
     /// Writes the totals: a line for files, a line for sections, and a line for what the sections
-    /// hold. If `has_notes`, also a line for what was dropped or changed.
+    /// hold. If `has_notes`, also a line of notes on frame sections.
     pub fn write(&self, out: &mut impl Write, has_notes: bool) -> io::Result<()> {
         let named = self.named();
         let (files, rest) = named.split_at(3);

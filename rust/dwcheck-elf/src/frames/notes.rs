@@ -1,0 +1,48 @@
+//! Counts of what a frame section has besides rules.
+
+use super::{Frames, Kind, Standing};
+use std::ops::AddAssign;
+
+/// How often a section has something that isn't a rule, or that was read in another way than it is written.
+#[derive(Clone, Copy, Debug, Default, PartialEq, Eq)]
+pub struct Notes {
+    /// FDEs of signal frames that are used.
+    pub signal_frames: usize,
+    /// `DW_CFA_GNU_args_size` in `.debug_frame`, read as `DW_CFA_nop`.
+    pub args_sizes: usize,
+    /// `DW_CFA_AARCH64_negate_ra_state` in `.debug_frame`, read as `DW_CFA_nop`.
+    pub negated: usize,
+    /// Records of length 0.
+    pub empty_records: usize,
+    /// FDEs that are exact copies of an earlier one, and count once.
+    pub copies: usize,
+    /// `DW_CFA_def_cfa_register` at the beginning of a CIE, read as a `DW_CFA_def_cfa` with the offset 0.
+    pub mended: usize,
+}
+
+impl Notes {
+    /// The notes on a section.
+    pub fn of(frames: &Frames<'_>) -> Self {
+        let is_signal = |kind| matches!(kind, Kind::Fde { is_signal_frame: true, .. });
+        let changes = frames.changes();
+        Notes {
+            signal_frames: frames.used().filter(|record| is_signal(record.kind)).count(),
+            args_sizes: changes.args_sizes.len(),
+            negated: changes.negated.len(),
+            empty_records: frames.records().iter().filter(|record| record.kind == Kind::Empty).count(),
+            copies: frames.count(Standing::Copy),
+            mended: changes.mended.len(),
+        }
+    }
+}
+
+impl AddAssign for Notes {
+    fn add_assign(&mut self, other: Notes) {
+        self.signal_frames += other.signal_frames;
+        self.args_sizes += other.args_sizes;
+        self.negated += other.negated;
+        self.empty_records += other.empty_records;
+        self.copies += other.copies;
+        self.mended += other.mended;
+    }
+}
