@@ -23,6 +23,7 @@ pub mod core_file;
 mod covered;
 pub mod debug_files;
 mod debug_info;
+pub mod eh_frame_hdr;
 pub mod expression;
 pub mod fault;
 pub mod frames;

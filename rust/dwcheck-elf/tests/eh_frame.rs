@@ -5,6 +5,7 @@ mod common;
 #[path = "common/frames.rs"]
 mod frames;
 
+use common::run::dwcheck_elf;
 use common::{has, Folder, C, CXX, MACHINES};
 use dwcheck_elf::frames::{Frames, Kind, Notes, Record};
 use dwcheck_elf::program::Program;
@@ -194,4 +195,48 @@ fn validated(folder: &Folder, file: &str) -> (Vec<Record>, Notes, Agreement) {
     let agreement = validate_rows(&frames, &frames.process(0).unwrap());
     let agreement = agreement.unwrap_or_else(|difference| panic!("{}: {}", file, difference));
     (frames.records().to_vec(), Notes::of(&frames), agreement)
+}
+
+/// The sorted table of `.eh_frame_hdr`, as ld writes it, and with changes: two entries that are swapped, an entry that
+/// leads to another FDE or to none, and an entry fewer. None of these changes an answer.
+#[test]
+fn the_sorted_table() {
+    let folder = Folder::new("sorted-table");
+    folder.write("a.c", C);
+    folder.run("gcc -O2 a.c -o linked");
+    let shown = folder.run("objdump -h linked | awk '$2 == \".eh_frame_hdr\" {print $4, $6}'");
+    let (address, place) = shown.trim().split_once(' ').unwrap();
+    let (address, place) = (common::hex(address), common::hex(place) as usize);
+    let whole = folder.bytes("linked");
+    let number = |at: usize| i32::from_le_bytes(whole[at..at + 4].try_into().unwrap());
+    // After four bytes for the version and the encodings: a pointer to `.eh_frame`, the count, and the entries.
+    let count = number(place + 8) as usize;
+    let entry = |number: usize| place + 12 + 8 * number;
+    let begin = |entry_place: usize| address.wrapping_add(number(entry_place) as u64);
+    let is_for = |number: usize| format!("the first one is for {:#x}\n", begin(entry(number)));
+    let none = format!("note .eh_frame_hdr: 1 FDEs have no entry, {}", is_for(1));
+    let swapped = [&whole[entry(1)..entry(2)], &whole[entry(0)..entry(1)]].concat();
+    let other = whole[entry(0) + 4..entry(1)].to_vec();
+    let nowhere = (number(entry(1) + 4) + 4).to_le_bytes().to_vec();
+    let fewer = (count as i32 - 1).to_le_bytes().to_vec();
+    let cases = [
+        (entry(0), whole[entry(0)..entry(1)].to_vec(), String::new()),
+        (entry(0), swapped, format!("note .eh_frame_hdr: 1 entries are out of order, {}", is_for(0))),
+        (
+            entry(1) + 4,
+            other,
+            format!("note .eh_frame_hdr: 1 entries have another address than their FDE, {}{}", is_for(1), none),
+        ),
+        (entry(1) + 4, nowhere, format!("note .eh_frame_hdr: 1 entries lead to no FDE, {}{}", is_for(1), none)),
+        (place + 8, fewer, format!("note .eh_frame_hdr: 1 FDEs have no entry, {}", is_for(count - 1))),
+    ];
+    let first = dwcheck_elf(&folder, "check --no-lists linked");
+    for (at, bytes, expected) in cases {
+        let mut changed = whole.clone();
+        changed[at..at + bytes.len()].copy_from_slice(&bytes);
+        folder.write("linked", changed);
+        let ran = dwcheck_elf(&folder, "check --no-lists linked");
+        assert_eq!((ran.status, ran.error.as_str()), (0, ""));
+        assert_eq!(ran.out, format!("{}{}", first.out, expected));
+    }
 }

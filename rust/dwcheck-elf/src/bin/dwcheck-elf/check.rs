@@ -5,6 +5,7 @@ use crate::end::{shown, Done, Failure};
 use crate::opened::{note, program, read, write_defect};
 use dwcheck::{CheckedExpression, Report};
 use dwcheck_elf::debug_files::DebugFiles;
+use dwcheck_elf::eh_frame_hdr::mismatches;
 use dwcheck_elf::frames::{Frames, Measured, Name, Notes};
 use dwcheck_elf::inspect::{inspect_frame_sections, inspect_lists_of_file, Check, Inspected, Verdict};
 use dwcheck_elf::lists::{self, Bytes as ListBytes};
@@ -75,6 +76,9 @@ fn check_one(words: &CheckWords, path: &Path, out: &mut impl Write) -> Result<Do
                 writeln!(out, "{}: {}: accepted", shown(path), section.name)?;
                 write_accepted(out, section)?;
             }
+        }
+        if let Some(frames) = &section.frames {
+            write_header(out, path, &program, frames)?;
         }
         if let Some(frames) = section.frames.as_ref().filter(|_| words.notes.notes) {
             write_notes(out, frames)?;
@@ -184,6 +188,18 @@ fn write_frames(out: &mut impl Write, agreement: &Agreement, frames: &Frames<'_>
         writeln!(out, "expr {} {} {} ops {} depth {}", frames.name(), Offset(offset), kind, operations, depth)?;
     }
     Ok(())
+}
+
+/// Writes how the sorted table of `.eh_frame_hdr` differs from `.eh_frame`, with a line for each kind of difference.
+fn write_header(out: &mut impl Write, path: &Path, program: &Program<'_>, frames: &Frames<'_>) -> io::Result<()> {
+    match mismatches(program, frames) {
+        Ok(all) => all.iter().try_for_each(|one| writeln!(out, "note .eh_frame_hdr: {}", one)),
+        Err(why) => {
+            out.flush()?;
+            note(path, format_args!(".eh_frame_hdr: {}", why));
+            Ok(())
+        }
+    }
 }
 
 fn write_lists(out: &mut impl Write, report: &Report) -> io::Result<()> {
