@@ -182,7 +182,7 @@ fn sections() {
         numbers.damage(bytes, 0, end);
         accepted += usize::from(frames(&program, section));
     }
-    assert!((1000..4000).contains(&accepted), "{}", accepted);
+    assert!((400..4000).contains(&accepted), "{}", accepted);
 }
 
 #[test]
