@@ -63,7 +63,7 @@ fn variables_of_fortran() {
         return;
     }
     folder.write("a.f90", FORTRAN);
-    for flags in ["-O0 -g", "-Og -g -gdwarf-4"] {
+    for flags in ["-O0 -g", "-O0 -g -gdwarf-4"] {
         folder.run(&format!("gfortran {} a.f90 -o program", flags));
         folder.run("gdb --batch -ex 'set startup-with-shell off' -ex run -ex 'gcore core' ./program < /dev/null");
         let ran = dwcheck_elf(&folder, "vars --core core");
