@@ -178,8 +178,9 @@ impl Edits<'_, '_> {
             NEGATE_RA_STATE | NEGATE_RA_STATE_WITH_PC => is_aarch64,
             code => code == GNU_ARGS_SIZE,
         };
-        let found: Vec<_> = instructions(&self.bytes, program, self.format.target).filter(is_harmless).collect();
-        for (one, end) in found.into_iter().filter_map(|one| Some((one, one.end?))) {
+        let all = instructions(&self.bytes, program, self.format.target).filter(is_harmless);
+        let whole: Vec<_> = all.filter_map(|one| Some((one, one.end?))).collect();
+        for (one, end) in whole {
             let changed = match one.code {
                 GNU_ARGS_SIZE => &mut self.changes.args_sizes,
                 _ => &mut self.changes.negated,
