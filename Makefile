@@ -128,7 +128,7 @@ install: all
 	$(INSTALL) -m 644 build/dwcheck.pc build/dwcheck-dl.pc $(DESTDIR)$(LIBDIR)/pkgconfig/
 	$(INSTALL) -m 644 c/dwcheckConfig.cmake $(DESTDIR)$(LIBDIR)/cmake/dwcheck/
 	sed 's/@VERSION@/$(version)/' c/dwcheckConfigVersion.cmake.in >$(DESTDIR)$(LIBDIR)/cmake/dwcheck/dwcheckConfigVersion.cmake
-	$(INSTALL) -m 644 c/include/dwcheck.h c/include/dwcheck.hpp c/include/dwcheck-dl.h $(DESTDIR)$(INCLUDEDIR)/
+	$(INSTALL) -m 644 c/include/dwcheck.h c/include/dwcheck.hpp c/include/dwcheck.cppm c/include/dwcheck-dl.h $(DESTDIR)$(INCLUDEDIR)/
 	$(INSTALL) -m 644 man/dwcheck.1 $(DESTDIR)$(MANDIR)/man1/
 	if [ -f build/dwcheck-elf ]; then $(INSTALL) -m 644 man/dwcheck-elf.1 $(DESTDIR)$(MANDIR)/man1/; fi
 	$(INSTALL) -m 644 man/dwcheck.3 $(DESTDIR)$(MANDIR)/man3/

@@ -43,7 +43,7 @@ provenance() {
     echo "Each function of these crates is proved to meet its contract (docs/PROVED.md):"
     sed -n 's/^\([a-z_]*\)\( staticlib\)\?:.*/\1/p' crates.txt
     echo
-    echo "Not proved: dwcheck-elf, libdwcheck-dl, dwcheck.hpp, dwcheck.py, and the C files of c/."
+    echo "Not proved: dwcheck-elf, libdwcheck-dl, dwcheck.hpp, dwcheck.cppm, dwcheck.py, and the C files of c/."
 }
 
 rm -rf build/dist
@@ -52,7 +52,7 @@ put 644 lib build/libdwcheck.a build/libdwcheck-dl.a
 put 755 lib "build/libdwcheck.so.$version"
 ln -s "libdwcheck.so.$version" "$out/lib/libdwcheck.so.2"
 ln -s libdwcheck.so.2 "$out/lib/libdwcheck.so"
-put 644 include c/include/dwcheck.h c/include/dwcheck.hpp c/include/dwcheck-dl.h
+put 644 include c/include/dwcheck.h c/include/dwcheck.hpp c/include/dwcheck.cppm c/include/dwcheck-dl.h
 install -d "$out/lib/pkgconfig"
 relocatable dwcheck
 relocatable dwcheck-dl

@@ -30,11 +30,10 @@
    - The proofs cover calls in threads, but not a call in a signal handler that interrupts another one with the same
      process, nor in the child of a fork, nor one that is left, nor later changes of a process on which a call was
      left. c/tests/readers.c tests all of these.
-   - The stack is large enough. As measured on x86-64, dwcheck_backtrace takes 2.8 KB of stack, dwcheck_unwind 7.1 KB
-     and dwcheck_cursor_step 0.6 KB; if a rule is an expression, up to 4.7, 8.7 and 3.8 KB. dwcheck_backtrace takes 19
-     KB if a register of 96 or more has a known content. dwcheck_process_add takes 84 KB, dwcheck_check and
-     dwcheck_report 40 KB, dwcheck_cursor_step_with 21 KB, dwcheck_evaluate 12 KB, and every other call less than 4
-     KB. So a signal handler on an alternate stack of the usual 8 KB can walk by dwcheck_backtrace or by a cursor.
+   - The stack is large enough. As measured on x86-64, dwcheck_backtrace takes 2.8 KB, dwcheck_unwind 7.1 KB and
+     dwcheck_cursor_step 0.6 KB; if a rule is an expression, 4.7, 8.7 and 3.8 KB; and dwcheck_backtrace takes 19 KB if
+     a register of 96 or more is known. dwcheck_process_add takes 84 KB, dwcheck_check and dwcheck_report 40 KB,
+     dwcheck_cursor_step_with 21 KB, dwcheck_evaluate 12 KB, and every other call less than 4 KB.
    - Fields called `reserved` are set to 0. A later version may give them a meaning.
 
    Only DONE writes what a call gives or changes, and only REFUSED writes `fault`, unless the call says otherwise. Only
@@ -72,8 +71,7 @@ enum {
     DWCHECK_REFUSED = 1,    /* `fault` says why */
     DWCHECK_NO_MEMORY = 2,  /* malloc or realloc returned NULL */
     DWCHECK_NO_ROOM = 3,    /* the table of the section can take more than `room` bytes */
-    DWCHECK_BAD_TARGET = 4, /* `order` isn't 0 or 1, or `address_size` isn't 4 or 8; or the process is
-                               open for another target */
+    DWCHECK_BAD_TARGET = 4, /* no such target, or the process is open for another one */
     DWCHECK_TOO_LONG = 5,   /* the section or expression has 2^32 bytes or more */
     DWCHECK_BAD_KIND = 6,   /* `kind` isn't 0, 1 or 2, be it of a section or of an expression */
     DWCHECK_NONE = 7,       /* what was looked up doesn't exist */
@@ -107,7 +105,6 @@ const char *dwcheck_status_text(uint32_t status);
 const char *dwcheck_stop_text(uint32_t stop);
 
 /* ---- sections ------------------------------------------------------------------------------------------------------ */
-
 /* Checks a .debug_frame section and a .debug_loclists section, either of which may be empty. Returns DONE if both are
    well formed; REFUSED, with the first fault in `fault`, if one isn't; NO_MEMORY; or BAD_TARGET. A section of 2^32
    bytes or more is refused with fault 61, SectionTooLong. Checked are first the lengths, then the frame section, then
@@ -129,7 +126,6 @@ uint32_t dwcheck_report(const uint8_t *frame, size_t frame_length, const uint8_t
                         size_t expressions_length, dwcheck_fault *fault);
 
 /* ---- processes ----------------------------------------------------------------------------------------------------- */
-
 /* A process: its modules, each a compiled .debug_frame or .eh_frame section with a load address. Its fields are
    private. If its bytes are all 0, it is closed: it has no module, and calls accept it. */
 typedef struct dwcheck_process { void *opaque; uint64_t opaque_open; } dwcheck_process;
@@ -160,10 +156,8 @@ enum { DWCHECK_DEBUG_FRAME = 0, DWCHECK_EH_FRAME = 1, DWCHECK_EH_FRAME_AARCH64 =
      least 80, plus 80 for each FDE and each row, plus 16 for each register's rule in a row, plus 24 for each
      expression and its length. `room` doesn't bound the memory that checking and compiling use. */
 typedef struct dwcheck_module {
-    const uint8_t *frame;
-    size_t frame_length;
-    uint64_t load_address, first, last, cookie;
-    size_t room;
+    const uint8_t *frame; size_t frame_length;
+    uint64_t load_address, first, last, cookie; size_t room;
     uint32_t order, address_size, has_range, kind;
     uint64_t section_address, text_start, data_start;
 } dwcheck_module;
@@ -203,7 +197,6 @@ typedef struct dwcheck_loaded { uint64_t id, cookie, load_address, first, last; 
 uint32_t dwcheck_module_at(const dwcheck_process *process, uint64_t address, dwcheck_loaded *module);
 
 /* ---- the section of a module --------------------------------------------------------------------------------------- */
-
 /* Checks a module's section as dwcheck_process_add does, but adds it nowhere. DONE writes what the section contains to
    `counts`, where exact copies of an FDE count once. Returns DONE, or for the same reasons as dwcheck_process_add
    TOO_LONG, BAD_KIND, BAD_TARGET, REFUSED or NO_MEMORY. Of `module`, this call and the next one use `frame`,
@@ -228,7 +221,6 @@ typedef struct dwcheck_record {
 uint32_t dwcheck_record_at(const dwcheck_module *module, uint64_t offset, dwcheck_record *record, dwcheck_fault *fault);
 
 /* ---- the row of an address ----------------------------------------------------------------------------------------- */
-
 /* How to find the value of register `reg` in the caller. The values of `kind` are below. If `kind` is one of the last
    two, the expression has `length` bytes, which dwcheck_rule_bytes gives. In a .debug_frame section they begin at
    `offset`. */
@@ -246,12 +238,12 @@ typedef struct dwcheck_rule { int64_t offset; uint64_t length; uint16_t reg, sou
 #define DWCHECK_MAX_RULES 128
 /* A row of the module with this id, cookie and load address. The row covers the addresses as linked from `start` up
    to, but not including, `end`. If cfa.kind is DWCHECK_RULE_VAL_OFFSET, the CFA is the value of register cfa.reg plus
-   cfa.offset. If it is DWCHECK_RULE_VAL_EXPRESSION, the CFA is the value that an expression gives. */
+   cfa.offset. If it is DWCHECK_RULE_VAL_EXPRESSION, the CFA is the value that an expression gives. return_reg is the
+   register of the return address, and `count` the number of registers that have a rule, at most DWCHECK_MAX_RULES. */
 typedef struct dwcheck_row {
     uint64_t id, cookie, load_address, start, end;
     dwcheck_rule cfa;
-    uint32_t return_reg; /* the register of the return address */
-    uint32_t count;      /* the number of registers that have a rule, at most DWCHECK_MAX_RULES */
+    uint32_t return_reg, count;
 } dwcheck_row;
 
 /* Writes the row that covers `address`, an address as loaded, from the module that answers for the address. The rules
@@ -273,7 +265,6 @@ uint32_t dwcheck_rule_bytes(const dwcheck_process *process, uint64_t address, ui
                             size_t bytes_length, size_t *size);
 
 /* ---- callers and walks --------------------------------------------------------------------------------------------- */
-
 /* A block of memory that starts at address `base`. `bytes` is never NULL. */
 typedef struct dwcheck_block { uint64_t base; const uint8_t *bytes; size_t length; } dwcheck_block;
 
@@ -286,14 +277,10 @@ typedef struct dwcheck_block { uint64_t base; const uint8_t *bytes; size_t lengt
    that may have its signature (aarch64: the mask for code in NT_ARM_PAC_MASK). They are 0 in each address of code, and
    walks leave them out of callers' addresses. */
 typedef struct dwcheck_state {
-    const uint64_t *contents;
-    size_t contents_length;
-    const uint8_t *known;
-    size_t known_length;
-    const dwcheck_block *blocks;
-    size_t blocks_length;
-    const uint16_t *kept;
-    size_t kept_length;
+    const uint64_t *contents; size_t contents_length;
+    const uint8_t *known; size_t known_length;
+    const dwcheck_block *blocks; size_t blocks_length;
+    const uint16_t *kept; size_t kept_length;
     uint16_t stack_pointer, has_stack_pointer;
     uint32_t reserved;
     uint64_t signed_bits;
@@ -304,8 +291,7 @@ enum {
     DWCHECK_ANSWER_NOT_COVERED = 0,     /* no FDE covers the frame, which is the last of a walk */
     DWCHECK_ANSWER_VALUE = 1,           /* it is `value`, below 2^w */
     DWCHECK_ANSWER_UNDEFINED = 2,       /* its value isn't available */
-    DWCHECK_ANSWER_UNREADABLE = 3,      /* it needs a register or memory that isn't known, or memory past
-                                    the highest address, 2^w - 1 */
+    DWCHECK_ANSWER_UNREADABLE = 3,      /* it needs a register or memory that isn't known, or memory past 2^w - 1 */
     DWCHECK_ANSWER_DIVISION_BY_ZERO = 4 /* its expression divides by zero */
 };
 typedef struct dwcheck_answer { uint64_t value; uint32_t kind, reserved; } dwcheck_answer;
@@ -331,9 +317,8 @@ typedef struct dwcheck_frame { uint64_t address; dwcheck_answer cfa; } dwcheck_f
 enum {
     DWCHECK_STOP_LIMIT = 0,            /* `frames` is full */
     DWCHECK_STOP_NOT_COVERED = 1,      /* there is no row for the last frame */
-    /* The return address of the last frame is undefined. Either the row's rule says so, and then
-       the walk is complete (DWARF 5, section 6.4.4); or neither the row nor `kept` names its register.
-       On targets where functions keep the return address in a register, put that into `kept`. */
+    /* The last frame's return address is undefined. Either the row's rule says so, and then the walk is complete
+       (DWARF 5, section 6.4.4); or neither the row nor `kept` names its register, which then belongs into `kept`. */
     DWCHECK_STOP_RETURN_UNDEFINED = 2,
     DWCHECK_STOP_RETURN_UNREADABLE = 3,      /* the last frame's return address is DWCHECK_ANSWER_UNREADABLE */
     DWCHECK_STOP_RETURN_DIVISION_BY_ZERO = 4 /* or it is DWCHECK_ANSWER_DIVISION_BY_ZERO */
@@ -347,22 +332,17 @@ enum {
 uint32_t dwcheck_backtrace(const dwcheck_process *process, uint64_t address, const dwcheck_state *state, dwcheck_frame *frames,
                            size_t frames_length, size_t *count, uint32_t *stop, dwcheck_fault *fault);
 
-/* The stages of a cursor. A greater stage means that the walk has ended: minus 1, it is the reason, a DWCHECK_STOP_
-   number. */
-enum {
-    DWCHECK_CURSOR_EXACT = 0, /* the frame is looked up at its address: it was interrupted, or is the first */
-    DWCHECK_CURSOR_CALLER = 1 /* the frame is looked up at its address minus 1, inside of the call */
-};
+/* The stages of a cursor: the frame is looked up at its address, as it was interrupted or is the first; or at its
+   address minus 1, inside of the call. A greater stage, minus 1, is the reason why the walk has ended. */
+enum { DWCHECK_CURSOR_EXACT = 0, DWCHECK_CURSOR_CALLER = 1 };
 
-/* Where a walk up a stack is: the address of a frame, and its registers. The value of register n is contents[n], if
-   known[n] isn't 0; registers with numbers of 96 or more have no place. A cursor is plain data of the caller's. It may
-   be read, copied, changed and dropped at any time, and a walk may be taken up again from a copy. Any bytes are a
-   cursor. */
+/* Where a walk up a stack is: the address of a frame as loaded, and its registers. The value of register n is
+   contents[n], if known[n] isn't 0; registers with numbers of 96 or more have no place. A cursor is plain data of the
+   caller's. It may be read, copied, changed and dropped at any time, and a walk may be taken up again from a copy.
+   Any bytes are a cursor. */
 typedef struct dwcheck_cursor {
-    uint64_t contents[96];
-    uint8_t known[96];
-    uint64_t address; /* as loaded */
-    uint32_t stage, reserved;
+    uint64_t contents[96]; uint8_t known[96];
+    uint64_t address; uint32_t stage, reserved;
 } dwcheck_cursor;
 
 /* Places a cursor at the frame at `address`, an address as loaded, with the registers of `state`. The frame is looked
@@ -384,8 +364,7 @@ uint32_t dwcheck_cursor_step(const dwcheck_process *process, dwcheck_cursor *cur
    those of the process. */
 typedef struct dwcheck_reader {
     bool (*read)(void *data, uint64_t address, uint8_t *bytes, size_t length);
-    void *data;
-    uint32_t order, address_size;
+    void *data; uint32_t order, address_size;
 } dwcheck_reader;
 
 /* Steps as dwcheck_cursor_step does, but asks `reader` for the words that the step needs: of another process, a core
@@ -397,7 +376,6 @@ uint32_t dwcheck_cursor_step_with(const dwcheck_process *process, dwcheck_cursor
                                   const dwcheck_reader *reader, dwcheck_frame *frame);
 
 /* ---- expressions --------------------------------------------------------------------------------------------------- */
-
 /* What an expression is used for (`kind`): the rule of a CFA, the rule of a register, or the location of an object.
    The stack begins with the CFA for the rule of a register, and is empty at first for the others. */
 enum { DWCHECK_EXPRESSION_CFA = 0, DWCHECK_EXPRESSION_REGISTER = 1, DWCHECK_EXPRESSION_LOCATION = 2 };
@@ -414,17 +392,15 @@ typedef struct dwcheck_context {
    `steps` is the number of operations that were reached, including one that failed. */
 enum {
     DWCHECK_OUTCOME_VALUE = 0,                 /* `value`, for the rule of a CFA or register */
-    /* The operation at `offset` needs a register, memory or a context value that isn't known, or
-       reads memory past 2^w - 1. If has_cfa is 0, the rule of a register always has this outcome,
-       at offset 0 and after 0 steps. */
+    /* The operation at `offset` needs a register, memory or a context value that isn't known, or reads memory past
+       2^w - 1. If has_cfa is 0, the rule of a register always has this outcome, at offset 0 and after 0 steps. */
     DWCHECK_OUTCOME_UNREADABLE = 1,
     DWCHECK_OUTCOME_DIVISION_BY_ZERO = 2,      /* the operation at `offset` divides by zero */
     DWCHECK_LOCATION_NOWHERE = 3,         /* the object, or this piece of it, was optimized away */
     DWCHECK_LOCATION_ADDRESS = 4,         /* in memory, at `value` */
     DWCHECK_LOCATION_REGISTER = 5,        /* in register `value` */
     DWCHECK_LOCATION_VALUE = 6,           /* nowhere, but the object's value is `value` */
-    DWCHECK_LOCATION_BYTES = 7,           /* nowhere, but the object's value is `value` bytes
-                                             (dwcheck_evaluate says where they go) */
+    DWCHECK_LOCATION_BYTES = 7,           /* nowhere, but `value` bytes (dwcheck_evaluate) are the object's value */
     DWCHECK_LOCATION_PIECES = 8           /* `count` pieces, 32 at most */
 };
 typedef struct dwcheck_value { uint64_t value; uint32_t kind, offset, steps, count; } dwcheck_value;
@@ -434,7 +410,6 @@ typedef struct dwcheck_value { uint64_t value; uint32_t kind, offset, steps, cou
 typedef struct dwcheck_piece { uint64_t value; uint32_t kind, size, bit_offset, is_bits; } dwcheck_piece;
 
 #define DWCHECK_MAX_PIECES 32
-
 /* Checks all paths of an expression, and runs it with the registers and memory of `state`, whose ABI isn't used. The
    pieces of the result go into `pieces`, as many as fit. If the result is DWCHECK_LOCATION_BYTES, or if piece `n`
    (counted from 0) is, these bytes go into `bytes`, as many as fit. Returns DONE; REFUSED with the first fault of the
@@ -446,7 +421,6 @@ uint32_t dwcheck_evaluate(const uint8_t *expression, size_t expression_length, u
                           size_t bytes_length, dwcheck_fault *fault);
 
 /* ---- location lists ------------------------------------------------------------------------------------------------ */
-
 /* What to look up: `address`, an address as linked, in the list whose first byte is at offset `list` of the section.
    `base` is the base address of the unit to which the list belongs. */
 typedef struct dwcheck_lookup { uint64_t base, address; uint32_t list, reserved; } dwcheck_lookup;

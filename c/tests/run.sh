@@ -1,7 +1,7 @@
 #!/bin/bash
 # Builds the tests with the static library build/libdwcheck.a, or the one that LIBRARY names, and runs
-# them: those of readers.c, frozen.c, cursor.c and dl.c; those of wrapper.cc, as C++17 and as C++20; and
-# those of cases.c while allocations fail in turn, with sanitizers, and under valgrind. Before that,
+# them: those of readers.c, frozen.c, cursor.c and dl.c; those of wrapper.cc, as C++17, as C++20 and over
+# the module; and those of cases.c while allocations fail in turn, with sanitizers, and under valgrind. Before that,
 # the headers are compiled as C11, C17 and C++17; passing a pointer of a wrong type must be an error.
 # Prints a line `ok NAME` or `FAILED NAME` for each, and ends with status 1 if one failed.
 set -u
@@ -53,6 +53,20 @@ wrapper() { # STANDARD: builds the tests of the header for C++, and runs them
         "$top/c/tests/wrapper.cc" "$library" -o "$out/wrapper" && "$out/wrapper"
 }
 
+as_module() { # builds the tests of the header for C++ over the module, and runs them
+    local compiler="clang++-16 -std=c++20 $strict -O1 -g"
+    $compiler --precompile "$top/c/include/dwcheck.cppm" -o "$out/dwcheck.pcm" &&
+        $compiler -c "$out/dwcheck.pcm" -o "$out/module.o" &&
+        $compiler -DAS_MODULE "-fmodule-file=dwcheck=$out/dwcheck.pcm" "$top/c/tests/wrapper.cc" "$out/module.o" "$library" \
+            -o "$out/wrapper" && "$out/wrapper"
+}
+
+module_has_all_names() { # compares the names that dwcheck.h declares with those that the module exports
+    cc -E -P "$top/c/include/dwcheck.h" | grep -ow 'dwcheck_[a-z_]*\|DWCHECK_[A-Z0-9_]*' | sort -u > "$out/declared"
+    grep -o '::dwcheck_[a-z_]*\|::DWCHECK_[A-Z0-9_]*' "$top/c/include/dwcheck.cppm" | cut -c 3- | sort -u > "$out/exported"
+    diff "$out/declared" "$out/exported"
+}
+
 cases_under_valgrind() {
     build plain && valgrind -q --error-exitcode=1 --leak-check=full "$out/plain"
 }
@@ -68,6 +82,8 @@ test_of "steps of a cursor" readers cursor
 test_of "stacks of dwcheck-dl are glibc's, while libraries come and go" dl
 test_of "the header for C++ as C++17, beside that for C" wrapper c++17
 test_of "the header for C++ as C++20, whose frames are a range" wrapper c++20
+test_of "the header for C++ as a module of C++20" as_module
+test_of "the module exports every name of dwcheck.h" module_has_all_names
 test_of "cases while allocations fail in turn" cases -DREFUSING
 # The sanitizers check only the C code of the tests, because only that is compiled with them.
 test_of "cases with ASan and UBSan" cases -fsanitize=address,undefined -fno-sanitize-recover=all

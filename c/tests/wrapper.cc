@@ -1,11 +1,17 @@
-// Tests dwcheck.hpp beside dwcheck.h, and that the frames are a range as the standard library knows it.
+// Tests dwcheck.hpp beside dwcheck.h, and that the frames are a range as the standard library knows it. With
+// AS_MODULE, both headers come as the module dwcheck.
+#ifndef AS_MODULE
 #include <dwcheck.hpp>
+#endif
 
 #include <cstdio>
 #include <cstring>
 #include <string>
 #include <type_traits>
 #include <vector>
+#ifdef AS_MODULE
+import dwcheck;
+#endif
 #if __cplusplus >= 202002L
 #include <ranges>
 static_assert(std::ranges::input_range<dwcheck::walk>);
