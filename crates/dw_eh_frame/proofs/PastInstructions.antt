@@ -176,7 +176,7 @@ record-long order fields program =
 
 pub cie-grows : (order : Order) (a : Dialect) (version : ℕ) (r : ReadPosition) (numbers old new : List ℕ)
     → new ≡ old ++ record_bytes order (cie_bytes order version numbers) (silenced a r)
-    → (length new ≤ length old + length numbers + length r.rest + 24) × (length r.rest ≤ length new)
+    → (length new ≤ length old + length numbers + length r.rest + 20) × (length r.rest ≤ length new)
 cie-grows order a version r numbers old new is =
     let fields : List ℕ = cie_bytes order version numbers in
     let all = length-append old (record_bytes order fields (silenced a r)) in

@@ -17,7 +17,7 @@ use Rattle.dw_bytes.proofs.Readers.{bind-ok, ok-is}
 use Rattle.dw_bytes.proofs.Bodies.{framed-found}
 use Rattle.dw_frame.specs.Bounds.{Ascends}
 use Rattle.dw_eh_frame.specs.declared.pointer.Bases.{Bases}
-use Rattle.dw_eh_frame.specs.Records.{EhCie, EhFde, EhRecord, eh_cie, eh_fde, eh_nothing, eh_cie_head_at, eh_cie_from, eh_cie_before, eh_area_at, eh_fde_from, eh_full_at, eh_body_at, eh_record_at, eh_entries_from, eh_entries_of}
+use Rattle.dw_eh_frame.specs.Records.{EhCie, EhFde, EhRecord, eh_cie, eh_fde, eh_nothing, eh_cie_head_at, eh_cie_from, eh_cie_before, eh_area_at, eh_fde_from, eh_full_at, eh_body_at, eh_record_at, eh_entries_from, eh_entries_of, in_full}
 use Rattle.dw_eh_frame.specs.Pointers.{pointer_at, range_at}
 use Rattle.dw_eh_frame.specs.Places.{source_start}
 use Rattle.dw_eh_frame.specs.Rewriting.{says_something}
@@ -41,7 +41,7 @@ ok-bind (Err d) f y e = absurd cc
 pub cie-starts : (at : ℕ) (format : Format) (r : ReadPosition) (c : EhCie) → eh_cie_from at format r ≡ Ok c → c.offset ≡ at
 unfolding eh_cie_from
 cie-starts at format r c is =
-    let head = ok-bind (eh_cie_head_at r) (λ head. Ok (record { offset = at; format = format; head = head.0; program = head.1 })) c is in
+    let head = ok-bind (eh_cie_head_at r) (λ head. Ok (record { offset = at; format = format; head = head.0; program_offset = head.1.position; program = in_full head.1 })) c is in
     ap (λ (d : EhCie). d.offset) (sym (same-given _ c head.2))
 
 abbrev pub fde-of : ℕ → Format → ℕ → EhCie → ℕ → ℕ → ReadPosition → EhFde

@@ -27,11 +27,13 @@ pub record EhCieHead : Type 0 where
   pub numbers : Header
   pub augmentation : Augmentation
 
--- A CIE: the offset of its record, what it says, and its program.
+-- A CIE: the offset of its record, what it says, the offset of its program, and its program in full
+-- (`in_full` below).
 pub record EhCie : Type 0 where
   pub offset : ℕ
   pub format : Format
   pub head : EhCieHead
+  pub program_offset : ℕ
   pub program : ReadPosition
 
 -- An FDE: the offset of its record, its CIE, the offset of its CIE pointer, its addresses, and its
@@ -52,6 +54,23 @@ pub data EhRecord : Type 0 where
   eh_fde : EhFde → EhRecord
   eh_nothing : ℕ → EhRecord
 
+-- ---- the program of a CIE in full
+
+-- For mips, riscv and alpha, GNU as begins the program of a CIE with def_cfa_register (0x0d), before
+-- any instruction has defined a CFA, and means that register with the offset 0. So such a program
+-- leaves out its first instruction, which is def_cfa (0x0c) of the register 0 with the offset 0.
+abbrev pub left_out : List ℕ → List ℕ
+left_out [] = []
+left_out (code ∷ _) = if code == 0x0d then 0x0c ∷ 0 ∷ 0 ∷ [] else []
+
+-- A program with what it leaves out. The bytes that the section has keep their offsets.
+abbrev pub in_full : ReadPosition → ReadPosition
+in_full r = record {
+  target = r.target;
+  position = r.position - length (left_out r.rest);
+  rest = left_out r.rest ++ r.rest;
+}
+
 -- ---- reading a CIE
 
 -- The fields of a CIE after its id: the version; the augmentation's string, and with the letters eh an
@@ -70,7 +89,7 @@ eh_cie_head_at r = do
 unfoldable pub eh_cie_from : ℕ → Format → ReadPosition → Result EhCie Fault
 eh_cie_from at format r = do
   head ← eh_cie_head_at r
-  Ok (record { offset = at; format = format; head = head.0; program = head.1 })
+  Ok (record { offset = at; format = format; head = head.0; program_offset = head.1.position; program = in_full head.1 })
 
 -- the CIE that begins at an offset of a section: its id is 0
 unfoldable pub eh_cie_at : Target → List ℕ → ℕ → Result EhCie Fault

@@ -12,7 +12,7 @@ use Rattle.dw_eh_frame.specs.declared.record.EhFde as declared_fde
 use Rattle.dw_eh_frame.specs.declared.record.EhRecord as declared_record
 use Rattle.dw_eh_frame.specs.declared.record.EhRecord.TheVariants as records
 use Rattle.dw_bytes.specs.Encoding.{max_address}
-use Rattle.dw_eh_frame.specs.Records.{EhCieHead, EhCie, EhFde, EhRecord, eh_cie, eh_fde, eh_nothing, eh_cie_at}
+use Rattle.dw_eh_frame.specs.Records.{EhCieHead, EhCie, EhFde, EhRecord, eh_cie, eh_fde, eh_nothing, eh_cie_at, in_full}
 use Rattle.dw_eh_frame.specs.Written.{EncodesNumbers}
 
 -- the alignment factors and the return address register, as in the header of a CIE of `.debug_frame`
@@ -31,7 +31,13 @@ abbrev pub program_of : EhProgram → ReadPosition
 program_of p = record { target = p.target; position = p.start; rest = p.bytes.now }
 
 abbrev pub eh_cie_of : declared_cie.EhCie → EhCie
-eh_cie_of c = record { offset = c.offset; format = c.format; head = head_of c.head; program = program_of c.program }
+eh_cie_of c = record {
+  offset = c.offset;
+  format = c.format;
+  head = head_of c.head;
+  program_offset = c.program.start;
+  program = in_full (program_of c.program);
+}
 
 abbrev pub eh_fde_of : declared_fde.EhFde → EhFde
 eh_fde_of f = record {
@@ -65,11 +71,13 @@ record_room (records.Nothing at) = 0
 
 -- ---- what holds of the values that are read
 
--- The CIE has a known version, the target of its section, and the bytes of its factors.
+-- The CIE has a known version, the target of its section, and the bytes of its factors. Its program is
+-- after the fields of its record.
 pub record IsReadCie (target : Target) (c : declared_cie.EhCie) : Type 0 where
   pub known : is_version c.head.factors.version ≡ true
   pub numbers : EncodesNumbers target c.head.factors.version c.head.numbers.now (factors_of c.head.factors)
   pub target_is : c.program.target ≡ target
+  pub after : 3 ≤ c.program.start
   pub inside : c.program.start + length c.program.bytes.now < 2 ^ 32
 
 -- The FDE's addresses are addresses of the target.

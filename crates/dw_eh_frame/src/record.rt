@@ -20,6 +20,8 @@ pub struct EhCie<'a> {
     pub offset: u32,
     pub format: Format,
     pub head: EhCieHead<'a>,
+    /// The program as the section has it. One that begins with `def_cfa_register` is read as if
+    /// `def_cfa` of register 0 with offset 0 came first.
     pub program: EhProgram<'a>,
 }
 
@@ -71,7 +73,8 @@ fn read_cie<'a>(
     format: Format,
     end: u32,
 ) -> Result<EhCie<'a>, Fault>
-    requires { cursor.old.position + length cursor.old.rest ≡ end }
+    requires ends { cursor.old.position + length cursor.old.rest ≡ end }
+    requires after { 3 ≤ cursor.old.position }
     ensures exact { MatchResult result
         (λ cie. eh_cie_from at format cursor.old ≡ Ok (eh_cie_of cie))
         (λ fault. eh_cie_from at format cursor.old ≡ Err fault) }

@@ -10,7 +10,7 @@ ghost use Rattle.dw_eh_frame.specs.Places.{IsRewrittenAt, place_for};
 ghost use Rattle.dw_eh_frame.specs.Refused.{IsRefused, IsUnwritten, IsUnwrittenFde};
 ghost use Rattle.dw_eh_frame.specs.Views.{IsReadCie, IsReadFde, cie_room, eh_cie_of, eh_fde_of, fde_room, program_of};
 ghost use Rattle.dw_eh_frame.specs.CopySearch.{copied_by};
-ghost use Rattle.dw_eh_frame.specs.Records.{eh_reading_fault, eh_record_at};
+ghost use Rattle.dw_eh_frame.specs.Records.{eh_reading_fault, eh_record_at, in_full};
 ghost use Rattle.dw_frame.specs.Bounds.{Ascends};
 ghost use Rattle.dw_eh_frame.specs.declared.rewriting.CiePlace.{CiePlace};
 
@@ -19,7 +19,7 @@ use crate::dialect::dialect_by;
 use crate::places::RecordPlace;
 use crate::pointer::Bases;
 use crate::record::{EhCie, EhFde, EhRecord, eh_record};
-use crate::write::{push_cie, push_fde};
+use crate::write::{left_out_bytes, push_cie_in_full, push_fde};
 use dw_bytes::{Fault, FaultKind, OUT_OF_MEMORY, Target};
 use std::alloc::Global;
 use std::collections::BTreeMap;
@@ -78,6 +78,7 @@ fn place_of(cies: &[CiePlace], source: u32) -> Option<CiePlace>
 /// Writes a CIE.
 #[tactic(auto, using(crate::proofs::Written::writes_laws))]
 fn write_cie(
+    alloc: Global,
     made: &mut Made,
     target: Target,
     cie: &EhCie<'_>,
@@ -92,7 +93,7 @@ fn write_cie(
     ensures place { OnOk result (made.new.cies.items ≡ made.old.cies.items
         ++ record { source = cie.now.offset; made = length made.old.bytes.items } ∷ []) }
     ensures listed { OnOk result (made.new.places.items ≡ made.old.places.items
-        ++ place_for cie.now.offset (program_of cie.now.program) (length made.old.bytes.items) (length made.new.bytes.items) ∷ []) }
+        ++ place_for cie.now.offset (in_full (program_of cie.now.program)) (length made.old.bytes.items) (length made.new.bytes.items) ∷ []) }
 {
     let at = made.bytes.len();
     let numbers = cie.head.numbers;
@@ -103,7 +104,8 @@ fn write_cie(
     if at + numbers.len() + program.len() + HEADER > MOST {
         return Err(TOO_LONG);
     }
-    push_cie(
+    push_cie_in_full(
+        alloc,
         &mut made.bytes,
         target,
         cie.head.factors.version,
@@ -115,12 +117,14 @@ fn write_cie(
         source: cie.offset,
         made: at as u32,
     })?;
+    let left_out = left_out_bytes(program).len();
+    let size = left_out + program.len();
     made.places.push(RecordPlace {
         source: cie.offset,
         made: at as u32,
-        source_program: cie.program.start,
-        made_program: (made.bytes.len() - program.len()) as u32,
-        size: program.len() as u32,
+        source_program: cie.program.start - left_out as u32,
+        made_program: (made.bytes.len() - size) as u32,
+        size: size as u32,
     })?;
     Ok(())
 }
@@ -240,7 +244,7 @@ pub fn rewrite(
     while (at as usize) < section.len() {
         let (found, next) = eh_record(section, target, bases, at)?;
         match found {
-            EhRecord::Cie(cie) => write_cie(&mut made, target, &cie, is_aarch64)?,
+            EhRecord::Cie(cie) => write_cie(alloc, &mut made, target, &cie, is_aarch64)?,
             EhRecord::Fde(fde) => {
                 take_fde(&mut made, section, target, bases, &fde, is_aarch64)?;
             }

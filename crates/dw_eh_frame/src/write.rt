@@ -2,6 +2,7 @@
 
 ghost use Rattle.std.specs.Prelude.{◌≡◌, ◌+◌, ◌^◌, ◌<◌, ◌≤◌, ◌++◌, OnOk, length};
 ghost use Rattle.dw_bytes.specs.Encoding.{max_address};
+ghost use Rattle.dw_eh_frame.specs.Records.{left_out};
 ghost use Rattle.dw_eh_frame.specs.Silencing.{silenced};
 ghost use Rattle.dw_eh_frame.specs.Written.{address_bytes, cie_bytes, fde_bytes, number_bytes, record_bytes};
 
@@ -9,7 +10,10 @@ use crate::dialect::Dialect;
 use crate::silence::push_program;
 use byteorder::{BigEndian, ByteOrder, LittleEndian};
 use dw_bytes::{AddressSize, Order, Target};
-use std::alloc::AllocError;
+use std::alloc::{AllocError, Global};
+
+/// `def_cfa` of register 0 with offset 0.
+const DEF_CFA: [u8; 3] = [0x0c, 0, 0];
 
 /// Appends a number of four bytes.
 pub(crate) fn push_u32(out: &mut Vec<u8>, order: Order, number: u32) -> Result<(), AllocError>
@@ -99,7 +103,7 @@ pub(crate) fn push_cie(
 ) -> Result<(), AllocError>
     requires { length numbers.now + length program.now + 6 < 2 ^ 32 }
     ensures grows { OnOk result (length out.new.items
-        ≤ length out.old.items + length numbers.now + length program.now + 24) }
+        ≤ length out.old.items + length numbers.now + length program.now + 20) }
     ensures holds { OnOk result (length program.now ≤ length out.new.items) }
     ensures wrote { OnOk result (out.new.items ≡ out.old.items
         ++ record_bytes target.order (cie_bytes target.order version numbers.now)
@@ -109,6 +113,41 @@ pub(crate) fn push_cie(
     push_cie_fields(out, target.order, version, numbers, size)?;
     push_program(out, program, target, dialect)?;
     Ok(())
+}
+
+/// What the program of a CIE leaves out: its first instruction, or nothing.
+pub(crate) fn left_out_bytes(program: &[u8]) -> &'static [u8]
+    ensures is { result.now ≡ left_out program.now }
+    ensures few { length result.now ≤ 3 }
+{
+    match program.first() {
+        Some(0x0d) => &DEF_CFA,
+        _ => &[],
+    }
+}
+
+/// Appends a CIE, with its program in full.
+pub(crate) fn push_cie_in_full(
+    alloc: Global,
+    out: &mut Vec<u8>,
+    target: Target,
+    version: u8,
+    numbers: &[u8],
+    program: &[u8],
+    dialect: Dialect,
+) -> Result<(), AllocError>
+    requires { length numbers.now + length program.now + 9 < 2 ^ 32 }
+    ensures grows { OnOk result (length out.new.items
+        ≤ length out.old.items + length numbers.now + length program.now + 23) }
+    ensures holds { OnOk result (length (left_out program.now ++ program.now) ≤ length out.new.items) }
+    ensures wrote { OnOk result (out.new.items ≡ out.old.items
+        ++ record_bytes target.order (cie_bytes target.order version numbers.now)
+        (silenced dialect (record { target = target; position = 0; rest = left_out program.now ++ program.now }))) }
+{
+    let mut in_full = Vec::with_capacity(alloc, DEF_CFA.len() + program.len())?;
+    in_full.extend_from_slice(left_out_bytes(program))?;
+    in_full.extend_from_slice(program)?;
+    push_cie(out, target, version, numbers, &in_full, dialect)
 }
 
 /// Appends an FDE.

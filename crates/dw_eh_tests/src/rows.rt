@@ -30,6 +30,11 @@ const I386: &str = "\
 1400000000000000017a5200017c08011b0c040488010000140000001c000000e0efffff02000000\
 00410e0885020000";
 
+/// A CIE whose program is def_cfa_register alone, and a signal frame. GNU as and ld, riscv64.
+const RISCV64: &str = "\
+1000000000000000037a525300017c01011b0d021800000018000000e4efffff14000000\
+00440e1044810248c10e0000";
+
 /// The rule of a register, as readelf prints it.
 fn push_rule(
     alloc: Global,
@@ -114,7 +119,14 @@ fn rows_are_readelfs(rt: HostRuntime) -> Result<(), AllocError> {
     ];
     has_rows(&rt, S390X, BIG, false, &s390x)?;
     let i386 = [(0x1000, "1001 4+4 8=c-4"), (0x1001, "1002 4+8 5=c-8 8=c-4")];
-    has_rows(&rt, I386, LITTLE_SHORT, false, &i386)
+    has_rows(&rt, I386, LITTLE_SHORT, false, &i386)?;
+    let riscv64 = [
+        (0x1000, "1004 2+0"),
+        (0x1004, "1008 2+16"),
+        (0x1008, "1010 2+16 1=c-8"),
+        (0x1010, "1014 2+0"),
+    ];
+    has_rows(&rt, RISCV64, LITTLE, false, &riscv64)
 }
 
 #[test]
@@ -187,8 +199,11 @@ fn exact_copies_are_one_fde(rt: HostRuntime) -> Result<(), AllocError> {
     has_rows(&rt, &empty, LITTLE, false, &[])
 }
 
+/// The same CIE, except that its program has def_cfa_register at 17 and an unknown instruction at 19.
+const REGISTER_CIE: &str = "1400000000000000017a5200017810011b0d073f00000000";
+
 /// What follows a CIE, and the fault with its offset in the section.
-const REFUSED: [(&str, [&str; 4], FaultKind, u32); 10] = [
+const REFUSED: [(&str, [&str; 4], FaultKind, u32); 11] = [
     // set_loc where addresses aren't plain
     (
         CIE,
@@ -224,6 +239,12 @@ const REFUSED: [(&str, [&str; 4], FaultKind, u32); 10] = [
         48,
     ),
     (ADVANCING_CIE, [FDE, NOPS, "", ""], FaultKind::NotInCie, 20),
+    (
+        REGISTER_CIE,
+        [FDE, NOPS, "", ""],
+        FaultKind::UnknownInstruction,
+        19,
+    ),
     // an FDE of 0x1240 to 0x1250 at 52, after a record of length 0
     (
         CIE,

@@ -80,7 +80,7 @@ record_shown at (fde_record f) = fde_shown false f (at + f.program.position) (at
 
 -- a record of `.eh_frame` that ends at the offset `next`
 abbrev pub eh_record_shown : EhRecord → ℕ → CRecord
-eh_record_shown (eh_cie e) next = cie_shown e.head.augmentation.is_signal (as_cie e) e.program.position next
+eh_record_shown (eh_cie e) next = cie_shown e.head.augmentation.is_signal (as_cie e) e.program_offset next
 eh_record_shown (eh_fde e) next = fde_shown e.cie.head.augmentation.is_signal (as_fde e) e.program.position next
 eh_record_shown (eh_nothing at) next = begun RECORD_EMPTY at false next
 

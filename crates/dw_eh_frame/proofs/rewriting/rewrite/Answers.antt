@@ -8,10 +8,11 @@ use Rattle.dw_eh_frame.specs.declared.rewriting.CiePlace.{CiePlace}
 use Rattle.dw_eh_frame.specs.declared.places.RecordPlace.{RecordPlace}
 use Rattle.dw_eh_frame.specs.Places.{place_for}
 use Rattle.dw_eh_frame.specs.declared.record.EhRecord as declared
-use Rattle.dw_eh_frame.specs.Records.{eh_cie_at, eh_record_at}
+use Rattle.dw_eh_frame.specs.Records.{eh_cie_at, eh_record_at, in_full}
 use Rattle.dw_eh_frame.specs.Progress.{IsUnderWay}
 use Rattle.dw_eh_frame.specs.Views.{IsRead, cie_room, eh_cie_of, eh_fde_of, eh_record_of, fde_room, program_of, record_room}
 use Rattle.dw_eh_frame.proofs.Refusing.{refused-reading, refused-fde}
+use Rattle.dw_eh_frame.proofs.Written.{in-full-inside}
 use Rattle.dw_eh_frame.proofs.Steps.{under-way-begins, get-none, under-way-cie, under-way-taken, under-way-end, under-way-faultless, firsts-inside}
 use Rattle.dw_eh_frame.proofs.rewriting.rewrite.Goals as goal
 
@@ -63,13 +64,13 @@ loop-at-preserved-in_ok-write_cie-in-Cie c =
     (subst (λ (list : List RecordPlace). IsUnderWay c.args.is_aarch64 c.args.bases c.args.target section c.in_ok-found.next c.write_cie.new.made.bytes.items
     c.write_cie.new.made.cies.items list (get nat_cmp c.loop-at.made.firsts)) (sym c.in_ok-write_cie-in-Cie.ensures.listed)
     (subst (λ (cies : List CiePlace). IsUnderWay c.args.is_aarch64 c.args.bases c.args.target section c.in_ok-found.next c.write_cie.new.made.bytes.items
-    cies (c.loop-at.made.places.items ++ place_for cie.offset (program_of cie.program) (length c.loop-at.made.bytes.items)
+    cies (c.loop-at.made.places.items ++ place_for cie.offset (in_full (program_of cie.program)) (length c.loop-at.made.bytes.items)
     (length c.write_cie.new.made.bytes.items) ∷ []) (get nat_cmp c.loop-at.made.firsts)) (sym c.in_ok-write_cie-in-Cie.ensures.place)
     (under-way-cie c.args.is_aarch64 c.args.bases c.args.target section c.loop-at.at c.in_ok-found.next cie.offset (eh_cie_of cie) c.loop-at.made.bytes.items
     c.write_cie.new.made.bytes.items c.loop-at.made.cies.items c.loop-at.made.places.items (get nat_cmp c.loop-at.made.firsts) c.loop-at.invariant is c.in_ok-found.ensures.forward.0
     c.in_ok-found.ensures.forward.1 here sound.1 sound.1
     (omega (arith, c.in_ok-write_cie-in-Cie.ensures.grows, c.loop-at.invariant.small, room, c.in_ok-found.ensures.forward.0))
-    c.in_ok-write_cie-in-Cie.ensures.short sound.0.inside
+    c.in_ok-write_cie-in-Cie.ensures.short (in-full-inside (program_of cie.program) sound.0.after sound.0.inside)
     c.in_ok-write_cie-in-Cie.ensures.wrote)))
 
 pub returns-clause-rewritten : goal.returns-clause-rewritten
