@@ -31,7 +31,6 @@ pub(crate) const ADVANCE_LOC4: u8 = dw::DW_CFA_advance_loc4.0;
 pub(crate) const SET_LOC: u8 = dw::DW_CFA_set_loc.0;
 pub(crate) const REMEMBER_STATE: u8 = dw::DW_CFA_remember_state.0;
 pub(crate) const RESTORE_STATE: u8 = dw::DW_CFA_restore_state.0;
-pub(crate) const DEF_CFA: u8 = dw::DW_CFA_def_cfa.0;
 pub(crate) const DEF_CFA_REGISTER: u8 = dw::DW_CFA_def_cfa_register.0;
 pub(crate) const DEF_CFA_EXPRESSION: u8 = dw::DW_CFA_def_cfa_expression.0;
 /// `DW_CFA_AARCH64_negate_ra_state`. Other machines use the code for another instruction.

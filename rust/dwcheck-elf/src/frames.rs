@@ -55,14 +55,6 @@ pub enum Name {
     DebugLoclists,
 }
 
-/// How to read a section.
-#[derive(Clone, Copy, Debug, Default)]
-pub struct Options {
-    /// Whether to leave `DW_CFA_def_cfa_register` unchanged where the CFA has no rule yet. The library
-    /// refuses a section with such an instruction. GNU as begins CIEs for alpha, mips and riscv with it.
-    pub strict: bool,
-}
-
 /// A frame section of a program: its bytes in the file, its records, and the bytes that the library takes.
 /// All offsets are in the file's section.
 ///
@@ -72,7 +64,7 @@ pub struct Options {
 ///
 /// let data = std::fs::read("/bin/bash")?;
 /// let program = Program::read(&data)?;
-/// for frames in Frames::all(&program, Default::default()) {
+/// for frames in Frames::all(&program) {
 ///     let frames = frames?;
 ///     let process = frames.process(0)?; // checked, and all rows compiled
 ///     println!("{}: {:?}", frames.name(), process.row(0x30000));
@@ -82,7 +74,6 @@ pub struct Options {
 #[derive(Clone, Debug)]
 pub struct Frames<'data> {
     section: FrameSection<'data>,
-    options: Options,
     records: Vec<Record>,
     /// The bytes with all changes, if there are changes.
     changed: Option<Vec<u8>>,
@@ -122,8 +113,8 @@ impl<'data> FrameSection<'data> {
 }
 
 /// Changes what is harmless in these records of a section, or of a part of it.
-pub(crate) fn harmless<'a>(format: &Format, bytes: &'a [u8], records: &[Record], options: Options) -> Cow<'a, [u8]> {
-    edited(format, bytes, records, options).bytes
+pub(crate) fn harmless<'a>(format: &Format, bytes: &'a [u8], records: &[Record]) -> Cow<'a, [u8]> {
+    edited(format, bytes, records).bytes
 }
 
 /// Why a frame section can't be passed to the library.
@@ -138,32 +129,28 @@ pub enum FramesError {
 impl<'data> Frames<'data> {
     /// The frame sections of a program that have bytes, `.debug_frame` first. Each is read when the
     /// iterator reaches it.
-    pub fn all<'a>(
-        program: &'a Program<'data>,
-        options: Options,
-    ) -> impl Iterator<Item = Result<Frames<'data>, FramesError>> + 'a {
+    pub fn all<'a>(program: &'a Program<'data>) -> impl Iterator<Item = Result<Frames<'data>, FramesError>> + 'a {
         let read = move |name| match FrameSection::read(program, name) {
-            Ok(section) => section.map(|section| Frames::of(section, options)),
+            Ok(section) => section.map(Frames::of),
             Err(error) => Some(Err(FramesError::Program(name, error))),
         };
         [Name::DebugFrame, Name::EhFrame].into_iter().filter_map(read)
     }
 
     /// Reads the records of a section. This takes time in proportion to its length.
-    pub fn of(section: FrameSection<'data>, options: Options) -> Result<Self, FramesError> {
+    pub fn of(section: FrameSection<'data>) -> Result<Self, FramesError> {
         let (format, source) = (section.format, &section.source);
         u32::try_from(source.bytes.len()).map_err(|_| FramesError::TooLong(format.name))?;
         let mut records = section.records();
         let unresolved = mark_unresolved(&mut records, &format, source);
         mark_copies(&mut records, &source.bytes, format.is_eh_frame());
         let (changed, length, changes) = (None, 0, Changes::default());
-        Ok(Frames { section, options, records, changed, length, changes, unresolved }.edited())
+        Ok(Frames { section, records, changed, length, changes, unresolved }.edited())
     }
 
     /// Makes the bytes that the library takes.
     fn edited(mut self) -> Self {
-        let Edited { bytes, length, changes } =
-            edited(&self.section.format, &self.section.source.bytes, &self.records, self.options);
+        let Edited { bytes, length, changes } = edited(&self.section.format, &self.section.source.bytes, &self.records);
         self.length = length;
         self.changes = changes;
         self.changed = match bytes {

@@ -3,7 +3,7 @@
 use crate::alone::{accepted_part, every_fault};
 use crate::debug_files::DebugFiles;
 use crate::fault::{Defect, Terms};
-use crate::frames::{body, Frames, FramesError, Kind, Name, Options, Record, Standing};
+use crate::frames::{body, Frames, FramesError, Kind, Name, Record, Standing};
 use crate::lists;
 use crate::program::{Program, ProgramError};
 use crate::row::Row;
@@ -19,13 +19,11 @@ use std::path::{Path, PathBuf};
 /// ```
 /// use dwcheck_elf::inspect::Check;
 ///
-/// let check = Check { all: true, ..Check::default() };
-/// assert!(!check.options.strict);
+/// let check = Check { all: true };
+/// assert_ne!(check, Check::default());
 /// ```
-#[derive(Clone, Copy, Debug, Default)]
+#[derive(Clone, Copy, Debug, Default, PartialEq, Eq)]
 pub struct Check {
-    /// How `.eh_frame` is read.
-    pub options: Options,
     /// Whether to report every fault of a frame section, not only the first. See
     /// [`crate::alone::every_fault`].
     pub all: bool,
@@ -152,7 +150,7 @@ pub fn inspect_lists_of_file<'data>(
 
 /// Checks the frame sections of a program that have bytes: `.debug_frame`, `.eh_frame`.
 pub fn inspect_frame_sections<'data>(program: &Program<'data>, check: Check) -> Vec<Inspected<'data>> {
-    let sections = Frames::all(program, check.options).map(|frames| match frames {
+    let sections = Frames::all(program).map(|frames| match frames {
         Ok(frames) => inspect_frames(program, frames, check),
         Err(error) => unread_frames(error),
     });

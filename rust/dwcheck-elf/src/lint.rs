@@ -4,7 +4,7 @@
 //! [`Module`](dwcheck_lint::module::Module), which [`dwcheck_lint::lint`] judges.
 
 use crate::alone::accepted;
-use crate::frames::{Frames, Kind, Name, Options, Record};
+use crate::frames::{Frames, Kind, Name, Record};
 use crate::functions::Functions;
 use crate::image::{Image, Part};
 use crate::program::Program;
@@ -44,7 +44,7 @@ impl<'data> Sections<'data> {
     /// `dwcheck` refuses are left out.
     pub fn read(program: &Program<'data>) -> Self {
         let mut sections = Sections { all: Vec::new(), image: program.image(), unused: Vec::new() };
-        for frames in Frames::all(program, Options::default()) {
+        for frames in Frames::all(program) {
             let used = frames.map_err(|error| error.to_string()).and_then(accepted);
             match used {
                 Ok((frames, process, problem)) => {

@@ -6,7 +6,7 @@ mod common;
 use common::{has, Folder, C, CXX};
 use dwcheck_elf::alone::{accepted_part, every_fault};
 use dwcheck_elf::core_file::{CoreFile, Files};
-use dwcheck_elf::frames::{FrameSection, Frames, Name, Options};
+use dwcheck_elf::frames::{FrameSection, Frames, Name};
 use dwcheck_elf::inspect::{inspect, Check, Inspected, Verdict};
 use dwcheck_elf::profile::script::{self, ScriptOptions};
 use dwcheck_elf::profile::{self, folded, html, pprof, speedscope, top, Names, Places, Profile, Recording};
@@ -49,7 +49,7 @@ impl Numbers {
 /// a part of the section is refused. The only allowed difference is a CIE or FDE that gimli can't read.
 fn frames(program: &Program<'_>, source: Section<'_>) -> bool {
     let section = FrameSection { format: program.format(Name::EhFrame, &source), source };
-    let frames = Frames::of(section, Options::default()).unwrap();
+    let frames = Frames::of(section).unwrap();
     let fault = frames.process(0).err().map(|error| error.fault().unwrap());
     let rest = match fault {
         Some(fault) => {
@@ -81,7 +81,7 @@ fn program(bytes: &[u8]) {
     if let Ok(Some(section)) = program.eh_frame() {
         frames(&program, section);
     }
-    inspect(&program, Check { all: true, ..Check::default() }).iter().for_each(told);
+    inspect(&program, Check { all: true }).iter().for_each(told);
 }
 
 /// Checks that each fault is inside the original section.

@@ -5,7 +5,7 @@ mod common;
 use common::{place_of, Folder};
 use dwcheck::FaultKind;
 use dwcheck_elf::alone::{accepted_part, every_fault};
-use dwcheck_elf::frames::{Format, FrameSection, Frames, Kind, Name, Options, Record, Standing};
+use dwcheck_elf::frames::{Format, FrameSection, Frames, Kind, Name, Record, Standing};
 use dwcheck_elf::program::{Program, Section};
 use dwcheck_elf::target::{AddressSize, Order, Target};
 use dwcheck_elf::validate::{validate_rows, What};
@@ -19,11 +19,11 @@ fn section(name: Name, bytes: &[u8]) -> FrameSection<'_> {
 }
 
 fn eh_frame(bytes: &[u8]) -> Frames<'_> {
-    Frames::of(section(Name::EhFrame, bytes), Options::default()).unwrap()
+    Frames::of(section(Name::EhFrame, bytes)).unwrap()
 }
 
 fn debug_frame(bytes: &[u8]) -> Frames<'_> {
-    Frames::of(section(Name::DebugFrame, bytes), Options::default()).unwrap()
+    Frames::of(section(Name::DebugFrame, bytes)).unwrap()
 }
 
 /// A CIE of `.eh_frame` of version 1 with this augmentation string, which includes its NUL. `instructions` may
@@ -66,29 +66,22 @@ fn rest(frames: &Frames<'_>, address: u64) -> (Option<i64>, usize) {
     (offset, rest.count(Standing::LeftOut))
 }
 
-/// For some machines GNU as begins CIEs with def_cfa_register, where the CFA has no rule yet.
+/// For some machines GNU as begins CIEs with def_cfa_register, where the CFA has no rule yet. It may be all of
+/// the CIE's program.
 #[test]
 fn def_cfa_register_without_a_rule() {
-    let cie = cie(b"\0", &[0x0d, 7, 0, 0]);
-    let program = [&range(0x2000, 8)[..], &[0x41, 0x0e, 16, 0x0d, 6, 0x41, 0x0d, 7]].concat();
-    let bytes = [cie.clone(), fde(cie.len(), &program)].concat();
-    let mended = eh_frame(&bytes);
-    assert_eq!(mended.changes().mended, [cie.len() as u64 - 4]);
-    assert!(mended.bytes()[..cie.len()].ends_with(&[0x0c, 7, 0, 0]));
-    assert_eq!(validate_rows(&mended, &mended.process(0).unwrap()).unwrap().rows, 3);
-    let strict = Frames::of(section(Name::EhFrame, &bytes), Options { strict: true }).unwrap();
-    let fault = strict.process(0).unwrap_err().fault().unwrap();
-    assert_eq!((fault.kind, fault.offset as usize), (FaultKind::CfaNotRegister, cie.len() - 4));
-    assert!(!strict.is_changed());
-}
-
-/// Without a `DW_CFA_nop` after it there is no room for an offset.
-#[test]
-fn def_cfa_register_at_the_end_of_a_cie() {
-    let cie = cie(b"\0", &[0x0d, 7]);
-    let frames = eh_frame(&cie);
-    assert_eq!(frames.process(0).unwrap_err().fault().unwrap().kind, FaultKind::CfaNotRegister);
-    assert!(!frames.is_changed());
+    for first in [&[0x0d, 7][..], &[0x0d, 7, 0, 0]] {
+        let cie = cie(b"\0", first);
+        let program = [&range(0x2000, 8)[..], &[0x41, 0x0e, 16, 0x0d, 6, 0x41, 0x0d, 7]].concat();
+        let frames = [cie.clone(), fde(cie.len(), &program)].concat();
+        let frames = eh_frame(&frames);
+        assert_eq!(frames.changes().mended, [(cie.len() - first.len()) as u64]);
+        assert!(!frames.is_changed());
+        let process = frames.process(0).unwrap();
+        let first = process.row(0x2000).unwrap().cfa;
+        assert!(matches!(first, dwcheck::CfaRule::RegisterAndOffset { register: 7, offset: 0 }), "{:?}", first);
+        assert_eq!(validate_rows(&frames, &process).unwrap().rows, 3);
+    }
 }
 
 /// Records of length 0 in the middle of a section, and records in the 64-bit format.
@@ -241,7 +234,7 @@ fn a_wrong_row_of_the_library_is_a_difference() {
     function(&folder, ".cfi_def_cfa_offset 16");
     let bytes = folder.bytes("linked");
     let program = Program::read(&bytes).unwrap();
-    let frames = Frames::all(&program, Options::default()).next().unwrap().unwrap();
+    let frames = Frames::all(&program).next().unwrap().unwrap();
     let agreement = validate_rows(&frames, &frames.process(0).unwrap()).unwrap();
     assert_eq!((agreement.fdes, agreement.rows), (2, 3));
     let mut changed = frames.bytes().to_vec();

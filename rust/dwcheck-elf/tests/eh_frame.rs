@@ -191,7 +191,7 @@ fn last_fde(folder: &Folder) -> (u64, u64, usize) {
 fn validated(folder: &Folder, file: &str) -> (Vec<Record>, Notes, Agreement) {
     let bytes = folder.bytes(file);
     let program = Program::read(&bytes).unwrap();
-    let frames = Frames::all(&program, Default::default()).last().unwrap().unwrap();
+    let frames = Frames::all(&program).last().unwrap().unwrap();
     let agreement = validate_rows(&frames, &frames.process(0).unwrap());
     let agreement = agreement.unwrap_or_else(|difference| panic!("{}: {}", file, difference));
     (frames.records().to_vec(), Notes::of(&frames), agreement)

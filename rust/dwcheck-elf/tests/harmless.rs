@@ -5,7 +5,7 @@ mod common;
 
 use common::run::dwcheck_elf;
 use common::{has, Folder};
-use dwcheck_elf::frames::{Frames, Name, Options};
+use dwcheck_elf::frames::{Frames, Name};
 use dwcheck_elf::program::Program;
 
 /// Two units with the same inline function. The linker keeps one of the two functions, and both FDEs.
@@ -88,7 +88,7 @@ fn signed_return_addresses() {
         assert_eq!(is_dropped, name == Name::DebugFrame, "{}", ran.out);
         let bytes = folder.bytes("linked");
         let program = Program::read(&bytes).unwrap();
-        let frames = Frames::all(&program, Options::default()).next().unwrap().unwrap();
+        let frames = Frames::all(&program).next().unwrap().unwrap();
         assert_eq!(frames.name(), name);
         assert_eq!(frames.signed(), [0x1004..0x100c, 0x1010..0x1014]);
     }

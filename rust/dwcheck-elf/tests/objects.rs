@@ -5,7 +5,7 @@ mod common;
 
 use common::run::dwcheck_elf;
 use common::{has, hex, Folder, C, CXX, MACHINES};
-use dwcheck_elf::frames::{Frames, Options, Record};
+use dwcheck_elf::frames::{Frames, Record};
 use dwcheck_elf::program::{Program, ProgramError, Section};
 use dwcheck_elf::validate::validate_rows;
 use std::collections::HashMap;
@@ -73,7 +73,7 @@ fn functions_of_frames(folder: &Folder, file: &str, section: &str, ranges: &[(u6
 fn ranges_of_eh_frame(folder: &Folder, file: &str) -> Vec<(u64, u64)> {
     let bytes = folder.bytes(file);
     let program = Program::read(&bytes).unwrap();
-    let frames = Frames::all(&program, Options::default()).last().unwrap().unwrap();
+    let frames = Frames::all(&program).last().unwrap().unwrap();
     let agreement = validate_rows(&frames, &frames.process(0).unwrap()).unwrap();
     let addresses: Vec<_> = frames.used().filter_map(Record::addresses).collect();
     assert_eq!(agreement.fdes, addresses.len());
@@ -208,7 +208,7 @@ fde_end:
     let section = program.eh_frame().unwrap().unwrap();
     let record = folder.section("a.o", ".eh_frame").len() as u64 - 17;
     assert_eq!(section.unresolved, [record + 8]);
-    let frames = Frames::all(&program, Options::default()).next().unwrap().unwrap();
+    let frames = Frames::all(&program).next().unwrap().unwrap();
     assert_eq!(frames.unresolved(), [record]);
     let ran = dwcheck_elf(&folder, "check a.o");
     let expected = format!("a.o: .eh_frame+{:#x}: Unresolved: a field, record {0:#x}", record);

@@ -267,11 +267,11 @@ fn the_sections_of_a_module() {
 }
 
 /// For these machines GNU as begins CIEs with DW_CFA_def_cfa_register, where the CFA has no rule
-/// yet. Most readers accept that.
+/// yet. The CIE of a signal frame of riscv64 has nothing after it.
 #[test]
-fn strict_refuses_a_register_without_an_offset() {
-    let folder = Folder::new("strict");
-    folder.write("a.s", ".globl f\nf: .cfi_startproc\n nop\n .cfi_endproc\n");
+fn a_register_without_an_offset_is_accepted_and_counted() {
+    let folder = Folder::new("register");
+    folder.write("a.s", ".globl f\nf: .cfi_startproc\n .cfi_signal_frame\n nop\n .cfi_endproc\n");
     for machine in ["riscv64-linux-gnu", "mips-linux-gnu"] {
         if !has(&format!("{}-as", machine)) {
             continue;
@@ -280,9 +280,6 @@ fn strict_refuses_a_register_without_an_offset() {
         let ran = dwcheck_elf(&folder, "check --notes a.o");
         assert!(ran.out.contains(": 1 DW_CFA_def_cfa_register before a rule for the CFA"), "{}", ran.out);
         assert_eq!(ran.status, 0);
-        let strict = dwcheck_elf(&folder, "check --strict a.o");
-        assert_eq!(strict.status, 1);
-        assert!(strict.out.contains("CfaNotRegister: def_cfa_register, CIE 0x0\n"), "{}", strict.out);
     }
 }
 

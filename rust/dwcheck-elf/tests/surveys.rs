@@ -51,6 +51,30 @@ fn a_line_of_json_each() {
     assert!(ran.out.contains("\"fault\":\"Unrestored\"") && ran.out.contains("\"function\":\"_start\""), "{}", ran.out);
 }
 
+/// SARIF: the fault of a program with line tables is at the line of its FDE's first address, and that of one without
+/// at its address.
+#[test]
+fn faults_as_sarif() {
+    let folder = folder("survey-sarif");
+    folder.run("as -g bad.s -o lined.o && ld lined.o -o all/lined");
+    folder.write(
+        "show.py",
+        "import json, sys\nrun, = json.load(sys.stdin)['runs']\nfor one in run['results']:\n\
+         \x20place = one['locations'][0]\n\
+         \x20found = place['physicalLocation']\n\
+         \x20print(one['ruleId'], one['level'], found['artifactLocation']['uri'], found['region']['startLine'],\n\
+         \x20 'address' in found, place['logicalLocations'][0]['fullyQualifiedName'])\n\
+         print([rule['id'] for rule in run['tool']['driver']['rules']], run['properties']['totals']['refused'])\n",
+    );
+    let ran = dwcheck_elf(&folder, "survey --sarif all");
+    folder.write("document", &ran.out);
+    let shown = folder.run("python3 show.py < document");
+    let expected =
+        "Unrestored error all/below/bad 1 True _start\nUnrestored error bad.s 4 False _start\n['Unrestored'] 2\n";
+    assert_eq!((ran.status, shown.as_str()), (1, expected));
+    assert_eq!(dwcheck_elf(&folder, "survey --sarif --json all").status, 2);
+}
+
 #[test]
 fn what_cannot_be_read_is_said() {
     let folder = folder("survey-unread");

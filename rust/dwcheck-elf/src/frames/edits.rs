@@ -3,10 +3,9 @@
 //! Nothing moves: every offset in the changed bytes is the offset in the file's section.
 
 use super::records::{body, Kind, Record, Standing};
-use super::{Format, Options};
-use crate::bytes::Cursor;
+use super::Format;
 use crate::cfi::{
-    instructions, Instruction, DEF_CFA, DEF_CFA_REGISTER, GNU_ARGS_SIZE, NEGATE_RA_STATE, NEGATE_RA_STATE_WITH_PC, NOP,
+    instructions, Instruction, DEF_CFA_REGISTER, GNU_ARGS_SIZE, NEGATE_RA_STATE, NEGATE_RA_STATE_WITH_PC, NOP,
 };
 use std::borrow::Cow;
 use std::ops::Range;
@@ -25,14 +24,15 @@ pub(super) struct Edited<'a> {
     pub bytes: Cow<'a, [u8]>,
     /// How many of them the library takes.
     pub length: usize,
-    /// The offsets of the instructions that were changed.
+    /// The instructions that are read in another way than they are written.
     pub changes: Changes,
 }
 
-/// The offsets of the instructions that were changed, each list ascending.
+/// The offsets of instructions that are read in another way than they are written, each list ascending.
 #[derive(Clone, Debug, Default, PartialEq, Eq)]
 pub struct Changes {
-    /// `DW_CFA_def_cfa_register` at the beginning of a CIE, read as a `DW_CFA_def_cfa` with the offset 0.
+    /// `DW_CFA_def_cfa_register` at the beginning of a CIE of `.eh_frame`, which the library reads as a
+    /// `DW_CFA_def_cfa` with the offset 0.
     pub mended: Vec<u64>,
     /// `DW_CFA_AARCH64_negate_ra_state` in `.debug_frame`, read as `DW_CFA_nop`.
     pub negated: Vec<u64>,
@@ -46,11 +46,11 @@ pub struct Changes {
 /// A record that is blanked out becomes a CIE that no FDE uses. If it is too short for one, it becomes records of
 /// length 0 in `.eh_frame`, and in `.debug_frame` a part of the record before it, whose instructions go on with
 /// `DW_CFA_nop`. The section ends where neither can be done.
-pub(super) fn edited<'a>(format: &Format, bytes: &'a [u8], records: &[Record], options: Options) -> Edited<'a> {
+pub(super) fn edited<'a>(format: &Format, bytes: &'a [u8], records: &[Record]) -> Edited<'a> {
     let is_whole = records.iter().all(|record| record.standing != Standing::LeftOut);
     let mut length = bytes.len();
     let (bytes, changes) = (Cow::Borrowed(bytes), Changes::default());
-    let mut edits = Edits { bytes, format, options, is_whole, changes, last: None };
+    let mut edits = Edits { bytes, format, is_whole, changes, last: None };
     for record in records {
         if !edits.take(record) {
             length = length.min(record.offset as usize);
@@ -63,7 +63,6 @@ pub(super) fn edited<'a>(format: &Format, bytes: &'a [u8], records: &[Record], o
 struct Edits<'a, 'f> {
     bytes: Cow<'a, [u8]>,
     format: &'f Format,
-    options: Options,
     /// Whether no record is left out.
     is_whole: bool,
     changes: Changes,
@@ -151,23 +150,15 @@ impl Edits<'_, '_> {
     fn change(&mut self, record: &Record) {
         if !self.format.is_eh_frame() {
             self.silence(record.program());
-        } else if record.is_cie() && !self.options.strict {
-            self.mend(record.program());
+        } else if record.is_cie() {
+            self.note(record.program());
         }
     }
 
-    /// Makes a `DW_CFA_def_cfa` with the offset 0 of a `DW_CFA_def_cfa_register` with which a CIE begins. A
-    /// `DW_CFA_nop` that follows it becomes the offset. Without one, the library refuses the CIE.
-    fn mend(&mut self, program: Range<usize>) {
-        let start = program.start;
-        if self.bytes.get(start) != Some(&DEF_CFA_REGISTER) {
-            return;
-        }
-        let mut cursor = Cursor::new(self.bytes.get(..program.end).unwrap_or(&[]), self.format.target);
-        let register = cursor.take(start as u64 + 1).and_then(|_| cursor.skip_leb());
-        if register.is_ok() && cursor.byte() == Ok(NOP) {
-            self.bytes.to_mut()[start] = DEF_CFA;
-            self.changes.mended.push(start as u64);
+    /// Notes a CIE that begins with `DW_CFA_def_cfa_register`.
+    fn note(&mut self, program: Range<usize>) {
+        if !program.is_empty() && self.bytes.get(program.start) == Some(&DEF_CFA_REGISTER) {
+            self.changes.mended.push(program.start as u64);
         }
     }
 

@@ -16,7 +16,8 @@ pub struct Notes {
     pub empty_records: usize,
     /// FDEs that are exact copies of an earlier one, and count once.
     pub copies: usize,
-    /// `DW_CFA_def_cfa_register` at the beginning of a CIE, read as a `DW_CFA_def_cfa` with the offset 0.
+    /// `DW_CFA_def_cfa_register` at the beginning of a CIE of `.eh_frame`, which the library reads as a
+    /// `DW_CFA_def_cfa` with the offset 0.
     pub mended: usize,
 }
 

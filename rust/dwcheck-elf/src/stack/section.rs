@@ -2,7 +2,7 @@
 
 use crate::alone::Alone;
 use crate::cfi::{instructions, signed, with_nops, REMEMBER_STATE, RESTORE_STATE};
-use crate::frames::{find, harmless, Format, FrameSection, Kind, Name, Options, Record};
+use crate::frames::{find, harmless, Format, FrameSection, Kind, Name, Record};
 use crate::pieces::{Piece, Pieces};
 use crate::program::Program;
 use std::borrow::Cow;
@@ -76,7 +76,7 @@ impl<'a> SectionTable<'a> {
         let alone = cie.filter(|cie| cie.is_cie()).and_then(|cie| Alone::fde(format, &source.bytes, cie, fde));
         let Alone { bytes, format, records } = alone.ok_or("its CIE can't be read")?;
         let signed = if format.is_aarch64() { signed(&bytes, &records, format.target) } else { Vec::new() };
-        let bytes = harmless(&format, &bytes, &records, Options::default()).into_owned();
+        let bytes = harmless(&format, &bytes, &records).into_owned();
         let program = records.last().map_or(0..0, Record::program);
         Ok(OneFde { bytes, format, is_signal_frame, signed, program })
     }

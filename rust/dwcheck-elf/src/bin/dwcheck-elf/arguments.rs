@@ -1,8 +1,6 @@
 //! The arguments of the command line.
 
 use clap::{Args, Parser, Subcommand, ValueEnum};
-use dwcheck_elf::frames::Options;
-use dwcheck_elf::inspect::Check;
 use std::ffi::OsString;
 use std::path::PathBuf;
 
@@ -80,26 +78,6 @@ Exit status: that of the program, or 128 plus the number of the signal that ende
 const LINT_STATUS: &str = "Example: dwcheck-elf lint --explain /usr/bin/openssl
 Exit status: 0 nothing found; 1 findings; 2 a bad argument; 3 a file that can't be read";
 
-/// How `.eh_frame` is read.
-#[derive(Args, Clone, Copy, Debug)]
-pub struct Reading {
-    /// Refuse DW_CFA_def_cfa_register before the CFA has a rule, as GNU as writes it for alpha, mips and riscv
-    #[arg(long)]
-    pub strict: bool,
-}
-
-impl Reading {
-    /// The options for reading `.eh_frame`.
-    pub fn options(self) -> Options {
-        Options { strict: self.strict }
-    }
-
-    /// The options for a check. If `all`, the check reports every fault, not only the first.
-    pub fn check(self, all: bool) -> Check {
-        Check { options: self.options(), all }
-    }
-}
-
 /// What to print in addition to the result.
 #[derive(Args, Clone, Copy, Debug)]
 pub struct Notes {
@@ -120,8 +98,6 @@ pub struct CheckWords {
     #[arg(long)]
     pub no_lists: bool,
     #[command(flatten)]
-    pub reading: Reading,
-    #[command(flatten)]
     pub notes: Notes,
 }
 
@@ -129,8 +105,6 @@ pub struct CheckWords {
 pub struct RowsWords {
     /// An ELF file
     pub program: PathBuf,
-    #[command(flatten)]
-    pub reading: Reading,
     #[command(flatten)]
     pub notes: Notes,
 }
@@ -144,8 +118,6 @@ pub struct RowWords {
     /// Where the program is loaded
     #[arg(long, value_name = "ADDRESS", default_value = "0x0")]
     pub load: String,
-    #[command(flatten)]
-    pub reading: Reading,
 }
 
 /// The modules of a process.
@@ -157,8 +129,6 @@ pub struct Modules {
     /// A further module: where it is loaded, and its ELF file
     #[arg(long, value_name = "LOAD=FILE")]
     pub module: Vec<OsString>,
-    #[command(flatten)]
-    pub reading: Reading,
 }
 
 #[derive(Args, Debug)]
@@ -286,6 +256,9 @@ pub struct SurveyWords {
     /// Write a line of JSON for each file, and one for the totals
     #[arg(long)]
     pub json: bool,
+    /// Write all faults as SARIF 2.1.0, which code hosts show at the source line
+    #[arg(long, conflicts_with = "json")]
+    pub sarif: bool,
     /// List every FDE that is refused, not only the first of each section
     #[arg(long)]
     pub all: bool,
@@ -295,8 +268,6 @@ pub struct SurveyWords {
     /// Check this many files at once, instead of one for each processor
     #[arg(long, value_name = "N")]
     pub jobs: Option<usize>,
-    #[command(flatten)]
-    pub reading: Reading,
     #[command(flatten)]
     pub notes: Notes,
 }

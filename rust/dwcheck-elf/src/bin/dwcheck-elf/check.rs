@@ -45,7 +45,7 @@ fn read_program(path: &Path) -> Result<Bytes, Failure> {
 fn check_one(words: &CheckWords, path: &Path, out: &mut impl Write) -> Result<Done, Failure> {
     let data = read_program(path)?;
     let program = program(path, &data)?;
-    let check = words.reading.check(words.all);
+    let check = Check { all: words.all };
     let mut sections = inspect_frame_sections(&program, check);
     let mut done = Done::Accepted;
     let mut separate = None;

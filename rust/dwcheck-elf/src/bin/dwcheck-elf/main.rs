@@ -9,6 +9,7 @@ mod lists;
 mod opened;
 mod profile;
 mod rows;
+mod sarif;
 mod stack;
 mod survey;
 mod trace;

@@ -4,7 +4,7 @@
 use crate::end::{shown, Done, Failure};
 use dwcheck::Process;
 use dwcheck_elf::fault::{Defect, Within};
-use dwcheck_elf::frames::{Frames, Name, Options};
+use dwcheck_elf::frames::{Frames, Name};
 use dwcheck_elf::functions::Functions;
 use dwcheck_elf::inspect::{inspect_frame_sections, Check, InspectError, LeftOut, Rest, Verdict};
 use dwcheck_elf::mapped::Bytes;
@@ -49,10 +49,10 @@ impl<'data> Opened<'data> {
     /// Checks the frame sections of a program. The rows of `.eh_frame`, and of a section that had to be changed,
     /// are also compared with gimli's, and a difference is a failure. A `.debug_frame` that can't be read is left out, if there is an `.eh_frame`, and a note on standard
     /// error says so.
-    pub fn read(path: &Path, program: &Program<'data>, options: Options) -> Result<Self, Failure> {
+    pub fn read(path: &Path, program: &Program<'data>) -> Result<Self, Failure> {
         let mut opened = Opened { frames: Vec::new(), refused: Vec::new() };
         let mut unread = Vec::new();
-        for section in inspect_frame_sections(program, Check { options, all: true }) {
+        for section in inspect_frame_sections(program, Check { all: true }) {
             let rest = section.rest().map_err(|error| Failure::judging(path, &error))?;
             match section.verdict {
                 Verdict::Refused(defects) => {

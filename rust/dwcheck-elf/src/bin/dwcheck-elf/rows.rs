@@ -17,7 +17,7 @@ use std::io::Write;
 pub fn rows(words: &RowsWords, out: &mut impl Write) -> Result<Done, Failure> {
     let data = read(&words.program)?;
     let program = program(&words.program, &data)?;
-    let opened = Opened::read(&words.program, &program, words.reading.options())?;
+    let opened = Opened::read(&words.program, &program)?;
     let functions = program.functions();
     for frames in &opened.frames {
         let process = process(&words.program, frames)?;
@@ -74,7 +74,7 @@ pub fn row(words: &RowWords, out: &mut impl Write) -> Result<Done, Failure> {
     let load = number_argument(&words.load, target)?;
     let loaded = address(&words.address, target, &functions, load)?;
     let linked = target.wrap(loaded.wrapping_sub(load));
-    let opened = Opened::read(&words.program, &program, words.reading.options())?;
+    let opened = Opened::read(&words.program, &program)?;
     for frames in &opened.frames {
         let process = process(&words.program, frames)?;
         if process.row(linked).is_some() {

@@ -2,6 +2,7 @@
 
 pub mod files;
 mod json;
+mod sarif;
 mod totals;
 
 use crate::arguments::SurveyWords;
@@ -10,6 +11,7 @@ use crate::opened::{note, write_defect};
 use dwcheck_elf::fault::Defect;
 use dwcheck_elf::frames::{Name, Notes};
 use dwcheck_elf::inspect::{inspect, inspect_frame_sections, Check, Inspected, Verdict};
+use dwcheck_elf::lines::{Lines, SourceLine};
 use dwcheck_elf::lists;
 use dwcheck_elf::program::Program;
 use dwcheck_elf::validate::Agreement;
@@ -22,6 +24,7 @@ use std::path::PathBuf;
 use std::sync::mpsc::{self, Receiver};
 use std::thread;
 use totals::Totals;
+use typed_arena::Arena;
 
 /// The number of bytes of each thread's stack: more than gimli and `dwcheck` need.
 pub const STACK: usize = 8 << 20;
@@ -42,6 +45,8 @@ pub struct Section {
     held: Held,
     /// The section's faults. Empty if it was accepted, or couldn't be checked.
     defects: Vec<Defect>,
+    /// The source line of each fault, if it was asked for.
+    lines: Vec<Option<SourceLine>>,
     /// Why the section can't be read or checked.
     error: Option<String>,
     notes: Notes,
@@ -65,14 +70,15 @@ pub enum Held {
     Unknown,
 }
 
-/// Checks all files, and writes their faults and the totals, as text or as JSON.
+/// Checks all files, and writes their faults and the totals, as text, as JSON or as SARIF.
 pub fn survey(words: &SurveyWords, out: &mut impl Write) -> Result<Done, Failure> {
     let pool = rayon::ThreadPoolBuilder::new().num_threads(words.jobs.unwrap_or(0)).stack_size(STACK);
     let pool = pool.build().map_err(|error| Failure::File(format!("no threads: {}", error)))?;
     let files = pool.install(|| Files::once_each(&words.paths));
     let bar = progress(files.paths.len() as u64);
-    let check = words.reading.check(words.all);
+    let asked = Asked { check: Check { all: words.all }, has_lists: words.lists, has_lines: words.sarif };
     let mut totals = Totals::of(&files);
+    let mut results = sarif::Results::default();
     if words.json {
         json::write_unread(out, &files)?;
     } else {
@@ -82,9 +88,7 @@ pub fn survey(words: &SurveyWords, out: &mut impl Write) -> Result<Done, Failure
     // Files are checked in their order, as far as several at once allow, and written in it.
     let check_all = || {
         let each = files.paths.iter().enumerate().par_bridge();
-        each.try_for_each_with(sender, |sender, (number, path)| {
-            sender.send((number, inspected(path.clone(), check, words.lists)))
-        })
+        each.try_for_each_with(sender, |sender, (number, path)| sender.send((number, inspected(path.clone(), asked))))
     };
     thread::scope(|scope| {
         // It ends early if the results can't be written.
@@ -92,12 +96,22 @@ pub fn survey(words: &SurveyWords, out: &mut impl Write) -> Result<Done, Failure
         in_order(surveyed, |one| {
             bar.inc(1);
             totals.count(&one);
-            bar.suspend(|| if words.json { json::write_file(out, &one) } else { write_refused(out, &one) })
+            bar.suspend(|| match (words.json, words.sarif) {
+                (true, _) => json::write_file(out, &one),
+                (false, true) => {
+                    results.add(&one);
+                    note_errors(&one);
+                    Ok(())
+                }
+                (false, false) => write_refused(out, &one),
+            })
         })
     })?;
     bar.finish_and_clear();
     if words.json {
         json::write_totals(out, &totals)?;
+    } else if words.sarif {
+        results.write(out, json::totals(&totals))?;
     } else {
         totals.write(out, words.notes.notes)?;
     }
@@ -125,22 +139,51 @@ pub fn progress(count: u64) -> ProgressBar {
     style.map_or(bar.clone(), |style| bar.with_style(style))
 }
 
+/// What to look at in each file.
+#[derive(Clone, Copy)]
+struct Asked {
+    check: Check,
+    /// Whether location lists are checked too.
+    has_lists: bool,
+    /// Whether the source lines of faults are looked up.
+    has_lines: bool,
+}
+
 /// Checks a file.
-fn inspected(path: PathBuf, check: Check, has_lists: bool) -> Surveyed {
+fn inspected(path: PathBuf, asked: Asked) -> Surveyed {
     match content(&path) {
-        Ok(data) => inspected_bytes(path, &data, check, has_lists),
+        Ok(data) => inspected_bytes(path, &data, asked),
         Err(error) => Surveyed { path, machine: None, outcome: Err(format!("cannot read: {}", error)) },
     }
 }
 
-fn inspected_bytes(path: PathBuf, data: &[u8], check: Check, has_lists: bool) -> Surveyed {
+fn inspected_bytes(path: PathBuf, data: &[u8], asked: Asked) -> Surveyed {
     let program = match Program::read(data) {
         Ok(program) => program,
         Err(error) => return Surveyed { path, machine: None, outcome: Err(error.to_string()) },
     };
-    let sections = if has_lists { inspect(&program, check) } else { inspect_frame_sections(&program, check) };
-    let outcome = Ok(sections.into_iter().map(Section::of).collect());
-    Surveyed { path, machine: Some(program.machine()), outcome }
+    let inspected = match asked.has_lists {
+        true => inspect(&program, asked.check),
+        false => inspect_frame_sections(&program, asked.check),
+    };
+    let mut sections: Vec<_> = inspected.into_iter().map(Section::of).collect();
+    if asked.has_lines && sections.iter().any(|section| !section.defects.is_empty()) {
+        find_lines(&program, &mut sections);
+    }
+    Surveyed { path, machine: Some(program.machine()), outcome: Ok(sections) }
+}
+
+/// Looks up the source line of each fault.
+fn find_lines(program: &Program<'_>, sections: &mut [Section]) {
+    let unpacked = Arena::new();
+    let lines = match Lines::read(program, None, &unpacked) {
+        Some(lines) => lines,
+        None => return,
+    };
+    for section in sections {
+        let line = |defect| lines.line(sarif::address(defect)?);
+        section.lines = section.defects.iter().map(line).collect();
+    }
 }
 
 impl Surveyed {
@@ -170,7 +213,7 @@ impl Section {
                 (Held::Unknown, Vec::new())
             }
         };
-        Section { name, bytes, held, defects, error, notes, lists }
+        Section { name, bytes, held, defects, lines: Vec::new(), error, notes, lists }
     }
 }
 
@@ -181,22 +224,24 @@ fn note_unread(files: &Files) {
     }
 }
 
-/// Writes two lines for each fault of a file. Also writes, on standard error, why the file or a section
-/// can't be read or checked.
-fn write_refused(out: &mut impl Write, surveyed: &Surveyed) -> io::Result<()> {
-    let Surveyed { path, outcome, .. } = surveyed;
-    let sections = match outcome {
-        Ok(sections) => sections,
-        Err(error) => {
-            note(path, error);
-            return Ok(());
+/// Says on standard error why a file or a section can't be read or checked.
+fn note_errors(surveyed: &Surveyed) {
+    match &surveyed.outcome {
+        Ok(sections) => {
+            sections.iter().filter_map(|section| section.error.as_ref()).for_each(|error| note(&surveyed.path, error))
         }
-    };
+        Err(error) => note(&surveyed.path, error),
+    }
+}
+
+/// Writes two lines for each fault of a file. Also says why the file or a section can't be read.
+fn write_refused(out: &mut impl Write, surveyed: &Surveyed) -> io::Result<()> {
+    let sections = surveyed.outcome.as_deref().unwrap_or(&[]);
     let mut defects = sections.iter().flat_map(|section| &section.defects).peekable();
     if defects.peek().is_some() {
-        defects.try_for_each(|defect| write_defect(out, path, defect))?;
+        defects.try_for_each(|defect| write_defect(out, &surveyed.path, defect))?;
         out.flush()?;
     }
-    sections.iter().filter_map(|section| section.error.as_ref()).for_each(|error| note(path, error));
+    note_errors(surveyed);
     Ok(())
 }

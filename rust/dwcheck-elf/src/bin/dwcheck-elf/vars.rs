@@ -9,7 +9,6 @@ use dwcheck::{Process, State};
 use dwcheck_elf::abi::abi;
 use dwcheck_elf::core_file::{CoreFile, Files};
 use dwcheck_elf::debug_files::DebugFiles;
-use dwcheck_elf::frames::Options;
 use dwcheck_elf::live::Snapshot;
 use dwcheck_elf::modules::Modules;
 use dwcheck_elf::program::Program;
@@ -131,7 +130,7 @@ fn variables<'a>(path: &Path, program: &Program<'a>, files: &'a DebugFiles) -> R
 
 /// The program's unwind tables, which give the CFA and the callers.
 fn unwinder(path: &Path, program: &Program<'_>, load: u64) -> Result<Modules, Failure> {
-    let opened = Opened::read(path, program, Options::default())?;
+    let opened = Opened::read(path, program)?;
     opened.note_refused(path, false);
     let mut modules = Modules::new(program.target());
     let added = modules.add(path, program, &opened.frames, load);

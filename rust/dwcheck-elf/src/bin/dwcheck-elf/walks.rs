@@ -87,15 +87,14 @@ fn given(words: &UnwindWords, target: Target, data: Bytes) -> Result<Vec<Given>,
 /// Checks all modules and puts them into a process. If something of a module isn't used, such as what
 /// is refused, or all of it if its addresses overlap those of an earlier module, a note on standard error
 /// says so.
-fn loaded<'a>(words: &UnwindWords, given: &'a [Given], target: Target) -> Result<Loaded<'a>, Failure> {
-    let options = words.modules.reading.options();
+fn loaded<'a>(given: &'a [Given], target: Target) -> Result<Loaded<'a>, Failure> {
     let mut all = Loaded { modules: Modules::new(target), target, functions: Vec::new(), opened: Vec::new() };
     for Given { path, load, data } in given {
         let program = program(path, data)?;
         if program.target() != target {
             return Err(Failure::File(format!("{}: another byte order or address size", shown(path))));
         }
-        let opened = Opened::read(path, &program, options)?;
+        let opened = Opened::read(path, &program)?;
         opened.note_refused(path, false);
         let added = all.modules.add(path, &program, &opened.frames, *load);
         all.opened.push((path, *load, opened));
@@ -124,7 +123,7 @@ fn run<W: Write>(
         Program::read(&data).map_err(|error| Failure::File(format!("{}: {}", shown(&words.program), error)))?.target();
     let given = given(words, target, data)?;
     let state = state_file(&words.state, target)?;
-    let loaded = loaded(words, &given, target)?;
+    let loaded = loaded(&given, target)?;
     let (functions, load) = &loaded.functions[0];
     let address = address(&words.address, target, functions, *load)?;
     ask(&loaded, address, &state, out)?;

@@ -20,9 +20,14 @@ pub fn write_file(out: &mut impl Write, surveyed: &Surveyed) -> io::Result<()> {
 }
 
 /// Writes the last object.
-pub fn write_totals(out: &mut impl Write, totals: &Totals) -> io::Result<()> {
+pub fn write_totals(out: &mut impl Write, all: &Totals) -> io::Result<()> {
+    writeln!(out, "{}", json!({ "totals": totals(all) }))
+}
+
+/// The counts of all files, by their names.
+pub fn totals(totals: &Totals) -> Value {
     let counts: Map<_, _> = totals.named().iter().map(|(name, count)| (name.to_string(), json!(count))).collect();
-    writeln!(out, "{}", json!({ "totals": counts }))
+    Value::Object(counts)
 }
 
 fn file(one: &Surveyed) -> Value {
