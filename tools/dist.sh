@@ -2,7 +2,8 @@
 # Makes build/dist/dwcheck-VERSION-x86_64-linux.tar.xz: what a machine without the kit can use. It has the
 # programs, the C libraries with header, pkg-config and CMake files, the Python module, manual pages,
 # completions, docs, checksums, and a page that says what was proved, by which kit, from which commit.
-# Two runs from the same commit give the same bytes. The tree must be clean, and `make` must have built it.
+# Debian has no static Zydis, so the programs come with the shared libraries that they need, libc and its
+# loader among them. Two runs from the same commit give the same bytes. The tree must be clean, and `make` must have built it.
 set -eu
 top=$(dirname "$(dirname "$(realpath "$0")")")
 cd "$top"
@@ -20,6 +21,23 @@ put() { # MODE FOLDER FILE..
     shift 2
     install -d "$out/$folder"
     install -m "$mode" "$@" "$out/$folder/"
+}
+
+libraries_of() { # PROGRAM: prints the paths of the shared libraries that it needs
+    ldd "build/$1" | sed -n 's|^[^/]*\(/[^ ]*\) (.*|\1|p'
+}
+
+# A program, its shared libraries, and a script that starts it with these.
+put_program() { # NAME
+    put 755 lib/dwcheck "build/$1" $(libraries_of "$1")
+    install -d "$out/bin"
+    cat > "$out/bin/$1" << END
+#!/bin/sh
+# Starts the program with the libraries that came with it, whatever this system has.
+libraries=\$(dirname "\$(readlink -f "\$0")")/../lib/dwcheck
+exec "\$libraries/ld-linux-x86-64.so.2" --library-path "\$libraries" "\$libraries/$1" "\$@"
+END
+    chmod 755 "$out/bin/$1"
 }
 
 # The pkg-config files of an installed library, but relative to where the archive is unpacked.
@@ -43,11 +61,17 @@ provenance() {
     echo "Each function of these crates is proved to meet its contract (docs/PROVED.md):"
     sed -n 's/^\([a-z_]*\)\( staticlib\)\?:.*/\1/p' crates.txt
     echo
+    echo "Debian's packages of the libraries in lib/dwcheck:"
+    for library in $(libraries_of dwcheck-elf); do
+        dpkg -S "$library" 2> /dev/null || dpkg -S "/usr$library"
+    done | sed 's/: .*//' | LC_ALL=C sort -u | xargs dpkg-query -W -f '${Package} ${Version}\n'
+    echo
     echo "Not proved: dwcheck-elf, libdwcheck-dl, dwcheck.hpp, dwcheck.cppm, dwcheck.py, and the C files of c/."
 }
 
 rm -rf build/dist
-put 755 bin build/dwcheck build/dwcheck-elf
+put_program dwcheck
+put_program dwcheck-elf
 put 644 lib build/libdwcheck.a build/libdwcheck-dl.a
 put 755 lib "build/libdwcheck.so.$version"
 ln -s "libdwcheck.so.$version" "$out/lib/libdwcheck.so.2"
