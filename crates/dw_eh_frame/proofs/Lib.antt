@@ -6,6 +6,7 @@ pub mod CopiesFound
 pub mod Steps
 pub mod Refusing
 pub mod Nops
+pub mod Unchanged
 pub mod PastInstructions
 pub mod Moved
 pub mod SaidAgain

@@ -1,5 +1,5 @@
 -- Programs with nops in place of the instructions that `.debug_frame` doesn't have.
-use Rattle.std.specs.Prelude.{ℕ, zero, suc, ◌-◌, ◌==◌, Bool, true, false, if◌then◌else◌, List, [], ◌∷◌, ◌++◌, length, take, replicate, Result, Ok, Err}
+use Rattle.std.specs.Prelude.{ℕ, zero, suc, ◌-◌, ◌==◌, ◌||◌, Bool, true, false, if◌then◌else◌, List, [], ◌∷◌, ◌++◌, length, take, replicate, Result, Ok, Err}
 use Rattle.dw_bytes.specs.declared.fault.Fault.{Fault}
 use Rattle.dw_bytes.specs.declared.fault.FaultKind.TheVariants.{UnknownInstruction}
 use Rattle.dw_bytes.specs.Reading.{ReadPosition, ◌>>=◌, fixed_at, uleb_at}
@@ -47,6 +47,10 @@ silenced_then dialect others r (Err fault) = unread dialect r.rest
 abbrev pub silenced_up_to : Dialect → ℕ → ReadPosition → List ℕ
 silenced_up_to dialect zero r = r.rest
 silenced_up_to dialect (suc n) r = silenced_then dialect (silenced_up_to dialect n) r (past_instruction dialect r)
+
+-- whether an instruction with this code is written in another way
+abbrev pub is_changed : Dialect → ℕ → Bool
+is_changed dialect code = code == 0x2e || is_negation dialect code || is_unread dialect code
 
 unfoldable pub silenced : Dialect → ReadPosition → List ℕ
 silenced dialect r = silenced_up_to dialect (length r.rest) r

@@ -64,9 +64,9 @@ pub(crate) fn remember(firsts: &mut BTreeMap<u64, u32>, fde: &EhFde<'_>) -> Resu
     if fde.address_range == 0 {
         return Ok(());
     }
-    if firsts.contains_key(&fde.initial_location) {
-        return Ok(());
+    // Few FDEs begin where another one does, so this rarely takes a second insertion.
+    if let Some(first) = firsts.insert(fde.initial_location, fde.offset)? {
+        firsts.insert(fde.initial_location, first)?;
     }
-    firsts.insert(fde.initial_location, fde.offset)?;
     Ok(())
 }

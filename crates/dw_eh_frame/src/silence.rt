@@ -1,10 +1,11 @@
 //! Programs with nops in place of the instructions that `.debug_frame` doesn't have.
 
 ghost use Rattle.std.specs.Prelude.{◌≡◌, ◌+◌, ◌^◌, ◌<◌, ◌≤◌, ◌++◌, false, replicate, IfOk, OnOk, length};
+ghost use Rattle.std.specs.List.{list_any};
 ghost use Rattle.dw_bytes.specs.Reading.{MovesForward};
 ghost use Rattle.dw_bytes.specs.Readers.{ParsesBy};
 ghost use Rattle.dw_frame.specs.Codes.{extended_line, line_of};
-ghost use Rattle.dw_eh_frame.specs.Silencing.{past_instruction, past_operands, piece, silenced, unread};
+ghost use Rattle.dw_eh_frame.specs.Silencing.{is_changed, past_instruction, past_operands, piece, silenced, unread};
 
 use crate::dialect::Dialect;
 use dw_bytes::{Cursor, Fault, FaultKind, Target, operands};
@@ -181,10 +182,51 @@ fn push_rest(
     }
 }
 
+/// Whether an instruction with this code is written in another way.
+fn is_changed_code(code: u8, dialect: Dialect) -> bool
+    ensures { result ≡ is_changed dialect code }
+{
+    code == 0x2e
+        || (dialect.is_aarch64 && (code == 0x2d || code == 0x2c))
+        || (!dialect.has_plain_addresses && code == 0x01)
+}
+
+/// Whether one of the bytes, if it were a code, would be written in another way. In most programs none
+/// would, so these needn't be read.
+fn has_changed_code(bytes: &[u8], dialect: Dialect) -> bool
+    ensures { result ≡ list_any (is_changed dialect) bytes.now }
+{
+    for code in bytes {
+        if is_changed_code(*code, dialect) {
+            return true;
+        }
+    }
+    false
+}
+
 /// Appends the bytes of a program, with nops in place of the instructions that `.debug_frame` doesn't
 /// have.
-#[tactic(auto, using(crate::proofs::Nops::silence_laws))]
+#[tactic(auto, using(crate::proofs::Unchanged::unchanged_laws))]
 pub(crate) fn push_program(
+    out: &mut Vec<u8>,
+    bytes: &[u8],
+    target: Target,
+    dialect: Dialect,
+) -> Result<(), AllocError>
+    requires { length bytes.now < 2 ^ 32 }
+    ensures { OnOk result (out.new.items ≡ out.old.items
+        ++ silenced dialect (record { target = target; position = 0; rest = bytes.now })) }
+{
+    if has_changed_code(bytes, dialect) {
+        push_silenced(out, bytes, target, dialect)
+    } else {
+        out.extend_from_slice(bytes)
+    }
+}
+
+/// The same, instruction by instruction.
+#[tactic(auto, using(crate::proofs::Nops::silence_laws))]
+fn push_silenced(
     out: &mut Vec<u8>,
     bytes: &[u8],
     target: Target,

@@ -2,7 +2,7 @@ use Rattle.std.proofs.Common.{◌≡◌, ◌-◌, ◌++◌, length, ap, subst, a
 use Rattle.dw_bytes.specs.Reading.{ReadPosition}
 use Rattle.dw_eh_frame.specs.Silencing.{past_instruction, silenced}
 use Rattle.dw_eh_frame.proofs.Nops.{piece-step}
-use Rattle.dw_eh_frame.proofs.silence.push_program.Goals as goal
+use Rattle.dw_eh_frame.proofs.silence.push_silenced.Goals as goal
 
 pub loop-count-preserved : goal.loop-count-preserved
 loop-count-preserved c =

@@ -1,6 +1,6 @@
 use Rattle.std.proofs.Common.{◌≡◌, ◌≤◌, ◌+◌, ◌-◌, ◌++◌, length}
 use Rattle.dw_eh_frame.specs.Silencing.{silenced_up_to, silenced}
-use Rattle.dw_eh_frame.proofs.silence.push_program.Given as goal
+use Rattle.dw_eh_frame.proofs.silence.push_silenced.Given as goal
 
 abbrev pub invariant-loop-count : goal.invariant-loop-count
 invariant-loop-count l = record {
