@@ -1,11 +1,13 @@
 //! x86-64: its calling convention, and its decoder over Zydis.
 
+mod common;
 mod remembered;
 
 use crate::instruction::{Condition, Effect, Entry, Instruction, Place, Scale, Target};
 use crate::machine::Machine;
 use crate::register::{Register, Registers};
 use crate::zydis::{decoded, text, Decoded, Mnemonic, Operand, OperandKind, NO_REGISTER, RIP};
+use common::common;
 use remembered::remembered;
 
 const NAMES: [&str; 17] = [
@@ -52,17 +54,29 @@ pub static X86_64: Machine = Machine {
 const SYSTEM: Registers = Registers::of(&[0, 2, 11]);
 
 fn decode(bytes: &[u8], address: u64) -> Instruction {
-    direct_jump(bytes, address).unwrap_or_else(|| remembered(bytes, || by_zydis(bytes, address)))
+    if let Some(jump) = direct_jump(bytes, address) {
+        return jump;
+    }
+    match common(bytes, address) {
+        Some(found) => instruction(&found),
+        None => remembered(bytes, || by_zydis(bytes, address)),
+    }
+}
+
+/// What an instruction does that was decoded.
+fn instruction(found: &Decoded) -> Instruction {
+    let effect = effect(found).unwrap_or_else(|| write(found));
+    Instruction { length: found.length, effect }
 }
 
 /// The instruction at the first byte, and whether its address is part of what it does.
 fn by_zydis(bytes: &[u8], address: u64) -> (Instruction, bool) {
     match decoded(bytes, address) {
         Some(found) => {
-            let effect = effect(&found).unwrap_or_else(|| write(&found));
+            let instruction = instruction(&found);
             let is_relative = |operand: &Operand| operand.kind() == OperandKind::Target || operand.base == RIP;
-            let has_address = !is_only_written(&effect) && found.operands.iter().any(is_relative);
-            (Instruction { length: found.length, effect }, has_address)
+            let has_address = !is_only_written(&instruction.effect) && found.operands.iter().any(is_relative);
+            (instruction, has_address)
         }
         None => (Instruction { length: 1, effect: Effect::Invalid }, true),
     }
@@ -108,10 +122,6 @@ impl Operand {
 
     fn immediate(&self) -> Option<i64> {
         Some(self.value).filter(|_| self.kind() == OperandKind::Immediate)
-    }
-
-    fn is_memory(&self) -> bool {
-        self.kind() == OperandKind::Memory
     }
 
     /// Memory at a register plus an offset.

@@ -137,12 +137,64 @@ impl Operand {
         self.kind() == OperandKind::Register && self.is_whole != 0
     }
 
+    pub fn is_memory(&self) -> bool {
+        self.kind() == OperandKind::Memory
+    }
+
     pub fn is_thread_local(&self) -> bool {
         self.is_thread_local != 0
+    }
+
+    const fn of(kind: OperandKind) -> Operand {
+        let [register, base, index] = [NO_REGISTER; 3];
+        Operand {
+            kind: kind as u8,
+            bits: 0,
+            register,
+            is_whole: 0,
+            base,
+            index,
+            scale: 0,
+            is_thread_local: 0,
+            value: 0,
+        }
+    }
+
+    /// A general register, or its first bits.
+    pub fn general(register: u8, bits: u8) -> Operand {
+        Operand { register, bits, is_whole: u8::from(bits == 64), ..Operand::of(OperandKind::Register) }
+    }
+
+    /// Memory at a base plus an index times a scale plus an offset.
+    pub fn memory(base: u8, index: u8, scale: u8, value: i64) -> Operand {
+        Operand { base, index, scale, value, ..Operand::of(OperandKind::Memory) }
+    }
+
+    /// An immediate number.
+    pub fn number(value: i64) -> Operand {
+        Operand { value, ..Operand::of(OperandKind::Immediate) }
     }
 }
 
 impl Decoded {
+    /// An instruction without operands. The width of its stack is that of an address.
+    pub fn of(mnemonic: Mnemonic, length: u8) -> Decoded {
+        let operands = [Operand::of(OperandKind::None); 2];
+        Decoded { length, mnemonic: mnemonic as u8, width: 64, operands, ..Decoded::default() }
+    }
+
+    /// Notes that an operand of this many bytes is written.
+    pub fn write(&mut self, operand: &Operand, bytes: u8) {
+        if operand.kind() == OperandKind::Register {
+            self.written |= 1 << operand.register;
+        } else if operand.base < RIP && operand.index == NO_REGISTER {
+            self.stored_base = operand.base;
+            self.stored_bytes = bytes;
+            // Displacements have 32 bits.
+            self.stored_offset = operand.value as i32;
+        }
+    }
+
     pub fn mnemonic(&self) -> Mnemonic {
         MNEMONICS.get(usize::from(self.mnemonic)).copied().unwrap_or(Mnemonic::Other)
     }
