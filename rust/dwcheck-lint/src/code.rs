@@ -9,27 +9,64 @@ const NONE: u32 = u32::MAX;
 /// How many bytes an instruction has that is rather short, so that nearly all code has fewer instructions.
 const SHORT: usize = 3;
 
+/// How many bytes of code lists are kept for. Few functions have more.
+pub const USUAL_BYTES: usize = 1 << 16;
+
 /// The instructions of a range of code. Offsets are relative to its first address.
 pub struct Code<'a> {
     machine: &'a Machine,
     begin: u64,
     bytes: &'a [u8],
+    lists: Lists,
+    leader_count: usize,
+}
+
+/// The lists of a range of code. They are emptied and used again for the next one.
+#[derive(Default)]
+pub struct Lists {
     instructions: Vec<Instruction>,
     /// For each offset, the index of the instruction that begins there.
     at: Vec<u32>,
+    /// For each offset, whether a block begins there.
     leaders: Vec<bool>,
-    leader_count: usize,
     /// The offsets that are still to be decoded. Empty between calls.
     work: Vec<u32>,
+}
+
+impl Lists {
+    /// Begins with code of this many bytes.
+    fn begin(&mut self, bytes: usize) {
+        self.instructions.clear();
+        self.instructions.reserve(bytes / SHORT);
+        self.at.clear();
+        self.at.resize(bytes, NONE);
+        self.leaders.clear();
+        self.leaders.resize(bytes, false);
+    }
+
+    /// Frees what is more than most code needs.
+    fn shrink(&mut self) {
+        self.instructions.clear();
+        self.instructions.shrink_to(USUAL_BYTES / SHORT);
+        self.at.clear();
+        self.at.shrink_to(USUAL_BYTES);
+        self.leaders.clear();
+        self.leaders.shrink_to(USUAL_BYTES);
+    }
 }
 
 impl<'a> Code<'a> {
     /// Decodes all instructions: what is reached by jumps that are direct, from the first address and
     /// from the landing pads, and then what is between.
-    pub fn decode(machine: &'a Machine, begin: u64, bytes: &'a [u8], pads: impl Iterator<Item = u64>) -> Code<'a> {
-        let (at, leaders) = (vec![NONE; bytes.len()], vec![false; bytes.len()]);
-        let instructions = Vec::with_capacity(bytes.len() / SHORT);
-        let mut code = Code { machine, begin, bytes, instructions, at, leaders, leader_count: 0, work: Vec::new() };
+    pub fn decode(
+        machine: &'a Machine,
+        begin: u64,
+        bytes: &'a [u8],
+        pads: impl Iterator<Item = u64>,
+        mut lists: Lists,
+    ) -> Code<'a> {
+        lists.begin(bytes.len());
+        let mut code = Code { machine, begin, bytes, lists, leader_count: 0 };
         code.lead(0);
         for offset in pads.filter_map(|pad| code.offset(pad)).collect::<Vec<_>>() {
             code.lead(offset);
@@ -42,6 +79,13 @@ impl<'a> Code<'a> {
             offset = code.next(offset);
         }
         code
+    }
+
+    /// Takes the lists out, for the next code.
+    pub fn take_lists(&mut self) -> Lists {
+        let mut lists = std::mem::take(&mut self.lists);
+        lists.shrink();
+        lists
     }
 
     /// The number of bytes.
@@ -62,22 +106,17 @@ impl<'a> Code<'a> {
 
     /// The instruction that begins at an offset. `None` if none was decoded there.
     pub fn get(&self, offset: u32) -> Option<&Instruction> {
-        self.instructions.get(*self.at.get(offset as usize)? as usize)
+        self.lists.instructions.get(*self.lists.at.get(offset as usize)? as usize)
     }
 
-    /// The instruction that begins at an offset. An invalid one if none was decoded there.
-    pub fn instruction(&self, offset: u32) -> Instruction {
-        self.get(offset).copied().unwrap_or(Instruction { length: 1, effect: Effect::Invalid })
-    }
-
-    /// What the instruction at an offset does.
-    pub fn effect(&self, offset: u32) -> Effect {
-        self.get(offset).map_or(Effect::Invalid, |instruction| instruction.effect)
+    /// What the instruction at an offset does. `Invalid` if none was decoded there.
+    pub fn effect(&self, offset: u32) -> &Effect {
+        self.get(offset).map_or(&Effect::Invalid, |instruction| &instruction.effect)
     }
 
     /// All instructions, in the order in which they were decoded.
     pub fn instructions(&self) -> &[Instruction] {
-        &self.instructions
+        &self.lists.instructions
     }
 
     /// The offset after the instruction at an offset.
@@ -96,7 +135,7 @@ impl<'a> Code<'a> {
 
     /// Whether a block begins at an offset.
     pub fn is_leader(&self, offset: u32) -> bool {
-        self.leaders.get(offset as usize).copied().unwrap_or(false)
+        self.lists.leaders.get(offset as usize).copied().unwrap_or(false)
     }
 
     /// At how many offsets blocks begin.
@@ -106,7 +145,7 @@ impl<'a> Code<'a> {
 
     /// Makes a block begin at an offset. Returns whether none began there before.
     fn mark(&mut self, offset: u32) -> bool {
-        let is_new = !std::mem::replace(&mut self.leaders[offset as usize], true);
+        let is_new = !std::mem::replace(&mut self.lists.leaders[offset as usize], true);
         self.leader_count += usize::from(is_new);
         is_new
     }
@@ -122,8 +161,8 @@ impl<'a> Code<'a> {
             return false;
         }
         let is_new = self.mark(offset);
-        self.work.push(offset);
-        while let Some(offset) = self.work.pop() {
+        self.lists.work.push(offset);
+        while let Some(offset) = self.lists.work.pop() {
             self.decode_from(offset);
         }
         is_new
@@ -132,14 +171,14 @@ impl<'a> Code<'a> {
     /// Decodes instructions until one ends the flow or is decoded already. Adds the targets of jumps
     /// to `work`.
     fn decode_from(&mut self, mut offset: u32) {
-        while offset < self.length() && self.at[offset as usize] == NONE {
+        while offset < self.length() && self.lists.at[offset as usize] == NONE {
             let instruction = (self.machine.decode)(&self.bytes[offset as usize..], self.address(offset));
-            self.at[offset as usize] = self.instructions.len() as u32;
-            self.instructions.push(instruction);
+            self.lists.at[offset as usize] = self.lists.instructions.len() as u32;
+            self.lists.instructions.push(instruction);
             let target = instruction.effect.jump_target().and_then(|target| self.offset(target));
             if let Some(target) = target {
                 self.mark(target);
-                self.work.push(target);
+                self.lists.work.push(target);
             }
             offset += u32::from(instruction.length);
             if instruction.effect.is_end() {

@@ -6,7 +6,7 @@ use crate::lint::Lint;
 use crate::report::{Place, RowText, Sum};
 use crate::state::State;
 use crate::truth::{Location, Truth};
-use crate::walk::{Edge, Exit, Visitor};
+use crate::walk::{Edge, Exit, Here, Visitor};
 
 /// A line of the explanation.
 #[derive(Clone, Debug, PartialEq, Eq)]
@@ -39,7 +39,8 @@ pub fn explain(lint: &mut Lint<'_>, address: u64) -> Result<Vec<Line>, String> {
 }
 
 impl<'m> Visitor<'m> for Listing {
-    fn instruction(&mut self, flow: &mut Flow<'m, '_>, at: u32, _: Option<u32>, state: &State) {
+    fn instruction(&mut self, flow: &Flow<'m, '_>, here: Here<'_>) {
+        let Here { at, state, .. } = here;
         let (machine, address) = (flow.module.machine, flow.code.address(at));
         let instruction = (machine.text)(flow.module.bytes_at(address), address);
         let (row, code, verdict) = match flow.row(address) {

@@ -2,7 +2,8 @@
 
 use crate::assume::{assumed, entered};
 use crate::callees::{leads_elsewhere, Callees};
-use crate::code::Code;
+use crate::code::{Code, Lists, USUAL_BYTES};
+use crate::follow::{Follow, Tally};
 use crate::instruction::Effect;
 use crate::judge::{unjudged, Judge, Said, Verdict};
 use crate::module::Module;
@@ -11,7 +12,6 @@ use crate::rules::{has_rows_for_calls, is_only_padding};
 use crate::state::State;
 use crate::stores::Stores;
 use crate::table::{row_at, Cfa, Fde, Row};
-use crate::walk::{Edge, EdgeKind, Exit, Visitor};
 use std::cmp::Reverse;
 use std::collections::{BTreeMap, BinaryHeap};
 
@@ -23,7 +23,7 @@ const MOST_ROUNDS: usize = 12;
 const MOST_ENTRIES: u64 = 200_000;
 const ENTRIES_A_BYTE: u64 = 64;
 
-/// For how many blocks there is room at first.
+/// For how many blocks there is room after an FDE. Few have more.
 const USUAL_BLOCKS: usize = 1000;
 
 /// How many bytes of code an FDE has at most.
@@ -31,6 +31,17 @@ const MOST_BYTES: usize = 2 << 20;
 
 /// No block was reached at an offset.
 const NONE: u32 = u32::MAX;
+
+/// Memory that is used for one FDE after another.
+#[derive(Default)]
+pub struct Room {
+    /// Blocks, of which each FDE uses the first ones.
+    reached: Vec<Reached>,
+    /// The state of a walk.
+    pub(crate) state: Option<Box<State>>,
+    code: Lists,
+    blocks: Vec<u32>,
+}
 
 /// A block that was reached.
 struct Reached {
@@ -44,6 +55,8 @@ struct Reached {
     region: u32,
     /// Whether it has to be followed, because its state is new.
     is_waiting: bool,
+    /// What was judged of it when it was followed last.
+    tally: Tally,
 }
 
 /// The flow through an FDE's code.
@@ -70,24 +83,28 @@ pub struct Flow<'m, 'c> {
     pub entries_left: u64,
     /// Whether it matters which registers its callees write.
     pub needs_callees: bool,
-    reached: Vec<Reached>,
+    pub(crate) room: &'c mut Room,
+    /// How many blocks were reached.
+    reached_count: usize,
     /// For each offset, the index of the block that was reached there.
     blocks: Vec<u32>,
     /// The blocks that have to be followed, the first one first.
     work: BinaryHeap<Reverse<u32>>,
     region: u32,
     has_new_leader: bool,
+    /// Whether the blocks are the same as when they were followed last.
+    is_settled: bool,
 }
 
-/// Merges the state of each edge into the block that it leads to.
-struct Follow;
-
-impl<'m> Visitor<'m> for Follow {
-    fn edge(&mut self, flow: &mut Flow<'m, '_>, edge: Edge, state: &State) {
-        flow.reach(edge.to, state, matches!(edge.kind, EdgeKind::AfterCall | EdgeKind::Padding));
+impl Drop for Flow<'_, '_> {
+    fn drop(&mut self) {
+        self.room.reached.truncate(USUAL_BLOCKS);
+        self.room.reached.shrink_to(USUAL_BLOCKS);
+        self.room.code = self.code.take_lists();
+        self.room.blocks = std::mem::take(&mut self.blocks);
+        self.room.blocks.clear();
+        self.room.blocks.shrink_to(USUAL_BYTES);
     }
-
-    fn exit(&mut self, _: &mut Flow<'m, '_>, _: u32, _: Exit, _: &State) {}
 }
 
 /// Whether a row is the one with which a function begins that is called.
@@ -97,11 +114,19 @@ pub fn is_entry_row(module: &Module<'_>, row: &Row<'_>) -> bool {
 
 impl<'m, 'c> Flow<'m, 'c> {
     /// Decodes an FDE's code. The reason if it isn't in the file, or its rows can't be read.
-    pub fn new(module: &'m Module<'m>, callees: &'c mut Callees, fde: &'m Fde) -> Result<Self, String> {
+    pub fn new(
+        module: &'m Module<'m>,
+        callees: &'c mut Callees,
+        room: &'c mut Room,
+        fde: &'m Fde,
+    ) -> Result<Self, String> {
         let bytes = usize::try_from(fde.end - fde.begin).ok().and_then(|size| module.bytes_at(fde.begin).get(..size));
         let bytes = bytes.filter(|bytes| bytes.len() <= MOST_BYTES).ok_or("the code isn't in the file, or too long")?;
         let rows = module.rows.rows(fde)?;
-        let code = Code::decode(module.machine, fde.begin, bytes, fde.landings.iter().map(|landing| landing.pad));
+        let pads = fde.landings.iter().map(|landing| landing.pad);
+        let code = Code::decode(module.machine, fde.begin, bytes, pads, std::mem::take(&mut room.code));
+        let mut blocks = std::mem::take(&mut room.blocks);
+        blocks.resize(bytes.len(), NONE);
         let mut flow = Flow {
             module,
             callees,
@@ -113,11 +138,13 @@ impl<'m, 'c> Flow<'m, 'c> {
             tables: Vec::new(),
             entries_left: 0,
             needs_callees: false,
-            reached: Vec::new(),
-            blocks: vec![NONE; bytes.len()],
+            room,
+            reached_count: 0,
+            blocks,
             work: BinaryHeap::new(),
             region: 0,
             has_new_leader: false,
+            is_settled: false,
             code,
         };
         flow.needs_callees = flow.frame_is_in_changeable_register();
@@ -141,27 +168,29 @@ impl<'m, 'c> Flow<'m, 'c> {
     /// Follows the flow from the entry, from the states that jumps of other FDEs bring, and at last
     /// from rows, for code that nothing reaches.
     pub fn run(&mut self, brought: &BTreeMap<u64, State>) {
+        let mut follow = Follow::default();
         for _ in 0..MOST_ROUNDS {
+            let leader_count = self.code.leader_count();
             self.stores.restart();
             self.entries_left = MOST_ENTRIES + ENTRIES_A_BYTE * u64::from(self.code.length());
-            self.reached.clear();
-            self.reached.reserve(self.code.leader_count().min(USUAL_BLOCKS));
+            self.reached_count = 0;
             self.blocks.iter_mut().for_each(|block| *block = NONE);
             self.region = 0;
             self.has_new_leader = false;
             let start = self.start(brought);
             // Rule "padding": GCC begins a cold part with a `nop` that nothing jumps to.
             if !start.is_assumed || is_only_padding(&self.code, 0).is_none() {
-                self.follow(0, &start);
+                self.follow(&mut follow, 0, &start);
             }
             for (address, state) in brought.range(self.fde.begin..self.fde.end) {
                 let offset = (*address - self.fde.begin) as u32;
                 if self.state_at(offset).is_none() {
-                    self.follow(offset, state);
+                    self.follow(&mut follow, offset, state);
                 }
             }
-            self.follow_rows();
+            self.follow_rows(&mut follow);
             if !self.stores.is_outdated() && !self.has_new_leader {
+                self.is_settled = self.code.leader_count() == leader_count;
                 return;
             }
         }
@@ -179,19 +208,22 @@ impl<'m, 'c> Flow<'m, 'c> {
         }
     }
 
-    fn follow(&mut self, offset: u32, state: &State) {
+    fn follow(&mut self, follow: &mut Follow, offset: u32, state: &State) {
         self.reach(offset, state, false);
         while let Some(Reverse(leader)) = self.work.pop() {
-            self.reached[self.blocks[leader as usize] as usize].is_waiting = false;
-            self.walk(leader, &mut Follow);
+            let index = self.blocks[leader as usize] as usize;
+            self.room.reached[index].is_waiting = false;
+            follow.tally = Tally::default();
+            self.walk(leader, follow);
+            self.room.reached[index].tally = follow.tally;
         }
     }
 
     /// Takes up each block that isn't reached from its row. What is followed from there never merges
     /// into code that was reached before.
-    fn follow_rows(&mut self) {
+    fn follow_rows(&mut self, follow: &mut Follow) {
         let mut offset = 0;
-        while offset < self.code.length() && self.reached.len() < self.code.leader_count() {
+        while offset < self.code.length() && self.reached_count < self.code.leader_count() {
             let is_open = self.code.is_leader(offset) && self.state_at(offset).is_none();
             if is_open && !matches!(self.code.effect(offset), Effect::Invalid) {
                 if let Some(after) = is_only_padding(&self.code, offset) {
@@ -199,7 +231,7 @@ impl<'m, 'c> Flow<'m, 'c> {
                     offset = after;
                     continue;
                 }
-                self.assume(offset);
+                self.assume(follow, offset);
             }
             offset = self.code.next(offset);
             if offset < self.code.length() && self.code.get(offset).is_none() {
@@ -214,27 +246,26 @@ impl<'m, 'c> Flow<'m, 'c> {
         }
     }
 
-    fn assume(&mut self, offset: u32) {
+    fn assume(&mut self, follow: &mut Follow, offset: u32) {
         if let Some(row) = row_at(&self.rows, self.code.address(offset)) {
             self.region += 1;
             let state = assumed(self.module.machine, &self.rows[row], self.fde, offset);
-            self.follow(offset, &state);
+            self.follow(follow, offset, &state);
         }
     }
 
     /// Merges a state into the block at an offset.
-    fn reach(&mut self, offset: u32, state: &State, is_soft: bool) {
+    pub(crate) fn reach(&mut self, offset: u32, state: &State, is_soft: bool) {
         self.has_new_leader |= self.code.lead(offset);
         let index = self.blocks[offset as usize];
         if index == NONE {
-            self.blocks[offset as usize] = self.reached.len() as u32;
-            let (state, region) = (state.clone(), self.region);
-            self.reached.push(Reached { offset, state, is_soft, region, is_waiting: true });
+            self.blocks[offset as usize] = self.reached_count as u32;
+            self.add_reached(offset, state, is_soft);
             self.work.push(Reverse(offset));
             return;
         }
         let (pointer, frame) = (self.module.machine.stack_pointer, self.module.machine.frame_pointer);
-        let block = &mut self.reached[index as usize];
+        let block = &mut self.room.reached[index as usize];
         if block.region != self.region {
             return;
         }
@@ -243,7 +274,7 @@ impl<'m, 'c> Flow<'m, 'c> {
             // Rule "soft edges": the call before it perhaps doesn't return.
             (true, true, false) => return,
             (true, false, true) => {
-                block.state = state.clone();
+                block.state.clone_from(state);
                 block.is_soft = false;
                 return self.follow_again(index, offset);
             }
@@ -255,21 +286,44 @@ impl<'m, 'c> Flow<'m, 'c> {
         }
     }
 
+    fn add_reached(&mut self, offset: u32, state: &State, is_soft: bool) {
+        let region = self.region;
+        match self.room.reached.get_mut(self.reached_count) {
+            Some(block) => {
+                block.state.clone_from(state);
+                (block.offset, block.is_soft, block.region, block.is_waiting) = (offset, is_soft, region, true);
+            }
+            None => {
+                let (state, tally) = (state.clone(), Tally::default());
+                self.room.reached.push(Reached { offset, state, is_soft, region, is_waiting: true, tally });
+            }
+        }
+        self.reached_count += 1;
+    }
+
     fn follow_again(&mut self, index: u32, offset: u32) {
-        if !std::mem::replace(&mut self.reached[index as usize].is_waiting, true) {
+        if !std::mem::replace(&mut self.room.reached[index as usize].is_waiting, true) {
             self.work.push(Reverse(offset));
         }
     }
 
+    /// The blocks that were reached, in the order in which they were.
+    fn reached(&self) -> &[Reached] {
+        &self.room.reached[..self.reached_count]
+    }
+
+    fn reached_at(&self, offset: u32) -> Option<&Reached> {
+        self.reached().get(*self.blocks.get(offset as usize)? as usize)
+    }
+
     /// What is known at the beginning of a block, if it was reached.
     pub fn state_at(&self, offset: u32) -> Option<&State> {
-        let index = *self.blocks.get(offset as usize)?;
-        self.reached.get(index as usize).map(|block| &block.state)
+        self.reached_at(offset).map(|block| &block.state)
     }
 
     /// Whether two blocks were reached in the same region.
     pub fn is_same_region(&self, one: u32, other: u32) -> bool {
-        let region = |offset: u32| self.reached.get(self.blocks[offset as usize] as usize).map(|block| block.region);
+        let region = |offset: u32| self.reached_at(offset).map(|block| block.region);
         region(one) == region(other)
     }
 
@@ -280,9 +334,23 @@ impl<'m, 'c> Flow<'m, 'c> {
 
     /// The blocks that were reached, ascending.
     pub fn reached_leaders(&self) -> Vec<u32> {
-        let mut leaders: Vec<u32> = self.reached.iter().map(|block| block.offset).collect();
+        let mut leaders: Vec<u32> = self.reached().iter().map(|block| block.offset).collect();
         leaders.sort_unstable();
         leaders
+    }
+
+    /// The blocks that have to be judged, ascending.
+    pub fn open_leaders(&self) -> Vec<u32> {
+        let is_open = |block: &&Reached| !self.is_settled || block.tally.is_open;
+        let mut leaders: Vec<u32> = self.reached().iter().filter(is_open).map(|block| block.offset).collect();
+        leaders.sort_unstable();
+        leaders
+    }
+
+    /// What was judged of the other blocks while the flow was followed.
+    pub fn tallies(&self) -> impl Iterator<Item = &Tally> {
+        let all = self.reached().iter().map(|block| &block.tally);
+        all.filter(|tally| self.is_settled && !tally.is_open)
     }
 
     /// The row of an address of the FDE.

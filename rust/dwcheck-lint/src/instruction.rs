@@ -256,6 +256,19 @@ impl Effect {
         matches!(self, Effect::Jump { .. } | Effect::Return | Effect::Stop | Effect::Invalid)
     }
 
+    /// Whether the next instruction may be in another block.
+    pub fn may_end_block(&self) -> bool {
+        self.is_end() || matches!(self, Effect::JumpIf { .. } | Effect::Call { .. } | Effect::System { .. })
+    }
+
+    /// The registers that it compares.
+    pub fn compared(&self) -> Option<(Register, Register)> {
+        match *self {
+            Effect::Compare { one, other } => Some((one, other)),
+            _ => None,
+        }
+    }
+
     /// Whether it changes no value that is followed.
     pub fn changes_nothing(&self) -> bool {
         matches!(self, Effect::Nothing | Effect::Padding | Effect::Compare { .. } | Effect::CompareNumber { .. })

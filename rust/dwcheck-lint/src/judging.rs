@@ -1,21 +1,19 @@
-//! Judges each instruction and each edge, once the flow has been followed.
+//! Judges each instruction and each edge of the blocks that weren't judged while the flow was followed.
 
-use crate::coverage::{Coverage, Reason};
+use crate::coverage::Coverage;
 use crate::crossing::Crossing;
 use crate::flow::{is_entry_row, Flow};
-use crate::instruction::{Effect, Transfer};
-use crate::judge::{unjudged, Facts, Unjudged, Verdict};
-use crate::last_verdict::LastVerdict;
-use crate::register::{Register, Registers};
+use crate::follow::{is_at_return_address, lost, odd_return, Tally};
+use crate::instruction::Effect;
+use crate::judge::{unjudged, Facts, Verdict};
+use crate::register::Register;
 use crate::rules::is_unreachable_end;
 use crate::state::State;
-use crate::stores::is_kept;
-use crate::table::{row_at, Cfa, Row, Rule};
+use crate::table::{row_at, Row};
 use crate::truth::Truth;
-use crate::value::Value;
-use crate::walk::{Edge, EdgeKind, Exit, Visitor};
+use crate::verdicts::{unknown_cfa, Judged, Verdicts};
+use crate::walk::{Edge, EdgeKind, Exit, Here, Visitor};
 use std::collections::HashSet;
-use std::ops::Range;
 
 /// How many wrong rows of an FDE are kept at most.
 const MOST_MARKS: usize = 50_000;
@@ -55,19 +53,6 @@ pub struct Mark<'m> {
     pub row: Row<'m>,
 }
 
-/// The row of the instructions that are judged.
-#[derive(Default)]
-struct Current {
-    row: Option<usize>,
-    addresses: Range<u64>,
-    unjudged: Option<Unjudged>,
-    /// Whether the FDE says that the return address is signed.
-    is_signed: bool,
-    /// The registers on which the verdict depends. `None` if it depends on all.
-    watched: Option<Registers>,
-    verdict: Verdict,
-}
-
 /// Judges each instruction and each edge.
 pub struct Judging<'m, 'x> {
     crossing: &'x mut Crossing,
@@ -79,10 +64,7 @@ pub struct Judging<'m, 'x> {
     pub lost: Facts,
     /// How many returns there are at which the stack pointer isn't at the return address.
     pub odd_returns: u32,
-    current: Current,
-    last_verdict: LastVerdict,
-    /// How many slots were known before the last instruction.
-    slot_count: usize,
+    verdicts: Verdicts,
     /// The landing pads whose rows are right for one call at least.
     fitting_pads: HashSet<u64>,
 }
@@ -90,15 +72,15 @@ pub struct Judging<'m, 'x> {
 impl<'m, 'x> Judging<'m, 'x> {
     /// Nothing has been judged yet.
     pub fn new(crossing: &'x mut Crossing) -> Self {
-        let (coverage, current) = (Coverage { fdes: 1, ..Coverage::default() }, Current::default());
-        let (last_verdict, fitting_pads) = (LastVerdict::default(), HashSet::new());
-        let (marks, lost, slot_count) = (Vec::new(), Facts::NONE, 0);
-        Judging { crossing, marks, coverage, lost, odd_returns: 0, current, last_verdict, slot_count, fitting_pads }
+        let coverage = Coverage { fdes: 1, ..Coverage::default() };
+        let (marks, lost, fitting_pads) = (Vec::new(), Facts::NONE, HashSet::new());
+        Judging { crossing, marks, coverage, lost, odd_returns: 0, verdicts: Verdicts::default(), fitting_pads }
     }
 
-    /// Judges all blocks that were reached.
+    /// Judges all blocks that were reached, of which most are judged already.
     pub fn run(&mut self, flow: &mut Flow<'m, '_>) {
-        for leader in flow.reached_leaders() {
+        flow.tallies().for_each(|tally| self.add(tally));
+        for leader in flow.open_leaders() {
             flow.walk(leader, self);
         }
         // Rule "calls that can't throw": a landing pad isn't entered by calls for which its row is wrong, if
@@ -110,89 +92,18 @@ impl<'m, 'x> Judging<'m, 'x> {
         never_saved.for_each(|(index, _)| self.lost.add(Facts::kept(index)));
     }
 
-    /// Sets the row of the instruction at an address.
-    fn set_row(&mut self, flow: &Flow<'_, '_>, address: u64) {
-        let (row, is_signed) = (row_at(&flow.rows, address), flow.fde.is_signed(address));
-        self.current = Current { row, is_signed, ..Current::default() };
-        if let Some(row) = self.current.row.map(|index| &flow.rows[index]) {
-            self.current.addresses = row.begin..row.end;
-            self.current.unjudged = unjudged(flow.module.machine, row);
-            self.current.watched = watched(flow, row);
-        }
+    fn add(&mut self, tally: &Tally) {
+        tally.add_to(&mut self.coverage);
+        self.lost.add(tally.lost);
+        self.odd_returns += tally.odd_returns;
     }
 
-    /// Whether an instruction, after which this is known, can change the verdict on the row. A value that isn't
-    /// worth a slot can only end slots.
-    fn matters(&self, effect: &Effect, state: &State, ends_slots: bool) -> bool {
-        match effect {
-            Effect::Store { from, .. } => ends_slots || is_kept(state.get(*from)),
-            Effect::Write { .. } if ends_slots => true,
-            // A new base ends what was known of the one that had its name.
-            Effect::Derive { to, .. }
-            | Effect::Align { to, .. }
-            | Effect::AddRegister { to, .. }
-            | Effect::SubtractRegister { to, .. }
-                if matches!(state.get(*to), Value::Address { .. }) =>
-            {
-                true
-            }
-            Effect::Derive { .. }
-            | Effect::Align { .. }
-            | Effect::AddRegister { .. }
-            | Effect::SubtractRegister { .. }
-            | Effect::Write { .. }
-            | Effect::System { .. }
-            | Effect::Set { .. }
-            | Effect::Move { .. }
-            | Effect::MayMove { .. }
-            | Effect::Add { .. }
-            | Effect::Load { .. }
-            | Effect::LoadEntry { .. }
-            | Effect::MayWrite { .. }
-            | Effect::Insert { .. }
-            | Effect::Transfer(Transfer { is_load: true, .. }) => {
-                self.current.watched.map_or(true, |watched| !effect.written().both(watched).is_empty())
-            }
-            effect => !effect.changes_nothing(),
+    fn count(&mut self, row: &Row<'_>, verdict: &Verdict, stack_pointer: Register) {
+        if verdict.unknown.has(Facts::CFA) {
+            return self.coverage.skip(unknown_cfa(row, stack_pointer));
         }
-    }
-
-    /// The verdict on a row, by its index, at the end of an edge. It is that on the instruction from which the edge
-    /// leads if nothing has changed on which it depends.
-    fn verdict_at_edge(&mut self, flow: &Flow<'_, '_>, row: usize, edge: &Edge, state: &State) -> Verdict {
-        let address = flow.code.address(edge.to);
-        let current = &self.current;
-        let is_same_row = current.row == Some(row) && current.is_signed == flow.fde.is_signed(address);
-        // An expression may read the address.
-        let is_judged = current.unjudged.is_none() && current.watched.is_some();
-        let ends_slots = self.slot_count != state.slot_count();
-        let has_changed = || edge.is_changed && self.matters(&flow.code.effect(edge.from), state, ends_slots);
-        match is_same_row && is_judged && !has_changed() {
-            true => current.verdict,
-            false => self.verdict_at_block(flow, row, state, address),
-        }
-    }
-
-    /// The verdict on a row, by its index, where a block begins.
-    fn verdict_at_block(&mut self, flow: &Flow<'_, '_>, row: usize, state: &State, address: u64) -> Verdict {
-        match self.current.watched.filter(|_| self.current.row == Some(row)) {
-            Some(watched) => self.last_verdict.verdict(flow, row, watched, (address, state)),
-            None => flow.verdict(&flow.rows[row], state, address),
-        }
-    }
-
-    fn count(&mut self, row: &Row<'_>, stack_pointer: Register) {
-        let verdict = &self.current.verdict;
-        if !verdict.unknown.has(Facts::CFA) {
-            self.coverage.judged += 1;
-            self.coverage.partly += u32::from(!verdict.unknown.is_empty());
-            return;
-        }
-        self.coverage.skip(match row.cfa {
-            Cfa::Expression(_) => Reason::Expression,
-            Cfa::Offset(register, _) if register == stack_pointer => Reason::StackPointer,
-            Cfa::Offset(..) => Reason::Register,
-        });
+        self.coverage.judged += 1;
+        self.coverage.partly += u32::from(!verdict.unknown.is_empty());
     }
 
     /// A jump, or a call that throws, to an address that perhaps has an FDE.
@@ -222,7 +133,7 @@ impl<'m, 'x> Judging<'m, 'x> {
             verdict.wrong = verdict.wrong.without(verdict.wrong.registers());
         }
         if !verdict.wrong.is_empty() && !flow.is_for_calls {
-            let before = Some((flow.code.address(at), flow.code.effect(at)));
+            let before = Some((flow.code.address(at), *flow.code.effect(at)));
             let (way, is_assumed) = (Way::Leaving, state.is_assumed);
             let (address, next, effect) = (target, target, Effect::Invalid);
             let truth = Truth::of(flow.module.machine, &row, state);
@@ -230,20 +141,11 @@ impl<'m, 'x> Judging<'m, 'x> {
         }
     }
 
-    /// Notes the registers that hold something else where the function ends.
-    fn lose(&mut self, flow: &Flow<'_, '_>, state: &State) {
-        for (index, register) in flow.module.machine.kept.iter().enumerate() {
-            let value = state.get(*register);
-            if value != Value::Unknown && value != Value::Entry(*register) {
-                self.lost.add(Facts::kept(index));
-            }
-        }
-    }
-
-    /// The same for a jump, if the stack pointer is at the return address.
+    /// Notes the registers that hold something else where a jump ends the function, which it does if the stack
+    /// pointer is at the return address.
     fn lose_at_tail(&mut self, flow: &Flow<'_, '_>, state: &State) {
         if is_at_return_address(flow, state) {
-            self.lose(flow, state);
+            self.lost.add(lost(flow, state));
         }
     }
 
@@ -254,8 +156,8 @@ impl<'m, 'x> Judging<'m, 'x> {
             return;
         }
         if let Some(row) = flow.row(address).cloned() {
-            let before = before.map(|before| (flow.code.address(before), flow.code.effect(before)));
-            let (next, effect) = (flow.code.address(flow.code.next(at)), flow.code.effect(at));
+            let before = before.map(|before| (flow.code.address(before), *flow.code.effect(before)));
+            let (next, effect) = (flow.code.address(flow.code.next(at)), *flow.code.effect(at));
             let truth = Truth::of(flow.module.machine, &row, found.1);
             self.marks.push(Mark { address, next, effect, before, way, verdict, truth, is_assumed, row });
         }
@@ -263,38 +165,22 @@ impl<'m, 'x> Judging<'m, 'x> {
 }
 
 impl<'m> Visitor<'m> for Judging<'m, '_> {
-    fn instruction(&mut self, flow: &mut Flow<'m, '_>, at: u32, before: Option<u32>, state: &State) {
-        let address = flow.code.address(at);
-        let ends_slots = std::mem::replace(&mut self.slot_count, state.slot_count()) != state.slot_count();
+    fn instruction(&mut self, flow: &Flow<'m, '_>, here: Here<'_>) {
         self.coverage.instructions += 1;
-        self.coverage.assumed += u32::from(state.is_assumed);
-        let is_same_row =
-            self.current.addresses.contains(&address) && flow.fde.is_signed(address) == self.current.is_signed;
-        if !is_same_row {
-            self.set_row(flow, address);
-        }
-        let row = match (self.current.row, self.current.unjudged) {
-            (Some(index), None) => index,
-            (_, Some(unjudged)) => return self.coverage.skip(unjudged.into()),
-            (None, None) => return,
+        self.coverage.assumed += u32::from(here.state.is_assumed);
+        let row = match self.verdicts.judge(flow, &here) {
+            Judged::Row(row) => row,
+            Judged::Not(reason) => return self.coverage.skip(reason),
+            Judged::NoRow => return,
         };
-        let is_call = matches!(flow.code.effect(at), Effect::Call { .. });
-        if flow.is_for_calls && (!is_call || state.is_assumed) {
-            return self.coverage.skip(Reason::CallsOnly);
-        }
-        let matters = |before: u32| self.matters(&flow.code.effect(before), state, ends_slots);
-        match before {
-            None => self.current.verdict = self.verdict_at_block(flow, row, state, address),
-            Some(before) if is_same_row && !flow.is_for_calls && !matters(before) => {}
-            Some(_) => self.current.verdict = flow.verdict(&flow.rows[row], state, address),
-        }
-        self.count(&flow.rows[row], flow.module.machine.stack_pointer);
-        if !self.current.verdict.wrong.is_empty() {
-            self.mark(flow, at, before, Way::Here, (self.current.verdict, state));
+        let verdict = *self.verdicts.verdict();
+        self.count(&flow.rows[row], &verdict, flow.module.machine.stack_pointer);
+        if !verdict.wrong.is_empty() {
+            self.mark(flow, here.at, here.before, Way::Here, (verdict, here.state));
         }
     }
 
-    fn data(&mut self, _: &mut Flow<'m, '_>, _: u32) {
+    fn data(&mut self, _: &Flow<'m, '_>, _: u32) {
         self.coverage.data += 1;
     }
 
@@ -312,7 +198,7 @@ impl<'m> Visitor<'m> for Judging<'m, '_> {
         if is_landing && flow.is_same_region(edge.block, edge.to) && merged == Some(state) {
             return;
         }
-        let mut verdict = self.verdict_at_edge(flow, row, &edge, state);
+        let mut verdict = self.verdicts.at_edge(flow, row, &edge, state);
         let row = &flow.rows[row];
         if verdict.wrong.is_empty() || unjudged(flow.module.machine, row).is_some() {
             if is_landing {
@@ -328,44 +214,12 @@ impl<'m> Visitor<'m> for Judging<'m, '_> {
     }
 
     fn exit(&mut self, flow: &mut Flow<'m, '_>, at: u32, exit: Exit, state: &State) {
-        let is_judged = self.current.row.is_some() && self.current.unjudged.is_none();
         match exit {
-            Exit::Return if is_at_return_address(flow, state) => self.lose(flow, state),
-            Exit::Return => {
-                let offset = state.get(flow.module.machine.stack_pointer).cfa_offset();
-                self.odd_returns += u32::from(offset.is_some());
-            }
-            Exit::To(target) if is_judged => self.leave(flow, at, target, state),
-            Exit::Unknown if is_at_return_address(flow, state) => self.lose(flow, state),
-            Exit::Unknown => self.coverage.unknown_jumps += u32::from(is_judged),
+            Exit::To(target) if self.verdicts.is_judged() => self.leave(flow, at, target, state),
             Exit::To(_) => {}
+            Exit::Return | Exit::Unknown if is_at_return_address(flow, state) => self.lost.add(lost(flow, state)),
+            Exit::Return => self.odd_returns += odd_return(flow, state),
+            Exit::Unknown => self.coverage.unknown_jumps += u32::from(self.verdicts.is_judged()),
         }
     }
-}
-
-fn is_at_return_address(flow: &Flow<'_, '_>, state: &State) -> bool {
-    let machine = flow.module.machine;
-    state.get(machine.stack_pointer).cfa_offset() == Some(-machine.entry_offset)
-}
-
-/// The registers on which the verdict on a row depends. `None` if an expression may read any.
-fn watched(flow: &Flow<'_, '_>, row: &Row<'_>) -> Option<Registers> {
-    let machine = flow.module.machine;
-    let mut watched = Registers::NONE;
-    // A register with another rule than these isn't read.
-    let is_read = |register: &Register| matches!(row.rule(*register), None | Some(Rule::Same));
-    let judged = machine.kept.iter().copied().chain([machine.return_address]);
-    judged.filter(is_read).for_each(|register| watched.insert(register));
-    match row.cfa {
-        Cfa::Offset(register, _) => watched.insert(register),
-        Cfa::Expression(_) => return None,
-    }
-    for (_, rule) in &row.rules {
-        match rule {
-            Rule::Register(register) => watched.insert(*register),
-            Rule::Expression(_) => return None,
-            _ => {}
-        }
-    }
-    Some(watched)
 }

@@ -34,7 +34,7 @@ pub fn bound(code: &Code<'_>, jump: u32) -> Option<u64> {
         at = code.before(at)?;
         match code.effect(at) {
             Effect::JumpIf { .. } => has_condition = true,
-            Effect::CompareNumber { number } if has_condition => return u64::try_from(number).ok()?.checked_add(1),
+            Effect::CompareNumber { number } if has_condition => return u64::try_from(*number).ok()?.checked_add(1),
             Effect::Jump { .. } | Effect::Return | Effect::Call { .. } => return None,
             _ => {}
         }

@@ -11,7 +11,7 @@
 //! - [`code`], [`walk`], [`flow`], [`jumps`], [`callees`], [`assume`] and [`crossing`] follow the flow.
 //! - [`landings`] reads where calls go on that throw.
 //! - [`rules`] says which ways through the code aren't taken.
-//! - [`judge`], [`expression`], [`judging`] and [`truth`] compare rows with what is known.
+//! - [`judge`], [`expression`], [`verdicts`], [`follow`], [`judging`] and [`truth`] compare rows with what is known.
 //! - [`kinds`], [`finding`], [`coverage`], [`report`] and [`explain`] say what was found.
 
 #![warn(missing_docs)]
@@ -28,6 +28,7 @@ pub mod explain;
 pub mod expression;
 pub mod finding;
 pub mod flow;
+pub mod follow;
 pub mod instruction;
 pub mod judge;
 pub mod judging;
@@ -47,6 +48,7 @@ pub mod stores;
 pub mod table;
 pub mod truth;
 pub mod value;
+pub mod verdicts;
 pub mod walk;
 pub mod x86_64;
 mod zydis;

@@ -5,7 +5,7 @@ use crate::callees::Callees;
 use crate::coverage::Coverage;
 use crate::crossing::Crossing;
 use crate::finding::{findings, grouped, Finding, Group};
-use crate::flow::{is_entry_row, Flow};
+use crate::flow::{is_entry_row, Flow, Room};
 use crate::judge::Facts;
 use crate::judging::{Judging, Way};
 use crate::module::Module;
@@ -40,6 +40,7 @@ pub struct Outcome<'m> {
 pub struct Lint<'m> {
     module: &'m Module<'m>,
     callees: Callees,
+    room: Room,
     crossing: Crossing,
     outcomes: Vec<Outcome<'m>>,
 }
@@ -53,7 +54,8 @@ impl<'m> Lint<'m> {
     /// Judges all FDEs of a module.
     pub fn run(module: &'m Module<'m>) -> Self {
         let outcomes = module.fdes.iter().map(|_| Outcome::default()).collect();
-        let mut lint = Lint { module, callees: Callees::new(module), crossing: Crossing::default(), outcomes };
+        let (callees, room, crossing) = (Callees::new(module), Room::default(), Crossing::default());
+        let mut lint = Lint { module, callees, room, crossing, outcomes };
         let is_entered = |fde: &Fde| module.rows.row(fde.begin).map_or(false, |row| is_entry_row(module, &row));
         let (functions, parts): (Vec<_>, Vec<_>) =
             (0..module.fdes.len()).partition(|fde| is_entered(&module.fdes[*fde]));
@@ -93,7 +95,7 @@ impl<'m> Lint<'m> {
             let coverage = Coverage { signal_frames: 1, ..Coverage::default() };
             return Outcome { coverage, ..Outcome::default() };
         }
-        let mut flow = match Flow::new(self.module, &mut self.callees, fde) {
+        let mut flow = match Flow::new(self.module, &mut self.callees, &mut self.room, fde) {
             Ok(flow) => flow,
             Err(_) => {
                 let coverage = Coverage { unread: 1, ..Coverage::default() };
@@ -112,7 +114,7 @@ impl<'m> Lint<'m> {
     /// The flow of the FDE that contains an address, with all that other FDEs bring.
     pub fn flow(&mut self, address: u64) -> Result<Flow<'m, '_>, String> {
         let index = self.module.fde_at(address).ok_or("no FDE has the address")?;
-        let mut flow = Flow::new(self.module, &mut self.callees, &self.module.fdes[index])?;
+        let mut flow = Flow::new(self.module, &mut self.callees, &mut self.room, &self.module.fdes[index])?;
         flow.run(&self.crossing.brought);
         Ok(flow)
     }

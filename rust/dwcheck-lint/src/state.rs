@@ -31,7 +31,7 @@ struct Slot {
 type Slots = SmallVec<[Slot; FEW_SLOTS]>;
 
 /// What is known at a place in the code.
-#[derive(Clone, Debug, PartialEq, Eq)]
+#[derive(Debug)]
 pub struct State {
     registers: [Value; FEW],
     /// Further registers. Those after the last one are unknown.
@@ -44,13 +44,67 @@ pub struct State {
     pub is_assumed: bool,
     /// Whether a slot was left out because there were too many.
     is_full: bool,
+    changes: Changes,
 }
+
+/// What may have changed in a state.
+#[derive(Clone, Copy, Debug, Default, PartialEq, Eq)]
+pub struct Changes {
+    registers: Registers,
+    has_slots: bool,
+}
+
+impl Changes {
+    /// Whether some of these registers may have changed, or a slot.
+    pub fn concern(self, registers: Registers) -> bool {
+        self.has_slots || !self.registers.both(registers).is_empty()
+    }
+}
+
+impl Clone for State {
+    fn clone(&self) -> State {
+        let State { registers, is_assumed, is_full, changes, .. } = *self;
+        State { registers, others: self.others.clone(), slots: Rc::clone(&self.slots), is_assumed, is_full, changes }
+    }
+
+    /// Copies another state into this one, in its place: states are large, and copied for each block.
+    fn clone_from(&mut self, other: &State) {
+        let State { registers, others, slots, is_assumed, is_full, changes } = self;
+        *registers = other.registers;
+        others.clone_from(&other.others);
+        slots.clone_from(&other.slots);
+        (*is_assumed, *is_full, *changes) = (other.is_assumed, other.is_full, other.changes);
+    }
+}
+
+impl PartialEq for State {
+    fn eq(&self, other: &State) -> bool {
+        let flags = |state: &State| (state.is_assumed, state.is_full);
+        flags(self) == flags(other)
+            && self.registers == other.registers
+            && self.others == other.others
+            && self.has_same_slots(other)
+    }
+}
+
+impl Eq for State {}
 
 impl State {
     /// A state in which nothing is known of any register.
     pub fn unknown(is_assumed: bool) -> State {
         let registers = [Value::Unknown; FEW];
-        State { registers, others: Vec::new(), slots: Rc::default(), is_assumed, is_full: false }
+        let (others, slots, changes) = (Vec::new(), Rc::default(), Changes::default());
+        State { registers, others, slots, is_assumed, is_full: false, changes }
+    }
+
+    /// What may have changed since [`State::take_changes`] was called.
+    pub fn changes(&self) -> Changes {
+        self.changes
+    }
+
+    /// What may have changed since the last call.
+    pub fn take_changes(&mut self) -> Changes {
+        std::mem::take(&mut self.changes)
     }
 
     /// What a register holds.
@@ -61,6 +115,7 @@ impl State {
 
     /// Sets what a register holds.
     pub fn set(&mut self, register: Register, value: Value) {
+        self.changes.registers.insert(register);
         if let Some(place) = self.registers.get_mut(register.index()) {
             *place = value;
         } else if register.index() < MOST_FOLLOWED {
@@ -69,11 +124,6 @@ impl State {
             }
             self.others[register.index() - FEW] = value;
         }
-    }
-
-    /// What all registers hold.
-    fn registers_mut(&mut self) -> impl Iterator<Item = (Register, &mut Value)> {
-        (0..).map(Register).zip(self.registers.iter_mut().chain(&mut self.others))
     }
 
     /// Whether nothing is known of a slot that isn't listed, other than by what the function stores. Where
@@ -99,13 +149,9 @@ impl State {
     /// Forgets the slots that aren't to be kept.
     fn retain(&mut self, is_kept: impl Fn(&Slot) -> bool) {
         if !self.slots.iter().all(&is_kept) {
+            self.changes.has_slots = true;
             Rc::make_mut(&mut self.slots).retain(|slot| is_kept(slot));
         }
-    }
-
-    /// How many slots are listed.
-    pub fn slot_count(&self) -> usize {
-        self.slots.len()
     }
 
     /// What a slot holds. `None` if it isn't listed.
@@ -122,6 +168,7 @@ impl State {
     /// Stores a value in a slot.
     pub fn put(&mut self, base: Base, offset: i64, value: Value) {
         self.overwrite(base, offset, WORD);
+        self.changes.has_slots = true;
         if self.slots.len() < MOST_SLOTS {
             Rc::make_mut(&mut self.slots).push(Slot { base, offset, value });
         } else {
@@ -143,8 +190,11 @@ impl State {
     /// Forgets everything that is relative to a base, because the code that makes it runs again.
     pub fn forget(&mut self, base: Base) {
         let is_of = |value: &Value| matches!(value, Value::Address { base: other, .. } if *other == base);
-        let held = self.registers_mut().map(|(_, value)| value).filter(|value| is_of(value));
-        held.for_each(|value| *value = Value::Unknown);
+        for register in (0..MOST_FOLLOWED as u8).map(Register) {
+            if is_of(&self.get(register)) {
+                self.set(register, Value::Unknown);
+            }
+        }
         self.retain(|slot| slot.base != base && !is_of(&slot.value));
     }
 
@@ -166,7 +216,9 @@ impl State {
             }
         };
         for (index, (value, other)) in self.registers.iter_mut().zip(&other.registers).enumerate() {
-            merge(index, value, *other);
+            if !value.is_plainly(*other) {
+                merge(index, value, *other);
+            }
         }
         for (index, value) in self.others.iter_mut().enumerate() {
             merge(FEW + index, value, other.others.get(index).copied().unwrap_or(Value::Unknown));

@@ -122,7 +122,7 @@ impl Stores {
 }
 
 /// Whether a value is worth a slot.
-pub(crate) fn is_kept(value: Value) -> bool {
+fn is_kept(value: Value) -> bool {
     matches!(value, Value::Entry(_) | Value::SignedReturn { .. })
         || value.cfa_offset().map_or(false, |offset| NEAR_CFA.contains(&offset))
 }

@@ -140,6 +140,16 @@ impl Value {
         self.merged(other)
     }
 
+    /// Whether two values are the same, and neither is an address or has a number. This is a quick test.
+    #[inline]
+    pub fn is_plainly(self, other: Value) -> bool {
+        match (self, other) {
+            (Value::Unknown, Value::Unknown) | (Value::Clobbered, Value::Clobbered) => true,
+            (Value::Entry(one), Value::Entry(other)) => one == other,
+            _ => false,
+        }
+    }
+
     /// What is known of a value that is one of two.
     #[must_use]
     pub fn merged(self, other: Value) -> Value {

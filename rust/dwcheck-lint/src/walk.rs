@@ -1,11 +1,11 @@
 //! Walks through a block, and finds the edges that lead out of it.
 
 use crate::flow::Flow;
-use crate::instruction::{Condition, Effect, Entry, Instruction, Target};
+use crate::instruction::{Condition, Effect, Entry, Target};
 use crate::jumps::{bound, Table};
 use crate::register::Register;
 use crate::rules;
-use crate::state::State;
+use crate::state::{Changes, State};
 use crate::step::{Called, Step};
 use crate::value::Value;
 
@@ -37,8 +37,21 @@ pub struct Edge {
     pub to: u32,
     /// Why.
     pub kind: EdgeKind,
-    /// Whether what is known may differ from what was known before the instruction.
-    pub is_changed: bool,
+    /// What may differ from what was known before the instruction.
+    pub changes: Changes,
+}
+
+/// An instruction in a walk through its block.
+#[derive(Clone, Copy, Debug)]
+pub struct Here<'a> {
+    /// Its offset.
+    pub at: u32,
+    /// The offset of the one before it in its block.
+    pub before: Option<u32>,
+    /// What is known before it.
+    pub state: &'a State,
+    /// What the one before it may have changed.
+    pub changes: Changes,
 }
 
 /// A way out of the function.
@@ -54,11 +67,11 @@ pub enum Exit {
 
 /// What is done with what a walk finds.
 pub trait Visitor<'m> {
-    /// An instruction, and the one before it in its block.
-    fn instruction(&mut self, _flow: &mut Flow<'m, '_>, _at: u32, _before: Option<u32>, _state: &State) {}
+    /// An instruction.
+    fn instruction(&mut self, _flow: &Flow<'m, '_>, _here: Here<'_>) {}
 
     /// Bytes that aren't code.
-    fn data(&mut self, _flow: &mut Flow<'m, '_>, _at: u32) {}
+    fn data(&mut self, _flow: &Flow<'m, '_>, _at: u32) {}
 
     /// A way to another block.
     fn edge(&mut self, flow: &mut Flow<'m, '_>, edge: Edge, state: &State);
@@ -67,12 +80,22 @@ pub trait Visitor<'m> {
     fn exit(&mut self, flow: &mut Flow<'m, '_>, at: u32, exit: Exit, state: &State);
 }
 
+/// What is known where two registers are equal.
+enum Equality {
+    /// They can't be.
+    Impossible,
+    /// Nothing more.
+    Unknown,
+    /// What a register holds.
+    Known(Register, Value),
+}
+
 /// A walk through a block.
 struct Walk<'v, V> {
     visitor: &'v mut V,
     leader: u32,
     at: u32,
-    state: State,
+    state: Box<State>,
     /// The registers that the instruction before has compared.
     compared: Option<(Register, Register)>,
     /// Whether all instructions until now were padding.
@@ -82,28 +105,14 @@ struct Walk<'v, V> {
 impl<'m> Flow<'m, '_> {
     /// Walks through the block at an offset, which was reached.
     pub fn walk<V: Visitor<'m>>(&mut self, leader: u32, visitor: &mut V) {
-        let state = match self.state_at(leader) {
-            Some(state) => state.clone(),
-            None => return,
-        };
-        let mut walk = Walk { visitor, leader, at: leader, state, compared: None, is_padding: true };
-        let mut before = None;
-        while walk.at < self.code.length() {
-            if walk.at != leader && self.code.is_leader(walk.at) {
-                return walk.fall(self, before.unwrap_or(leader));
-            }
-            let Instruction { effect, length } = self.code.instruction(walk.at);
-            if rules::is_data(&self.code, walk.at, &effect, &walk.state) {
-                return walk.visitor.data(self, walk.at);
-            }
-            walk.is_padding &= matches!(effect, Effect::Padding);
-            walk.visitor.instruction(self, walk.at, before, &walk.state);
-            if !walk.pass(self, effect) {
-                return;
-            }
-            before = Some(walk.at);
-            walk.at += u32::from(length);
+        let mut state = self.room.state.take().unwrap_or_else(|| Box::new(State::unknown(false)));
+        if let Some(known) = self.state_at(leader) {
+            State::clone_from(&mut state, known);
+            let mut walk = Walk { visitor, leader, at: leader, state, compared: None, is_padding: true };
+            walk.run(self);
+            state = walk.state;
         }
+        self.room.state = Some(state);
     }
 
     /// What a call may change, if it returns.
@@ -119,10 +128,39 @@ impl<'m> Flow<'m, '_> {
 }
 
 impl<'m, V: Visitor<'m>> Walk<'_, V> {
+    fn run(&mut self, flow: &mut Flow<'m, '_>) {
+        let mut before = None;
+        while self.at < flow.code.length() {
+            if self.at != self.leader && flow.code.is_leader(self.at) {
+                return self.fall(flow, before.unwrap_or(self.leader));
+            }
+            let effect = flow.code.effect(self.at);
+            if rules::is_data(&flow.code, self.at, effect, &self.state) {
+                return self.visitor.data(flow, self.at);
+            }
+            self.is_padding &= matches!(effect, Effect::Padding);
+            let changes = self.state.take_changes();
+            self.visitor.instruction(flow, Here { at: self.at, before, state: &self.state, changes });
+            before = Some(self.at);
+            if effect.may_end_block() {
+                let effect = *effect;
+                if !self.pass(flow, effect) {
+                    return;
+                }
+            } else {
+                self.compared = effect.compared();
+                if !effect.changes_nothing() {
+                    let (machine, stores) = (flow.module.machine, &mut flow.stores);
+                    Step { machine, state: &mut self.state, stores, at: self.at }.apply(effect);
+                }
+            }
+            self.at = flow.code.next(self.at);
+        }
+    }
+
     fn edge(&mut self, flow: &mut Flow<'m, '_>, from: u32, to: u32, kind: EdgeKind) {
-        let is_jump = matches!(flow.code.effect(from), Effect::Jump { .. } | Effect::JumpIf { .. });
-        let is_changed = !is_jump || self.compared.is_some();
-        self.visitor.edge(flow, Edge { block: self.leader, from, to, kind, is_changed }, &self.state);
+        let changes = self.state.changes();
+        self.visitor.edge(flow, Edge { block: self.leader, from, to, kind, changes }, &self.state);
     }
 
     /// The block ends where another begins.
@@ -133,25 +171,19 @@ impl<'m, V: Visitor<'m>> Walk<'_, V> {
         }
     }
 
-    /// Passes an instruction. Returns whether the next one follows in this block.
+    /// Passes an instruction that may end the block. Returns whether the next one follows in it.
     fn pass(&mut self, flow: &mut Flow<'m, '_>, effect: Effect) -> bool {
         match effect {
-            Effect::Stop | Effect::Invalid => return false,
-            Effect::System { .. } if rules::is_exit(flow, &self.state) => return false,
+            Effect::System { .. } if !rules::is_exit(flow, &self.state) => {
+                self.compared = None;
+                self.step(flow).apply(&effect);
+                return true;
+            }
             Effect::Return => self.visitor.exit(flow, self.at, Exit::Return, &self.state),
             Effect::Jump { target } => self.jump(flow, target),
             Effect::JumpIf { target, condition } => self.jump_if(flow, target, condition),
             Effect::Call { target } => self.call(flow, target),
-            _ => {
-                self.compared = match effect {
-                    Effect::Compare { one, other } => Some((one, other)),
-                    _ => None,
-                };
-                if !effect.changes_nothing() {
-                    self.step(flow).apply(&effect);
-                }
-                return true;
-            }
+            _ => {}
         }
         false
     }
@@ -213,36 +245,49 @@ impl<'m, V: Visitor<'m>> Walk<'_, V> {
     fn jump_if(&mut self, flow: &mut Flow<'m, '_>, target: u64, condition: Condition) {
         let next = flow.code.next(self.at);
         let is_inside = flow.code.offset(target).is_some();
-        let before = self.compared.map(|_| self.state.clone());
         let is_taken = is_inside || !rules::is_default_of_switch(&flow.code, next);
-        if is_taken && self.refine(condition == Condition::Equal) {
-            self.go(flow, target, EdgeKind::Jump);
+        if is_taken {
+            let equality = self.equality(condition == Condition::Equal);
+            self.go_if(flow, equality, |walk, flow| walk.go(flow, target, EdgeKind::Jump));
         }
-        before.into_iter().for_each(|state| self.state = state);
-        if next < flow.code.length() && self.refine(condition == Condition::NotEqual) {
-            self.edge(flow, self.at, next, EdgeKind::Fall);
+        if next < flow.code.length() {
+            let equality = self.equality(condition == Condition::NotEqual);
+            self.go_if(flow, equality, |walk, flow| walk.edge(flow, walk.at, next, EdgeKind::Fall));
+        }
+    }
+
+    /// Goes on a way, unless it can't be taken, with what is known on it.
+    fn go_if(&mut self, flow: &mut Flow<'m, '_>, equality: Equality, go: impl FnOnce(&mut Self, &mut Flow<'m, '_>)) {
+        match equality {
+            Equality::Impossible => {}
+            Equality::Unknown => go(self, flow),
+            Equality::Known(register, value) => {
+                let before = self.state.get(register);
+                self.state.set(register, value);
+                go(self, flow);
+                self.state.set(register, before);
+            }
         }
     }
 
     /// Rule "loops that probe the stack": where two registers were compared and are equal, what is
-    /// known of one is known of the other. Returns false if they can't be equal.
-    fn refine(&mut self, are_equal: bool) -> bool {
-        if let Some((one, other)) = self.compared.filter(|_| are_equal) {
-            let (first, second) = (self.state.get(one), self.state.get(other));
-            match (first, second) {
-                (_, value @ Value::Address { .. }) if first.is_open() && !second.is_open() => {
-                    self.state.set(one, value)
-                }
-                (value @ Value::Address { .. }, _) if second.is_open() && !first.is_open() => {
-                    self.state.set(other, value);
-                }
-                (Value::Address { base, offset }, Value::Address { base: of, offset: by }) if base == of => {
-                    return offset == by;
-                }
-                _ => {}
+    /// known of one is known of the other.
+    fn equality(&self, are_equal: bool) -> Equality {
+        let (one, other) = match self.compared {
+            Some(compared) if are_equal => compared,
+            _ => return Equality::Unknown,
+        };
+        let (first, second) = (self.state.get(one), self.state.get(other));
+        match (first, second) {
+            (_, value @ Value::Address { .. }) if first.is_open() && !second.is_open() => Equality::Known(one, value),
+            (value @ Value::Address { .. }, _) if second.is_open() && !first.is_open() => Equality::Known(other, value),
+            (Value::Address { base, offset }, Value::Address { base: of, offset: by })
+                if base == of && offset != by =>
+            {
+                Equality::Impossible
             }
+            _ => Equality::Unknown,
         }
-        true
     }
 
     fn call(&mut self, flow: &mut Flow<'m, '_>, target: Target) {
