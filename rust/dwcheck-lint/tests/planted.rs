@@ -2,7 +2,10 @@
 
 mod common;
 
-use common::assembly::X86_64;
+use common::assembly::{function, X86_64};
+use common::gimli_rows::module;
+use common::{has, kinds, Folder};
+use dwcheck_lint::lint::lint;
 
 #[test]
 fn push_without_row() {
@@ -202,6 +205,30 @@ fn cfa_register_overwritten_by_a_call() {
         .cfi_def_cfa rsp, 8
         ret";
     X86_64.planted("renamed", "CFA register overwritten", text);
+}
+
+/// In an unlinked object, an address stands for each function of another module. What a call of it overwrites is
+/// known, while code at the address, as there is here, could leave the register alone.
+#[test]
+fn cfa_register_overwritten_by_an_imported_function() {
+    let text = "lea 8(%rsp), %r10
+        .cfi_def_cfa r10, 0
+        push %rax
+        call g
+        pop %rcx
+        .cfi_def_cfa rsp, 8
+        ret";
+    let folder = Folder::new("imported");
+    folder.write("text.s", &function(text, "g: ret"));
+    if has("gcc") {
+        folder.run("gcc -nostdlib -shared -o out text.s");
+        let data = folder.bytes("out");
+        let mut module = module(&data);
+        assert_eq!(kinds(&lint(&module)), [""; 0]);
+        module.sections = vec![(0, ".text")];
+        module.imports.insert(module.fdes[0].end, "g");
+        assert_eq!(kinds(&lint(&module)), ["CFA register overwritten"]);
+    }
 }
 
 #[test]
