@@ -220,7 +220,7 @@ impl Judge<'_> {
             Value::Address { .. } if self.said.returns_to_handler => None,
             Value::Address { .. } => Some(WrongCfa::Dynamic),
             // Rule "moved frame": code that copies its return address elsewhere has its frame there.
-            Value::Clobbered if self.state.is_assumed || self.stores.moves_return_address => None,
+            Value::Clobbered if self.stores.moves_return_address => None,
             Value::Clobbered => Some(WrongCfa::Clobbered),
             Value::Entry(_) => Some(WrongCfa::Restored),
             _ => Some(WrongCfa::Number),
