@@ -39,6 +39,7 @@ pub mod loclists;
 pub mod mapped;
 pub mod modules;
 pub mod names;
+mod page;
 mod pieces;
 mod plt;
 pub mod profile;

@@ -37,6 +37,21 @@ impl Notes {
     }
 }
 
+impl Notes {
+    /// Each kind that the section has: how often, and what it is.
+    pub fn texts(&self) -> impl Iterator<Item = (usize, &'static str)> {
+        let all = [
+            (self.signal_frames, "FDEs are of signal frames, whose caller was interrupted and didn't call"),
+            (self.args_sizes, "DW_CFA_GNU_args_size dropped"),
+            (self.negated, "DW_CFA_AARCH64_negate_ra_state dropped, which says where return addresses are signed"),
+            (self.empty_records, "records of length 0 left out"),
+            (self.copies, "FDEs left out that are exact copies of an earlier one"),
+            (self.mended, "DW_CFA_def_cfa_register before a rule for the CFA, read as DW_CFA_def_cfa with offset 0"),
+        ];
+        all.into_iter().filter(|(count, _)| *count > 0)
+    }
+}
+
 impl AddAssign for Notes {
     fn add_assign(&mut self, other: Notes) {
         self.signal_frames += other.signal_frames;

@@ -3,16 +3,13 @@
 
 use super::calls::{Calls, Code};
 use super::names::Names;
-use super::speedscope::separated;
 use super::{Profile, Sample};
+use crate::page::{self, separated};
 use std::collections::HashMap;
 use std::io::{self, Write};
 
 /// The page, with a mark where the data go.
 const PAGE: &str = include_str!("html/page.html");
-
-/// The mark.
-const MARK: &str = "@DATA@";
 
 /// Writes the samples of an event.
 ///
@@ -20,33 +17,8 @@ const MARK: &str = "@DATA@";
 ///
 /// Those of `out`.
 pub fn write(profile: &Profile, names: &Names, event: usize, title: &str, out: &mut impl Write) -> io::Result<()> {
-    let (before, after) = PAGE.split_once(MARK).unwrap_or((PAGE, ""));
-    out.write_all(before.as_bytes())?;
-    let mut data = Data { profile, names, calls: &Calls::of(profile, names), event, out: &mut Escaped(out) };
-    data.write(title)?;
-    out.write_all(after.as_bytes())
-}
-
-/// Writes JSON so that HTML doesn't see an element in it.
-struct Escaped<'w, W>(&'w mut W);
-
-impl<W: Write> Write for Escaped<'_, W> {
-    fn write(&mut self, bytes: &[u8]) -> io::Result<usize> {
-        for part in bytes.split_inclusive(|byte| *byte == b'<') {
-            match part.strip_suffix(b"<") {
-                Some(plain) => {
-                    self.0.write_all(plain)?;
-                    self.0.write_all(b"\\u003c")?;
-                }
-                None => self.0.write_all(part)?,
-            }
-        }
-        Ok(bytes.len())
-    }
-
-    fn flush(&mut self) -> io::Result<()> {
-        self.0.flush()
-    }
+    let calls = Calls::of(profile, names);
+    page::write(PAGE, out, |out| Data { profile, names, calls: &calls, event, out }.write(title))
 }
 
 /// What the page shows.

@@ -4,6 +4,7 @@
 use super::calls::Calls;
 use super::names::Names;
 use super::{Profile, Sample};
+use crate::page::separated;
 use serde_json::json;
 use std::collections::BTreeMap;
 use std::io::{self, Write};
@@ -53,19 +54,4 @@ fn thread(profile: &Profile, calls: &Calls, event: usize, samples: &[&Sample], o
     out.write_all(b"],\"weights\":[")?;
     separated(out, samples.iter(), |sample, out| write!(out, "{}", sample.weight))?;
     out.write_all(b"]}")
-}
-
-/// Writes things with commas between them.
-pub(super) fn separated<T, W: Write>(
-    out: &mut W,
-    all: impl Iterator<Item = T>,
-    mut one: impl FnMut(T, &mut W) -> io::Result<()>,
-) -> io::Result<()> {
-    for (place, item) in all.enumerate() {
-        if place > 0 {
-            out.write_all(b",")?;
-        }
-        one(item, out)?;
-    }
-    Ok(())
 }

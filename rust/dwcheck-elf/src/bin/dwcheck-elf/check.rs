@@ -213,17 +213,6 @@ fn write_lists(out: &mut impl Write, report: &Report) -> io::Result<()> {
 
 /// Writes what a section has that isn't a rule, and what was read in another way, with a line for each kind.
 pub fn write_notes(out: &mut impl Write, frames: &Frames<'_>) -> io::Result<()> {
-    let notes = Notes::of(frames);
-    let lines = [
-        (notes.signal_frames, "FDEs are of signal frames, whose caller was interrupted and didn't call"),
-        (notes.args_sizes, "DW_CFA_GNU_args_size dropped"),
-        (notes.negated, "DW_CFA_AARCH64_negate_ra_state dropped, which says where return addresses are signed"),
-        (notes.empty_records, "records of length 0 left out"),
-        (notes.copies, "FDEs left out that are exact copies of an earlier one"),
-        (notes.mended, "DW_CFA_def_cfa_register before a rule for the CFA, read as DW_CFA_def_cfa with offset 0"),
-    ];
-    lines
-        .iter()
-        .filter(|(count, _)| *count > 0)
-        .try_for_each(|(count, what)| writeln!(out, "note {}: {} {}", frames.name(), count, what))
+    let mut texts = Notes::of(frames).texts();
+    texts.try_for_each(|(count, what)| writeln!(out, "note {}: {} {}", frames.name(), count, what))
 }

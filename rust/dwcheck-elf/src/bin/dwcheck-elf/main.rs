@@ -7,6 +7,7 @@ mod end;
 mod lint;
 mod lists;
 mod opened;
+mod output;
 mod profile;
 mod rows;
 mod sarif;

@@ -1,15 +1,14 @@
 //! The command `profile`: writes the stacks that perf recorded.
 
-mod output;
 mod summary;
 
 use crate::arguments::{Format, ProfileWords};
 use crate::end::{shown, Done, Failure};
+use crate::output::Output;
 use dwcheck_elf::profile::script::ScriptOptions;
 use dwcheck_elf::profile::{folded, html, pprof, script, speedscope, top};
 use dwcheck_elf::profile::{NameOptions, Names, Options, Places, Profile, Recording};
 use indicatif::{ProgressBar, ProgressStyle};
-use output::Output;
 use std::fs::File;
 use std::io::Write;
 use std::ops::RangeInclusive;
