@@ -1,6 +1,7 @@
 //! Sets of addresses.
 
 use std::collections::BTreeMap;
+use std::ops::Range;
 
 /// A set of addresses, as ranges of which no two share an address or touch.
 #[derive(Clone, Debug, Default)]
@@ -18,6 +19,20 @@ impl Covered {
     /// Whether all addresses from `begin` up to, not including, `end` are in the set.
     pub fn has_all(&self, begin: u64, end: u64) -> bool {
         self.ends.range(..=begin).next_back().map_or(false, |(_, stop)| end <= *stop)
+    }
+
+    /// The parts of the addresses from `begin` up to, not including, `end` that are in the set, ascending.
+    pub fn parts(&self, begin: u64, end: u64) -> impl Iterator<Item = Range<u64>> + '_ {
+        let before = self.ends.range(..begin).next_back().filter(|(_, stop)| **stop > begin);
+        let within = self.ends.range(begin..end.max(begin));
+        before.into_iter().chain(within).map(move |(start, stop)| begin.max(*start)..end.min(*stop))
+    }
+
+    /// The parts of these addresses that aren't in the set, ascending.
+    pub fn gaps(&self, begin: u64, end: u64) -> impl Iterator<Item = Range<u64>> + '_ {
+        let ends = self.parts(begin, end).map(|part| part.end);
+        let begins = self.parts(begin, end).map(|part| part.start).chain([end]);
+        std::iter::once(begin).chain(ends).zip(begins).map(|(from, to)| from..to).filter(|gap| gap.start < gap.end)
     }
 
     /// Adds the addresses from `begin` up to, not including, `end`.
@@ -49,6 +64,8 @@ mod tests {
         assert!(
             covered.has_all(10, 20) && covered.has_all(12, 13) && !covered.has_all(19, 31) && !covered.has_all(9, 20)
         );
+        let (parts, gaps): (Vec<_>, Vec<_>) = (covered.parts(15, 35).collect(), covered.gaps(5, 35).collect());
+        assert_eq!((parts, gaps), (vec![15..20, 30..35], vec![5..10, 20..30]));
         covered.insert(20, 30);
         assert!(covered.has_all(10, 40));
         covered.insert(5, 45);

@@ -43,7 +43,7 @@ fn room(section: &[u8]) -> usize {
 }
 
 /// A section that can be checked.
-#[derive(Clone, Copy, Debug, PartialEq, Eq, PartialOrd, Ord)]
+#[derive(Clone, Copy, Debug, PartialEq, Eq, PartialOrd, Ord, Hash)]
 pub enum Name {
     /// `.debug_frame`.
     DebugFrame,

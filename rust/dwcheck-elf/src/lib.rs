@@ -6,6 +6,7 @@
 //! - [`frames`] reads the records of its frame sections, and gives the sections to the library.
 //! - [`validate`] compares the library's rows of a frame section with gimli's.
 //! - [`lint`] gives the crate `dwcheck-lint` a program's code and rows.
+//! - [`report`] says what the frame sections of a program hold, and compares two builds.
 //! - [`trace`] compares rows with values while a program runs.
 //! - [`profile`] reads what `perf record` wrote, and walks the stacks of its samples.
 //! - [`core_file`] opens a core file and gives its threads, memory and modules.
@@ -45,6 +46,7 @@ mod plt;
 pub mod profile;
 pub mod program;
 pub mod relocate;
+pub mod report;
 pub mod row;
 pub mod stack;
 pub mod state_file;

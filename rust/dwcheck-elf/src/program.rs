@@ -14,7 +14,7 @@ use object::{SectionFlags, SegmentFlags};
 use std::borrow::Cow;
 use std::fmt;
 use std::io::Read;
-use std::ops::RangeInclusive;
+use std::ops::{Range, RangeInclusive};
 use xz2::read::XzDecoder;
 use xz2::stream::Stream;
 
@@ -268,6 +268,27 @@ impl<'data> Program<'data> {
             Segment { address: segment.address(), size: segment.size(), offset, file_size, is_executable }
         };
         self.file.segments().map(segment).collect()
+    }
+
+    /// The sections with code that are loaded, each with its name and its addresses. The executable segments, if
+    /// the file has no such sections.
+    pub fn code_sections(&self) -> Vec<(String, Range<u64>)> {
+        let range = |address: u64, size: u64| address..address.saturating_add(size);
+        let is_code = |section: &object::Section<'_, '_>| {
+            let flags = section.flags();
+            is_loaded(flags)
+                && matches!(flags, SectionFlags::Elf { sh_flags } if sh_flags & u64::from(elf::SHF_EXECINSTR) != 0)
+        };
+        let named = |section: object::Section<'_, '_>| {
+            let name = String::from_utf8_lossy(section.name_bytes().unwrap_or(b"?")).into_owned();
+            (name, range(self.layout.address(section.index()), section.size()))
+        };
+        let sections: Vec<_> = self.file.sections().filter(is_code).map(named).collect();
+        if !sections.is_empty() {
+            return sections;
+        }
+        let segments = self.segments().into_iter().filter(|segment| segment.is_executable);
+        segments.map(|segment| ("segment".to_string(), range(segment.address, segment.size))).collect()
     }
 
     /// The addresses of the file's code in a process where the file is loaded at `load`: from the

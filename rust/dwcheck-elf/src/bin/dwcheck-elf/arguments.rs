@@ -55,6 +55,9 @@ pub enum Command {
     /// Write the stacks that perf recorded, as folded stacks or in another format
     #[command(after_help = PROFILE_EXAMPLE)]
     Profile(ProfileWords),
+    /// Write one page about the frame sections of programs, or about how those of two builds differ
+    #[command(after_help = REPORT_EXAMPLES)]
+    Report(ReportWords),
     /// Print the completions of a shell, for its folder of completions
     Completions(CompletionsWords),
 }
@@ -70,6 +73,9 @@ pub struct CompletionsWords {
 const PROFILE_EXAMPLE: &str =
     "Example: perf record -e cpu-clock --call-graph dwarf ./program && dwcheck-elf profile > stacks.folded
 Exit status: 0 written; 2 a bad argument; 3 a recording that can't be read to its end";
+
+const REPORT_EXAMPLES: &str = "Examples: dwcheck-elf report /bin/bash -o report.html
+          dwcheck-elf report --compare old/program new/program -o report.html";
 
 const TRACE_STATUS: &str = "Example: dwcheck-elf trace --module 'libcrypto*' -- openssl speed rsa512
 Exit status: that of the program, or 128 plus the number of the signal that ended it. With --status, and of
@@ -345,6 +351,22 @@ pub struct TraceWords {
     /// End with the status 1 if something is found, and 0 if not, in place of the program's own status
     #[arg(long)]
     pub status: bool,
+}
+
+#[derive(Args, Debug)]
+pub struct ReportWords {
+    /// ELF files: programs, libraries, unlinked objects, kernel modules
+    #[arg(required = true)]
+    pub programs: Vec<PathBuf>,
+    /// Write to this file, not to standard output
+    #[arg(long, short, value_name = "FILE")]
+    pub output: Option<PathBuf>,
+    /// Show how the tables of two programs differ, the old one first
+    #[arg(long)]
+    pub compare: bool,
+    /// Show rows and instructions of this function only. Can be given several times
+    #[arg(long, value_name = "NAME")]
+    pub function: Vec<String>,
 }
 
 /// The format in which a profile is written.

@@ -9,6 +9,7 @@ mod lists;
 mod opened;
 mod output;
 mod profile;
+mod report;
 mod rows;
 mod sarif;
 mod stack;
@@ -62,6 +63,7 @@ fn run(command: Command, out: &mut impl Write) -> Result<Done, Failure> {
         Command::Lint(words) => lint::lint(&words, out),
         Command::Trace(words) => trace::trace(&words),
         Command::Profile(words) => profile::profile(&words, out),
+        Command::Report(words) => report::report(&words, out),
         Command::Completions(words) => {
             clap_complete::generate(words.shell, &mut Words::command(), "dwcheck-elf", out);
             Ok(Done::Accepted)

@@ -1,0 +1,60 @@
+//! The command `report`: writes one page about the frame sections of programs.
+
+use crate::arguments::ReportWords;
+use crate::end::{shown, Done, Failure};
+use crate::opened::{note, program, read};
+use crate::output::Output;
+use dwcheck_elf::report::page::{self, Contents, ROOM};
+use dwcheck_elf::report::{Difference, Report, Standing};
+use std::io::Write;
+
+/// Writes the page on `out` or to a file.
+pub fn report(words: &ReportWords, out: &mut impl Write) -> Result<Done, Failure> {
+    if words.compare && words.programs.len() != 2 {
+        return Err(Failure::Argument("bad argument: --compare takes two programs, the old one first".to_string()));
+    }
+    let files = words.programs.iter().map(|path| Ok((path, read(path)?))).collect::<Result<Vec<_>, Failure>>()?;
+    let read = files.iter().map(|(path, data)| {
+        let program = program(path, data)?;
+        Ok(Report::read(shown(path), &program))
+    });
+    let reports = read.collect::<Result<Vec<_>, Failure>>()?;
+    let difference = match reports.as_slice() {
+        [old, new] if words.compare => Some(Difference::of(old, new)),
+        _ => None,
+    };
+    let contents = Contents { only: only(&words.function, &reports)?, difference, reports: &reports, room: ROOM };
+    match &words.output {
+        None => page::write(&contents, out)?,
+        Some(path) => {
+            let mut output = Output::create(path)?;
+            page::write(&contents, output.writer())?;
+            output.finish()?;
+        }
+    }
+    Ok(files.iter().zip(&reports).map(|((path, _), report)| done(path, report)).max().unwrap_or(Done::Accepted))
+}
+
+/// The functions with these names, of each program. `None` if no names are given.
+fn only(names: &[String], reports: &[Report<'_>]) -> Result<Option<Vec<Vec<usize>>>, Failure> {
+    let is_known = |name: &&String| reports.iter().any(|report| report.named(name).next().is_some());
+    if let Some(name) = names.iter().find(|name| !is_known(name)) {
+        return Err(Failure::Argument(format!("bad argument: no FDE is that of a function with the name {}", name)));
+    }
+    let of_report =
+        |report: &Report<'_>| names.iter().flat_map(|name| report.named(name).collect::<Vec<_>>()).collect();
+    Ok(Some(reports.iter().map(of_report).collect()).filter(|_| !names.is_empty()))
+}
+
+/// Whether all sections of a program are accepted. Says on standard error why one can't be checked.
+fn done(path: &std::path::Path, report: &Report<'_>) -> Done {
+    let of_section = |standing: &Standing| match standing {
+        Standing::Accepted => Done::Accepted,
+        Standing::Refused(..) => Done::Refused,
+        Standing::Unread(why) => {
+            note(path, why);
+            Done::Unread
+        }
+    };
+    report.sections.iter().map(|section| of_section(&section.standing)).max().unwrap_or(Done::Accepted)
+}
