@@ -11,9 +11,11 @@
 //! # Ok::<(), Box<dyn std::error::Error>>(())
 //! ```
 
+mod batch;
 pub mod calls;
 mod collect;
 pub mod folded;
+mod frames;
 pub mod html;
 mod kernel;
 mod memory;
@@ -24,16 +26,17 @@ mod recording;
 pub mod script;
 mod space;
 pub mod speedscope;
+mod tables;
 mod task;
 pub mod top;
 mod tree;
 mod walk;
 
+pub use frames::{End, Frame, Place};
 pub use names::{Function, NameOptions, Names};
 pub use objects::{Kind, Object, Places};
 pub use recording::{BuildId, Damage, Event, Features, Recording};
 pub use tree::{Node, NodeId, Tree};
-pub use walk::{End, Frame, Place};
 
 use collect::Collector;
 use std::collections::BTreeMap;

@@ -219,6 +219,33 @@ fn records_are_taken_in_the_order_of_their_times() {
     assert_eq!((ran.out, ran.error), (format!("late{} 1000\n", STACK), String::new()));
 }
 
+/// Enough samples that several processors walk them, of processes that map a file before some of them and after
+/// others.
+#[test]
+fn a_profile_is_the_same_for_any_number_of_processors() {
+    let (folder, offset) = x86("profile-jobs");
+    let page = offset & !0xfff;
+    let mut recording = Recording::new(false);
+    for number in 0..3000 {
+        let (pid, time) = (5 + number as u32 % 7, 10 * number);
+        if number % 300 == 60 {
+            recording.map(pid, time, (LOAD * u64::from(pid % 3 + 1) + page, 0x1000, page), b"/a.so");
+        }
+        sample(&mut recording, pid, time + 1, LOAD * (number % 3 + 1) + offset);
+    }
+    folder.write("jobs.perf", recording.file(X86, "x86_64"));
+    for format in ["script", "html", "pprof"] {
+        let of = |jobs: &str| {
+            let words = ["profile", "--root", ".", "--format", format, "-o", "out", "--jobs", jobs, "jobs.perf"];
+            let ran = dwcheck_elf_words(&folder, &words);
+            (folder.bytes("out"), ran.error)
+        };
+        let one = of("1");
+        assert!(one.1.starts_with("samples 3000 frames "), "{}", one.1);
+        assert!(["2", "3", "8"].into_iter().all(|jobs| of(jobs) == one), "{}", format);
+    }
+}
+
 #[test]
 fn names_cannot_change_a_terminal_a_line_or_a_page() {
     let (folder, offset) = x86("profile-names");

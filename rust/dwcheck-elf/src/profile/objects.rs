@@ -188,6 +188,16 @@ impl Objects {
         id
     }
 
+    /// The kernel, if it was asked for before.
+    pub fn of_kernel(&self) -> Option<ObjectId> {
+        self.kernel
+    }
+
+    /// The memory of a process that is no file's, if it was asked for before.
+    pub fn of_memory(&self, pid: u32) -> Option<ObjectId> {
+        self.memory.get(&pid).copied()
+    }
+
     /// What a process mapped.
     pub fn mapped(&mut self, mapped: &Mapped<'_>, features: &Features) -> ObjectId {
         let is_file = mapped.name == VDSO || self.places.inside(mapped.name).is_some() && !is_memory(mapped.name);

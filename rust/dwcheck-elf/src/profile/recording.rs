@@ -122,7 +122,7 @@ impl<'r> Recording<'r> {
     /// # Errors
     ///
     /// If the header can't be read.
-    pub fn of_file<R: Read + Seek + 'r>(mut file: R) -> Result<Recording<'r>, Damage> {
+    pub fn of_file<R: Read + Seek + Send + 'r>(mut file: R) -> Result<Recording<'r>, Damage> {
         let header = Header::read(&mut file)?;
         let target = Target { order: header.order, address_size: AddressSize::Eight };
         if header.is_pipe {
@@ -147,7 +147,7 @@ impl<'r> Recording<'r> {
     /// # Errors
     ///
     /// If the header can't be read.
-    pub fn of_pipe<R: Read + 'r>(mut pipe: R) -> Result<Recording<'r>, Damage> {
+    pub fn of_pipe<R: Read + Send + 'r>(mut pipe: R) -> Result<Recording<'r>, Damage> {
         let header = Header::read(&mut pipe)?;
         if !header.is_pipe {
             return Err(Damage::Format("a recording that perf wrote to a file can't be read from a pipe"));
@@ -181,18 +181,18 @@ impl<'r> Recording<'r> {
         self.source.position()
     }
 
-    /// The next record, in the order of their times. `None` at the end: then
+    /// The next records, in the order of their times. `None` at the end: then
     /// [`damage`](Self::damage) says whether the recording is whole.
-    pub fn next_record(&mut self) -> Option<(Record<'_>, &About)> {
-        let held = loop {
-            match self.queue.next() {
-                Some(held) => break held,
-                None if self.is_at_end => return None,
-                None => self.read_round(),
+    pub fn next_batch(&mut self) -> Option<Batch<'_>> {
+        if self.queue.is_given() {
+            self.queue.forget_given();
+            while !self.is_at_end && !self.queue.has_enough() {
+                self.read_round();
             }
-        };
-        let record = Record::read(held.head, self.queue.body(&held), self.target, &self.about.events);
-        Some((record, &self.about))
+        }
+        let (held, bytes) = self.queue.give();
+        let batch = Batch { held, bytes, about: &self.about, target: self.target };
+        Some(batch).filter(|batch| !batch.held.is_empty())
     }
 
     /// Reads records up to the end of a round, and gives those free for which it is certain that no
@@ -230,6 +230,29 @@ impl<'r> Recording<'r> {
         }
         let time = record::time(head, Cursor::new(body, self.target), &self.about.events);
         self.queue.push(Held { time, head, start, end: start + body.len() });
+    }
+}
+
+/// Records that were read together.
+#[derive(Clone, Copy, Debug)]
+pub struct Batch<'b> {
+    held: &'b [Held],
+    bytes: &'b [u8],
+    about: &'b About,
+    target: Target,
+}
+
+impl<'b> Batch<'b> {
+    /// What the recording says of its events and of itself.
+    pub fn about(&self) -> &'b About {
+        self.about
+    }
+
+    /// The records, in the order of their times.
+    pub fn records(&self) -> impl Iterator<Item = Record<'b>> {
+        let Batch { bytes, about, target, .. } = *self;
+        let body = move |held: &Held| bytes.get(held.start..held.end).unwrap_or(&[]);
+        self.held.iter().map(move |held| Record::read(held.head, body(held), target, &about.events))
     }
 }
 

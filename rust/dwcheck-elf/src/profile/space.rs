@@ -5,8 +5,11 @@ use super::recording::{Comm, Fork};
 use std::collections::{BTreeMap, HashMap};
 use std::sync::Arc;
 
-/// The most mappings of all processes together that forks may copy. Only a damaged recording has more.
-const MOST_COPIED: usize = 1 << 26;
+/// The most copies of mappings of all processes together that are there at once. Only a damaged recording has more.
+const MOST_COPIES: usize = 1 << 21;
+
+/// A process with more mappings than this is costly to copy.
+const COSTLY: usize = 128;
 
 /// A part of a file, or of other memory, at an address of a process.
 #[derive(Clone, Copy, Debug, PartialEq, Eq)]
@@ -84,16 +87,29 @@ impl Processes {
         self.spaces.entry(pid).or_default()
     }
 
+    /// Whether another mapping of a process makes a copy of many, since somebody else has them too.
+    pub fn is_costly_to_copy(&self, pid: u32) -> bool {
+        self.spaces.get(&pid).map_or(false, |space| space.0.len() > COSTLY && Arc::strong_count(space) > 1)
+    }
+
     /// Adds a mapping of a process.
     pub fn map(&mut self, pid: u32, mapping: Mapping) {
-        let space = self.spaces.entry(pid).or_default();
-        if Arc::strong_count(space) > 1 {
-            self.copied = self.copied.saturating_add(space.0.len());
-            if self.copied > MOST_COPIED {
-                *space = Arc::default();
+        if self.spaces.get(&pid).map_or(false, |space| Arc::strong_count(space) > 1) {
+            self.count_copy(pid);
+        }
+        Arc::make_mut(self.spaces.entry(pid).or_default()).map(mapping);
+    }
+
+    /// Counts the mappings that a process will have for itself. If there are too many copies, it gets none.
+    fn count_copy(&mut self, pid: u32) {
+        self.copied += self.spaces.get(&pid).map_or(0, |space| space.0.len());
+        if self.copied > MOST_COPIES {
+            // Most copies are of processes that have ended, or that run another program now.
+            self.copied = self.spaces.values().map(|space| space.0.len() / Arc::strong_count(space)).sum();
+            if self.copied > MOST_COPIES / 2 {
+                self.spaces.insert(pid, Arc::default());
             }
         }
-        Arc::make_mut(space).map(mapping);
     }
 
     /// A thread has another name. If its process runs a new program, what it had mapped is gone.

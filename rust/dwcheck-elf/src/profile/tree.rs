@@ -1,6 +1,6 @@
 //! The stacks of a profile as a tree: a node is a frame with its callers.
 
-use super::walk::FrameId;
+use super::frames::FrameId;
 use rustc_hash::FxHashMap;
 
 /// The index of a node.
@@ -39,16 +39,28 @@ impl Tree {
 
     /// Adds a stack whose frames are these, the innermost first. Returns the node of the innermost one.
     pub(super) fn add(&mut self, frames: &[FrameId]) -> NodeId {
-        let mut caller = Tree::ROOT;
-        for frame in frames.iter().rev() {
-            let node = Node { caller, frame: *frame };
-            let next = self.nodes.len() as NodeId;
-            caller = *self.ids.entry(node).or_insert(next);
-            if caller == next {
-                self.nodes.push(node);
-            }
+        frames.iter().rev().fold(Tree::ROOT, |caller, frame| self.node(Node { caller, frame: *frame }))
+    }
+
+    /// Adds the stacks of another tree, whose frames have these indices here. Returns for each of its nodes the
+    /// node here.
+    pub(super) fn add_tree(&mut self, other: &Tree, frames: &[FrameId]) -> Vec<NodeId> {
+        let mut added = Vec::with_capacity(other.nodes.len());
+        added.push(Tree::ROOT);
+        for node in other.nodes.iter().skip(1) {
+            added.push(self.node(Node { caller: added[node.caller as usize], frame: frames[node.frame as usize] }));
         }
-        caller
+        added
+    }
+
+    /// The index of a node, which is added if it isn't there.
+    fn node(&mut self, node: Node) -> NodeId {
+        let next = self.nodes.len() as NodeId;
+        let id = *self.ids.entry(node).or_insert(next);
+        if id == next {
+            self.nodes.push(node);
+        }
+        id
     }
 
     /// The frames of a stack, the innermost first.

@@ -1,125 +1,92 @@
 //! Walks the stack of a sample.
 //!
-//! There is one table for each file, at the addresses as linked, wherever and however often processes
-//! mapped the file. Before each step, the cursor is moved to the address as linked of the frame's code. An
-//! FDE is checked and compiled when a frame first needs it.
+//! Walks only read what they share, so that any number of threads may walk at once. A walk that needs something
+//! which isn't there yet says so and ends; it is done again when that was added.
 
-use super::objects::{Kind, Loaded, ObjectId, Objects};
+use super::frames::{End, Frame, FrameId, Frames, Place};
+use super::objects::{Kind, ObjectId, Objects};
+use super::recording::{Features, Mode, Sample};
 use super::space::{Mapping, Space};
+use super::tables::Tables;
 use super::task::Task;
-use crate::stack::add_fde;
-use crate::target::Target;
-use dwcheck::{Answer, Block, Cursor, Process, Registers, State, Stop};
-use rustc_hash::FxHashMap;
-use std::collections::HashSet;
-use std::fmt;
+use crate::target::Order;
+use dwcheck::{Answer, Block, Cursor, Registers, State, Stop};
 
-/// Why a stack has no more frames.
-#[derive(Clone, Copy, Debug, PartialEq, Eq, Hash, PartialOrd, Ord)]
-pub enum End {
-    /// The return address is undefined: that is how tables mark the first frame of a thread. Or it is 0, as in
-    /// programs of Go.
-    Complete,
-    /// The caller is past the end of the copy of the stack.
-    EndOfCopy,
-    /// No table covers the last frame, and its frame pointer leads to no code.
-    NoTable,
-    /// The return address isn't in code.
-    NotCode,
-    /// The stack is read where it doesn't lead upward, or it was overwritten.
-    Unreadable,
-    /// There are as many frames as are asked for.
-    Limit,
-    /// The frames are those that the kernel or the processor found.
-    Chain,
-    /// The sample has no frames of a task.
-    None,
+/// The marks in chains of addresses, which are the highest numbers (`PERF_CONTEXT_`).
+mod mark {
+    pub const LEAST: u64 = -4095i64 as u64;
+    pub const KERNEL: u64 = -128i64 as u64;
+    pub const USER: u64 = -512i64 as u64;
 }
 
-impl End {
-    /// All reasons, in the order in which they are shown.
-    pub const ALL: [End; 8] =
-        [End::Complete, End::EndOfCopy, End::NoTable, End::NotCode, End::Unreadable, End::Limit, End::Chain, End::None];
+/// What a chain's addresses are of.
+#[derive(Clone, Copy, PartialEq, Eq)]
+enum Of {
+    Kernel,
+    Task,
+    Other,
 }
 
-/// The index of a frame.
-pub(super) type FrameId = u32;
-
-/// A place in code.
-#[derive(Clone, Copy, Debug, PartialEq, Eq, Hash)]
-pub struct Place {
-    /// The index of the object that has the code.
-    pub object: ObjectId,
-    /// The address: of a file as linked, of others as it is in memory. Of a caller it is that of the byte before
-    /// its return address, which is in the call.
-    pub address: u64,
+/// What walks share, and only read.
+pub(super) struct Shared {
+    pub objects: Objects,
+    pub tables: Tables,
+    /// The frames of earlier stacks.
+    pub known: Frames,
+    /// The most frames of a task.
+    limit: usize,
+    order: Order,
 }
 
-/// A frame, each place once.
-#[derive(Clone, Copy, Debug, PartialEq, Eq)]
-pub struct Frame {
-    /// The place.
-    pub place: Place,
-    /// What perf shows as the frame's address: of a file the offset.
-    pub shown: u64,
-    /// Whether that is the return address, which is after the call, as perf shows frames of the kernel.
-    pub is_return: bool,
-    /// Whether a table covers it.
-    is_covered: bool,
-    is_signal_frame: bool,
+/// What a walk needs and hasn't found.
+#[derive(Clone, Copy, Debug)]
+pub(super) enum Missing {
+    /// Whether a row covers a place of a file.
+    Row(Place),
+    /// The object for code that this process has made.
+    Memory(u32),
+    /// The object for the kernel.
+    Kernel,
 }
 
-/// The tables of a file, at the addresses as linked.
-struct Table {
-    process: Process,
-    /// The FDEs that were compiled or refused: their sections, and their indices there.
-    seen: HashSet<(usize, usize)>,
-}
-
-impl Table {
-    fn new(target: Target) -> Table {
-        Table { process: Process::new(target.into()), seen: HashSet::new() }
+impl Shared {
+    /// What walks share that find at most `limit` frames of a task.
+    pub fn new(objects: Objects, limit: usize, order: Order) -> Shared {
+        Shared { objects, tables: Tables::default(), known: Frames::default(), limit, order }
     }
 
-    /// Compiles the FDE that covers an address, if there is one that can be used. Returns whether a row
-    /// covers the address, and adds to `problems` what is refused.
-    fn prepare(&mut self, loaded: &Loaded, address: u64, problems: &mut Vec<String>) -> bool {
-        if self.process.module_at(address).is_some() {
-            return true;
-        }
-        for (place, section) in loaded.sections.iter().enumerate() {
-            let piece = match section.find(address) {
-                Some(piece) => piece,
-                None => continue,
-            };
-            let range = piece.range.start..=piece.range.end - 1;
-            let added = section.one(piece.fde).map_err(str::to_string).and_then(|one| {
-                let module = one.format.module(&one.bytes, 0).range(range);
-                add_fde(&mut self.process, &one, &module, address).map_err(|error| error.to_string())
-            });
-            match added {
-                Ok(()) => return true,
-                Err(why) if self.seen.insert((place, piece.fde)) => problems.push(section.problem(piece.fde, &why)),
-                Err(_) => {}
+    /// Adds what a walk needs.
+    pub fn add(&mut self, missing: Missing) {
+        match missing {
+            Missing::Row(place) => {
+                if let Some(loaded) = self.objects.loaded(place.object) {
+                    self.tables.prepare(loaded, place);
+                }
+            }
+            Missing::Memory(pid) => {
+                self.objects.memory(pid);
+            }
+            Missing::Kernel => {
+                self.objects.kernel();
             }
         }
-        false
     }
 }
 
-/// Walks stacks, and has the frames that were found so far.
-pub(super) struct Walker {
-    frames: Vec<Frame>,
-    ids: FxHashMap<Place, FrameId>,
-    tables: Vec<Option<Table>>,
-    limit: usize,
-    /// How many frames were found by frame pointers.
+/// Walks stacks one after another, and has the frames that were found.
+pub(super) struct Walker<'w> {
+    shared: &'w Shared,
+    features: &'w Features,
+    /// The frames of all stacks.
+    pub frames: Frames,
+    /// The stack that was walked last, the innermost frame first.
+    pub stack: Vec<FrameId>,
+    /// How many of its frames were found by frame pointers.
     pub by_frame_pointer: u64,
-    /// What is refused of the tables of files.
-    pub problems: Vec<(ObjectId, String)>,
+    registers: Registers,
 }
 
-/// A frame of a walk: its index, and the cursor's address for it as linked.
+/// A frame of a walk, with its index.
 #[derive(Clone, Copy)]
 struct At {
     id: FrameId,
@@ -132,133 +99,152 @@ enum Step {
     End(End),
 }
 
-impl Walker {
-    /// A walker that finds at most `limit` frames of a task.
-    pub fn new(limit: usize) -> Walker {
+impl<'w> Walker<'w> {
+    /// A walker of samples of a recording that says this of itself.
+    pub fn new(shared: &'w Shared, features: &'w Features) -> Walker<'w> {
         Walker {
-            frames: Vec::new(),
-            ids: FxHashMap::default(),
-            tables: Vec::new(),
-            limit,
+            shared,
+            features,
+            frames: Frames::default(),
+            stack: Vec::new(),
             by_frame_pointer: 0,
-            problems: Vec::new(),
+            registers: Registers::new(),
         }
     }
 
-    /// All frames.
-    pub fn into_frames(self) -> Vec<Frame> {
-        self.frames
+    /// Walks the stack of a sample of a process that has mapped this. Returns why there are no more frames.
+    pub fn walk(&mut self, sample: &Sample<'_>, space: &Space) -> Result<End, Missing> {
+        self.stack.clear();
+        self.by_frame_pointer = 0;
+        self.chained_kernel(sample)?;
+        let mut registers = std::mem::take(&mut self.registers);
+        let end = match Task::of(sample, self.features, self.shared.order, &mut registers) {
+            Some(task) => self.task(sample.pid, space, &task, &registers),
+            None => self.chained_task(sample, space),
+        };
+        self.registers = registers;
+        end
     }
 
-    /// The frame at an address that isn't in a file, or whose file has no tables.
-    pub fn plain(&mut self, object: ObjectId, address: u64, shown: u64) -> FrameId {
-        let place = Place { object, address };
-        if let Some(id) = self.ids.get(&place) {
-            return *id;
+    fn plain(&mut self, object: ObjectId, address: u64, shown: u64) -> FrameId {
+        self.frames.add(Frame::plain(object, address, shown))
+    }
+
+    /// The object for code that a process has made.
+    fn memory(&self, pid: u32) -> Result<ObjectId, Missing> {
+        self.shared.objects.of_memory(pid).ok_or(Missing::Memory(pid))
+    }
+
+    /// The frames of the kernel.
+    fn chained_kernel(&mut self, sample: &Sample<'_>) -> Result<(), Missing> {
+        let mut addresses = chain(sample, Of::Kernel);
+        if addresses.is_empty() && sample.mode == Mode::Kernel {
+            addresses.extend(sample.address);
         }
-        self.add(Frame { place, shown, is_return: shown != address, is_covered: false, is_signal_frame: false })
+        if addresses.is_empty() {
+            return Ok(());
+        }
+        let kernel = self.shared.objects.of_kernel().ok_or(Missing::Kernel)?;
+        for (place, address) in addresses.into_iter().enumerate() {
+            let inside = address.wrapping_sub(u64::from(place > 0));
+            let frame = self.plain(kernel, inside, address);
+            self.stack.push(frame);
+        }
+        Ok(())
     }
 
-    fn add(&mut self, frame: Frame) -> FrameId {
-        let id = self.frames.len() as FrameId;
-        self.frames.push(frame);
-        self.ids.insert(frame.place, id);
-        id
+    /// The frames of a task that the processor or the kernel found, where there is no copy of the stack.
+    fn chained_task(&mut self, sample: &Sample<'_>, space: &Space) -> Result<End, Missing> {
+        let mut addresses = chain(sample, Of::Task);
+        let calls: Vec<u64> = sample.calls.iter().collect();
+        if !calls.is_empty() {
+            // Of each call, the last one first: from where, to where, and flags.
+            addresses.truncate(1);
+            addresses.extend(calls.chunks_exact(3).map(|call| call[0]));
+        }
+        if addresses.is_empty() && sample.mode == Mode::User {
+            addresses.extend(sample.address);
+        }
+        for (place, address) in addresses.iter().take(self.shared.limit).enumerate() {
+            // A call's own address is in it; a return address is after it.
+            let is_return = place > 0 && calls.is_empty();
+            let inside = address.wrapping_sub(u64::from(is_return));
+            let frame = match space.find(inside) {
+                Some(mapping) => self.at(mapping, inside, is_return)?.id,
+                None => {
+                    let object = self.memory(sample.pid)?;
+                    self.plain(object, inside, *address)
+                }
+            };
+            self.stack.push(frame);
+        }
+        Ok(if addresses.is_empty() { End::None } else { End::Chain })
     }
 
     /// The frame of a mapping that is looked up at an address, or if `is_return`, that continues after it.
-    pub fn at(&mut self, objects: &Objects, mapping: &Mapping, address: u64, is_return: bool) -> FrameId {
-        self.find(objects, mapping, address, is_return).id
-    }
-
-    fn find(&mut self, objects: &Objects, mapping: &Mapping, address: u64, is_return: bool) -> At {
+    fn at(&mut self, mapping: &Mapping, address: u64, is_return: bool) -> Result<At, Missing> {
         let offset = mapping.file_offset(address);
+        let objects = &self.shared.objects;
         let loaded = objects.loaded(mapping.object);
         let linked = loaded.and_then(|loaded| loaded.linked(offset)).filter(|_| mapping.is_executable);
         let is_memory = objects.get(mapping.object).map_or(true, |object| object.kind != Kind::File);
         let shown = if is_memory { address } else { offset };
         let place = Place { object: mapping.object, address: linked.unwrap_or(shown) };
-        if let Some(id) = self.ids.get(&place) {
-            return At { id: *id, frame: self.frames[*id as usize] };
+        if let Some((id, frame)) = self.frames.at(place) {
+            return Ok(At { id, frame });
         }
-        let shown = shown.wrapping_add(u64::from(is_return));
-        let mut frame = Frame { place, shown, is_return, is_covered: false, is_signal_frame: false };
-        if let (Some(loaded), Some(linked)) = (loaded, linked) {
-            frame.is_covered = self.prepare(loaded, place);
-            frame.is_signal_frame = loaded.is_signal_frame(linked);
-        }
-        At { id: self.add(frame), frame }
-    }
-
-    /// Compiles the FDE that covers a place, if there is one. Returns whether a row covers it.
-    fn prepare(&mut self, loaded: &Loaded, place: Place) -> bool {
-        let (target, _) = match loaded.machine {
-            Some(machine) => machine,
-            None => return false,
+        let frame = match (self.shared.known.at(place), loaded, linked) {
+            (Some((_, known)), _, _) => known,
+            (None, Some(loaded), Some(linked)) => Frame {
+                is_covered: self.shared.tables.covers(place).ok_or(Missing::Row(place))?,
+                is_signal_frame: loaded.is_signal_frame(linked),
+                is_return,
+                ..Frame::plain(place.object, place.address, shown.wrapping_add(u64::from(is_return)))
+            },
+            _ => Frame {
+                is_return,
+                ..Frame::plain(place.object, place.address, shown.wrapping_add(u64::from(is_return)))
+            },
         };
-        let index = place.object as usize;
-        if self.tables.len() <= index {
-            self.tables.resize_with(index + 1, || None);
-        }
-        let mut problems = Vec::new();
-        let table = self.tables[index].get_or_insert_with(|| Table::new(target));
-        let is_covered = table.prepare(loaded, place.address, &mut problems);
-        self.problems.extend(problems.into_iter().map(|problem| (place.object, problem)));
-        is_covered
+        Ok(At { id: self.frames.add(frame), frame })
     }
 
-    /// Appends the frames of a task to `found`, the innermost first. Returns why there are no more.
-    pub fn walk(
-        &mut self,
-        objects: &mut Objects,
-        (pid, space): (u32, &Space),
-        task: &Task<'_>,
-        registers: &Registers,
-        found: &mut Vec<FrameId>,
-    ) -> End {
+    /// The frames of a task of which there is a copy of the stack.
+    fn task(&mut self, pid: u32, space: &Space, task: &Task<'_>, registers: &Registers) -> Result<End, Missing> {
         let memory = [Block::new(task.stack_pointer, task.stack)];
         let state = State { registers, memory: &memory, abi: task.convention() };
-        match Cursor::new(task.program_counter, &state) {
-            Ok(cursor) => self.climb(objects, (pid, space), task, (cursor, &state), found),
-            Err(_) => End::None,
-        }
-    }
-
-    /// Appends the frames from the one that the cursor is at.
-    fn climb(
-        &mut self,
-        objects: &mut Objects,
-        (pid, space): (u32, &Space),
-        task: &Task<'_>,
-        (mut cursor, state): (Cursor, &State<'_>),
-        found: &mut Vec<FrameId>,
-    ) -> End {
-        let start = found.len();
+        let mut cursor = match Cursor::new(task.program_counter, &state) {
+            Ok(cursor) => cursor,
+            Err(_) => return Ok(End::None),
+        };
+        let start = self.stack.len();
         let mut floor = None;
         let mut mapping: Option<&Mapping> = None;
         loop {
             let address = cursor.address();
             let inside = address.wrapping_sub(u64::from(!cursor.is_exact()));
-            match found.len() - start {
-                count if count >= self.limit => return End::Limit,
-                count if count > 0 && address == 0 => return End::Complete,
+            match self.stack.len() - start {
+                count if count >= self.shared.limit => return Ok(End::Limit),
+                count if count > 0 && address == 0 => return Ok(End::Complete),
                 _ => mapping = mapping.filter(|mapping| mapping.has(inside)).or_else(|| space.find(inside)),
             }
             let at = match mapping.filter(|mapping| mapping.is_executable) {
-                Some(mapping) => self.find(objects, mapping, inside, false),
-                None if found.len() == start => {
-                    found.push(self.plain(objects.memory(pid), inside, inside));
-                    return End::NotCode;
+                Some(mapping) => self.at(mapping, inside, false)?,
+                None if self.stack.len() == start => {
+                    let frame = Frame::plain(self.memory(pid)?, inside, inside);
+                    let frame = self.frames.add(frame);
+                    self.stack.push(frame);
+                    return Ok(End::NotCode);
                 }
-                None => return End::NotCode,
+                None => return Ok(End::NotCode),
             };
-            found.push(at.id);
+            self.stack.push(at.id);
             let step = match at.frame.is_covered {
-                true => self.step(at.frame, &mut cursor, state, task, &mut floor),
+                true => self.step(at.frame, &mut cursor, &state, task, &mut floor),
                 false => self.by_frame_pointer(&mut cursor, task, space),
             };
             if let Step::End(end) = step {
-                return end;
+                return Ok(end);
             }
         }
     }
@@ -272,13 +258,13 @@ impl Walker {
         task: &Task<'_>,
         floor: &mut Option<u64>,
     ) -> Step {
-        let table = match self.tables.get(frame.place.object as usize) {
-            Some(Some(table)) if table.process.target() == task.target.into() => table,
-            _ => return Step::End(End::NoTable),
+        let process = match self.shared.tables.of(frame.place.object, task.target) {
+            Some(process) => process,
+            None => return Step::End(End::NoTable),
         };
         let (address, is_caller) = (cursor.address(), !cursor.is_exact());
         cursor.set_address(frame.place.address.wrapping_add(u64::from(is_caller)));
-        let stepped = match table.process.step(cursor, state) {
+        let stepped = match process.step(cursor, state) {
             Ok(Some(stepped)) => stepped,
             _ => return Step::End(End::Unreadable),
         };
@@ -336,17 +322,18 @@ impl Walker {
     }
 }
 
-impl fmt::Display for End {
-    fn fmt(&self, f: &mut fmt::Formatter<'_>) -> fmt::Result {
-        f.pad(match self {
-            End::Complete => "complete",
-            End::EndOfCopy => "end of the copied stack",
-            End::NoTable => "no table",
-            End::NotCode => "return address isn't code",
-            End::Unreadable => "unreadable",
-            End::Limit => "limit",
-            End::Chain => "chain of the kernel",
-            End::None => "no frames of a task",
-        })
+/// The addresses of a sample's chain that are of the kernel or of the task.
+fn chain(sample: &Sample<'_>, wanted: Of) -> Vec<u64> {
+    let mut of = if sample.mode == Mode::Kernel { Of::Kernel } else { Of::Task };
+    let mut found = Vec::new();
+    for address in sample.chain.iter() {
+        match address {
+            mark::KERNEL => of = Of::Kernel,
+            mark::USER => of = Of::Task,
+            mark::LEAST..=u64::MAX => of = Of::Other,
+            _ if of == wanted => found.push(address),
+            _ => {}
+        }
     }
+    found
 }

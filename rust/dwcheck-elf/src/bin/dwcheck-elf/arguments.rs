@@ -430,6 +430,9 @@ pub struct ProfileWords {
     /// A list of the kernel's functions: /proc/kallsyms or System.map of the machine that was recorded
     #[arg(long, value_name = "FILE")]
     pub kallsyms: Option<PathBuf>,
+    /// Walk stacks on this many processors, instead of all. The profile is the same
+    #[arg(long, value_name = "N")]
+    pub jobs: Option<usize>,
     /// Write no summary, only what is wrong
     #[arg(long, short)]
     pub quiet: bool,

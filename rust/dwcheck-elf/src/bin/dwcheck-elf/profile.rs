@@ -5,6 +5,7 @@ mod summary;
 use crate::arguments::{Format, ProfileWords};
 use crate::end::{shown, Done, Failure};
 use crate::output::Output;
+use crate::survey::STACK;
 use dwcheck_elf::profile::script::ScriptOptions;
 use dwcheck_elf::profile::{folded, html, pprof, script, speedscope, top};
 use dwcheck_elf::profile::{NameOptions, Names, Options, Places, Profile, Recording};
@@ -19,19 +20,7 @@ const TOP: usize = 50;
 
 /// Writes the profile of a recording on `out` or to a file, and a summary on standard error.
 pub fn profile(words: &ProfileWords, out: &mut impl Write) -> Result<Done, Failure> {
-    let options = options(words)?;
-    let mut recording = open(&words.recording)?;
-    let bar = bar(&words.recording);
-    let profile = Profile::read(&mut recording, &options, |position| {
-        bar.set_position(position);
-        true
-    });
-    bar.finish_and_clear();
-    let kernel = words.kallsyms.clone();
-    if let Some(path) = &kernel {
-        File::open(path).map_err(|error| Failure::File(format!("cannot read {}: {}", shown(path), error)))?;
-    }
-    let names = Names::read(&profile, &NameOptions { inlined: !words.no_inline, lines: words.lines, kernel });
+    let (profile, names) = read(words)?;
     match &words.output {
         None => write(words, &profile, &names, out)?,
         Some(path) => {
@@ -43,6 +32,28 @@ pub fn profile(words: &ProfileWords, out: &mut impl Write) -> Result<Done, Failu
     out.flush()?;
     summary::write(words, &profile, &names);
     Ok(if profile.damage.is_some() { Done::Unread } else { Done::Accepted })
+}
+
+/// Reads the recording, on as many processors as are asked for.
+fn read(words: &ProfileWords) -> Result<(Profile, Names), Failure> {
+    let options = options(words)?;
+    let kernel = words.kallsyms.clone();
+    if let Some(path) = &kernel {
+        File::open(path).map_err(|error| Failure::File(format!("cannot read {}: {}", shown(path), error)))?;
+    }
+    let mut recording = open(&words.recording)?;
+    let bar = bar(&words.recording);
+    let pool = rayon::ThreadPoolBuilder::new().num_threads(words.jobs.unwrap_or(0)).stack_size(STACK);
+    let pool = pool.build().map_err(|error| Failure::File(format!("no threads: {}", error)))?;
+    Ok(pool.install(|| {
+        let profile = Profile::read(&mut recording, &options, |position| {
+            bar.set_position(position);
+            true
+        });
+        bar.finish_and_clear();
+        let names = Names::read(&profile, &NameOptions { inlined: !words.no_inline, lines: words.lines, kernel });
+        (profile, names)
+    }))
 }
 
 fn write(words: &ProfileWords, profile: &Profile, names: &Names, out: &mut impl Write) -> Result<(), Failure> {

@@ -9,6 +9,15 @@ use super::RecordHead;
 /// The most bytes that wait. If there are more, the older half is given free.
 pub(super) const MOST_HELD: usize = 32 << 20;
 
+/// Records are given when this many of them are free, or when the bytes of all are more than [`ENOUGH_BYTES`].
+const ENOUGH: usize = 1024;
+
+/// See [`ENOUGH`].
+const ENOUGH_BYTES: usize = 8 << 20;
+
+/// The most records that are given at once.
+const MOST_GIVEN: usize = 4096;
+
 /// A record that waits: where its body is in the bytes of the queue.
 #[derive(Clone, Copy, Debug)]
 pub(super) struct Held {
@@ -58,20 +67,22 @@ impl Queue {
         self.held.push(record);
     }
 
-    /// The body of a record that [`next`](Self::next) gave.
-    pub fn body(&self, record: &Held) -> &[u8] {
-        self.bytes.get(record.start..record.end).unwrap_or(&[])
+    /// Whether all that are free were given.
+    pub fn is_given(&self) -> bool {
+        self.given >= self.free
     }
 
-    /// The next record that is free. `None` if there is none: then more have to be read.
-    pub fn next(&mut self) -> Option<Held> {
-        if self.given >= self.free {
-            self.forget_given();
-            return None;
-        }
-        let record = self.held.get(self.given).copied();
-        self.given += 1;
-        record
+    /// Whether enough are free.
+    pub fn has_enough(&self) -> bool {
+        self.free >= ENOUGH || self.free > 0 && self.bytes.len() > ENOUGH_BYTES
+    }
+
+    /// Gives the next records that are free, with the bytes in which their bodies are.
+    pub fn give(&mut self) -> (&[Held], &[u8]) {
+        let end = self.free.min(self.given.saturating_add(MOST_GIVEN));
+        let given = self.held.get(self.given..end).unwrap_or(&[]);
+        self.given = end;
+        (given, &self.bytes)
     }
 
     /// Whether no more records should be read before some are given.
@@ -105,7 +116,7 @@ impl Queue {
     }
 
     /// Drops the records that were given, and moves the bytes of the others to the beginning.
-    fn forget_given(&mut self) {
+    pub fn forget_given(&mut self) {
         if self.given == 0 {
             return;
         }
@@ -134,7 +145,10 @@ mod tests {
     }
 
     fn given(queue: &mut Queue) -> Vec<(u64, Vec<u8>)> {
-        std::iter::from_fn(|| queue.next().map(|record| (record.time, queue.body(&record).to_vec()))).collect()
+        let (records, bytes) = queue.give();
+        let given = records.iter().map(|record| (record.time, bytes[record.start..record.end].to_vec())).collect();
+        queue.forget_given();
+        given
     }
 
     /// As the kernel's documentation of PERF_RECORD_FINISHED_ROUND says in its example.

@@ -14,7 +14,7 @@ const UNPACKED_SIZE: usize = 1 << 17;
 
 /// The records of a recording, in the order in which perf wrote them.
 pub(super) struct Source<'r> {
-    input: BufReader<Box<dyn Read + 'r>>,
+    input: BufReader<Box<dyn Read + Send + 'r>>,
     target: Target,
     /// The offset in the recording of what is read next.
     position: u64,
@@ -23,14 +23,14 @@ pub(super) struct Source<'r> {
 
 impl<'r> Source<'r> {
     /// The records from one offset of a file to another.
-    pub fn of_file<R: Read + Seek + 'r>(mut file: R, target: Target, begin: u64, end: u64) -> io::Result<Self> {
+    pub fn of_file<R: Read + Seek + Send + 'r>(mut file: R, target: Target, begin: u64, end: u64) -> io::Result<Self> {
         file.seek(SeekFrom::Start(begin))?;
         Ok(Source { position: begin, ..Source::of_pipe(file.take(end - begin), target) })
     }
 
     /// The records that come after the header of a pipe.
-    pub fn of_pipe<R: Read + 'r>(pipe: R, target: Target) -> Self {
-        let input = BufReader::with_capacity(READ_SIZE, Box::new(pipe) as Box<dyn Read>);
+    pub fn of_pipe<R: Read + Send + 'r>(pipe: R, target: Target) -> Self {
+        let input = BufReader::with_capacity(READ_SIZE, Box::new(pipe) as Box<dyn Read + Send>);
         Source { input, target, position: 16, unpacked: Unpacked::default() }
     }
 
@@ -85,16 +85,23 @@ impl<'r> Source<'r> {
 
     /// Appends the next `size` bytes, which are those of one record.
     fn take(&mut self, size: usize, to: &mut Vec<u8>) -> Result<(), Damage> {
-        let start = to.len();
-        to.resize(start + size, 0);
-        match self.input.read_exact(to.get_mut(start..).unwrap_or(&mut [])) {
-            Ok(()) => {
-                self.position += size as u64;
-                Ok(())
+        let mut left = size;
+        while left > 0 {
+            let read = match self.input.fill_buf() {
+                Err(error) if error.kind() == io::ErrorKind::Interrupted => continue,
+                read => read?,
+            };
+            let part = read.get(..left).unwrap_or(read);
+            if part.is_empty() {
+                return Err(Damage::Cut(self.position));
             }
-            Err(error) if error.kind() == io::ErrorKind::UnexpectedEof => Err(Damage::Cut(self.position)),
-            Err(error) => Err(error.into()),
+            to.extend_from_slice(part);
+            let size = part.len();
+            self.input.consume(size);
+            left -= size;
         }
+        self.position += size as u64;
+        Ok(())
     }
 
     /// Moves past the data that follow a record with traces, which aren't used.

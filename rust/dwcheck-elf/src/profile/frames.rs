@@ -1,0 +1,118 @@
+//! The frames of stacks, and why stacks end.
+
+use super::objects::ObjectId;
+use rustc_hash::FxHashMap;
+use std::fmt;
+
+/// Why a stack has no more frames.
+#[derive(Clone, Copy, Debug, PartialEq, Eq, Hash, PartialOrd, Ord)]
+pub enum End {
+    /// The return address is undefined: that is how tables mark the first frame of a thread. Or it is 0, as in
+    /// programs of Go.
+    Complete,
+    /// The caller is past the end of the copy of the stack.
+    EndOfCopy,
+    /// No table covers the last frame, and its frame pointer leads to no code.
+    NoTable,
+    /// The return address isn't in code.
+    NotCode,
+    /// The stack is read where it doesn't lead upward, or it was overwritten.
+    Unreadable,
+    /// There are as many frames as are asked for.
+    Limit,
+    /// The frames are those that the kernel or the processor found.
+    Chain,
+    /// The sample has no frames of a task.
+    None,
+}
+
+impl End {
+    /// All reasons, in the order in which they are shown.
+    pub const ALL: [End; 8] =
+        [End::Complete, End::EndOfCopy, End::NoTable, End::NotCode, End::Unreadable, End::Limit, End::Chain, End::None];
+}
+
+/// The index of a frame.
+pub(super) type FrameId = u32;
+
+/// A place in code.
+#[derive(Clone, Copy, Debug, PartialEq, Eq, Hash)]
+pub struct Place {
+    /// The index of the object that has the code.
+    pub object: ObjectId,
+    /// The address: of a file as linked, of others as it is in memory. Of a caller it is that of the byte before
+    /// its return address, which is in the call.
+    pub address: u64,
+}
+
+/// A frame, each place once.
+#[derive(Clone, Copy, Debug, PartialEq, Eq)]
+pub struct Frame {
+    /// The place.
+    pub place: Place,
+    /// What perf shows as the frame's address: of a file the offset.
+    pub shown: u64,
+    /// Whether that is the return address, which is after the call, as perf shows frames of the kernel.
+    pub is_return: bool,
+    /// Whether a table covers it.
+    pub(super) is_covered: bool,
+    pub(super) is_signal_frame: bool,
+}
+
+impl Frame {
+    /// A frame at a place without a row: in no file, or in a file that has no table for it.
+    pub(super) fn plain(object: ObjectId, address: u64, shown: u64) -> Frame {
+        let place = Place { object, address };
+        Frame { place, shown, is_return: shown != address, is_covered: false, is_signal_frame: false }
+    }
+}
+
+/// Frames, each place once, in the order in which they were first found.
+#[derive(Debug, Default)]
+pub(super) struct Frames {
+    all: Vec<Frame>,
+    ids: FxHashMap<Place, FrameId>,
+}
+
+impl Frames {
+    /// All frames, by their indices.
+    pub fn all(&self) -> &[Frame] {
+        &self.all
+    }
+
+    /// All frames, by their indices.
+    pub fn into_all(self) -> Vec<Frame> {
+        self.all
+    }
+
+    /// The frame at a place, with its index.
+    pub fn at(&self, place: Place) -> Option<(FrameId, Frame)> {
+        let id = *self.ids.get(&place)?;
+        self.all.get(id as usize).map(|frame| (id, *frame))
+    }
+
+    /// Adds a frame, unless its place has one already. Returns its index.
+    pub fn add(&mut self, frame: Frame) -> FrameId {
+        let next = self.all.len() as FrameId;
+        let id = *self.ids.entry(frame.place).or_insert(next);
+        if id == next {
+            self.all.push(frame);
+        }
+        id
+    }
+}
+
+impl fmt::Display for End {
+    fn fmt(&self, f: &mut fmt::Formatter<'_>) -> fmt::Result {
+        f.pad(match self {
+            End::Complete => "complete",
+            End::EndOfCopy => "end of the copied stack",
+            End::NoTable => "no table",
+            End::NotCode => "return address isn't code",
+            End::Unreadable => "unreadable",
+            End::Limit => "limit",
+            End::Chain => "chain of the kernel",
+            End::None => "no frames of a task",
+        })
+    }
+}
