@@ -14,9 +14,11 @@
 mod batch;
 pub mod calls;
 mod collect;
+pub mod firefox;
 pub mod folded;
 mod frames;
 pub mod html;
+mod jitdump;
 mod kernel;
 mod memory;
 mod names;
@@ -39,8 +41,9 @@ pub use recording::{BuildId, Damage, Event, Features, Recording};
 pub use tree::{Node, NodeId, Tree};
 
 use collect::Collector;
-use std::collections::BTreeMap;
+use std::collections::{BTreeMap, HashMap};
 use std::ops::RangeInclusive;
+use std::path::PathBuf;
 use std::sync::Arc;
 
 /// The most frames of a task, unless it is said otherwise.
@@ -147,6 +150,8 @@ pub struct Profile {
     places: Places,
     /// Where the kernel's text began.
     kernel_start: Option<u64>,
+    /// The files in which processes list code that they have made.
+    dumps: HashMap<u32, PathBuf>,
 }
 
 impl Profile {

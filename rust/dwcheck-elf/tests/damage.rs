@@ -9,7 +9,7 @@ use dwcheck_elf::core_file::{CoreFile, Files};
 use dwcheck_elf::frames::{FrameSection, Frames, Name};
 use dwcheck_elf::inspect::{inspect, Check, Inspected, Verdict};
 use dwcheck_elf::profile::script::{self, ScriptOptions};
-use dwcheck_elf::profile::{self, folded, html, pprof, speedscope, top, Names, Places, Profile, Recording};
+use dwcheck_elf::profile::{self, firefox, folded, html, pprof, speedscope, top, Names, Places, Profile, Recording};
 use dwcheck_elf::program::{Program, Section};
 use dwcheck_elf::stack::{Stacks, WalkOptions};
 use dwcheck_elf::validate::{validate_rows, What};
@@ -142,6 +142,7 @@ fn recording(bytes: &[u8], root: &Path) -> bool {
     html::write(&profile, &names, event, "title", &mut out).unwrap();
     speedscope::write(&profile, &names, event, &mut out).unwrap();
     pprof::write(&profile, &names, &mut out).unwrap();
+    firefox::write(&profile, &names, event, "title", &mut out).unwrap();
     top::write(&profile, &names, event, 10, &mut out).unwrap();
     assert!(out.len() < 10_000_000, "{}", out.len());
     true

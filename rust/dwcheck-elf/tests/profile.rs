@@ -6,6 +6,7 @@ mod common;
 
 use common::run::{dwcheck_elf_words, Ran};
 use common::Folder;
+use serde_json::Value;
 use std::path::PathBuf;
 
 fn recordings() -> PathBuf {
@@ -62,6 +63,46 @@ fn folded_stacks_have_inlined_functions_and_are_weighted_by_period() {
     assert_eq!((ran.out, ran.error), (format!("spin;middle;leaf {}\n", sum), String::new()));
 }
 
+/// The functions of the stack of each sample of a thread for the Firefox Profiler, the innermost first.
+fn firefox_stacks(thread: &Value) -> Vec<Vec<&str>> {
+    fn cell<'t>(thread: &'t Value, table: &str, column: &str, row: &Value) -> &'t Value {
+        &thread[table][column][row.as_u64().unwrap() as usize]
+    }
+    let stack = |mut at| {
+        let mut functions = Vec::new();
+        while !Value::is_null(at) {
+            let function = cell(thread, "frameTable", "func", cell(thread, "stackTable", "frame", at));
+            let name = cell(thread, "funcTable", "name", function);
+            functions.push(thread["stringArray"][name.as_u64().unwrap() as usize].as_str().unwrap());
+            at = cell(thread, "stackTable", "prefix", at);
+        }
+        functions
+    };
+    thread["samples"]["stack"].as_array().unwrap().iter().map(stack).collect()
+}
+
+#[test]
+fn the_firefox_profiler_gets_the_stacks_and_weights_of_perf() {
+    let folder = Folder::new("profile-firefox");
+    let ran = profile(&folder, "dwarf.perf", &["--format", "firefox", "--no-inline"]);
+    let json: Value = serde_json::from_str(&ran.out).unwrap();
+    let threads = json["threads"].as_array().unwrap();
+    assert_eq!((threads.len(), &threads[0]["name"]), (1, &Value::from("spin")));
+    for table in ["samples", "stackTable", "frameTable", "funcTable", "resourceTable", "nativeSymbols", "markers"] {
+        let table = threads[0][table].as_object().unwrap();
+        let mut columns = table.values().filter_map(Value::as_array);
+        assert!(columns.all(|column| column.len() as u64 == table["length"].as_u64().unwrap()));
+    }
+    let perf = script("dwarf.script");
+    let function = |line: &'_ str| line.split_whitespace().nth(1).unwrap().split('+').next().unwrap().to_string();
+    let of_sample = |sample: &str| sample.lines().skip(1).map(function).collect::<Vec<_>>();
+    let expected: Vec<Vec<String>> = perf.trim_end().split("\n\n").map(of_sample).collect();
+    assert_eq!(firefox_stacks(&threads[0]), expected);
+    let weights = threads[0]["samples"]["weight"].as_array().unwrap().iter().map(|weight| weight.as_f64().unwrap());
+    assert_eq!(threads[0]["samples"]["weightType"], "tracing-ms");
+    assert!((weights.sum::<f64>() * 1e6 - weight(&perf, "cpu-clock:u") as f64).abs() < 1.0);
+}
+
 #[test]
 fn one_event_is_shown_and_the_others_are_named() {
     let folder = Folder::new("profile-events");
@@ -71,6 +112,8 @@ fn one_event_is_shown_and_the_others_are_named() {
     let sum = weight(&script("group.script"), "page-faults");
     assert_eq!(ran.out.rsplit(' ').next().unwrap().trim(), sum.to_string());
     assert_eq!(ran.error, "");
+    let ran = profile(&folder, "two.perf", &["--event", "cycles", "--quiet"]);
+    assert!(ran.error.starts_with("dwcheck-elf: no event is named cycles; these are: cpu-clock:u, task-clock:u\n"));
 }
 
 #[test]

@@ -206,6 +206,40 @@ fn code_that_was_made_at_run_time_is_passed_by_frame_pointers_and_named() {
     assert_eq!(ran.error, "samples 1 frames 3 truncated 0 by-frame-pointer 1\nstop complete: 1\n");
 }
 
+/// The records are laid out as in Linux' tools/perf/Documentation/jitdump-specification.txt.
+#[test]
+fn code_is_named_by_the_dump_that_the_process_has_mapped() {
+    let (folder, offset) = x86("profile-jitdump");
+    let (page, made, sp) = (offset & !0xfff, 0x7f55_0000_0000, 0x7ffc_0000_1000);
+    let words = |words: &[u64]| words.iter().flat_map(|word| word.to_le_bytes()).collect::<Vec<u8>>();
+    let halves = |halves: &[u32]| halves.iter().flat_map(|half| half.to_le_bytes()).collect::<Vec<u8>>();
+    let (name, code) = (b"JS:fib a.js:1\0", [0x90; 0x40]);
+    let dump = [
+        halves(&[0x4A69_5444, 1, 40, 62, 0, 5]),
+        words(&[0, 0]),
+        halves(&[0, 16 + 40 + (name.len() + code.len()) as u32]),
+        words(&[9]),
+        halves(&[5, 5]),
+        words(&[made, made, code.len() as u64, 0]),
+        name.to_vec(),
+        code.to_vec(),
+    ];
+    std::fs::create_dir(folder.file("dumps")).unwrap();
+    folder.write("dumps/jit-5.dump", dump.concat());
+    let mut recording = Recording::new(false);
+    recording.map(5, 0, (LOAD + page, 0x1000, page), b"/a.so");
+    recording.map(5, 1, (LOAD * 2, 0x1000, 0), b"/dumps/jit-5.dump");
+    recording.map(5, 2, (made, 0x1000, 0), b"//anon");
+    recording.comm(5, 3, false, b"jit");
+    let mut registers = vec![0; X86.count_ones() as usize];
+    (registers[7], registers[8]) = (sp, made + 0x3f);
+    recording.sample(5, 10, made + 0x3f, &registers, &[0; 16]);
+    (registers[7], registers[8]) = (sp, made + 0x40);
+    recording.sample(5, 11, made + 0x40, &registers, &[0; 16]);
+    let ran = profile(&folder, &recording.file(X86, "x86_64"), &[]);
+    assert_eq!(ran.out, "jit;JS:fib a.js:1 1000\njit;[unknown] 1000\n");
+}
+
 #[test]
 fn records_are_taken_in_the_order_of_their_times() {
     let (folder, offset) = x86("profile-order");
@@ -257,7 +291,7 @@ fn names_cannot_change_a_terminal_a_line_or_a_page() {
     sample(&mut recording, 5, 20, LOAD + offset);
     sample(&mut recording, 5, 21, LOAD * 2);
     let file = recording.file(X86, "x86_64");
-    for format in ["folded", "script", "top", "html", "speedscope"] {
+    for format in ["folded", "script", "top", "html", "speedscope", "firefox"] {
         let ran = profile(&folder, &file, &["--format", format]);
         assert_eq!(ran.status, 0);
         assert!(!ran.out.contains('\x1b') && !ran.error.contains('\x1b'), "{}", format);

@@ -188,6 +188,7 @@ impl<'o> Collector<'o> {
             damage: recording.damage().cloned(),
             places: objects.places().clone(),
             kernel_start: self.kernel_start,
+            dumps: objects.into_dumps(),
         }
     }
 }

@@ -1,5 +1,7 @@
-//! The names of code that a compiler made at run time: by the file `/tmp/perf-PID.map` that the process wrote.
+//! The names of code that a compiler made at run time: by the file `jit-PID.dump` or `/tmp/perf-PID.map` that the
+//! process wrote.
 
+use super::jitdump;
 use std::fs;
 use std::path::Path;
 
@@ -16,12 +18,28 @@ pub(super) struct Memory {
 }
 
 impl Memory {
-    /// The functions that a process has listed. Empty if it has no list.
-    pub fn of_process(pid: u32, root: &Path) -> Memory {
+    /// The functions that a process has listed. Empty if it has no list. `dump` is the file that it has mapped to
+    /// say that it lists them there.
+    pub fn of_process(pid: u32, root: &Path, dump: Option<&Path>) -> Memory {
+        let dumped = dump.map(|path| jitdump::functions(path, MOST as usize)).unwrap_or_default();
+        if !dumped.is_empty() {
+            return Memory::of_dump(dumped);
+        }
         let path = root.join(format!("tmp/perf-{}.map", pid));
         let is_list = |path: &Path| path.metadata().map_or(false, |file| file.is_file() && file.len() <= MOST);
         let text = if is_list(&path) { fs::read(&path).unwrap_or_default() } else { Vec::new() };
         Memory::of_list(text)
+    }
+
+    fn of_dump(dumped: jitdump::Functions) -> Memory {
+        let mut memory = Memory::default();
+        for (begin, size, name) in dumped {
+            memory.functions.push((begin, size, memory.text.len()));
+            memory.text.extend(name.iter().map(|byte| if *byte == b'\n' { b' ' } else { *byte }));
+            memory.text.push(b'\n');
+        }
+        memory.functions.sort_by_key(|function| function.0);
+        memory
     }
 
     fn of_list(text: Vec<u8>) -> Memory {

@@ -191,7 +191,8 @@ fn of_object(
             (named.collect(), Vec::new())
         }
         Kind::Memory(pid) => {
-            let memory = Memory::of_process(pid, &profile.places.root);
+            let dump = profile.dumps.get(&pid).map(PathBuf::as_path);
+            let memory = Memory::of_process(pid, &profile.places.root, dump);
             let named = frames.into_iter().filter_map(|frame| {
                 let (name, offset) = memory.at(address(&frame))?;
                 let name = name.chars().filter(|c| !c.is_control()).collect();

@@ -1,6 +1,7 @@
 //! The files whose code samples pass, and other code that has an owner: the kernel, and code that a
 //! compiler made at run time.
 
+use super::jitdump::is_dump;
 use super::recording::{BuildId, Features, Mapped};
 use crate::abi::{abi, Abi};
 use crate::mapped::Bytes;
@@ -82,6 +83,9 @@ impl Loaded {
                 loaded.signals = sections.iter().flat_map(|section| section.signal_frames()).collect();
                 loaded.sections = sections.into_iter().map(SectionTable::into_owned).collect();
                 loaded.problems = problems;
+                if loaded.sections.is_empty() && loaded.problems.is_empty() {
+                    loaded.problems.push("has no unwind table".into());
+                }
             }
             Err(error) => loaded.problems.push(error.to_string()),
         }
@@ -133,6 +137,8 @@ pub(super) struct Objects {
     files: HashMap<(Vec<u8>, [u64; 3]), ObjectId>,
     memory: HashMap<u32, ObjectId>,
     kernel: Option<ObjectId>,
+    /// The files in which processes list code that they have made.
+    dumps: HashMap<u32, PathBuf>,
     places: Places,
 }
 
@@ -153,6 +159,11 @@ impl Objects {
 
     pub fn places(&self) -> &Places {
         &self.places
+    }
+
+    /// The files in which processes list code that they have made.
+    pub fn into_dumps(self) -> HashMap<u32, PathBuf> {
+        self.dumps
     }
 
     fn add(&mut self, name: &[u8], kind: Kind, build_id: Option<BuildId>) -> ObjectId {
@@ -200,6 +211,9 @@ impl Objects {
 
     /// What a process mapped.
     pub fn mapped(&mut self, mapped: &Mapped<'_>, features: &Features) -> ObjectId {
+        if is_dump(mapped.name) {
+            self.dumps.extend(self.places.inside(mapped.name).map(|path| (mapped.pid, path)));
+        }
         let is_file = mapped.name == VDSO || self.places.inside(mapped.name).is_some() && !is_memory(mapped.name);
         if !is_file {
             return self.memory(mapped.pid);
@@ -233,6 +247,11 @@ fn is_memory(name: &[u8]) -> bool {
 }
 
 impl Object {
+    /// The build id that was recorded. `None` if none was.
+    pub fn build_id(&self) -> Option<&BuildId> {
+        self.build_id.as_ref()
+    }
+
     /// What is known of the file, if it was opened.
     pub(super) fn opened(&self) -> Option<&Loaded> {
         self.loaded.get()

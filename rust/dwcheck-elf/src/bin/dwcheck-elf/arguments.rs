@@ -382,6 +382,8 @@ pub enum Format {
     Speedscope,
     /// pprof's profile, compressed by gzip
     Pprof,
+    /// The JSON of the Firefox Profiler
+    Firefox,
     /// A table of the functions that weigh most by themselves
     Top,
 }

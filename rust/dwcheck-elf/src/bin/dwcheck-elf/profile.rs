@@ -7,7 +7,7 @@ use crate::end::{shown, Done, Failure};
 use crate::output::Output;
 use crate::survey::STACK;
 use dwcheck_elf::profile::script::ScriptOptions;
-use dwcheck_elf::profile::{folded, html, pprof, script, speedscope, top};
+use dwcheck_elf::profile::{firefox, folded, html, pprof, script, speedscope, top};
 use dwcheck_elf::profile::{NameOptions, Names, Options, Places, Profile, Recording};
 use indicatif::{ProgressBar, ProgressStyle};
 use std::fs::File;
@@ -64,6 +64,7 @@ fn write(words: &ProfileWords, profile: &Profile, names: &Names, out: &mut impl 
         Format::Html => html::write(profile, names, event, &title(words, profile), out)?,
         Format::Speedscope => speedscope::write(profile, names, event, out)?,
         Format::Pprof => pprof::write(profile, names, out)?,
+        Format::Firefox => firefox::write(profile, names, event, &title(words, profile), out)?,
         Format::Top => top::write(profile, names, event, TOP, out)?,
     }
     Ok(())
