@@ -1,33 +1,49 @@
 //! A file that is there only when it is whole.
 
 use crate::end::{shown, Failure};
+use nix::unistd::{linkat, LinkatFlags};
 use std::fs::{self, File, OpenOptions};
 use std::io::{self, BufWriter, Write};
+use std::os::unix::fs::OpenOptionsExt;
+use std::os::unix::io::AsRawFd;
 use std::path::{Path, PathBuf};
 
 /// A file that is written. It gets its name when it is finished, so that an earlier file with this name stays
-/// whole until then. A file that isn't a regular one is written as it is.
+/// whole until then, and nothing is left if the program is interrupted. A file that isn't a regular one is written as
+/// it is.
 pub struct Output {
     path: PathBuf,
-    /// The file's name until it is finished. `None` if it has its own name already.
+    /// The file's name between when it is whole and when it has its own name. `None` if it has that already.
     partial: Option<PathBuf>,
+    /// Whether the file has no name yet.
+    is_nameless: bool,
     writer: BufWriter<File>,
 }
 
 impl Output {
     /// Creates a file that will be named `path`.
     pub fn create(path: &Path) -> Result<Output, Failure> {
-        let is_special = path.metadata().map_or(false, |file| !file.is_file());
+        let failed = |error| cannot(path, &error);
+        let with = |partial, is_nameless, file| Output {
+            path: path.to_path_buf(),
+            partial,
+            is_nameless,
+            writer: BufWriter::new(file),
+        };
+        if path.metadata().map_or(false, |file| !file.is_file()) {
+            let file = OpenOptions::new().write(true).open(path).map_err(failed)?;
+            return Ok(with(None, false, file));
+        }
         let mut partial = path.as_os_str().to_os_string();
         partial.push(format!(".{}.part", std::process::id()));
-        let partial = Some(PathBuf::from(partial)).filter(|_| !is_special);
-        let mut options = OpenOptions::new();
-        let opened = match &partial {
-            Some(partial) => options.write(true).create_new(true).open(partial),
-            None => options.write(true).open(path),
-        };
-        let file = opened.map_err(|error| cannot(path, &error))?;
-        Ok(Output { path: path.to_path_buf(), partial, writer: BufWriter::new(file) })
+        let partial = PathBuf::from(partial);
+        let folder = path.parent().filter(|folder| !folder.as_os_str().is_empty()).unwrap_or_else(|| Path::new("."));
+        if let Ok(file) = OpenOptions::new().write(true).custom_flags(libc::O_TMPFILE).open(folder) {
+            return Ok(with(Some(partial), true, file));
+        }
+        // Some file systems have no files without names.
+        let file = OpenOptions::new().write(true).create_new(true).open(&partial).map_err(failed)?;
+        Ok(with(Some(partial), false, file))
     }
 
     /// Where to write.
@@ -39,6 +55,11 @@ impl Output {
     pub fn finish(mut self) -> Result<(), Failure> {
         let failed = |error: io::Error| cannot(&self.path, &error);
         self.writer.flush().map_err(failed)?;
+        if let Some(partial) = self.partial.as_ref().filter(|_| self.is_nameless) {
+            let own = format!("/proc/self/fd/{}", self.writer.get_ref().as_raw_fd());
+            let linked = linkat(None, Path::new(&own), None, partial.as_path(), LinkatFlags::SymlinkFollow);
+            linked.map_err(|error| failed(error.into()))?;
+        }
         match self.partial.take() {
             Some(partial) => fs::rename(&partial, &self.path).map_err(|error| {
                 let _ = fs::remove_file(&partial);
