@@ -5,13 +5,14 @@
 
 A RECORDING is what `perf record --call-graph dwarf` wrote. For each, `perf script --no-inline` and
 `dwcheck-elf profile --format script` (with inlined functions, on one processor and on all, and without
-them) run in turn, N times, and the medians of the time on the clock and of the most memory are shown. With --inline,
-perf's names of inlined functions are timed too, once; that takes minutes.
+them) run in turn, N times. The medians are shown of the time on the clock, the time of all processors,
+each also by that of `perf script --no-inline`, and the most memory. With --inline, perf's names of
+inlined functions are timed too, once; that takes minutes.
 
 Then the frames of programs are compared, sample by sample. Stacks that differ are counted by how: perf
 ends its last frame at an address in no mapping, perf has fewer frames, dwcheck has fewer, or other
-frames. The last part says of the frames of each that differ, and whose file has the code, how many follow a call
-instruction, as frames that made a call do (x86-64 only).
+frames. For each kind, a line says of the frames that only one of them has, and whose file has the code, how many
+follow a call instruction, as frames that made a call do (x86-64 only). With --compare, nothing is timed.
 """
 import argparse
 import collections
@@ -26,7 +27,7 @@ HEAD = re.compile(r"^(.*?)\s+(\d+)\s+(\d+\.\d+):")
 
 
 def timed(words):
-    """Runs a command. Returns its seconds on the clock and its most memory in MB."""
+    """Runs a command. Returns its seconds on the clock and of all processors, and its most memory in MB."""
     start = time.monotonic()
     pid = os.fork()
     if pid == 0:
@@ -37,7 +38,7 @@ def timed(words):
     _, status, usage = os.wait4(pid, 0)
     if status != 0:
         raise SystemExit(f"{words} ended with {status}")
-    return time.monotonic() - start, usage.ru_maxrss / 1024
+    return time.monotonic() - start, usage.ru_utime + usage.ru_stime, usage.ru_maxrss / 1024
 
 
 def stacks(words):
@@ -94,24 +95,48 @@ def kind_of(perf, ours):
 def compare(recording, program):
     perf = stacks(["perf", "script", "--no-inline", "-F", "comm,tid,time,ip,sym,dso", "-i", recording])
     ours = stacks([program, "profile", "-q", "--format", "script", "--no-inline", "--max-stack", "127", recording])
-    counts, files, calls = collections.Counter(), {}, {"perf": [0, 0], "dwcheck": [0, 0]}
+    counts, files, calls = collections.Counter(), {}, collections.Counter()
     for key, of_perf in perf.items():
         for one, other in zip(of_perf, ours.get(key, [])):
             if one == other:
                 counts["equal"] += 1
                 continue
-            counts[kind_of(one, other)] += 1
+            kind = kind_of(one, other)
+            counts[kind] += 1
             same = 0
             while same < min(len(one), len(other)) and one[same] == other[same]:
                 same += 1
             for who, frames in ("perf", one), ("dwcheck", other):
                 yes, no = follows_call(frames[max(same, 1):], files)
-                calls[who][0] += yes
-                calls[who][1] += no
+                calls[kind, who, True] += yes
+                calls[kind, who, False] += no
     missing = sum(map(len, perf.values())) - sum(counts.values())
     print(f"  stacks: {dict(counts)}; missing {missing}")
-    if sum(counts.values()) > counts["equal"]:
-        print("  of the frames that differ follow a call:", {who: f"{yes} of {yes + no}" for who, (yes, no) in calls.items()})
+    for kind in counts:
+        of = {who: (calls[kind, who, True], calls[kind, who, False]) for who in ("perf", "dwcheck")}
+        if any(yes + no for yes, no in of.values()):
+            shown = ", ".join(f"{yes} of {yes + no} of {who}" for who, (yes, no) in of.items())
+            print(f"  {kind}: follow a call: {shown}")
+
+
+def time_all(recording, words):
+    ours = [words.program, "profile", "-q", "--format", "script", recording]
+    commands = {
+        "perf script --no-inline": ["perf", "script", "--no-inline", "-i", recording],
+        "dwcheck, one processor": ["taskset", "-c", "0", *ours],
+        "dwcheck": ours,
+        "dwcheck --no-inline": [*ours, "--no-inline"],
+    }
+    results = collections.defaultdict(list)
+    for _ in range(words.runs):
+        for name, command in commands.items():
+            results[name].append(timed(command))
+    if words.inline:
+        results["perf script"].append(timed(["perf", "script", "-i", recording]))
+    medians = {name: [statistics.median(values) for values in zip(*runs)] for name, runs in results.items()}
+    clock, processors, _ = medians["perf script --no-inline"]
+    for name, (seconds, of_all, memory) in medians.items():
+        print(f"  {name:26} {seconds:7.3f} s {seconds / clock:6.2f}   {of_all:7.3f} s {of_all / processors:6.2f}   {memory:6.0f} MB", flush=True)
 
 
 def main():
@@ -120,27 +145,12 @@ def main():
     parser.add_argument("recordings", nargs="+")
     parser.add_argument("--inline", action="store_true")
     parser.add_argument("--runs", type=int, default=5)
+    parser.add_argument("--compare", action="store_true")
     words = parser.parse_args()
     for recording in words.recordings:
-        size = os.path.getsize(recording) / 1e6
-        print(f"{os.path.basename(recording)}: {size:.0f} MB")
-        ours = [words.program, "profile", "-q", "--format", "script"]
-        commands = {
-            "perf script --no-inline": ["perf", "script", "--no-inline", "-i", recording],
-            "dwcheck, one processor": ["taskset", "-c", "0", *ours, recording],
-            "dwcheck": [*ours, recording],
-            "dwcheck --no-inline": [*ours, "--no-inline", recording],
-        }
-        results = collections.defaultdict(list)
-        for _ in range(words.runs):
-            for name, command in commands.items():
-                results[name].append(timed(command))
-        if words.inline:
-            results["perf script"].append(timed(["perf", "script", "-i", recording]))
-        base = statistics.median(seconds for seconds, _ in results["perf script --no-inline"])
-        for name, runs in results.items():
-            seconds, memory = (statistics.median(values) for values in zip(*runs))
-            print(f"  {name:26} {seconds:7.3f} s {seconds / base:6.2f} {memory:6.0f} MB")
+        print(f"{os.path.basename(recording)}: {os.path.getsize(recording) / 1e6:.0f} MB", flush=True)
+        if not words.compare:
+            time_all(recording, words)
         compare(recording, words.program)
 
 
