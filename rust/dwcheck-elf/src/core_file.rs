@@ -16,7 +16,7 @@ pub use registers::Thread;
 pub use signal::Signal;
 
 use crate::abi::{abi, Abi};
-use crate::live::Snapshot;
+use crate::live::{can_differ, Snapshot};
 use crate::target::{AddressSize, Order, Target};
 use notes::Notes;
 use object::elf::{self, FileHeader32, FileHeader64, ET_CORE, PF_X, PT_LOAD};
@@ -148,8 +148,9 @@ impl<'data> CoreFile<'data> {
             is_cut: false,
         });
         let segments: Vec<_> = copied.chain(listed).collect();
-        let files = process.maps.iter().filter(|map| map.path.starts_with(b"/"));
-        let mappings: Vec<_> = files.map(Mapping::of_live).collect();
+        let files = process.maps.iter().enumerate().filter(|(_, map)| map.path.starts_with(b"/"));
+        let mapping = |(index, map)| Mapping::of_live(map, can_differ(&process.maps, index));
+        let mappings: Vec<_> = files.map(mapping).collect();
         let auxiliary = |kind| notes::auxiliary(&process.auxiliary, *target, kind);
         CoreFile {
             target: *target,

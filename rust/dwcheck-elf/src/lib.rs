@@ -20,6 +20,7 @@ pub mod abi;
 pub mod alone;
 mod bytes;
 mod cfi;
+mod constants;
 pub mod core_file;
 mod covered;
 pub mod debug_files;

@@ -10,7 +10,7 @@ mod trace;
 
 pub use data::DATA_LIMIT;
 pub use maps::Map;
-pub(crate) use maps::Process;
+pub(crate) use maps::{can_differ, Process};
 
 use crate::abi::Abi;
 use crate::core_file::{CoreFile, Thread};

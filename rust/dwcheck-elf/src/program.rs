@@ -2,6 +2,7 @@
 
 mod by_segment;
 
+use crate::constants::{self, Constants};
 use crate::frames::{Format, Name};
 use crate::functions::Functions;
 use crate::image::Image;
@@ -254,6 +255,18 @@ impl<'data> Program<'data> {
         match self.kind {
             Kind::Relocatable => Image::of_object(relocate::Object { file, layout, machine, target }),
             _ => Image::of_linked(file),
+        }
+    }
+
+    /// The memory that stays as it is in a process where the file is loaded at `load`, as far as the file says
+    /// what is there: read-only segments, and `.data.rel.ro`. Empty for an unlinked object.
+    pub fn constants(&self, load: u64) -> Constants<'data> {
+        let (file, machine, target, is_program) = (&self.file, self.machine, self.target, self.is_program());
+        match self.kind {
+            Kind::Executable | Kind::Shared => {
+                constants::Loaded { file, machine, target, load, is_program }.constants()
+            }
+            _ => Vec::new(),
         }
     }
 

@@ -161,7 +161,8 @@ fn a_process_that_waits() {
     );
 }
 
-/// A program in which a thread, a file's data and the heap have other values than at the start.
+/// A program in which a thread, a file's data and the heap have other values than at the start. The dynamic linker
+/// has made the memory of `names` read-only once it had stored addresses there.
 const CHANGES: &str = "
 #include <pthread.h>
 #include <stdio.h>
@@ -172,10 +173,12 @@ static char text[] = \"before\";
 __attribute__((noinline)) static void work(int n) {
     static int initial = 5, zero;
     static __thread int own = 40;
+    static const char *const names[2] = {\"a name\", \"another\"};
     const char *shown = text, *copied = strdup(\"in the heap\");
     initial += n, zero -= n, own += n;
     memcpy(text, \"after!\", 6);
     if (n == 2) { puts(\"ready\"); fflush(stdout); }
+    if (n > 2) puts(names[n]);
     for (;;) pause();
 }
 static void *other(void *unused) { work(2); return unused; }
@@ -194,7 +197,7 @@ fn has_values_of(n: i32, ran: &Ran) {
     for wanted in &expected {
         assert!(values.contains(wanted), "{}: {:?}", wanted, ran);
     }
-    for wanted in [" \"after!\"", " \"in the heap\""] {
+    for wanted in [" \"after!\"", " \"in the heap\"", " \"another\"}"] {
         assert!(values.iter().any(|value| value.ends_with(wanted)), "{}: {:?}", wanted, ran);
     }
 }

@@ -143,3 +143,40 @@ fn variants_of_enums_of_rust() {
     let text = values(&ran).into_iter().find(|value| value.starts_with("var text: &str = 0x"));
     assert!(text.map_or(false, |text| text.ends_with(" \"a text\"")), "{}", ran.out);
 }
+
+/// Without a state, only what is the same in every process is known. The dynamic linker adds the load address to
+/// the pointers of `names`, and stores the address of a function of another file.
+#[test]
+fn constants_of_the_file() {
+    let folder = Folder::new("vars-constants");
+    folder.write(
+        "a.c",
+        "#include <stdlib.h>
+struct pair { const char *name; int (*call)(const char *); };
+__attribute__((noinline)) int work(int n) {
+    static const char *const names[3] = {\"zero\", \"one\", \"two\"};
+    static const int squares[4] = {0, 1, 4, 9};
+    static const struct pair pair = {\"own\", atoi};
+    static int changes = 5;
+    return names[n][0] + squares[n] + pair.call(pair.name) + ++changes;
+}
+int main(int argc, char **argv) { return work(argc); }
+",
+    );
+    for flags in ["-fPIE -pie", "-no-pie", "-m32 -fPIE -pie", "-fPIE -pie -Wl,-z,norelro"] {
+        folder.run(&format!("gcc -O0 -g {} a.c -o program", flags));
+        let load = if flags == "-no-pie" { "0x0" } else { "0x10000" };
+        let ran = dwcheck_elf(&folder, &format!("vars --load {} program work", load));
+        let found = values(&ran);
+        let expected = [
+            ["var squares: ", "int [4] = {0, 1, 4, 9}"],
+            ["var changes: int: unreadable: memory at 0x", ""],
+            ["var names: ", " \"two\"}"],
+            ["var pair: const struct pair = {name = 0x", " \"own\", call = <unreadable: memory at 0x"],
+        ];
+        for [begin, part] in expected {
+            let is_there = |found: &String| found.starts_with(begin) && found.contains(part);
+            assert!(found.iter().any(is_there), "{}: no {}: {} {}", flags, begin, ran.out, ran.error);
+        }
+    }
+}

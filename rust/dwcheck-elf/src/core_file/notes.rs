@@ -33,15 +33,16 @@ pub struct Mapping<'data> {
     /// The file's name, as the kernel gave it.
     pub path: &'data [u8],
     /// Whether the memory may have other bytes than the file where none were copied: in a process that
-    /// runs, whether it can be written to. False in core files, which have the bytes that were changed.
+    /// runs, whether it can be written to, or could be before the dynamic linker was done. False in core
+    /// files, which have the bytes that were changed.
     pub has_changed: bool,
 }
 
 impl<'data> Mapping<'data> {
     /// The mapping of a process that runs.
-    pub(super) fn of_live(map: &'data Map) -> Self {
-        let Map { begin, end, offset, is_writable, path, .. } = map;
-        Mapping { begin: *begin, end: *end, offset: *offset, path, has_changed: *is_writable }
+    pub(super) fn of_live(map: &'data Map, has_changed: bool) -> Self {
+        let Map { begin, end, offset, path, .. } = map;
+        Mapping { begin: *begin, end: *end, offset: *offset, path, has_changed }
     }
 }
 

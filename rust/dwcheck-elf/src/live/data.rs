@@ -1,6 +1,6 @@
-//! Copies the memory that a process can write to, where its variables are.
+//! Copies the memory of a process that differs from its files, where its variables are.
 
-use super::maps::{Map, Process};
+use super::maps::{can_differ, Map, Process};
 
 /// At most this many bytes are copied in all.
 pub const DATA_LIMIT: u64 = 64 << 20;
@@ -19,7 +19,7 @@ enum Use {
     Other,
 }
 
-/// The memory that can be written to, each part with its address, up to [`DATA_LIMIT`].
+/// The memory that can differ from its files, each part with its address, up to [`DATA_LIMIT`].
 pub(super) fn data(process: &Process) -> Vec<(u64, Vec<u8>)> {
     let mut parts = parts(&process.maps);
     parts.sort_by_key(|(used, map)| (*used, map.begin));
@@ -32,10 +32,11 @@ pub(super) fn data(process: &Process) -> Vec<(u64, Vec<u8>)> {
     copied.collect()
 }
 
-/// The parts of the memory that can be written to.
+/// The parts of the memory that can differ from their files.
 fn parts(maps: &[Map]) -> Vec<(Use, &Map)> {
     let mut parts: Vec<(Use, &Map)> = Vec::new();
-    for map in maps.iter().filter(|map| map.is_writable && map.begin < map.end) {
+    let differing = maps.iter().enumerate().filter(|(index, _)| can_differ(maps, *index)).map(|(_, map)| map);
+    for map in differing.filter(|map| map.begin < map.end) {
         // The data of a file that is zero at the start follows the rest of its data.
         let follows_file = parts.last().map_or(false, |(used, last)| *used == Use::File && last.end == map.begin);
         let used = match map.path.as_slice() {

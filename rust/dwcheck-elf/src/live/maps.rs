@@ -94,6 +94,20 @@ impl Process {
     }
 }
 
+/// Whether the memory of a line of `maps`, by its index, can differ from its file: it can be written to, or it is
+/// right before such memory of the same file. There the dynamic linker has stored addresses before it made the
+/// memory read-only (`PT_GNU_RELRO`).
+pub(crate) fn can_differ(maps: &[Map], index: usize) -> bool {
+    match maps.get(index..) {
+        Some([map, ..]) if map.is_writable => true,
+        Some([map, next, ..]) => {
+            let is_next = map.end == next.begin && map.inode == next.inode && map.path == next.path;
+            is_next && map.inode != 0 && !map.is_executable && next.is_writable
+        }
+        _ => false,
+    }
+}
+
 /// A file in `/proc` that isn't there belongs to a process that isn't there.
 fn failure(error: io::Error) -> LiveError {
     match error.kind() {

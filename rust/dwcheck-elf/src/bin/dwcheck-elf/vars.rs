@@ -5,7 +5,7 @@ use crate::arguments::VarsWords;
 use crate::end::{shown, Done, Failure};
 use crate::opened::{address, note, number_argument, program, read, Opened};
 use crate::walks::state_file;
-use dwcheck::{Process, State};
+use dwcheck::{Block, Process, State};
 use dwcheck_elf::abi::abi;
 use dwcheck_elf::core_file::{CoreFile, Files};
 use dwcheck_elf::debug_files::DebugFiles;
@@ -92,7 +92,10 @@ fn of_program(words: &VarsWords, path: &Path, at: &str, shape: Shape) -> Result<
         None => Modules::new(target),
     };
     let steps = steps(process.process(), address, &state)?;
-    let blocks = state.blocks();
+    let constants = program.constants(load);
+    let constants = constants.iter().map(|(address, bytes)| Block::new(*address, bytes));
+    // What the state has counts before what the file has.
+    let blocks: Vec<_> = state.blocks().into_iter().chain(constants).collect();
     let (is_program, has_glibc) = (program.is_program(), false);
     let file = Some(Loaded { bytes: &data, bias: load, is_program, has_glibc });
     let pointer = abi(program.machine(), target.address_size).and_then(|abi| abi.thread_pointer);
