@@ -16,7 +16,7 @@ mod thread_local;
 mod types;
 mod value;
 
-pub use place::{Machine, Missing, Place};
+pub use place::{Machine, Missing, Place, Pointee};
 pub use text::Lines;
 pub use thread_local::Loaded;
 pub use value::{Shape, Value};

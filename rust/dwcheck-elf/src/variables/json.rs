@@ -36,6 +36,7 @@ fn value(of: &Value) -> Json {
     match of {
         Value::Plain(text) => json!(text),
         Value::Text(address, text) => json!({ "address": address, "text": text }),
+        Value::Pointer(name, of) => json!({ "points_to": name, "value": value(of) }),
         Value::Members(members) => members.iter().map(|(name, member)| (name.clone(), part(member))).collect(),
         Value::Elements(elements, _) => elements.iter().map(part).collect(),
         Value::Deeper => Json::Null,

@@ -1,6 +1,6 @@
 //! Finds where a variable is, by its expression or its location list.
 
-use super::place::{Machine, Missing, Place};
+use super::place::{Machine, Missing, Place, Pointee};
 use super::{Frame, Variables};
 use crate::bytes::Cursor;
 use crate::debug_info::{Die, Slice};
@@ -222,7 +222,8 @@ impl<'v, 'a> Locator<'v, 'a> {
         let size = if encoding.version == 2 { encoding.address_size } else { encoding.format.word_size() };
         let offset = DebugInfoOffset(usize::try_from(cursor.number(size).ok()?).ok()?);
         let past = cursor.sleb().ok()? as i64;
-        Some(Place::ImplicitPointer(self.variables.units.die(offset)?.name()?, past))
+        let name = self.variables.units.die(offset)?.name();
+        Some(Place::ImplicitPointer(Pointee { name, past, entry: offset.0 }))
     }
 
     /// The frame base of the function, by its expression or list.

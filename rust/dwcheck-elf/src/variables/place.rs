@@ -35,9 +35,19 @@ pub enum Place {
     Bytes(Vec<u8>),
     /// In pieces, each with its size in bytes. Some pieces may be missing.
     Pieces(Vec<(Result<Place, Missing>, usize)>),
-    /// Nowhere, but it points to this many bytes after the beginning of another variable, which has this
-    /// name.
-    ImplicitPointer(String, i64),
+    /// Nowhere, but it points into a variable that may have no address.
+    ImplicitPointer(Pointee),
+}
+
+/// What an implicit pointer leads to.
+#[derive(Clone, Debug, PartialEq, Eq)]
+pub struct Pointee {
+    /// The name of the variable. `None` if it has none, such as a text.
+    pub name: Option<String>,
+    /// How many bytes after the beginning of the variable the pointer leads to.
+    pub past: i64,
+    /// The offset in `.debug_info` of the variable's entry.
+    pub entry: usize,
 }
 
 /// The registers and the memory of a frame.
@@ -146,8 +156,17 @@ impl fmt::Display for Place {
             Place::Value(_) => f.write_str("value"),
             Place::Bytes(_) => f.write_str("constant"),
             Place::Pieces(_) => f.write_str("pieces"),
-            Place::ImplicitPointer(name, 0) => write!(f, "points to {}", name),
-            Place::ImplicitPointer(name, offset) => write!(f, "points to {}{:+}", name, offset),
+            Place::ImplicitPointer(pointee) => write!(f, "points to {}", pointee),
+        }
+    }
+}
+
+impl fmt::Display for Pointee {
+    fn fmt(&self, f: &mut fmt::Formatter<'_>) -> fmt::Result {
+        f.write_str(self.name.as_deref().unwrap_or("a constant"))?;
+        match self.past {
+            0 => Ok(()),
+            past => write!(f, "{:+}", past),
         }
     }
 }

@@ -52,6 +52,8 @@ impl fmt::Display for Value {
         match self {
             Value::Plain(text) => write!(f, "{}", Plain(text)),
             Value::Text(address, text) => write!(f, "{} \"{}\"", address, text),
+            Value::Pointer(Some(name), value) => write!(f, "&{}, {}", Plain(name), value),
+            Value::Pointer(None, value) => write!(f, "&{}", value),
             Value::Members(members) => {
                 f.write_str("{")?;
                 for (index, (name, value)) in members.iter().enumerate() {

@@ -4,11 +4,11 @@ mod strings;
 mod variants;
 
 use super::location::Locator;
-use super::place::{Missing, Place};
+use super::place::{Missing, Place, Pointee};
 use super::types::{dimensions, is_pointer, name_of, number, plain, size_of, type_of};
 use crate::debug_info::Die;
 use crate::target::Order;
-use gimli::{AttributeValue, DwAte};
+use gimli::{AttributeValue, DebugInfoOffset, DwAte};
 
 /// A value of a variable.
 #[derive(Clone, Debug, PartialEq, Eq)]
@@ -17,6 +17,8 @@ pub enum Value {
     Plain(String),
     /// A pointer to a text, with the text as far as it was read.
     Text(String, String),
+    /// A pointer to a variable that may have no address: the variable's name, if it has one, and its value.
+    Pointer(Option<String>, Box<Value>),
     /// The members of a structure or union with their names.
     Members(Vec<(String, Result<Value, Missing>)>),
     /// The elements of an array, and how many more there are.
@@ -32,11 +34,13 @@ pub struct Shape {
     pub depth: usize,
     /// The most elements of an array, and the most bytes of a text.
     pub length: usize,
+    /// How many pointers to variables without an address are followed, one after another.
+    pub pointers: usize,
 }
 
 impl Default for Shape {
     fn default() -> Self {
-        Shape { depth: 1, length: 200 }
+        Shape { depth: 1, length: 200, pointers: 4 }
     }
 }
 
@@ -59,8 +63,9 @@ impl<'v, 'a> Locator<'v, 'a> {
     /// The value of a variable of a type at a place.
     pub fn value(&self, kind: Option<&Die<'v, 'a>>, place: &Place, shape: Shape) -> Result<Value, Missing> {
         let kind = kind.ok_or(Missing::Unsupported("no type"))?;
-        if let Place::ImplicitPointer(..) = place {
-            return Ok(Value::Plain(place.to_string()));
+        if let Place::ImplicitPointer(pointee) = place {
+            let followed = self.followed(kind, pointee, shape);
+            return Ok(followed.unwrap_or_else(|| Value::Plain(place.to_string())));
         }
         let size = size_of(kind).and_then(|size| usize::try_from(size).ok());
         let is_declared = plain(kind).map_or(false, |kind| kind.attribute(gimli::DW_AT_declaration).is_some());
@@ -69,6 +74,22 @@ impl<'v, 'a> Locator<'v, 'a> {
         let shape = Shape { depth: shape.depth.min(MAX_DEPTH), ..shape };
         let mut left = MAX_MEMBERS;
         self.part(kind, Part { place, size, offset: 0 }, shape, &mut left)
+    }
+
+    /// A pointer with the variable to which it leads. `None` if the value of that isn't known, or if the pointer
+    /// leads into it.
+    fn followed(&self, pointer: &Die<'v, 'a>, pointee: &Pointee, shape: Shape) -> Option<Value> {
+        let pointers = shape.pointers.checked_sub(1).filter(|_| pointee.past == 0)?;
+        let target = self.variables.units.die(DebugInfoOffset(pointee.entry))?;
+        let place = self.place(&target, false).ok()?;
+        let pointed = type_of(&plain(pointer)?);
+        let is_text = pointed.as_ref().and_then(plain).map_or(false, |pointed| is_character(&pointed));
+        let value = match (&place, &pointee.name) {
+            // The compiler has an entry without a name and a type for the text.
+            (Place::Bytes(bytes), None) if is_text => Value::Plain(quoted(bytes)),
+            _ => self.value(type_of(&target).or(pointed).as_ref(), &place, Shape { pointers, ..shape }).ok()?,
+        };
+        Some(Value::Pointer(pointee.name.clone(), Box::new(value)))
     }
 
     fn part(&self, kind: &Die<'v, 'a>, part: Part<'_>, shape: Shape, left: &mut usize) -> Result<Value, Missing> {
@@ -286,6 +307,12 @@ fn character(number: i128, bytes: &[u8]) -> String {
         [byte] => format!("{} '{}'", number, escaped(&[*byte])),
         _ => number.to_string(),
     }
+}
+
+/// A text up to its first 0, in quotes.
+fn quoted(bytes: &[u8]) -> String {
+    let end = bytes.iter().position(|byte| *byte == 0).unwrap_or(bytes.len());
+    format!("\"{}\"", escaped(&bytes[..end]))
 }
 
 /// A text with escapes for bytes that aren't printable ASCII characters.

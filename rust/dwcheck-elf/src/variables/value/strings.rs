@@ -1,6 +1,6 @@
 //! Reads texts.
 
-use super::{escaped, is_pointer, number, size_of, type_of, unsigned, Part, Shape, Value};
+use super::{escaped, is_pointer, number, quoted, size_of, type_of, unsigned, Part, Shape, Value};
 use crate::debug_info::Die;
 use crate::variables::location::Locator;
 use crate::variables::place::Missing;
@@ -37,8 +37,7 @@ impl<'v, 'a> Locator<'v, 'a> {
     /// A text of this many bytes that is part of the variable, up to its first 0.
     pub(super) fn characters(&self, part: Part<'_>, count: usize, shape: Shape) -> Result<Value, Missing> {
         let bytes = self.machine.bytes(part.place, part.size, part.offset, count.min(shape.length))?;
-        let end = bytes.iter().position(|byte| *byte == 0).unwrap_or(bytes.len());
-        Ok(Value::Plain(format!("\"{}\"", escaped(&bytes[..end]))))
+        Ok(Value::Plain(quoted(&bytes)))
     }
 
     /// A text of Rust or Go: an address and a number of bytes. `None` if the type isn't that of such texts, or
