@@ -19,7 +19,7 @@ use std::path::{Path, PathBuf};
 /// ```
 /// use dwcheck_elf::inspect::Check;
 ///
-/// let check = Check { all: true };
+/// let check = Check { all: true, ..Check::default() };
 /// assert_ne!(check, Check::default());
 /// ```
 #[derive(Clone, Copy, Debug, Default, PartialEq, Eq)]
@@ -27,6 +27,9 @@ pub struct Check {
     /// Whether to report every fault of a frame section, not only the first. See
     /// [`crate::alone::every_fault`].
     pub all: bool,
+    /// Whether to list the entries of location lists that are most likely mistakes
+    /// ([`lists::Contents::doubtful`]).
+    pub doubtful: bool,
 }
 
 /// The result of checking a section.
@@ -107,7 +110,7 @@ pub fn inspect_lists<'data>(
     check: Check,
 ) -> Vec<Inspected<'data>> {
     if program.has_bytes(".debug_info") {
-        return lists::inspect_lists(program, shared, None, check.all);
+        return lists::inspect_lists(program, shared, None, check);
     }
     let (bytes, verdict) = match program.debug_loclists() {
         Ok(Some(lists)) => (lists.bytes.len(), inspect_section_of_lists(&lists.bytes, program.target())),
@@ -136,7 +139,7 @@ pub fn inspect_lists_of_file<'data>(
     };
     let lists = |program: &Program<'_>| {
         let shared = files.shared(program).and_then(|bytes| Program::read(bytes).ok());
-        lists::inspect_lists(program, shared.as_ref(), Some(files), check.all)
+        lists::inspect_lists(program, shared.as_ref(), Some(files), check)
     };
     match separate {
         Some((path, bytes)) => match Program::read(bytes) {

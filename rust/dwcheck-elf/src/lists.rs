@@ -7,6 +7,7 @@
 //! ([`Hole`]). `dwcheck` checks the tables of a unit as one section. Each list is also compared: gimli's
 //! entries of the original have to be those of the table.
 
+mod around;
 mod check;
 mod contents;
 mod coverage;
@@ -26,10 +27,10 @@ mod unit;
 mod validate;
 
 pub use check::{compare_look_ups, inspect_lists};
-pub use contents::Contents;
+pub use contents::{Contents, Doubtful};
 pub use coverage::Bytes;
 pub use hole::{Hole, Spot};
-pub use lints::Lints;
+pub use lints::{Lint, Lints};
 pub use look_ups::LookUps;
 pub use problem::Limit;
 pub use validate::Difference;

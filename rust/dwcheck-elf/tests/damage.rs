@@ -81,7 +81,7 @@ fn program(bytes: &[u8]) {
     if let Ok(Some(section)) = program.eh_frame() {
         frames(&program, section);
     }
-    inspect(&program, Check { all: true }).iter().for_each(told);
+    inspect(&program, Check { all: true, ..Check::default() }).iter().for_each(told);
 }
 
 /// Checks that each fault is inside the original section.

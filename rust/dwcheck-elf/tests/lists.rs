@@ -173,8 +173,8 @@ fn lists_of_other_files_that_are_not_there() {
     }
 }
 
-/// A program with a unit of one function `f` from 0 to 16, and a variable `x` of it, whose list is made
-/// of these lines of assembly.
+/// A program with a unit of 16 bytes, its function `f` with the first 8 of these, and a variable `x` of `f`, whose
+/// list is made of these lines of assembly.
 fn with_list(folder: &Folder, version: u16, list: &str) {
     let (header, section) = match version {
         4 => (".short 4\n.long abbrevs\n.byte 8", ".debug_loc"),
@@ -189,9 +189,9 @@ fn with_list(folder: &Folder, version: u16, list: &str) {
         format!(
             ".globl _start\n_start: .zero 16\n\
              .section .debug_abbrev, \"\", @progbits\nabbrevs: .byte 1, 0x11, 1, 0x11, 1, 0x12, 6, 0, 0\n\
-             .byte 2, 0x2e, 1, 3, 8, 0, 0, 3, 0x34, 0, 3, 8, 2, 0x17, 0, 0, 0\n\
+             .byte 2, 0x2e, 1, 3, 8, 0x11, 1, 0x12, 6, 0, 0, 3, 0x34, 0, 3, 8, 2, 0x17, 0, 0, 0\n\
              .section .debug_info, \"\", @progbits\n.long last - first\nfirst: {}\n\
-             .byte 1\n.quad _start\n.long 16\n.byte 2\n.asciz \"f\"\n.byte 3\n.asciz \"x\"\n.long list - section\n\
+             .byte 1\n.quad _start\n.long 16\n.byte 2\n.asciz \"f\"\n.quad _start\n.long 8\n.byte 3\n.asciz \"x\"\n.long list - section\n\
              .byte 0, 0\nlast:\n\
              .section {}, \"\", @progbits\nsection: {}\nlist: {}\nend:\n",
             header, section, table, list
@@ -292,6 +292,29 @@ fn entries_that_break_a_rule_are_refused() {
         let ran = dwcheck_elf(&folder, "check program");
         let line = format!("program: {}, list ", fault);
         assert!(ran.status == 1 && ran.out.starts_with(&line) && ran.lines()[0].ends_with(" (x of f)"), "{:?}", ran);
+    }
+}
+
+#[test]
+fn doubtful_entries_are_counted_and_listed() {
+    let folder = Folder::new("lists-doubtful");
+    let cases = [
+        // rax for addresses of the unit that aren't the function's, or not even the unit's
+        (".byte 4, 4, 12, 1, 0x50, 0", "outside-function", 0xc),
+        (".byte 4, 4, 20, 1, 0x50, 0", "outside", 0xc),
+        (".byte 4, 4, 4, 1, 0x50, 0", "empty", 0xc),
+        // rdx for a part of the addresses that have rax, which isn't the last entry before it
+        (".byte 4, 0, 8, 1, 0x50, 4, 1, 2, 1, 0x50, 4, 4, 8, 1, 0x51, 0", "overlapping", 0x16),
+        // fbreg of a function without a frame base
+        (".byte 4, 0, 4, 2, 0x91, 0, 0", "unreadable", 0xc),
+    ];
+    for (list, kind, at) in cases {
+        with_list(&folder, 5, list);
+        let ran = dwcheck_elf(&folder, "check --doubtful program");
+        assert_eq!((ran.status, ran.lines()[0]), (0, "program: .debug_loclists: accepted"), "{:?}", ran);
+        assert_eq!(ran.lines()[3], format!("doubtful {} 1", kind), "{}", ran.out);
+        let begin = format!("program: .debug_loclists+{:#x}: doubtful: {}, 0x", at, kind);
+        assert!(ran.lines()[4].starts_with(&begin) && ran.out.ends_with(", list 0xc (x of f)\n"), "{}", ran.out);
     }
 }
 

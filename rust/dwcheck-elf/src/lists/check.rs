@@ -1,8 +1,10 @@
 //! Checks all location lists of a program.
 
+use super::contents::Doubtful;
 use super::expression::Scope;
+use super::lints::Surroundings;
 use super::look_ups::LookUps;
-use super::references::{abbreviations_length, references, Reference};
+use super::references::{abbreviations_length, references, References};
 use super::report::{report, units, NAMES};
 use super::section::{checked, every_problem, Section};
 use super::unit::{Source, UnitLists};
@@ -10,7 +12,7 @@ use super::validate::validate;
 use crate::debug_files::DebugFiles;
 use crate::debug_info::{ranges_of, section, Slice, SplitFile, Units};
 use crate::frames::Name;
-use crate::inspect::{InspectError, Inspected};
+use crate::inspect::{Check, InspectError, Inspected};
 use crate::program::Program;
 use crate::target::Target;
 use gimli::{DebugAddrIndex, Dwarf, Reader, Section as _, SectionId, Unit, UnitHeader, UnitSectionOffset};
@@ -51,6 +53,8 @@ struct Lists<'a> {
     look_ups: Option<LookUps>,
     /// For the file of a unit: what the program has of the unit.
     skeleton: Option<Rc<Unit<Slice<'a>>>>,
+    /// What is asked for.
+    check: Check,
 }
 
 /// The tables of abbreviations of the units that were read.
@@ -81,27 +85,26 @@ impl Abbreviations {
 
 /// Checks the location lists to which the debug information of a program refers. `shared` is the file that
 /// its `.gnu_debugaltlink` names. With `files`, those in files of single units are checked too, each as a
-/// section of its own (DWARF 5, section 7.3.2). If `all`, every refused expression is a fault of the result, else only the
-/// first one.
+/// section of its own (DWARF 5, section 7.3.2).
 ///
 /// The memory that this takes is in proportion to the sections of lists, and to a unit of `.debug_info`.
 pub fn inspect_lists<'d>(
     program: &Program<'_>,
     shared: Option<&Program<'_>>,
     files: Option<&DebugFiles>,
-    all: bool,
+    check: Check,
 ) -> Vec<Inspected<'d>> {
     let unpacked = Arena::new();
-    let checked = Lists::open(program, &unpacked).and_then(|mut lists| {
+    let checked = Lists::open(program, &unpacked, check).and_then(|mut lists| {
         lists.check()?;
         Ok(lists)
     });
     match checked {
         Ok(Lists { sections, split, lowest, .. }) => {
             let names = || units(program, shared, &unpacked);
-            let mut results = report(sections, names, all);
+            let mut results = report(sections, names, check.all);
             if !split.is_empty() {
-                results.extend(inspect_split(names(), files, (&split, lowest), all));
+                results.extend(inspect_split(names(), files, (&split, lowest), check));
             }
             results
         }
@@ -115,7 +118,7 @@ fn inspect_split<'d, 'a>(
     units: Option<Units<'a>>,
     files: Option<&'a DebugFiles>,
     (split, lowest): (&[usize], u64),
-    all: bool,
+    check: Check,
 ) -> Vec<Inspected<'d>> {
     let mut results = Vec::new();
     let mut missing = Vec::new();
@@ -123,7 +126,7 @@ fn inspect_split<'d, 'a>(
         let root = units.as_ref().and_then(|units| units.root(*index));
         let opened = files.and_then(|files| SplitFile::open(root.as_ref()?, files));
         match opened.filter(|opened| opened.skeleton.encoding().version >= 5) {
-            Some(opened) => results.extend(of_split(&opened, lowest, all)),
+            Some(opened) => results.extend(of_split(&opened, lowest, check)),
             None => missing.push(root.and_then(|root| root.split_file())),
         }
     }
@@ -134,13 +137,13 @@ fn inspect_split<'d, 'a>(
 }
 
 /// Checks the lists in the file of a unit.
-fn of_split<'d>(opened: &SplitFile<'_>, lowest: u64, all: bool) -> Vec<Inspected<'d>> {
-    let checked = Lists::open_split(opened, lowest).and_then(|mut lists| {
+fn of_split<'d>(opened: &SplitFile<'_>, lowest: u64, check: Check) -> Vec<Inspected<'d>> {
+    let checked = Lists::open_split(opened, lowest, check).and_then(|mut lists| {
         lists.check()?;
         Ok(lists.sections)
     });
     let results = match checked {
-        Ok(sections) => report(sections, || opened.units(&NAMES), all),
+        Ok(sections) => report(sections, || opened.units(&NAMES), check.all),
         Err(error) => vec![Inspected::unread(Name::DebugLoclists, error)],
     };
     let in_file = |result| Inspected { file: Some(opened.path.clone()), ..result };
@@ -155,14 +158,14 @@ fn of_split<'d>(opened: &SplitFile<'_>, lowest: u64, all: bool) -> Vec<Inspected
 /// If a list can't be read, or a look-up has other expressions.
 pub fn compare_look_ups(program: &Program<'_>) -> Result<LookUps, InspectError> {
     let unpacked = Arena::new();
-    let mut lists = Lists::open(program, &unpacked)?;
+    let mut lists = Lists::open(program, &unpacked, Check::default())?;
     lists.look_ups = Some(LookUps::default());
     lists.check()?;
     Ok(lists.look_ups.unwrap_or_default())
 }
 
 impl<'a> Lists<'a> {
-    fn open(program: &Program<'a>, unpacked: &'a Arena<Vec<u8>>) -> Result<Self, InspectError> {
+    fn open(program: &Program<'a>, unpacked: &'a Arena<Vec<u8>>, check: Check) -> Result<Self, InspectError> {
         let empty = Slice::new(&[], program.target().gimli_order());
         let (mut loc, mut loclists) = (empty, empty);
         let dwarf = Dwarf::load(|id| {
@@ -179,16 +182,17 @@ impl<'a> Lists<'a> {
         let sections = [Section::new(Name::DebugLoc, loc.slice()), Section::new(Name::DebugLoclists, loclists.slice())];
         let lowest = program.code(0).map_or(0, |code| *code.start());
         let (target, split, look_ups) = (program.target(), Vec::new(), None);
-        Ok(Lists { dwarf, sections, lowest, target, abbreviations, split, look_ups, skeleton: None })
+        Ok(Lists { dwarf, sections, lowest, target, abbreviations, split, look_ups, skeleton: None, check })
     }
 
-    fn open_split(opened: &SplitFile<'a>, lowest: u64) -> Result<Self, InspectError> {
+    fn open_split(opened: &SplitFile<'a>, lowest: u64, check: Check) -> Result<Self, InspectError> {
         let dwarf = opened.dwarf(&NEEDED).map_err(InspectError::Program)?;
         let loclists = opened.loclists().map_err(InspectError::Program)?;
         let sections = [Section::new(Name::DebugLoc, &[]), Section::new(Name::DebugLoclists, loclists)];
         let abbreviations = Abbreviations::of(&dwarf);
         let (target, skeleton) = (opened.target(), Some(Rc::clone(&opened.skeleton)));
-        Ok(Lists { dwarf, sections, lowest, target, abbreviations, split: Vec::new(), look_ups: None, skeleton })
+        let (split, look_ups) = (Vec::new(), None);
+        Ok(Lists { dwarf, sections, lowest, target, abbreviations, split, look_ups, skeleton, check })
     }
 
     /// Checks the lists of all units.
@@ -234,14 +238,14 @@ impl<'a> Lists<'a> {
             Ok(references) => references,
             Err(error) => return Err(fail(error.to_string())),
         };
-        match references.is_empty() {
+        match references.all.is_empty() {
             true => Ok(()),
             false => self.lists_of(index, &unit, &references),
         }
     }
 
     /// Checks the lists to which a unit refers.
-    fn lists_of(&mut self, index: usize, unit: &Unit<Slice<'a>>, references: &[Reference]) -> Result<(), InspectError> {
+    fn lists_of(&mut self, index: usize, unit: &Unit<Slice<'a>>, references: &References) -> Result<(), InspectError> {
         let encoding = unit.encoding();
         let section = &mut self.sections[usize::from(encoding.version >= 5)];
         let name = section.name;
@@ -253,7 +257,7 @@ impl<'a> Lists<'a> {
         let source = Source { bytes: section.bytes, section: name, scope, base: unit.low_pc };
         let mut lists = UnitLists::default();
         let mut problems = Vec::new();
-        for reference in references {
+        for reference in &references.all {
             match lists.add(*reference, &source, |_| false) {
                 Ok(found) => problems.extend(found),
                 Err(problem) => problems.push(problem),
@@ -274,7 +278,17 @@ impl<'a> Lists<'a> {
         }
         let mut ranges = dwarf.unit_ranges(unit).map(ranges_of).unwrap_or_default();
         ranges.sort_by_key(|range| range.start);
-        section.contents.lints.count(&lists, section.bytes, &ranges, self.lowest, self.target);
+        let (lowest, target) = (self.lowest, self.target);
+        let surroundings =
+            Surroundings { section: section.bytes, unit: &ranges, around: &references.around, lowest, target };
+        let (keeps, doubtful) = (self.check.doubtful, &mut section.doubtful);
+        section.contents.lints.add(&lists, &surroundings, |lint, list, entry| {
+            if keeps {
+                let (list, reference) = (list.original.start as u64, list.reference.entry);
+                let (entry, range) = (entry.offset as u64, entry.range.clone());
+                doubtful.push((index, reference, Doubtful { lint, entry, list, range, variable: None }));
+            }
+        });
         section.note(&lists, &source);
         section.problems.extend(problems.into_iter().map(|problem| (index, problem)));
         Ok(())

@@ -2,10 +2,13 @@
 
 use super::coverage::Bytes;
 use super::hole::Hole;
-use super::lints::Lints;
+use super::lints::{Lint, Lints};
 use super::problem::Limit;
 use crate::fault::Defect;
+use crate::text::Plain;
 use std::collections::BTreeMap;
+use std::fmt;
+use std::ops::Range;
 
 /// What the location lists of a section have.
 #[derive(Clone, Debug, Default, PartialEq, Eq)]
@@ -30,6 +33,34 @@ pub struct Contents {
     pub limits: BTreeMap<Limit, usize>,
     /// These entries, if all faults were asked for.
     pub unchecked: Vec<Defect>,
+    /// The entries that `lints` counts, if they were asked for.
+    pub doubtful: Vec<Doubtful>,
+}
+
+/// An entry that is most likely a mistake.
+#[derive(Clone, Debug, PartialEq, Eq)]
+pub struct Doubtful {
+    /// Why.
+    pub lint: Lint,
+    /// The offset of the entry in the section.
+    pub entry: u64,
+    /// The offset of its list.
+    pub list: u64,
+    /// The addresses at which it applies. `None` if it applies where no other entry does.
+    pub range: Option<Range<u64>>,
+    /// The variable of the list, in words. `None` if it has no name.
+    pub variable: Option<String>,
+}
+
+impl fmt::Display for Doubtful {
+    fn fmt(&self, f: &mut fmt::Formatter<'_>) -> fmt::Result {
+        write!(f, "+{:#x}: doubtful: {}, ", self.entry, self.lint)?;
+        if let Some(range) = &self.range {
+            write!(f, "{:#x}..{:#x}, ", range.start, range.end)?;
+        }
+        write!(f, "list {:#x}", self.list)?;
+        self.variable.as_ref().map_or(Ok(()), |variable| write!(f, " ({})", Plain(variable)))
+    }
 }
 
 impl Contents {

@@ -1,5 +1,6 @@
 //! Finds the location lists that a unit of `.debug_info` refers to.
 
+use super::around::{is_scope, Around, Bounds, Nesting};
 use crate::debug_info::Slice;
 use gimli::{Abbreviation, AttributeValue, DwAt, DwForm, DwarfFileType, EntriesRaw, Reader, Unit, UnitOffset};
 use std::fmt;
@@ -20,6 +21,16 @@ pub(crate) struct Reference {
     pub entry: UnitOffset<usize>,
     /// Where the view numbers of the list are.
     pub views: Option<u64>,
+    /// What is around the entry, by its place in [`References::around`].
+    pub around: Option<usize>,
+}
+
+/// What a unit has that refers to location lists.
+pub(super) struct References {
+    /// The references in the order of their lists, one for each list.
+    pub all: Vec<Reference>,
+    /// The functions and blocks around their entries.
+    pub around: Vec<Around>,
 }
 
 /// Why the references of a unit can't be read.
@@ -31,32 +42,34 @@ pub(super) enum Unreadable {
     TooManyAttributes,
 }
 
-/// The references of a unit, in the order of their lists, one for each list.
+/// The references of a unit.
 pub(super) fn references<'a>(
     dwarf: &gimli::Dwarf<Slice<'a>>,
     unit: &Unit<Slice<'a>>,
-) -> Result<Vec<Reference>, Unreadable> {
-    let mut found = Vec::new();
+) -> Result<References, Unreadable> {
+    let mut reader = ReferenceReader { dwarf, unit, nesting: Nesting::of(unit), found: Vec::new() };
     let mut entries = unit.entries_raw(None).map_err(Unreadable::Gimli)?;
     let mut left = unit.header.length_including_self().saturating_mul(ATTRIBUTES_PER_BYTE);
     while !entries.is_empty() {
-        let entry = entries.next_offset();
+        let (entry, depth) = (entries.next_offset(), entries.next_depth());
         let abbreviation = match entries.read_abbreviation().map_err(Unreadable::Gimli)? {
             Some(abbreviation) => abbreviation,
             None => continue,
         };
         let specifications = abbreviation.attributes();
         left = left.checked_sub(specifications.len()).ok_or(Unreadable::TooManyAttributes)?;
-        if may_refer(abbreviation) {
-            of_entry(dwarf, unit, &mut entries, abbreviation, entry, &mut found).map_err(Unreadable::Gimli)?;
+        reader.nesting.leave(depth);
+        if may_refer(abbreviation) || is_scope(abbreviation.tag()) {
+            reader.entry(&mut entries, abbreviation, entry, depth).map_err(Unreadable::Gimli)?;
         } else {
             entries.skip_attributes(specifications).map_err(Unreadable::Gimli)?;
         }
     }
+    let (mut found, around) = (reader.found, reader.nesting.found());
     // A reference with views before others of the same list.
     found.sort_by_key(|reference: &Reference| (reference.list, reference.views.is_none()));
     found.dedup_by(|next, first| next.list.is_some() && next.list == first.list);
-    Ok(found)
+    Ok(References { all: found, around })
 }
 
 /// Whether an entry can refer to a location list, by the forms of its attributes.
@@ -74,36 +87,56 @@ fn may_refer(abbreviation: &Abbreviation) -> bool {
     abbreviation.attributes().iter().any(|attribute| is_reference(attribute.form()))
 }
 
-fn of_entry<'a>(
-    dwarf: &gimli::Dwarf<Slice<'a>>,
-    unit: &Unit<Slice<'a>>,
-    entries: &mut EntriesRaw<'_, '_, Slice<'a>>,
-    abbreviation: &Abbreviation,
-    entry: UnitOffset<usize>,
-    found: &mut Vec<Reference>,
-) -> Result<(), gimli::Error> {
-    let first = found.len();
-    let mut views = None;
-    for specification in abbreviation.attributes() {
-        let attribute = entries.read_attribute(*specification)?;
-        let list = match attribute.value() {
-            AttributeValue::LocationListsRef(list) => Some(list.0 as u64),
-            AttributeValue::DebugLocListsIndex(index) => {
-                dwarf.locations_offset(unit, index).ok().map(|list| list.0 as u64)
-            }
-            AttributeValue::SecOffset(offset) if attribute.name() == LOCVIEWS => {
-                views = Some(offset as u64 + views_base(dwarf, unit));
-                continue;
-            }
-            _ => continue,
-        };
-        found.push(Reference { list, entry, views: None });
+/// Reads the entries of a unit one after another.
+struct ReferenceReader<'r, 'a> {
+    dwarf: &'r gimli::Dwarf<Slice<'a>>,
+    unit: &'r Unit<Slice<'a>>,
+    nesting: Nesting<'a>,
+    found: Vec<Reference>,
+}
+
+impl<'a> ReferenceReader<'_, 'a> {
+    fn entry(
+        &mut self,
+        entries: &mut EntriesRaw<'_, '_, Slice<'a>>,
+        abbreviation: &Abbreviation,
+        entry: UnitOffset<usize>,
+        depth: isize,
+    ) -> Result<(), gimli::Error> {
+        let first = self.found.len();
+        let (mut views, mut bounds) = (None, Bounds::default());
+        for specification in abbreviation.attributes() {
+            let attribute = entries.read_attribute(*specification)?;
+            let list = match attribute.value() {
+                AttributeValue::LocationListsRef(list) => Some(list.0 as u64),
+                AttributeValue::DebugLocListsIndex(index) => {
+                    self.dwarf.locations_offset(self.unit, index).ok().map(|list| list.0 as u64)
+                }
+                AttributeValue::SecOffset(offset) if attribute.name() == LOCVIEWS => {
+                    views = Some(offset as u64 + views_base(self.dwarf, self.unit));
+                    continue;
+                }
+                _ => {
+                    bounds.note(&attribute);
+                    continue;
+                }
+            };
+            bounds.note(&attribute);
+            self.found.push(Reference { list, entry, views: None, around: None });
+        }
+        if is_scope(abbreviation.tag()) {
+            self.nesting.enter(depth, abbreviation.tag(), bounds);
+        }
+        // gcc writes views only for DW_AT_location, the only list of such an entry.
+        if let [reference] = &mut self.found[first..] {
+            reference.views = views;
+        }
+        if self.found.len() > first {
+            let around = self.nesting.current(self.dwarf, self.unit);
+            self.found[first..].iter_mut().for_each(|reference| reference.around = around);
+        }
+        Ok(())
     }
-    // gcc writes views only for DW_AT_location, the only list of such an entry.
-    if let [reference] = &mut found[first..] {
-        reference.views = views;
-    }
-    Ok(())
 }
 
 /// From where offsets of view numbers count. In files of single units, gcc counts them from the array of offsets.

@@ -1,5 +1,6 @@
 //! Describes what was found wrong with location lists, and whether they are accepted.
 
+use super::contents::Doubtful;
 use super::describe::described;
 use super::problem::{Kind, Problem};
 use super::section::Section;
@@ -8,7 +9,7 @@ use crate::fault::{what_of_lists, Defect, Within};
 use crate::frames::Name;
 use crate::inspect::{InspectError, Inspected, Verdict};
 use crate::program::Program;
-use gimli::SectionId;
+use gimli::{SectionId, UnitOffset};
 use std::collections::{BTreeMap, BTreeSet, HashMap};
 use typed_arena::Arena;
 
@@ -30,7 +31,7 @@ pub(super) fn report<'d, 'a>(
     units: impl FnOnce() -> Option<Units<'a>>,
     all: bool,
 ) -> Vec<Inspected<'d>> {
-    let needs_names = sections.iter().any(|section| !section.problems.is_empty());
+    let needs_names = sections.iter().any(|section| !section.problems.is_empty() || !section.doubtful.is_empty());
     let units = if needs_names { units() } else { None };
     let has_content = |section: &Section<'_>| !section.bytes.is_empty() || !section.problems.is_empty();
     let sections = sections.into_iter().filter(has_content);
@@ -62,13 +63,21 @@ fn result<'d>(mut section: Section<'_>, units: Option<&Units<'_>>, all: bool) ->
         problems.retain(|(_, problem)| problem.limit().is_none());
         problems.truncate(1);
     }
-    let words = words(&problems, units);
+    let named = problems.iter().filter(|(_, problem)| problem.list.is_some());
+    let named = named.map(|(unit, problem)| (*unit, problem.reference));
+    let doubtful = std::mem::take(&mut section.doubtful);
+    let words = words(named.chain(doubtful.iter().map(|(unit, reference, _)| (*unit, *reference))), units);
     let defects = problems.iter().map(|(unit, problem)| {
         let variable = words.get(&(*unit, problem.reference.0)).cloned();
         defect(name, section.bytes, problem, variable)
     });
     let defects: Vec<_> = defects.collect();
     let mut contents = section.contents;
+    let doubtful = doubtful.into_iter().map(|(unit, reference, one)| {
+        let variable = words.get(&(unit, reference.0)).cloned();
+        Doubtful { variable, ..one }
+    });
+    contents.doubtful = doubtful.collect();
     let verdict = if is_accepted {
         contents.unchecked = defects;
         Verdict::FoundLists
@@ -78,15 +87,18 @@ fn result<'d>(mut section: Section<'_>, units: Option<&Units<'_>>, all: bool) ->
     Inspected { name, file: None, bytes: section.bytes.len(), frames: None, lists: Some(contents), verdict }
 }
 
-/// The variables of problems in words, by the index of the unit and the entry's offset in it.
-fn words(problems: &[(usize, Problem)], units: Option<&Units<'_>>) -> HashMap<(usize, usize), String> {
+/// The variables of entries of units in words, by the index of the unit and the entry's offset in it.
+fn words(
+    named: impl Iterator<Item = (usize, UnitOffset<usize>)>,
+    units: Option<&Units<'_>>,
+) -> HashMap<(usize, usize), String> {
     let units = match units {
         Some(units) => units,
         None => return HashMap::new(),
     };
     let mut entries: BTreeMap<usize, BTreeSet<usize>> = BTreeMap::new();
-    for (unit, problem) in problems.iter().filter(|(_, problem)| problem.list.is_some()) {
-        entries.entry(*unit).or_default().insert(problem.reference.0);
+    for (unit, entry) in named {
+        entries.entry(unit).or_default().insert(entry.0);
     }
     let of_unit = |(unit, entries): (&usize, &BTreeSet<usize>)| {
         let unit = *unit;

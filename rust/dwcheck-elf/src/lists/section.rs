@@ -1,6 +1,6 @@
 //! What is known of a section of location lists while its units are read.
 
-use super::contents::Contents;
+use super::contents::{Contents, Doubtful};
 use super::coverage::{headers_alone, tables, Coverage, Part};
 use super::entry::end_of_views;
 use super::problem::{Kind, Problem};
@@ -8,6 +8,7 @@ use super::unit::{Entry, Source, UnitLists, TABLE_HEADER};
 use crate::frames::Name;
 use crate::target::Target;
 use dwcheck::{evaluate, Abi, Context, DebugFrame, DebugLoclists, Error, ExpressionKind, Fault, Registers, State};
+use gimli::UnitOffset;
 use std::collections::HashSet;
 
 /// How many times its bytes the lists of a section may have in all. Lists that compilers write share no
@@ -24,6 +25,9 @@ pub(super) struct Section<'a> {
     pub contents: Contents,
     /// What is wrong, each with the index of the unit.
     pub problems: Vec<(usize, Problem)>,
+    /// Entries that are most likely mistakes, each with the index of the unit and the entry of `.debug_info` that
+    /// refers to the list. Not those of [`Contents`], which have names.
+    pub doubtful: Vec<(usize, UnitOffset<usize>, Doubtful)>,
     coverage: Coverage,
     /// How many more bytes lists may have.
     pub left: usize,
@@ -32,8 +36,8 @@ pub(super) struct Section<'a> {
 impl<'a> Section<'a> {
     pub fn new(name: Name, bytes: &'a [u8]) -> Self {
         let left = bytes.len().saturating_mul(MAX_SHARING);
-        let (contents, problems, coverage) = (Contents::default(), Vec::new(), Coverage::default());
-        Section { name, bytes, contents, problems, coverage, left }
+        let (contents, coverage) = (Contents::default(), Coverage::default());
+        Section { name, bytes, contents, problems: Vec::new(), doubtful: Vec::new(), coverage, left }
     }
 
     /// Notes which bytes of the section the lists of a unit are, and counts what they have.
@@ -61,7 +65,7 @@ impl<'a> Section<'a> {
                 let (table, field) = (fault.offset as usize / TABLE_HEADER, fault.offset as usize % TABLE_HEADER);
                 let at = tables.get(table).map_or(0, |table| (table.fields.start + field).saturating_sub(4));
                 let kind = Kind::Dwcheck(fault.kind);
-                let (list, reference) = (None, gimli::UnitOffset(0));
+                let (list, reference) = (None, UnitOffset(0));
                 self.problems.push((0, Problem { kind, at, entry: at, list, reference }));
             }
             tables.into_iter().for_each(|table| self.coverage.add(table.header, Part::Header));

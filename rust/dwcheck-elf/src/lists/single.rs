@@ -26,7 +26,7 @@ impl SingleList {
     ///
     /// The name of the fault, if the list is refused for anything but its expressions.
     pub fn read(source: &Source<'_>, list: u64) -> Result<Self, &'static str> {
-        let reference = Reference { list: Some(list), entry: UnitOffset(0), views: None };
+        let reference = Reference { list: Some(list), entry: UnitOffset(0), views: None, around: None };
         let add = |is_left_out: &dyn Fn(usize) -> bool| {
             let mut lists = UnitLists::default();
             lists.add(reference, source, is_left_out).map_err(|problem| problem.kind.name()).map(|_| lists)

@@ -100,6 +100,9 @@ pub struct CheckWords {
     /// List every CIE, FDE and expression of location lists that is refused, not only the first one
     #[arg(long)]
     pub all: bool,
+    /// List the entries of location lists that break no rule but are most likely mistakes
+    #[arg(long)]
+    pub doubtful: bool,
     /// Leave location lists out
     #[arg(long)]
     pub no_lists: bool,

@@ -45,7 +45,7 @@ fn read_program(path: &Path) -> Result<Bytes, Failure> {
 fn check_one(words: &CheckWords, path: &Path, out: &mut impl Write) -> Result<Done, Failure> {
     let data = read_program(path)?;
     let program = program(path, &data)?;
-    let check = Check { all: words.all };
+    let check = Check { all: words.all, doubtful: words.doubtful };
     let mut sections = inspect_frame_sections(&program, check);
     let mut done = Done::Accepted;
     let mut separate = None;
@@ -76,6 +76,9 @@ fn check_one(words: &CheckWords, path: &Path, out: &mut impl Write) -> Result<Do
                 writeln!(out, "{}: {}: accepted", shown(path), section.name)?;
                 write_accepted(out, section)?;
             }
+        }
+        for one in section.lists.iter().flat_map(|lists| &lists.doubtful) {
+            writeln!(out, "{}: {}{}", shown(file.unwrap_or(path)), section.name, one)?;
         }
         if let Some(frames) = &section.frames {
             write_header(out, path, &program, frames)?;
@@ -149,9 +152,8 @@ fn write_found(out: &mut impl Write, lists: &lists::Contents) -> io::Result<()> 
         let kinds: Vec<_> = lists.holes.iter().map(|(hole, count)| format!(" {} {}", hole, count)).collect();
         writeln!(out, "not evaluated {}:{}", lists.with_holes, kinds.concat())?;
     }
-    let lints = lists.lints.named();
-    let lints: Vec<_> =
-        lints.iter().filter(|lint| lint.1 > 0).map(|(name, count)| format!(" {} {}", name, count)).collect();
+    let lints = lists.lints.all().filter(|(_, count)| *count > 0);
+    let lints: Vec<_> = lints.map(|(lint, count)| format!(" {} {}", lint, count)).collect();
     if !lints.is_empty() {
         writeln!(out, "doubtful{}", lints.concat())?;
     }

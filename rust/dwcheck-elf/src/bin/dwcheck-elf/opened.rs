@@ -52,7 +52,7 @@ impl<'data> Opened<'data> {
     pub fn read(path: &Path, program: &Program<'data>) -> Result<Self, Failure> {
         let mut opened = Opened { frames: Vec::new(), refused: Vec::new() };
         let mut unread = Vec::new();
-        for section in inspect_frame_sections(program, Check { all: true }) {
+        for section in inspect_frame_sections(program, Check { all: true, ..Check::default() }) {
             let rest = section.rest().map_err(|error| Failure::judging(path, &error))?;
             match section.verdict {
                 Verdict::Refused(defects) => {

@@ -76,7 +76,8 @@ pub fn survey(words: &SurveyWords, out: &mut impl Write) -> Result<Done, Failure
     let pool = pool.build().map_err(|error| Failure::File(format!("no threads: {}", error)))?;
     let files = pool.install(|| Files::once_each(&words.paths));
     let bar = progress(files.paths.len() as u64);
-    let asked = Asked { check: Check { all: words.all }, has_lists: words.lists, has_lines: words.sarif };
+    let asked =
+        Asked { check: Check { all: words.all, ..Check::default() }, has_lists: words.lists, has_lines: words.sarif };
     let mut totals = Totals::of(&files);
     let mut results = sarif::Results::default();
     if words.json {

@@ -80,7 +80,7 @@ fn add_lists(object: &mut Value, lists: &lists::Contents) {
     numbers.iter().for_each(|(name, number)| object[*name] = json!(number));
     object["holes"] = lists.holes.iter().map(|(hole, count)| (hole.to_string(), json!(count))).collect();
     object["limits"] = lists.limits.iter().map(|(limit, count)| (limit.to_string(), json!(count))).collect();
-    object["doubtful"] = lists.lints.named().iter().map(|(name, count)| (name.to_string(), json!(count))).collect();
+    object["doubtful"] = lists.lints.all().map(|(lint, count)| (lint.to_string(), json!(count))).collect();
 }
 
 fn fault(defect: &Defect) -> Value {
