@@ -1,14 +1,14 @@
 #!/usr/bin/env python3
 """Checks the location lists of Debian's packages of debug information, and prints how many are accepted.
 
-    bench/elf/debug_packages.py DWCHECK_ELF [--jobs N] [--look-ups LIST_LOOKUPS] PACKAGE..
+    bench/elf/debug_packages.py DWCHECK_ELF [--jobs N] [--minutes N] [--look-ups LIST_LOOKUPS] PACKAGE..
 
 For example: bench/elf/debug_packages.py build/dwcheck-elf libc6-dbg python3.11-dbg
 
 Each PACKAGE is a name, which `apt-get download` fetches, or a .deb file, or a folder with files. The
 packages are read one after another. Their files are written to a temporary folder, at most 1 GB of them
 at once, checked by `dwcheck-elf survey --lists`, and deleted. A file that is a copy of an earlier one is
-checked once. Only files with .debug_loc or .debug_loclists count. Each of them is counted once:
+checked once. With --minutes, no package is begun after that time. Only files with .debug_loc or .debug_loclists count. Each of them is counted once:
 
     accepted               all of its lists are checked, and accepted
     accepted in part       the same, but the lists have expressions that pass a limit of dwcheck, or whose
@@ -30,6 +30,7 @@ import subprocess
 import sys
 import tarfile
 import tempfile
+import time
 from collections import Counter, defaultdict
 
 SECTIONS = (".debug_loc", ".debug_loclists")
@@ -193,20 +194,25 @@ def main():
     words.add_argument("program")
     words.add_argument("packages", nargs="+")
     words.add_argument("--jobs", type=int, default=2)
+    words.add_argument("--minutes", type=float, default=float("inf"))
     words.add_argument("--look-ups", metavar="LIST_LOOKUPS")
     words = words.parse_args()
     work = tempfile.mkdtemp()
     os.mkdir(os.path.join(work, "files"))
     look_ups = words.look_ups and os.path.abspath(words.look_ups)
     survey = Survey(os.path.abspath(words.program), look_ups, words.jobs, work)
+    end, read = time.monotonic() + 60 * words.minutes, 0
     try:
         for name in words.packages:
+            if time.monotonic() > end:
+                break
             package(survey, name, work)
             survey.check()
+            read += 1
             print(f"{name}: {survey.counts['files']} files so far", file=sys.stderr, flush=True)
     finally:
         shutil.rmtree(work)
-    print(f"packages {len(words.packages)}")
+    print(f"packages {read} of {len(words.packages)}")
     survey.write()
     return 1 if survey.problems else 0
 

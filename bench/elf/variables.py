@@ -1,13 +1,14 @@
 #!/usr/bin/env python3
 """Compares the variables that `dwcheck-elf vars` shows with those of gdb, at random instructions of a program.
 
-    bench/elf/variables.py [--only WORD] DWCHECK_ELF STOPS SEED PROGRAM [ARGUMENT]..
+    bench/elf/variables.py [--only WORD] [--keep FOLDER] DWCHECK_ELF STOPS SEED PROGRAM [ARGUMENT]..
 
 gdb runs the program, which has debug information, and stops at up to STOPS instructions that are drawn at
 random: of functions whose name in the symbol table contains WORD, if it is given, such as those of one crate
 of a program in Rust. At each stop it writes a state file with the registers, the stack and the program's own data, and the
 values of the variables that it has in scope, in the function and in those that are inlined there. `vars` gets
-the state file. Each variable is counted in one of these lines; all but the first two have examples:
+the state file, which stays in FOLDER if it is given. The file `times` there names all of them, for the example
+variables_times of rust/dwcheck-elf. Each variable is counted in one of these lines; all but the first two have examples:
 
     equal                    both have the same value
     neither                  neither of the two has a value
@@ -28,6 +29,7 @@ import json
 import os
 import random
 import re
+import shutil
 import struct
 import subprocess
 import sys
@@ -274,9 +276,19 @@ def instructions(program, word):
     return [int(found, 16) for text in own for found in re.findall(r"^ +([0-9a-f]+):\t", text, re.M)]
 
 
+def keep(stops, folder):
+    """Copies the state files to a folder, with a list of them."""
+    os.makedirs(folder, exist_ok=True)
+    with open(os.path.join(folder, "times"), "w") as times:
+        for stop in stops:
+            path = shutil.copy(stop["state"], os.path.abspath(folder))
+            times.write(f"{stop['address']:#x} {stop['load']:#x} {path}\n")
+
+
 def main():
     words = argparse.ArgumentParser(description=__doc__, formatter_class=argparse.RawDescriptionHelpFormatter)
     words.add_argument("--only", metavar="WORD", default="")
+    words.add_argument("--keep", metavar="FOLDER")
     for name in ("dwcheck_elf", "stops", "seed", "program"):
         words.add_argument(name)
     words.add_argument("arguments", nargs=argparse.REMAINDER)
@@ -310,6 +322,8 @@ def main():
                     hex(stop["address"])]
             ran = subprocess.run(line, capture_output=True, text=True, check=True)
             compare(stop, json.loads(ran.stdout), count)
+        if words.keep:
+            keep(found, words.keep)
     print(f"stops {len(found)} variables {sum(counts.values())}")
     for what, number in counts.most_common():
         print(f"{number} {what}")
