@@ -180,3 +180,34 @@ int main(int argc, char **argv) { return work(argc); }
         }
     }
 }
+
+/// gcc leaves out the memory of `m` and of the text, so that the pointers to them have no value.
+#[test]
+fn pointers_to_variables_without_an_address_are_followed() {
+    let folder = Folder::new("vars-pointers");
+    if !may_trace() {
+        return;
+    }
+    folder.write(
+        "a.c",
+        "__attribute__((noipa)) int use(int x) { return x + 1; }
+static inline __attribute__((always_inline)) int inner(const int *q, const char *name) {
+    int k = use(*q);
+    if (k == 4) __builtin_trap();
+    return k + *q + name[1];
+}
+__attribute__((noipa)) int outer(int n) { int m = n * 3; return inner(&m, \"text\") + use(m); }
+int main(int argc, char **argv) { return outer(argc); }
+",
+    );
+    folder.run("gcc -O2 -g a.c -o program");
+    folder.crash("./program");
+    let ran = dwcheck_elf(&folder, "vars --core core");
+    for line in
+        ["param q: const int * = &m, 3 (points to m)", "param name: const char * = &\"text\" (points to a constant)"]
+    {
+        assert!(ran.lines().iter().any(|found| found.trim() == line), "no {}: {} {}", line, ran.out, ran.error);
+    }
+    let json = dwcheck_elf(&folder, "vars --json --core core");
+    assert!(json.out.contains("{\"points_to\":\"m\",\"value\":\"3\"}"), "{}", json.out);
+}
