@@ -144,7 +144,8 @@ impl<'v, 'a> Locator<'v, 'a> {
         let mut constants = kind.children().into_iter();
         let found = constants.find(|one| one.tag() == Some(gimli::DW_TAG_enumerator) && is_wanted(one));
         let name = found.and_then(|one| one.name());
-        Ok(Value::Plain(name.unwrap_or_else(|| signed(&bytes).to_string())))
+        let number = || if is_unsigned(kind) { value.to_string() } else { signed(&bytes).to_string() };
+        Ok(Value::Plain(name.unwrap_or_else(number)))
     }
 
     fn pointer(&self, kind: &Die<'v, 'a>, part: Part<'_>, shape: Shape) -> Result<Value, Missing> {
@@ -264,6 +265,13 @@ fn is_member(die: &Die<'_, '_>) -> bool {
         Some(gimli::DW_TAG_member) => !is_static,
         tag => tag == Some(gimli::DW_TAG_inheritance),
     }
+}
+
+/// Whether the numbers of an enumeration have no sign, by its own encoding or that of its type.
+fn is_unsigned(kind: &Die<'_, '_>) -> bool {
+    let encoding = |die: &Die<'_, '_>| die.attribute(gimli::DW_AT_encoding);
+    let held = encoding(kind).or_else(|| encoding(&plain(&type_of(kind)?)?));
+    matches!(held, Some(AttributeValue::Encoding(gimli::DW_ATE_unsigned | gimli::DW_ATE_unsigned_char)))
 }
 
 fn is_character(kind: &Die<'_, '_>) -> bool {
