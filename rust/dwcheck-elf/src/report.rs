@@ -77,7 +77,7 @@ impl<'data> Report<'data> {
         let functions = program.functions();
         let machine = LintError::of(program).ok();
         let memory = Memory { image: program.image(), machine };
-        let inspected = inspect_frame_sections(program, Check { all: true });
+        let inspected = inspect_frame_sections(program, Check { all: true, ..Check::default() });
         let mut report = Report {
             title,
             target: program.target(),

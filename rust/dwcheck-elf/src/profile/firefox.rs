@@ -4,9 +4,9 @@
 use super::calls::{Called, Calls, Code};
 use super::names::Names;
 use super::recording::BuildId;
-use super::speedscope::separated;
 use super::tree::Tree;
 use super::{Profile, Sample};
+use crate::page::separated;
 use rustc_hash::FxHashMap;
 use serde_json::{json, Value};
 use std::collections::{BTreeMap, HashMap};

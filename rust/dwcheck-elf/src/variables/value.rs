@@ -269,8 +269,8 @@ fn is_member(die: &Die<'_, '_>) -> bool {
 
 /// Whether the numbers of an enumeration have no sign, by its own encoding or that of its type.
 fn is_unsigned(kind: &Die<'_, '_>) -> bool {
-    let encoding = |die: &Die<'_, '_>| die.attribute(gimli::DW_AT_encoding);
-    let held = encoding(kind).or_else(|| encoding(&plain(&type_of(kind)?)?));
+    let own = kind.attribute(gimli::DW_AT_encoding);
+    let held = own.or_else(|| plain(&type_of(kind)?)?.attribute(gimli::DW_AT_encoding));
     matches!(held, Some(AttributeValue::Encoding(gimli::DW_ATE_unsigned | gimli::DW_ATE_unsigned_char)))
 }
 
