@@ -56,7 +56,7 @@ wrapper() { # STANDARD: builds the tests of the header for C++, and runs them
 as_module() { # builds the tests of the header for C++ over the module, and runs them
     local compiler="clang++-16 -std=c++20 $strict -O1 -g"
     $compiler --precompile "$top/c/include/dwcheck.cppm" -o "$out/dwcheck.pcm" &&
-        $compiler -c "$out/dwcheck.pcm" -o "$out/module.o" &&
+        clang++-16 -std=c++20 -c "$out/dwcheck.pcm" -o "$out/module.o" &&
         $compiler -DAS_MODULE "-fmodule-file=dwcheck=$out/dwcheck.pcm" "$top/c/tests/wrapper.cc" "$out/module.o" "$library" \
             -o "$out/wrapper" && "$out/wrapper"
 }

@@ -99,7 +99,7 @@ enum Record {
 }
 
 impl Record {
-    /// Reads a record. `None` if its length is wrong.
+    /// Reads a record. `None` if its length is wrong, or if its name has no end.
     fn read<R: Read + Seek>(file: &mut R, target: Target) -> io::Result<Option<Record>> {
         let mut head = [0; RECORD_HEAD];
         file.read_exact(&mut head)?;
@@ -126,7 +126,12 @@ impl Record {
                 let length = rest.saturating_sub(word(3));
                 let mut name = Vec::new();
                 rest -= file.take(length.min(LONGEST)).read_to_end(&mut name)? as u64;
-                name.truncate(name.iter().position(|byte| *byte == 0).unwrap_or(name.len()));
+                match name.iter().position(|byte| *byte == 0) {
+                    Some(end) => name.truncate(end),
+                    None if name.len() as u64 == LONGEST => {}
+                    // The process is still writing it.
+                    None => return Ok(None),
+                }
                 Record::Load { index: word(4), begin: word(2), size: word(3), name }
             }
             // Before its new address is its old one.
