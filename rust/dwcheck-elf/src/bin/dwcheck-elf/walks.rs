@@ -87,7 +87,7 @@ fn given(words: &UnwindWords, target: Target, data: Bytes) -> Result<Vec<Given>,
 /// Checks all modules and puts them into a process. If something of a module isn't used, such as what
 /// is refused, or all of it if its addresses overlap those of an earlier module, a note on standard error
 /// says so.
-fn loaded<'a>(given: &'a [Given], target: Target) -> Result<Loaded<'a>, Failure> {
+fn loaded(given: &[Given], target: Target) -> Result<Loaded<'_>, Failure> {
     let mut all = Loaded { modules: Modules::new(target), target, functions: Vec::new(), opened: Vec::new() };
     for Given { path, load, data } in given {
         let program = program(path, data)?;
