@@ -1,12 +1,14 @@
 pub mod Written
 pub mod Numbers
 pub mod PlaceSearch
+pub mod FirstFdes
 pub mod RecordOrder
 pub mod CopiesFound
 pub mod Steps
 pub mod Refusing
 pub mod Nops
 pub mod Unchanged
+pub mod Pending
 pub mod PastInstructions
 pub mod Moved
 pub mod SaidAgain

@@ -1,5 +1,5 @@
 -- A program with nops in place of some instructions, one instruction after another.
-use Rattle.std.proofs.Common.{◌≡◌, ℕ, suc, ◌+◌, ◌-◌, ◌<◌, ◌≤◌, Bool, List, [], ◌∷◌, ◌++◌, length, Ok, Err, refl, sym, ap, ◌∙◌, arith, append_assoc}
+use Rattle.std.proofs.Common.{◌≡◌, ℕ, suc, ◌+◌, ◌-◌, ◌<◌, ◌≤◌, Bool, List, [], ◌∷◌, ◌++◌, length, Ok, Err, refl, ap, ◌∙◌, arith, append_assoc}
 use Rattle.std.specs.Prelude.{replicate, zero}
 use Rattle.std.proofs.lemmas.List.{replicate-append-replicate}
 use Rattle.dw_bytes.specs.declared.fault.Fault.{Fault}
@@ -40,14 +40,3 @@ silence-starts a target bytes out =
     ap (λ k. out ++ silenced_up_to a k (record { target = target; position = 0; rest = bytes })) n
 
 pub ruleset silence_laws = (nops-more, silence-step, silence-stops, silence-starts)
-
--- one instruction was written, or nops in its place
-pub piece-step : (a : Dialect) (size count k : ℕ) (r after : ReadPosition) (v : Bool) (out new whole : List ℕ)
-    → past_instruction a r ≡ Ok (v, after) → count < size → k ≡ after.position - r.position → new ≡ out ++ piece v k r.rest
-    → out ++ silenced_up_to a (size - count) r ≡ whole → new ++ silenced_up_to a (size - (count + 1)) after ≡ whole
-piece-step a size count k r after v out new whole is less long wrote so_far =
-    let others : List ℕ = silenced_up_to a (size - (count + 1)) after in
-    ap (λ (t : List ℕ). t ++ others) wrote
-    ∙ (append_assoc out (piece v k r.rest) others
-    ∙ (ap (λ n. out ++ (piece v n r.rest ++ others)) long
-    ∙ (ap (λ (t : List ℕ). out ++ t) (sym (silence-step a size count r v after is less)) ∙ so_far)))

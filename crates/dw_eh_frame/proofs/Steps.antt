@@ -6,9 +6,6 @@ use Rattle.std.proofs.lemmas.Bool.Decides.{nat_tests}
 use Rattle.std.proofs.lemmas.List.{length-append, length-drop, map-append, append-nil}
 use Rattle.std.specs.List.{AllByRecursion, list_any}
 use Rattle.std.proofs.lemmas.List.Elements.{All-from_recursion, filter-append, Contains-append_left, Contains-push, Contains-push_cases}
-use Rattle.std.specs.BTreeMap.{BTreeMap, IsEmpty, get, is_at}
-use Rattle.std.specs.Map.{lookup}
-use Rattle.std.specs.Ordering.{nat_cmp}
 use Rattle.dw_bytes.specs.declared.target.Target.{Target}
 use Rattle.dw_bytes.specs.declared.fault.Fault.{Fault}
 use Rattle.dw_bytes.specs.Reading.{ReadPosition, ◌>>=◌, section_from}
@@ -28,7 +25,7 @@ use Rattle.dw_eh_frame.specs.Places.{Fits, FitsPair, ArePlaces, IsInside, IsRewr
 use Rattle.dw_eh_frame.proofs.PastInstructions.{silenced-long}
 use Rattle.dw_eh_frame.specs.Rewriting.{Pair, SaysTheSame, LeadsTo, says_something, IsSameProgram}
 use Rattle.dw_eh_frame.proofs.PlaceSearch.{ascends-more}
-use Rattle.dw_eh_frame.specs.Progress.{IsPlace, IsReadAgain, IsUnderWay, TakesFde, WritesCie, WritesPointing, fde_start}
+use Rattle.dw_eh_frame.specs.Progress.{IsPlace, IsReadAgain, IsUnderWay, TakesFde, WritesCie, WritesPointing, fde_start, place_source}
 use Rattle.dw_eh_frame.specs.Copies.{distinct, first_at, is_copy}
 use Rattle.dw_eh_frame.specs.CopySearch.{copied_by, remembered}
 use Rattle.dw_eh_frame.proofs.RecordOrder.{length-some, record-starts}
@@ -189,9 +186,6 @@ under-way-begins a bases target section made cies list firsts no_bytes no_cies n
     (subst (λ (l : List RecordPlace). IsUnderWay a bases target section 0 [] [] l firsts) (sym no_places)
     (under-way-first a bases target section firsts none)))
 
-pub get-none : (m : BTreeMap ℕ ℕ) → IsEmpty m → (x : ℕ) → get nat_cmp m x ≡ None
-get-none m empty x = ap (λ (es : List (ℕ × ℕ)). lookup (is_at (nat_cmp x)) es) empty
-
 -- ---- places
 
 places-more : (pairs : List Pair) (list : List RecordPlace) (p : Pair) (q : RecordPlace) → ArePlaces pairs list → FitsPair p q
@@ -347,7 +341,7 @@ under-way-cie a bases target section at next source e made new cies list firsts 
         | inl h ↦ let old = way.complete c h in (old.0, Contains-append_left cies (q ∷ []) old.0 old.1, old.2)
         | inr same ↦ (q, Contains-push cies q, source_is ∙ (sym offset_is ∙ ap (λ (d : EhCie). d.offset) (cie-is e c same)))
       ];
-      ascend = ascends-more cies q way.ascend (λ place among. omega (arith, way.below place among, source_is));
+      ascend = ascends-more place_source cies q way.ascend (λ place among. omega (arith, way.below place among, source_is));
       below = λ place among. elim (Contains-push_cases cies q place among) [
         | inl h ↦ omega (arith, way.below place h, forward)
         | inr same ↦ subst (λ (p : CiePlace). p.source < next) same (omega (arith, source_is, forward))

@@ -1,7 +1,8 @@
 -- A program is written as it is if none of its bytes, as a code, is written in another way.
-use Rattle.std.proofs.Common.{◌≡◌, ℕ, zero, suc, ◌+◌, ◌-◌, Bool, true, false, cond, List, [], ◌∷◌, ◌++◌, length, Option, Some, None, Result, Ok, Err, refl, sym, ap, subst, ◌∙◌, arith}
+use Rattle.std.proofs.Common.{◌≡◌, ℕ, zero, suc, ◌+◌, ◌-◌, Bool, true, false, cond, List, [], ◌∷◌, ◌++◌, length, Option, Some, None, Result, Ok, Err, refl, sym, ap, ◌∙◌, arith}
 use Rattle.std.specs.Prelude.{◌==◌, ◌||◌}
 use Rattle.std.specs.List.{list_any}
+use Rattle.std.proofs.lemmas.Bool.{or_parts}
 use Rattle.std.proofs.lemmas.List.Folds.{list_any-append}
 use Rattle.std.proofs.Math.Seq.{take-append_seam}
 use Rattle.dw_bytes.specs.declared.fault.Fault.{Fault}
@@ -16,25 +17,17 @@ use Rattle.dw_bytes.proofs.Codes.{coded-exact}
 use Rattle.dw_frame.specs.Instructions.{Instruction}
 use Rattle.dw_eh_frame.specs.declared.dialect.Dialect.{Dialect}
 use Rattle.dw_eh_frame.specs.Instructions.{EhInstruction, args_size, negate_ra_state, as_plain, plain_line_of, eh_line_of, eh_instruction_at, is_foreign, is_negation, is_unread, EncodesEhInstruction}
-use Rattle.dw_eh_frame.specs.Silencing.{is_changed, past_instruction, piece, unread, unread_code, silenced_up_to, silenced_then, silenced}
+use Rattle.dw_eh_frame.specs.Silencing.{is_changed, past_instruction, piece, unread, silenced_up_to, silenced_then, silenced}
 use Rattle.dw_eh_frame.proofs.PastInstructions.{past-reads}
 
 -- ---- tests that fail
 
-or-first : (b c : Bool) → (b || c) ≡ false → b ≡ false
-or-first true c e = absurd cc
-or-first false c e = refl
-
-or-second : (b c : Bool) → (b || c) ≡ false → c ≡ false
-or-second true c e = absurd cc
-or-second false c e = e
-
 -- no byte before a place passes a test, and none after it
 front-fails : (test : ℕ → Bool) (front bytes : List ℕ) → list_any test (front ++ bytes) ≡ false → list_any test front ≡ false
-front-fails test front bytes e = or-first (list_any test front) (list_any test bytes) (sym (list_any-append test front bytes) ∙ e)
+front-fails test front bytes e = (or_parts (list_any test front) (list_any test bytes) (sym (list_any-append test front bytes) ∙ e)).0
 
 rest-fails : (test : ℕ → Bool) (front bytes : List ℕ) → list_any test (front ++ bytes) ≡ false → list_any test bytes ≡ false
-rest-fails test front bytes e = or-second (list_any test front) (list_any test bytes) (sym (list_any-append test front bytes) ∙ e)
+rest-fails test front bytes e = (or_parts (list_any test front) (list_any test bytes) (sym (list_any-append test front bytes) ∙ e)).1
 
 -- ---- an instruction
 
@@ -62,10 +55,10 @@ own a target at bytes x fails (code, front, operands, parts, first, others) =
     let whole : list_any (is_changed a) (front ++ operands) ≡ false = ap (list_any (is_changed a)) (sym parts) ∙ fails in
     let here : list_any (is_changed a) (code ∷ []) ≡ false =
     ap (list_any (is_changed a)) (sym (first-byte target.order front code first)) ∙ front-fails (is_changed a) front operands whole in
-    let same : is_changed a code ≡ false = or-first (is_changed a code) false here in
-    let foreign = or-first (code == 0x2e || is_negation a code) (is_unread a code) same in
+    let same : is_changed a code ≡ false = (or_parts (is_changed a code) false here).0 in
+    let foreign = (or_parts (code == 0x2e || is_negation a code) (is_unread a code) same).0 in
     own-by target (at + length front) operands x (code == 0x2e) (is_negation a code) (code == 0x2c) (plain_line_of a code)
-    (or-first (code == 0x2e) (is_negation a code) foreign) (or-second (code == 0x2e) (is_negation a code) foreign) others
+    ((or_parts (code == 0x2e) (is_negation a code) foreign).0) ((or_parts (code == 0x2e) (is_negation a code) foreign).1) others
 
 -- ---- a program
 
@@ -78,10 +71,10 @@ code-same a code false false f u = refl
 unread-same : (a : Dialect) (bytes : List ℕ) → list_any (is_changed a) bytes ≡ false → unread a bytes ≡ bytes
 unread-same a [] fails = refl
 unread-same a (code ∷ bytes) fails =
-    let same = or-first (is_changed a code) (list_any (is_changed a) bytes) fails in
-    let foreign = or-first (code == 0x2e || is_negation a code) (is_unread a code) same in
+    let same = (or_parts (is_changed a code) (list_any (is_changed a) bytes) fails).0 in
+    let foreign = (or_parts (code == 0x2e || is_negation a code) (is_unread a code) same).0 in
     ap (λ (c : ℕ). c ∷ bytes) (code-same a code (code == 0x2e) (is_unread a code)
-    (or-first (code == 0x2e) (is_negation a code) foreign) (or-second (code == 0x2e || is_negation a code) (is_unread a code) same))
+    ((or_parts (code == 0x2e) (is_negation a code) foreign).0) ((or_parts (code == 0x2e || is_negation a code) (is_unread a code) same).1))
 
 step-same : (a : Dialect) (n : ℕ) (r : ReadPosition) (x : Result (Bool × ReadPosition) Fault) → past_instruction a r ≡ x
     → list_any (is_changed a) r.rest ≡ false

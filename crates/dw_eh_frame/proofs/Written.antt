@@ -28,7 +28,7 @@ use Rattle.dw_eh_frame.specs.Rewriting.{IsSameProgram}
 use Rattle.dw_eh_frame.specs.declared.dialect.Dialect.{Dialect}
 use Rattle.dw_eh_frame.specs.Instructions.{dialect_of}
 use Rattle.dw_eh_frame.specs.Silencing.{silenced}
-use Rattle.dw_eh_frame.specs.Records.{left_out, in_full}
+use Rattle.dw_eh_frame.specs.Records.{implied_instruction, in_full}
 use Rattle.dw_eh_frame.proofs.PastInstructions.{record-long, silenced-long}
 use Rattle.dw_eh_frame.specs.Written.{number_bytes, address_bytes, record_bytes, cie_bytes, fde_bytes, EncodesNumbers}
 
@@ -148,9 +148,9 @@ same-program a target own start bytes at same = record {
   bytes = ap (λ (t : Target). silenced a (record { target = t; position = 0; rest = bytes })) (sym same);
 }
 
-pub left-out-few : (program : List ℕ) → length (left_out program) ≤ 3
-left-out-few [] = omega arith
-left-out-few (code ∷ program) = by (code == 0x0d)
+pub implied-few : (program : List ℕ) → length (implied_instruction program) ≤ 3
+implied-few [] = omega arith
+implied-few (code ∷ program) = by (code == 0x0d)
   where
     by : (b : Bool) → length {A = ℕ} (cond b (0x0c ∷ 0 ∷ 0 ∷ []) []) ≤ 3
     by true = omega arith
@@ -160,24 +160,24 @@ left-out-few (code ∷ program) = by (code == 0x0d)
 pub in-full-inside : (r : ReadPosition) → 3 ≤ r.position → r.position + length r.rest < 2 ^ 32
     → (in_full r).position + length (in_full r).rest < 2 ^ 32
 in-full-inside r after inside =
-    omega (arith, after, inside, left-out-few r.rest, length-append (left_out r.rest) r.rest)
+    omega (arith, after, inside, implied-few r.rest, length-append (implied_instruction r.rest) r.rest)
 
 -- what is written for a CIE that was read
 pub writes-cie : (a : Bool) (target : Target) (e : EhCie) (old new : List ℕ) → IsReadCie target e
     → length e.head.numbers.now + length e.program.bytes.now + 32 ≤ 0xffffff00
     → new ≡ old ++ record_bytes target.order (cie_bytes target.order e.head.factors.version e.head.numbers.now)
-    (silenced (dialect_of a e.head.augmentation) (record { target = target; position = 0; rest = left_out e.program.bytes.now ++ e.program.bytes.now }))
+    (silenced (dialect_of a e.head.augmentation) (record { target = target; position = 0; rest = implied_instruction e.program.bytes.now ++ e.program.bytes.now }))
     → WritesCie a target (eh_cie_of e) old new
 writes-cie a target e old new sound short appended =
     let version = e.head.factors.version in
     let fields = cie_bytes target.order version e.head.numbers.now in
-    let full : List ℕ = left_out e.program.bytes.now ++ e.program.bytes.now in
+    let full : List ℕ = implied_instruction e.program.bytes.now ++ e.program.bytes.now in
     let source : ReadPosition = record { target = target; position = 0; rest = full } in
     let dialect = dialect_of a e.head.augmentation in
     let program = silenced dialect source in
     let as_long : length program ≡ length full = silenced-long dialect source in
     let few : length full ≤ 3 + length e.program.bytes.now =
-    omega (arith, length-append (left_out e.program.bytes.now) e.program.bytes.now, left-out-few e.program.bytes.now) in
+    omega (arith, length-append (implied_instruction e.program.bytes.now) e.program.bytes.now, implied-few e.program.bytes.now) in
     let header = cie-header target (length old + 4) version e.head.numbers.now (factors_of e.head.factors) sound.known sound.numbers in
     let id = fixed-bytes target.order 4 0xffffffff (omega arith) in
     let long : length (fields ++ program) < 0xfffffff0 = omega (
@@ -204,7 +204,7 @@ writes-cie a target e old new sound short appended =
       same = record {
         version = refl;
         numbers = refl;
-        program = same-program dialect target e.program.target (e.program.start - length (left_out e.program.bytes.now)) full
+        program = same-program dialect target e.program.target (e.program.start - length (implied_instruction e.program.bytes.now)) full
             (length old + 4 + length fields) sound.target_is;
       };
       offset = refl;

@@ -30,6 +30,7 @@ pub mod Views
 
 -- how copies are found
 pub mod CopySearch
+pub mod FirstFdes
 -- the state of a rewriting
 pub mod Progress
 -- the bytes that are written for a record of `.debug_frame`

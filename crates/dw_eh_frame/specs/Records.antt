@@ -58,17 +58,17 @@ pub data EhRecord : Type 0 where
 
 -- For mips, riscv and alpha, GNU as begins the program of a CIE with def_cfa_register (0x0d), before
 -- any instruction has defined a CFA, and means that register with the offset 0. So such a program
--- leaves out its first instruction, which is def_cfa (0x0c) of the register 0 with the offset 0.
-abbrev pub left_out : List ℕ → List ℕ
-left_out [] = []
-left_out (code ∷ _) = if code == 0x0d then 0x0c ∷ 0 ∷ 0 ∷ [] else []
+-- implies an instruction before its first one: def_cfa (0x0c) of the register 0 with the offset 0.
+abbrev pub implied_instruction : List ℕ → List ℕ
+implied_instruction [] = []
+implied_instruction (code ∷ _) = if code == 0x0d then 0x0c ∷ 0 ∷ 0 ∷ [] else []
 
--- A program with what it leaves out. The bytes that the section has keep their offsets.
+-- A program with the instruction that it implies. The bytes that the section has keep their offsets.
 abbrev pub in_full : ReadPosition → ReadPosition
 in_full r = record {
   target = r.target;
-  position = r.position - length (left_out r.rest);
-  rest = left_out r.rest ++ r.rest;
+  position = r.position - length (implied_instruction r.rest);
+  rest = implied_instruction r.rest ++ r.rest;
 }
 
 -- ---- reading a CIE

@@ -87,6 +87,10 @@ pub record IsReadFde (target : Target) (f : declared_fde.EhFde) : Type 0 where
   pub target_is : f.program.target ≡ target
   pub inside : f.program.start + length f.program.bytes.now < 2 ^ 32
 
+-- a CIE of the section: what is read at its offset
+abbrev pub IsCieOf : Target → List ℕ → declared_cie.EhCie → Type 0
+IsCieOf target section c = eh_cie_at target section c.offset ≡ Ok (eh_cie_of c)
+
 -- A record that was read at the offset `at`. The CIE of an FDE is the one that begins at its offset.
 abbrev pub IsRead : Target → List ℕ → ℕ → declared_record.EhRecord → Type 0
 IsRead target section at (records.Cie c) = IsReadCie target c × (c.offset ≡ at) × (eh_cie_at target section at ≡ Ok (eh_cie_of c))

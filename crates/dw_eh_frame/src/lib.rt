@@ -4,6 +4,7 @@
 mod augmentation;
 mod copies;
 mod dialect;
+mod first_fdes;
 mod head;
 pub mod laws;
 mod original;

@@ -1,11 +1,11 @@
 //! Reading the records of an `.eh_frame` section (LSB Core, section 10.6.1).
 
-ghost use Rattle.std.specs.Prelude.{◌≡◌, ◌+◌, ◌^◌, ◌<◌, ◌≤◌, IfOk, IfErr, MatchResult, Ok, Err, length};
+ghost use Rattle.std.specs.Prelude.{◌≡◌, ◌+◌, ◌^◌, ◌<◌, ◌≤◌, IfOk, IfErr, IfSome, MatchResult, Ok, Err, length};
 ghost use Rattle.dw_bytes.specs.Reading.{MovesForward, section_from};
 ghost use Rattle.dw_bytes.specs.Readers.{IsRefusedWithin, ReadsFrom};
 ghost use Rattle.dw_bytes.specs.Bodies.{framed_at, window};
 ghost use Rattle.dw_eh_frame.specs.Records.{eh_area_at, eh_body_at, eh_cie_at, eh_cie_before, eh_cie_from, eh_fde_from, eh_record_at};
-ghost use Rattle.dw_eh_frame.specs.Views.{IsRead, IsReadCie, IsReadFde, cie_room, eh_cie_of, eh_fde_of, eh_record_of, fde_room, program_of, record_room};
+ghost use Rattle.dw_eh_frame.specs.Views.{IsCieOf, IsRead, IsReadCie, IsReadFde, cie_room, eh_cie_of, eh_fde_of, eh_record_of, fde_room, program_of, record_room};
 
 use crate::head::{EhCieHead, read_head};
 use crate::pointer::{Bases, read_pointer, read_range};
@@ -116,15 +116,38 @@ fn cie_at<'a>(section: &'a [u8], target: Target, at: u32) -> Result<EhCie<'a>, F
     }
 }
 
+/// The CIE whose record begins at the offset `at` of a section. It is read, unless it is `last`.
+fn cie_from<'a>(
+    section: &'a [u8],
+    target: Target,
+    at: u32,
+    last: Option<&EhCie<'a>>,
+) -> Result<EhCie<'a>, Fault>
+    requires inside { at ≤ length section.now }
+    requires short { length section.now < 2 ^ 32 }
+    requires last { IfSome last (λ cie. IsCieOf target section.now cie.now) }
+    ensures exact { MatchResult result
+        (λ cie. eh_cie_at target section.now at ≡ Ok (eh_cie_of cie))
+        (λ fault. eh_cie_at target section.now at ≡ Err fault) }
+    ensures offset { IfOk result (λ cie. cie.offset ≡ at) }
+{
+    match last {
+        Some(cie) if cie.offset == at => Ok(*cie),
+        _ => cie_at(section, target, at),
+    }
+}
+
 /// The CIE of an FDE whose CIE pointer, at the offset `place`, is `back`.
 fn cie_before<'a>(
     section: &'a [u8],
     target: Target,
     place: u32,
     back: u32,
+    last: Option<&EhCie<'a>>,
 ) -> Result<EhCie<'a>, Fault>
     requires inside { place ≤ length section.now }
     requires short { length section.now < 2 ^ 32 }
+    requires last { IfSome last (λ cie. IsCieOf target section.now cie.now) }
     ensures exact { MatchResult result
         (λ cie. eh_cie_before target section.now place back ≡ Ok (eh_cie_of cie))
         (λ fault. eh_cie_before target section.now place back ≡ Err fault) }
@@ -136,7 +159,7 @@ fn cie_before<'a>(
         at: place,
     };
     if back <= place {
-        match cie_at(section, target, place - back) {
+        match cie_from(section, target, place - back, last) {
             Ok(cie) => Ok(cie),
             Err(_) => Err(nowhere),
         }
@@ -205,7 +228,9 @@ fn read_body<'a>(
     bases: Bases,
     at: u32,
     body: Body,
+    last: Option<&EhCie<'a>>,
 ) -> Result<EhRecord<'a>, Fault>
+    requires last { IfSome last (λ cie. IsCieOf target section.now cie.now) }
     requires ordered { body.start ≤ body.end }
     requires inside { body.end ≤ length section.now }
     requires short { length section.now < 2 ^ 32 }
@@ -228,7 +253,7 @@ fn read_body<'a>(
     if id == 0 {
         Ok(EhRecord::Cie(read_cie(&mut cursor, at, body.format, body.end)?))
     } else {
-        let cie = cie_before(section, target, body.start, id)?;
+        let cie = cie_before(section, target, body.start, id, last)?;
         Ok(EhRecord::Fde(read_fde(
             &mut cursor,
             bases,
@@ -241,8 +266,32 @@ fn read_body<'a>(
     }
 }
 
-/// The record at offset `at` of a section, and the offset after the record.
+/// The record at offset `at` of a section, and the offset after the record. `last` may be any CIE of
+/// the section: an FDE that has it doesn't read it again.
 #[tactic(auto, unfolding(crate::specs::Records::eh_record_at))]
+pub(crate) fn record_after<'a>(
+    section: &'a [u8],
+    target: Target,
+    bases: Bases,
+    at: u32,
+    last: Option<&EhCie<'a>>,
+) -> Result<(EhRecord<'a>, u32), Fault>
+    requires inside { at ≤ length section.now }
+    requires short { length section.now < 2 ^ 32 }
+    requires last { IfSome last (λ cie. IsCieOf target section.now cie.now) }
+    ensures exact { ReadsFrom eh_record_of (eh_record_at bases section.now)
+        (section_from target section.now) at result }
+    ensures forward { IfOk result (λ e. at < e.1 × e.1 ≤ length section.now) }
+    ensures sound { IfOk result (λ e. IsRead target section.now at e.0) }
+    ensures room { IfOk result (λ e. at + record_room e.0 < e.1) }
+    ensures within { IfErr result (λ fault. fault.at ≤ length section.now) }
+{
+    let body = Body::read(section, target, at)?;
+    let found = read_body(section, target, bases, at, body, last)?;
+    Ok((found, body.end))
+}
+
+/// The record at offset `at` of a section, and the offset after the record.
 pub fn eh_record<'a>(
     section: &'a [u8],
     target: Target,
@@ -258,7 +307,5 @@ pub fn eh_record<'a>(
     ensures room { IfOk result (λ e. at + record_room e.0 < e.1) }
     ensures within { IfErr result (λ fault. fault.at ≤ length section.now) }
 {
-    let body = Body::read(section, target, at)?;
-    let found = read_body(section, target, bases, at, body)?;
-    Ok((found, body.end))
+    record_after(section, target, bases, at, None)
 }

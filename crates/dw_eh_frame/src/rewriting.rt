@@ -2,27 +2,26 @@
 
 ghost use Rattle.std.specs.Prelude.{◌≡◌, ◌+◌, ◌^◌, ◌<◌, ◌≤◌, ◌≢◌, IfOk, IfErr, MatchOption, OnOk, length, [], ◌∷◌, ◌++◌};
 ghost use Rattle.std.specs.Prelude.{Contains, ℕ, None, Some};
-ghost use Rattle.std.specs.BTreeMap.{get};
-ghost use Rattle.std.specs.Ordering.{nat_cmp};
 ghost use Rattle.dw_bytes.specs.Reading.{section_from};
 ghost use Rattle.dw_eh_frame.specs.Progress.{TakesFde, WritesCie, WritesPointing, place_source};
 ghost use Rattle.dw_eh_frame.specs.Places.{IsRewrittenAt, place_for};
 ghost use Rattle.dw_eh_frame.specs.Refused.{IsRefused, IsUnwritten, IsUnwrittenFde};
 ghost use Rattle.dw_eh_frame.specs.Views.{IsReadCie, IsReadFde, cie_room, eh_cie_of, eh_fde_of, fde_room, program_of};
 ghost use Rattle.dw_eh_frame.specs.CopySearch.{copied_by};
+ghost use Rattle.dw_eh_frame.specs.FirstFdes.{first_in};
 ghost use Rattle.dw_eh_frame.specs.Records.{eh_reading_fault, eh_record_at, in_full};
 ghost use Rattle.dw_frame.specs.Bounds.{Ascends};
 ghost use Rattle.dw_eh_frame.specs.declared.rewriting.CiePlace.{CiePlace};
 
 use crate::copies::{is_exact_copy, remember};
 use crate::dialect::dialect_by;
+use crate::first_fdes::FirstFdes;
 use crate::places::RecordPlace;
 use crate::pointer::Bases;
-use crate::record::{EhCie, EhFde, EhRecord, eh_record};
-use crate::write::{left_out_bytes, push_cie_in_full, push_fde};
+use crate::record::{EhCie, EhFde, EhRecord, record_after};
+use crate::write::{implied_instruction, push_cie_in_full, push_fde};
 use dw_bytes::{Fault, FaultKind, OUT_OF_MEMORY, Target};
 use std::alloc::Global;
-use std::collections::BTreeMap;
 
 /// Where a CIE begins in `.eh_frame`, and where the CIE begins that was written for it.
 #[derive(Clone, Copy)]
@@ -38,7 +37,7 @@ struct Made {
     bytes: Vec<u8>,
     cies: Vec<CiePlace>,
     places: Vec<RecordPlace>,
-    firsts: BTreeMap<u64, u32>,
+    firsts: FirstFdes,
 }
 
 /// A rewritten section.
@@ -86,7 +85,7 @@ fn write_cie(
 ) -> Result<(), Fault>
     requires { IsReadCie target cie.now }
     ensures wrote { OnOk result (WritesCie is_aarch64 target (eh_cie_of cie.now) made.old.bytes.items made.new.bytes.items) }
-    ensures firsts { OnOk result (get nat_cmp made.new.firsts ≡ get nat_cmp made.old.firsts) }
+    ensures firsts { OnOk result (made.new.firsts ≡ made.old.firsts) }
     ensures refused { IfErr result (IsUnwritten (length made.old.bytes.items + cie_room cie.now + 32)) }
     ensures grows { OnOk result (length made.new.bytes.items ≤ length made.old.bytes.items + cie_room cie.now + 24) }
     ensures short { OnOk result (length made.new.bytes.items < 2 ^ 32) }
@@ -117,12 +116,12 @@ fn write_cie(
         source: cie.offset,
         made: at as u32,
     })?;
-    let left_out = left_out_bytes(program).len();
-    let size = left_out + program.len();
+    let implied = implied_instruction(program).len();
+    let size = implied + program.len();
     made.places.push(RecordPlace {
         source: cie.offset,
         made: at as u32,
-        source_program: cie.program.start - left_out as u32,
+        source_program: cie.program.start - implied as u32,
         made_program: (made.bytes.len() - size) as u32,
         size: size as u32,
     })?;
@@ -142,7 +141,7 @@ fn write_fde(
     requires written { (q : CiePlace) → Contains made.old.cies.items q → q.made ≤ length made.old.bytes.items }
     ensures wrote { OnOk result (WritesPointing is_aarch64 target (eh_fde_of fde.now) made.old.cies.items
         made.old.bytes.items made.new.bytes.items) }
-    ensures firsts { OnOk result (get nat_cmp made.new.firsts ≡ get nat_cmp made.old.firsts) }
+    ensures firsts { OnOk result (made.new.firsts ≡ made.old.firsts) }
     ensures refused { IfErr result (IsUnwrittenFde (length made.old.bytes.items + fde_room fde.now + 32)
         made.old.cies.items (eh_fde_of fde.now)) }
     ensures grows { OnOk result (length made.new.bytes.items ≤ length made.old.bytes.items + fde_room fde.now + 24) }
@@ -197,15 +196,15 @@ fn take_fde(
     is_aarch64: bool,
 ) -> Result<(), Fault>
     requires short { length section.now < 2 ^ 32 }
-    requires inside { (a at : ℕ) → get nat_cmp made.old.firsts a ≡ Some at → at ≤ length section.now }
+    requires inside { (a at : ℕ) → first_in made.old.firsts a ≡ Some at → at ≤ length section.now }
     requires sound { IsReadFde target fde.now }
     requires ascend { Ascends place_source made.old.cies.items }
     requires written { (q : CiePlace) → Contains made.old.cies.items q → q.made ≤ length made.old.bytes.items }
     ensures took { OnOk result (TakesFde
         (copied_by (λ at. eh_record_at bases section.now (section_from target section.now at))
-        (get nat_cmp made.old.firsts) (eh_fde_of fde.now)) is_aarch64 target (eh_fde_of fde.now) (fde_room fde.now)
+        (first_in made.old.firsts) (eh_fde_of fde.now)) is_aarch64 target (eh_fde_of fde.now) (fde_room fde.now)
         made.old.cies.items made.old.bytes.items made.new.bytes.items made.old.places.items made.new.places.items
-        (get nat_cmp made.old.firsts) (get nat_cmp made.new.firsts)) }
+        (first_in made.old.firsts) (first_in made.new.firsts)) }
     ensures place { OnOk result (made.new.cies.items ≡ made.old.cies.items) }
     ensures refused { IfErr result (IsUnwrittenFde (length made.old.bytes.items + fde_room fde.now + 32)
         made.old.cies.items (eh_fde_of fde.now)) }
@@ -238,15 +237,20 @@ pub fn rewrite(
         bytes: Vec::with_capacity(alloc, section.len())?,
         cies: Vec::new(alloc),
         places: Vec::new(alloc),
-        firsts: BTreeMap::new(alloc),
+        firsts: FirstFdes::new(alloc),
     };
+    let mut last = None;
     let mut at = 0u32;
     while (at as usize) < section.len() {
-        let (found, next) = eh_record(section, target, bases, at)?;
+        let (found, next) = record_after(section, target, bases, at, last.as_ref())?;
         match found {
-            EhRecord::Cie(cie) => write_cie(alloc, &mut made, target, &cie, is_aarch64)?,
+            EhRecord::Cie(cie) => {
+                write_cie(alloc, &mut made, target, &cie, is_aarch64)?;
+                last = Some(cie);
+            }
             EhRecord::Fde(fde) => {
                 take_fde(&mut made, section, target, bases, &fde, is_aarch64)?;
+                last = Some(fde.cie);
             }
             EhRecord::Nothing(_) => {}
         }

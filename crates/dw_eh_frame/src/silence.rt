@@ -1,11 +1,11 @@
 //! Programs with nops in place of the instructions that `.debug_frame` doesn't have.
 
-ghost use Rattle.std.specs.Prelude.{◌≡◌, ◌+◌, ◌^◌, ◌<◌, ◌≤◌, ◌++◌, false, replicate, IfOk, OnOk, length};
+ghost use Rattle.std.specs.Prelude.{◌≡◌, ◌+◌, ◌^◌, ◌<◌, ◌≤◌, ◌++◌, false, replicate, take, IfOk, OnOk, length};
 ghost use Rattle.std.specs.List.{list_any};
 ghost use Rattle.dw_bytes.specs.Reading.{MovesForward};
 ghost use Rattle.dw_bytes.specs.Readers.{ParsesBy};
 ghost use Rattle.dw_frame.specs.Codes.{extended_line, line_of};
-ghost use Rattle.dw_eh_frame.specs.Silencing.{is_changed, past_instruction, past_operands, piece, silenced, unread};
+ghost use Rattle.dw_eh_frame.specs.Silencing.{is_changed, past_instruction, past_operands, silenced, unread};
 
 use crate::dialect::Dialect;
 use dw_bytes::{Cursor, Fault, FaultKind, Target, operands};
@@ -135,19 +135,11 @@ fn push_nops(out: &mut Vec<u8>, count: u32) -> Result<(), AllocError>
     Ok(())
 }
 
-/// Appends an instruction of `size` bytes, or as many nops.
-fn push_piece(
-    out: &mut Vec<u8>,
-    cursor: &Cursor<'_>,
-    size: u32,
-    is_foreign: bool,
-) -> Result<(), AllocError>
+/// Appends the next `size` bytes.
+fn push_next(out: &mut Vec<u8>, cursor: &Cursor<'_>, size: u32) -> Result<(), AllocError>
     requires { size ≤ length cursor.now.rest }
-    ensures { OnOk result (out.new.items ≡ out.old.items ++ piece is_foreign size cursor.now.rest) }
+    ensures { OnOk result (out.new.items ≡ out.old.items ++ take size cursor.now.rest) }
 {
-    if is_foreign {
-        return push_nops(out, size);
-    }
     let Ok(bytes) = cursor.copy().take(u64::from(size)) else {
         unreachable!()
     };
@@ -224,7 +216,8 @@ pub(crate) fn push_program(
     }
 }
 
-/// The same, instruction by instruction.
+/// The same, instruction by instruction. The bytes between two instructions that `.debug_frame`
+/// doesn't have are written at once.
 #[tactic(auto, using(crate::proofs::Nops::silence_laws))]
 fn push_silenced(
     out: &mut Vec<u8>,
@@ -238,18 +231,19 @@ fn push_silenced(
 {
     let size = bytes.len() as u32;
     let mut cursor = Cursor::new(bytes, target);
+    let mut unwritten = cursor.copy();
     let mut count = 0u32;
     while count <= size {
         let mut ahead = cursor.copy();
         let Ok(is_foreign) = skip_instruction(&mut ahead, dialect) else {
+            push_next(out, &unwritten, cursor.position() - unwritten.position())?;
             return push_rest(out, &cursor, size, dialect);
         };
-        push_piece(
-            out,
-            &cursor,
-            ahead.position() - cursor.position(),
-            is_foreign,
-        )?;
+        if is_foreign {
+            push_next(out, &unwritten, cursor.position() - unwritten.position())?;
+            push_nops(out, ahead.position() - cursor.position())?;
+            unwritten = ahead.copy();
+        }
         cursor = ahead;
         count += 1;
     }

@@ -2,7 +2,7 @@
 
 ghost use Rattle.std.specs.Prelude.{◌≡◌, ◌+◌, ◌^◌, ◌<◌, ◌≤◌, ◌++◌, OnOk, length};
 ghost use Rattle.dw_bytes.specs.Encoding.{max_address};
-ghost use Rattle.dw_eh_frame.specs.Records.{left_out};
+ghost use Rattle.dw_eh_frame.specs.Records.{implied_instruction};
 ghost use Rattle.dw_eh_frame.specs.Silencing.{silenced};
 ghost use Rattle.dw_eh_frame.specs.Written.{address_bytes, cie_bytes, fde_bytes, number_bytes, record_bytes};
 
@@ -115,9 +115,9 @@ pub(crate) fn push_cie(
     Ok(())
 }
 
-/// What the program of a CIE leaves out: its first instruction, or nothing.
-pub(crate) fn left_out_bytes(program: &[u8]) -> &'static [u8]
-    ensures is { result.now ≡ left_out program.now }
+/// The instruction that the program of a CIE implies before its first one, or nothing.
+pub(crate) fn implied_instruction(program: &[u8]) -> &'static [u8]
+    ensures is { result.now ≡ implied_instruction program.now }
     ensures few { length result.now ≤ 3 }
 {
     match program.first() {
@@ -139,13 +139,17 @@ pub(crate) fn push_cie_in_full(
     requires { length numbers.now + length program.now + 9 < 2 ^ 32 }
     ensures grows { OnOk result (length out.new.items
         ≤ length out.old.items + length numbers.now + length program.now + 23) }
-    ensures holds { OnOk result (length (left_out program.now ++ program.now) ≤ length out.new.items) }
+    ensures holds { OnOk result (length (implied_instruction program.now ++ program.now) ≤ length out.new.items) }
     ensures wrote { OnOk result (out.new.items ≡ out.old.items
         ++ record_bytes target.order (cie_bytes target.order version numbers.now)
-        (silenced dialect (record { target = target; position = 0; rest = left_out program.now ++ program.now }))) }
+        (silenced dialect (record { target = target; position = 0; rest = implied_instruction program.now ++ program.now }))) }
 {
-    let mut in_full = Vec::with_capacity(alloc, DEF_CFA.len() + program.len())?;
-    in_full.extend_from_slice(left_out_bytes(program))?;
+    let implied = implied_instruction(program);
+    if implied.is_empty() {
+        return push_cie(out, target, version, numbers, program, dialect);
+    }
+    let mut in_full = Vec::with_capacity(alloc, implied.len() + program.len())?;
+    in_full.extend_from_slice(implied)?;
     in_full.extend_from_slice(program)?;
     push_cie(out, target, version, numbers, &in_full, dialect)
 }

@@ -8,10 +8,10 @@ pub returns-in-Err : goal.returns-in-Err
 returns-in-Err c =
     let facts = c.in-Err.ensures in
     let by_key = facts.position place_source (answers_always _ _ _ (λ f a r g called. search rules)) in
-    searched-none c.args.cies.now c.requires c.args.source c.in-Err.field-0 facts.bound by_key
+    searched-none place_source c.args.cies.now c.requires c.args.source c.in-Err.field-0 facts.bound by_key
 
 pub returns-in-Ok : goal.returns-in-Ok
 returns-in-Ok c =
     let facts = c.in-Ok.ensures in
     let by_key = facts.position place_source (answers_always _ _ _ (λ f a r g called. search rules)) in
-    searched-found c.args.cies.now c.args.source (record { source = 0; made = 0 }) c.in-Ok.index facts.bound by_key
+    searched-found place_source c.args.cies.now c.args.source (record { source = 0; made = 0 }) c.in-Ok.index facts.bound by_key
