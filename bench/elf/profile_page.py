@@ -9,20 +9,17 @@ and a time range has to leave out the samples before and after it. Needs chromiu
 or the exit status is 1.
 """
 import argparse
-import json
 import os
-import re
 import subprocess
-import sys
 import tempfile
+
+from browser import finish, use
 
 TOP = os.path.dirname(os.path.dirname(os.path.dirname(os.path.abspath(__file__))))
 RECORDINGS = os.path.join(TOP, "rust/dwcheck-elf/tests/recordings")
 
-# What is done with the page. `say` collects what is seen.
+# What is done with the page. `said` collects what is seen.
 ACTIONS = """
-<script>
-const said = {};
 const names = () => boxes.map(box => label(box[3]));
 const boxOf = name => boxes.find(box => label(box[3]) === name);
 const click = name => {
@@ -57,18 +54,7 @@ window.dispatchEvent(mouse("mouseup", 1));
 said.part = shown.total[0] / whole;
 at("reset").click();
 said.reset = shown.total[0] === whole && at("search").value === "";
-const result = document.createElement("pre");
-result.id = "said";
-result.textContent = JSON.stringify(said);
-document.body.append(result);
-</script>
-</body>"""
-
-
-def chromium(*words):
-    program = ["chromium", "--headless", "--no-sandbox", "--disable-gpu", "--window-size=1100,420"]
-    ran = subprocess.run(program + list(words), capture_output=True, text=True, timeout=120)
-    return ran.stdout
+"""
 
 
 def main():
@@ -81,34 +67,18 @@ def main():
         recording = os.path.join(RECORDINGS, "dwarf.perf")
         command = [words.program, "profile", "-q", "--root", RECORDINGS, "--format", "html", "-o", page, recording]
         subprocess.run(command, check=True)
-        if words.screenshot:
-            chromium(f"--screenshot={words.screenshot}", "file://" + page)
-        used = os.path.join(folder, "used.html")
-        with open(page) as file, open(used, "w") as out:
-            out.write(file.read().replace("</body>", ACTIONS))
-        text = chromium("--dump-dom", "file://" + used)
-    said = re.search(r'<pre id="said">(.*?)</pre>', text, re.S)
-    if said is None:
-        sys.exit("the page's script didn't run to its end")
-    said = json.loads(said[1].replace("&gt;", ">").replace("&lt;", "<").replace("&amp;", "&"))
-    wrong = [
-        what
-        for what, holds in {
-            "functions": said["first"] == ["all", "_start", "main", "middle", "twice", "leaf"],
-            "title": said["title"].endswith("./spin"),
-            "a click zooms": said["zoomed"],
-            "the tip": said["tip"].startswith("twice\n/home/user/session/spin, inlined\n"),
-            "a search finds": said["found"] == "found in 100.00%",
-            "a search marks": said["marked"] == [0xd9, 0x4f, 0xc6] and said["plain"] != said["marked"],
-            "inverted": said["inverted"] == ["all", "leaf", "twice"],
-            "a time range": 0.3 < said["part"] < 0.7,
-            "show all": said["reset"],
-        }.items()
-        if not holds
-    ]
-    if wrong:
-        sys.exit(f"wrong: {', '.join(wrong)}\n{said}")
-    print("ok")
+        said = use(page, ACTIONS, "1100,420", words.screenshot)
+    finish(said, {
+        "functions": said["first"] == ["all", "_start", "main", "middle", "twice", "leaf"],
+        "title": said["title"].endswith("./spin"),
+        "a click zooms": said["zoomed"],
+        "the tip": said["tip"].startswith("twice\n/home/user/session/spin, inlined\n"),
+        "a search finds": said["found"] == "found in 100.00%",
+        "a search marks": said["marked"] == [0xd9, 0x4f, 0xc6] and said["plain"] != said["marked"],
+        "inverted": said["inverted"] == ["all", "leaf", "twice"],
+        "a time range": 0.3 < said["part"] < 0.7,
+        "show all": said["reset"],
+    })
 
 
 if __name__ == "__main__":

@@ -10,12 +10,13 @@ have to be those of objdump. The map has to show the code without rows, and the 
 gcc, objdump and chromium. The last line is `ok`, or the exit status is 1.
 """
 import argparse
-import json
 import os
 import re
 import subprocess
 import sys
 import tempfile
+
+from browser import finish, use
 
 # Functions that both builds have; `changed` has other rows in the new one.
 SOURCE = """
@@ -46,8 +47,6 @@ broken: .cfi_startproc
 
 # What is done with the page. `said` collects what is seen.
 ACTIONS = """
-<script>
-const said = {};
 const texts = selector => [...document.querySelectorAll(selector)].map(one => one.textContent);
 const show = name => document.querySelector(`nav [data-view=${name}]`).click();
 const search = text => { at("search").value = text; at("search").dispatchEvent(new Event("input")); };
@@ -81,18 +80,7 @@ said.byName = texts("#list li");
 document.querySelector("#list li").click();
 said.rows = [...document.querySelectorAll("#rows tbody tr")].map(row => [row.cells[0].textContent, row.cells[2].textContent, row.classList.contains("row") ? [...row.cells].slice(3).map(cell => cell.textContent) : null]);
 said.heads = texts("#rows th");
-const result = document.createElement("pre");
-result.id = "said";
-result.textContent = JSON.stringify(said);
-document.body.append(result);
-</script>
-</body>"""
-
-
-def chromium(*words):
-    program = ["chromium", "--headless", "--no-sandbox", "--disable-gpu", "--window-size=1300,760"]
-    ran = subprocess.run(program + list(words), capture_output=True, text=True, timeout=120)
-    return ran.stdout
+"""
 
 
 def run(folder, line):
@@ -113,11 +101,11 @@ def by_objdump(folder, function):
     return [("0x" + address, words.split()[0]) for address, words in re.findall(r"^ +([0-9a-f]+):\t(.+)", text, re.M)]
 
 
-def wrong(said, folder):
-    """The names of what isn't as it should be."""
+def holds(said, folder):
+    """What should be so, and whether it is."""
     rows = [row for row in said["rows"] if row[2] is not None]
     lines = [(address, text.split()[0]) for address, text, _ in said["rows"]]
-    holds = {
+    return {
         "title": said["title"] == "Unwind tables of old and new",
         "functions that differ": said["changed"] == ["changed"],
         "rows side by side": said["sides"] > 0,
@@ -133,7 +121,6 @@ def wrong(said, folder):
         "columns": said["heads"][3:5] == ["CFA", "Return address"] and "rbx" in said["heads"],
         "instructions": lines == by_objdump(folder, "changed"),
     }
-    return [what for what, holds in holds.items() if not holds]
 
 
 def main():
@@ -148,20 +135,8 @@ def main():
         ran = subprocess.run([program, "report", "--compare", "old", "new", "-o", page], cwd=folder)
         if ran.returncode != 1:
             sys.exit(f"the status is {ran.returncode}, not 1: the new program has a refused FDE")
-        used = os.path.join(folder, "used.html")
-        with open(page) as file, open(used, "w") as out:
-            out.write(file.read().replace("</body>", ACTIONS))
-        text = chromium("--dump-dom", "file://" + used)
-        if words.screenshot:
-            chromium(f"--screenshot={words.screenshot}", "file://" + used)
-        said = re.search(r'<pre id="said">(.*?)</pre>', text, re.S)
-        if said is None:
-            sys.exit("the page's script didn't run to its end")
-        said = json.loads(said[1].replace("&gt;", ">").replace("&lt;", "<").replace("&amp;", "&"))
-        failed = wrong(said, folder)
-    if failed:
-        sys.exit(f"wrong: {', '.join(failed)}\n{json.dumps(said, indent=1)}")
-    print("ok")
+        said = use(page, ACTIONS, "1300,760", words.screenshot)
+        finish(said, holds(said, folder))
 
 
 if __name__ == "__main__":

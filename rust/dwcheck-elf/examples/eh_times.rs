@@ -134,24 +134,23 @@ fn compare(path: &str) -> Result<(), Failure> {
         count
     );
     let milliseconds = |time: Duration| time.as_secs_f64() * 1e3;
-    let ratio = check.as_secs_f64() / gimli.as_secs_f64();
     println!(
         "  check {:.2}, all rows by gimli {:.2}: {:.2}; add to a process {:.2}",
         milliseconds(check),
         milliseconds(gimli),
-        ratio,
+        check.as_secs_f64() / gimli.as_secs_f64(),
         milliseconds(add)
     );
-    let addresses = shuffled(&starts);
+    compare_look_ups(&sections, &process, &shuffled(&starts))
+}
+
+fn compare_look_ups(sections: &Sections<'_>, process: &Process, addresses: &[u64]) -> Result<(), Failure> {
     let hdr = gimli::EhFrameHdr::new(sections.hdr, LittleEndian).parse(&sections.bases(), 8)?;
-    let (theirs, sum) = least(|| sections.found_by_gimli(&hdr, &addresses))?;
+    let (theirs, sum) = least(|| sections.found_by_gimli(&hdr, addresses))?;
     let (ours, own_sum) = least(|| {
         let mut rows = process.rows();
-        let mut sum = 0u64;
-        for address in &addresses {
-            sum = sum.wrapping_add(rows.row(*address).map_or(0, |row| row.addresses.end));
-        }
-        Ok(sum)
+        let ends = addresses.iter().map(|address| rows.row(*address).map_or(0, |row| row.addresses.end));
+        Ok(ends.fold(0, u64::wrapping_add))
     })?;
     let one = |time: Duration| time.as_secs_f64() * 1e9 / LOOKUPS as f64;
     println!(

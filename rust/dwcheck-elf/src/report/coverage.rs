@@ -67,14 +67,13 @@ impl Coverage {
         refused: &Covered,
     ) -> Self {
         let mut coverage = Coverage { code: apart(program.code_sections()), ..Coverage::default() };
-        for (_, section) in &coverage.code {
-            coverage.totals.code += section.end - section.start;
-            for free in covered.gaps(section.start, section.end) {
-                let refused_part = |addresses: Range<u64>| Gap::named(addresses, GapKind::Refused, functions);
-                coverage.gaps.extend(refused.parts(free.start, free.end).map(refused_part));
-                let others = refused.gaps(free.start, free.end).flat_map(|part| pieces(part, functions));
-                coverage.gaps.extend(others.map(|piece| Gap::without_fde(piece, functions, memory)));
-            }
+        coverage.totals.code = coverage.code.iter().map(|(_, section)| section.end - section.start).sum();
+        let free = coverage.code.iter().flat_map(|(_, section)| covered.gaps(section.start, section.end));
+        for free in free {
+            let refused_part = |addresses: Range<u64>| Gap::named(addresses, GapKind::Refused, functions);
+            coverage.gaps.extend(refused.parts(free.start, free.end).map(refused_part));
+            let others = refused.gaps(free.start, free.end).flat_map(|part| pieces(part, functions));
+            coverage.gaps.extend(others.map(|piece| Gap::without_fde(piece, functions, memory)));
         }
         coverage.gaps.sort_by_key(|gap| gap.addresses.start);
         for gap in &coverage.gaps {
