@@ -8,14 +8,14 @@ use Rattle.dw_bytes.specs.Answers.{memory}
 use Rattle.dw_rows.specs.Section.{FrameSection, frame_of}
 use Rattle.dw_rows.specs.Section as rows
 use Rattle.dw_loclists.specs.Reading.{ListSection, IsChecked}
-use Rattle.dw_check.specs.Checked.{check_fault, fault_within}
+use Rattle.dw_sections.specs.Checked.{check_fault, fault_within}
 use Rattle.dw_check.specs.Runs.{Reply, text, refusal, not_hex, bad_line, OfChecked}
 use Rattle.dw_check.specs.Stops.{RefusesBoth, IsRefusal}
-use Rattle.dw_check.specs.declared.stop.Section.{Section}
+use Rattle.dw_sections.specs.declared.section.Section.{Section}
 use Rattle.dw_check.specs.declared.stop.RunFault.{RunFault}
 use Rattle.dw_check.specs.declared.stop.RunFault.TheVariants.{Refused, BadHex, StateLine, Memory, Output}
-use Rattle.dw_check.specs.declared.whole_check.CheckFault.{CheckFault}
-use Rattle.dw_check.proofs.WholeCheck.{each_without_fault}
+use Rattle.dw_sections.specs.declared.whole_check.CheckFault.{CheckFault}
+use Rattle.dw_sections.proofs.WholeCheck.{each_without_fault}
 
 -- ---- how a run ends if the check fails
 

@@ -16,8 +16,8 @@ use Rattle.dw_loclists.specs.Locations.{expressions_of, expressions_in}
 use Rattle.dw_stack.specs.Located.{LocatedExpression}
 use Rattle.dw_loclists.specs.Reading.{ListSection, IsChecked, lists_in, located_in}
 use Rattle.dw_check.specs.Report.{AreLines, IsReport, summary_text, expression_line}
-use Rattle.dw_check.specs.declared.stop.Section.{Section}
-use Rattle.dw_check.specs.declared.stop.Section.TheVariants as sections
+use Rattle.dw_sections.specs.declared.section.Section.{Section}
+use Rattle.dw_sections.specs.declared.section.Section.TheVariants as sections
 
 abbrev Good : LocatedExpression → Type 0
 Good x = IsGoodExpression x.kind x.target x.bytes

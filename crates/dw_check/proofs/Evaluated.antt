@@ -5,8 +5,8 @@ use Rattle.dw_bytes.specs.declared.target.Target.{Target}
 use Rattle.dw_bytes.specs.declared.target.AddressSize.{AddressSize}
 use Rattle.dw_bytes.specs.declared.target.AddressSize.TheVariants.{Four, Eight}
 use Rattle.dw_bytes.specs.declared.fault.Fault.{Fault}
-use Rattle.dw_check.specs.Checked.{too_long}
-use Rattle.dw_check.proofs.Lengths.{short_fault, long_fault}
+use Rattle.dw_sections.specs.Checked.{too_long}
+use Rattle.dw_sections.proofs.Lengths.{short_fault, long_fault}
 use Rattle.dw_stack.specs.declared.state.Kind.{Kind}
 use Rattle.dw_stack.specs.Expressions.{Checked, IsOf, IsGoodExpression, IsDepthOf, operations_in}
 use Rattle.dw_stack.specs.FirstFault.{expression_fault}
@@ -22,7 +22,7 @@ use Rattle.dw_check.specs.Outcomes.{evaluation_text}
 use Rattle.dw_check.specs.Evaluations.{world_of, Evaluates}
 use Rattle.dw_check.specs.StateFile.{StateFact, KnownState, IsGivenBy, first_that, content_in, byte_in}
 use Rattle.dw_check.specs.Runs.{refusal, IsOutcome}
-use Rattle.dw_check.specs.declared.stop.Section.TheVariants.{Expression}
+use Rattle.dw_sections.specs.declared.section.Section.TheVariants.{Expression}
 
 pub same_bound : (size : AddressSize) → 2 ^ width_of size ≡ 16 ^ digits_of size
 same_bound Four = refl

@@ -12,16 +12,16 @@ use Rattle.dw_loclists.specs.Locations.{locations_of}
 use Rattle.dw_stack.specs.Located.{LocatedExpression}
 use Rattle.dw_loclists.specs.Reading.{ListSection, IsChecked, lists_in, lists_fault}
 use Rattle.dw_loclists.proofs.Search.{contains-map}
-use Rattle.dw_check.specs.Checked.{too_long}
+use Rattle.dw_sections.specs.Checked.{too_long}
 use Rattle.dw_check.specs.StateFile.{StateFact}
 use Rattle.dw_check.specs.Text.{expression_offset_line}
 use Rattle.dw_check.specs.Lookups.{IsShowable, AreEvaluated, ShowsLocations, ShowsList, list_that_begins_at}
 use Rattle.dw_check.specs.Runs.{Reply, text, refusal, not_hex, bad_line, lists_refusal, IsFound}
 use Rattle.dw_check.specs.declared.requests.ListLookup.{ListLookup}
-use Rattle.dw_check.specs.declared.stop.Section.TheVariants.{Lists}
+use Rattle.dw_sections.specs.declared.section.Section.TheVariants.{Lists}
 use Rattle.dw_check.proofs.Evaluated.{each_text, same_text}
 use Rattle.dw_check.proofs.GoodLocations.{locations_show}
-use Rattle.dw_check.proofs.Lengths.{short_fault, long_fault}
+use Rattle.dw_sections.proofs.Lengths.{short_fault, long_fault}
 
 -- ---- the list at an offset
 

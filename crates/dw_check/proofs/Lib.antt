@@ -10,7 +10,6 @@ pub mod HexBytes
 pub mod KeptNumbers
 pub mod KnownMachine
 pub mod KnownState
-pub mod Lengths
 pub mod Lined
 pub mod Loading
 pub mod LongFiles
@@ -25,10 +24,8 @@ pub mod Separated
 pub mod Shown
 pub mod Showing
 pub mod Simple
-pub mod Sound
 pub mod StateLines
 pub mod Within
-pub mod WholeCheck
 pub mod Writing
 pub mod FurtherModules
 mod Processes

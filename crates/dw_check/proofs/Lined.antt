@@ -12,7 +12,7 @@ use Rattle.dw_stack.proofs.Unique.{one_depth}
 use Rattle.dw_check.specs.Report.{AreLines, expression_line}
 use Rattle.dw_check.specs.ReportViews.{line_of}
 use Rattle.dw_check.specs.SinkBytes.{AppendsFront}
-use Rattle.dw_check.specs.declared.stop.Section.{Section}
+use Rattle.dw_sections.specs.declared.section.Section.{Section}
 use Rattle.dw_check.proofs.Growth.{appends_nothing, appends_more, front_more, front_wider}
 
 -- The text has a line for each expression. The lines of the expressions visited are written; the

@@ -10,7 +10,7 @@ use Rattle.dw_rows.specs.Section.{FrameSection, section_fault, frame_of}
 use Rattle.dw_loclists.specs.Reading.{ListSection, lists_fault}
 use Rattle.dw_stack.specs.declared.state.Kind.{Kind}
 use Rattle.dw_stack.specs.FirstFault.{expression_fault}
-use Rattle.dw_check.specs.Checked.{check_fault, fault_within, length_fault, too_long}
+use Rattle.dw_sections.specs.Checked.{check_fault, fault_within, length_fault, too_long}
 use Rattle.dw_check.specs.Files.{further_modules, loaded_at, module_before, section_bytes, state_facts}
 use Rattle.dw_check.specs.LongFiles.{is_state, needed_length, needed_parts, part_up_to}
 use Rattle.dw_unwind.specs.Modules.{as_linked}
@@ -26,9 +26,9 @@ use Rattle.dw_check.specs.Text.{frame_text, lookup_text}
 use Rattle.dw_check.specs.declared.requests.ListLookup.{ListLookup}
 use Rattle.dw_check.specs.declared.requests.Task.{Task}
 use Rattle.dw_check.specs.declared.requests.Task.TheVariants.{Check, Rows, Row, Locs, Eval, Unwind, Backtrace}
-use Rattle.dw_check.specs.declared.stop.Section.TheVariants as sections
-use Rattle.dw_check.specs.declared.whole_check.CheckFault.{CheckFault}
-use Rattle.dw_check.proofs.Lengths.{short_length, long_length, long_fault}
+use Rattle.dw_sections.specs.declared.section.Section.TheVariants as sections
+use Rattle.dw_sections.specs.declared.whole_check.CheckFault.{CheckFault}
+use Rattle.dw_sections.proofs.Lengths.{short_length, long_length, long_fault}
 
 -- two files have the same bytes, or both are too long
 abbrev Alike : List ℕ → List ℕ → Type 0

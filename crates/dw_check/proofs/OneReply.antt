@@ -31,7 +31,7 @@ use Rattle.dw_check.specs.declared.requests.ListLookup.{ListLookup}
 use Rattle.dw_check.specs.declared.requests.Task.{Task}
 use Rattle.dw_check.specs.declared.requests.Task.TheVariants.{Check, Rows, Row, Locs, Eval, Unwind, Backtrace}
 use Rattle.dw_check.proofs.Evaluated.{same_text}
-use Rattle.dw_check.proofs.Lengths.{short_fault}
+use Rattle.dw_sections.proofs.Lengths.{short_fault}
 use Rattle.dw_check.proofs.Found.{one_found}
 use Rattle.dw_check.proofs.BothSections.{one_of_checked}
 use Rattle.dw_check.proofs.Processes.{AreChecked, OneShown, one_of_modules}

@@ -20,9 +20,9 @@ use Rattle.dw_unwind.specs.declared.modules.Module.{Module}
 use Rattle.dw_check.specs.declared.stop.ReportFault.{ReportFault}
 use Rattle.dw_check.specs.declared.stop.RunFault.{RunFault}
 use Rattle.dw_check.specs.declared.stop.RunFault.TheVariants.{Refused, BadHex, StateLine, Memory, Output}
-use Rattle.dw_check.specs.declared.stop.Section.TheVariants.{Frame}
+use Rattle.dw_sections.specs.declared.section.Section.TheVariants.{Frame}
 use Rattle.dw_check.proofs.Growth.{appends_nothing}
-use Rattle.dw_check.proofs.Lengths.{no_fault}
+use Rattle.dw_sections.proofs.Lengths.{no_fault}
 use Rattle.dw_check.proofs.Replies.{front_none, goes_section, goes_state, goes_refusal, goes_text}
 
 -- ---- files that can't be read

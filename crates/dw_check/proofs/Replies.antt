@@ -10,8 +10,8 @@ use Rattle.dw_check.specs.Stops.{ended_by, IsBadSection, IsBadState, RefusesBoth
 use Rattle.dw_check.specs.SinkBytes.{AppendsFront}
 use Rattle.dw_check.specs.WriteResults.{Writes, WritesWhole}
 use Rattle.dw_check.specs.Runs.{Reply, text, refusal, not_hex, bad_line, accepted_text, OfSection, OfState, Goes}
-use Rattle.dw_check.specs.declared.stop.Section.{Section}
-use Rattle.dw_check.specs.declared.whole_check.CheckFault.{CheckFault}
+use Rattle.dw_sections.specs.declared.section.Section.{Section}
+use Rattle.dw_sections.specs.declared.whole_check.CheckFault.{CheckFault}
 use Rattle.dw_check.specs.declared.stop.ReportFault.{ReportFault}
 use Rattle.dw_check.specs.declared.stop.ReportFault.TheVariants as faults
 use Rattle.dw_check.specs.declared.stop.RunFault.{RunFault}

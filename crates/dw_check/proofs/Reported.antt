@@ -14,8 +14,8 @@ use Rattle.dw_stack.specs.Located.{LocatedExpression, located_of}
 use Rattle.dw_loclists.specs.Reading.{ListSection, located_in}
 use Rattle.dw_check.specs.Report.{AreLines, IsReport, summary_text, expression_line}
 use Rattle.dw_check.specs.ReportViews.{line_of}
-use Rattle.dw_check.specs.declared.stop.Section.{Section}
-use Rattle.dw_check.specs.declared.stop.Section.TheVariants as sections
+use Rattle.dw_sections.specs.declared.section.Section.{Section}
+use Rattle.dw_sections.specs.declared.section.Section.TheVariants as sections
 
 -- ---- counts
 

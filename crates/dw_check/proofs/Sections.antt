@@ -11,7 +11,7 @@ use Rattle.dw_check.specs.Stops.{IsRefusal, ended_by}
 use Rattle.dw_check.specs.WriteResults.{Writes}
 use Rattle.dw_check.specs.declared.stop.ReportFault.{ReportFault}
 use Rattle.dw_check.specs.declared.stop.RunFault.{RunFault}
-use Rattle.dw_check.specs.declared.stop.Section.TheVariants.{Frame}
+use Rattle.dw_sections.specs.declared.section.Section.TheVariants.{Frame}
 use Rattle.dw_check.proofs.Replies.{goes_section, goes_refusal, goes_text}
 
 module _ (text_for : rows.FrameSection → List ℕ) (target : Target) (section : List ℕ) where

@@ -1,12 +1,5 @@
--- ---- Trusted: what DWARF 5 says. To check the main promise (docs/HEADLINE.md) against the
--- standard, read these.
-
--- when two sections are well formed, and their first fault
-pub mod Checked
--- the main promise: what holds for sections that a check accepts
-pub mod Headline
 -- ---- Trusted: what docs/PROFILE.md and docs/OUTPUT.md say about texts, command lines, files and
--- statuses. The main promise needs none of these.
+-- statuses. The main promise (docs/HEADLINE.md) needs none of these.
 
 -- the text of a report
 pub mod Report

@@ -7,9 +7,9 @@ use Rattle.dw_stack.specs.Expressions.{IsDepthOf, operations_in}
 use Rattle.dw_stack.specs.Located.{LocatedExpression}
 use Rattle.dw_loclists.specs.Reading.{ListSection, tables_in, lists_in, located_in}
 use Rattle.dw_bytes.specs.Text.{offset_text}
-use Rattle.dw_check.specs.Text.{section_text}
-use Rattle.dw_check.specs.declared.stop.Section.{Section}
-use Rattle.dw_check.specs.declared.stop.Section.TheVariants as sections
+use Rattle.dw_sections.specs.Text.{section_text}
+use Rattle.dw_sections.specs.declared.section.Section.{Section}
+use Rattle.dw_sections.specs.declared.section.Section.TheVariants as sections
 
 -- ---- the counts
 

@@ -12,7 +12,7 @@ use Rattle.dw_loclists.specs.Reading.{ListSection, lists_fault}
 use Rattle.dw_stack.specs.declared.state.Kind.{Kind}
 use Rattle.dw_stack.specs.FirstFault.{expression_fault}
 use Rattle.dw_check.specs.Requests.{Asked}
-use Rattle.dw_check.specs.Checked.{check_fault, length_fault}
+use Rattle.dw_sections.specs.Checked.{check_fault, length_fault}
 use Rattle.dw_check.specs.Report.{IsReport}
 use Rattle.dw_unwind.specs.Caller.{Caller}
 use Rattle.dw_check.specs.CallerText.{caller_text}
@@ -27,8 +27,8 @@ use Rattle.dw_check.specs.Lookups.{ShowsList, list_that_begins_at}
 use Rattle.dw_check.specs.StateFile.{StateFact, first_that, content_in, byte_in, kept_in, stack_pointer_in}
 use Rattle.dw_check.specs.SinkBytes.{AppendsFront}
 use Rattle.dw_check.specs.Text.{refused_line, frame_text, lookup_text}
-use Rattle.dw_check.specs.declared.stop.Section.{Section}
-use Rattle.dw_check.specs.declared.stop.Section.TheVariants as sections
+use Rattle.dw_sections.specs.declared.section.Section.{Section}
+use Rattle.dw_sections.specs.declared.section.Section.TheVariants as sections
 use Rattle.dw_check.specs.declared.stop.RunFault.{RunFault}
 use Rattle.dw_check.specs.declared.stop.RunFault.TheVariants as stops
 use Rattle.dw_check.specs.declared.requests.ListLookup.{ListLookup}

@@ -3,8 +3,8 @@ use Rattle.std.specs.Prelude.{◌≡◌, ℕ, ◌<◌, Bool, true, false, List, 
 use Rattle.dw_bytes.specs.declared.fault.Fault.{Fault}
 use Rattle.dw_check.specs.StateFile.{StateFact}
 use Rattle.dw_unwind.specs.declared.modules.Module.{Module}
-use Rattle.dw_check.specs.declared.stop.Section.{Section}
-use Rattle.dw_check.specs.declared.whole_check.CheckFault.{CheckFault}
+use Rattle.dw_sections.specs.declared.section.Section.{Section}
+use Rattle.dw_sections.specs.declared.whole_check.CheckFault.{CheckFault}
 use Rattle.dw_check.specs.declared.stop.ReportFault.{ReportFault}
 use Rattle.dw_check.specs.declared.stop.ReportFault.TheVariants as faults
 use Rattle.dw_check.specs.declared.stop.RunFault.{RunFault}

@@ -12,9 +12,8 @@ use Rattle.dw_frame.specs.Records.{Cie, Fde}
 use Rattle.dw_rows.specs.Rules.{Rule, Cfa, Row, default, undefined, same_value, offset, val_offset, register, expression, val_expression}
 use Rattle.dw_rows.specs.Rules.{register_and_offset, cfa_expression}
 use Rattle.dw_rows.specs.Section.{FrameSection, cie_in, rows_in, row_of}
-use Rattle.dw_check.specs.declared.stop.Section.{Section}
-use Rattle.dw_check.specs.declared.stop.Section.TheVariants as sections
-use Rattle.dw_check.specs.declared.whole_check.CheckFault.{CheckFault}
+use Rattle.dw_sections.specs.declared.section.Section.{Section}
+use Rattle.dw_sections.specs.Text.{section_text}
 
 -- ---- numbers
 
@@ -36,15 +35,6 @@ signed_text (pos n) = codes "+" ++ decimal n
 signed_text (negsuc n) = codes "-" ++ decimal (suc n)
 
 -- ---- a refusal
-
-abbrev pub section_text : Section → List ℕ
-section_text sections.Frame = codes "frame"
-section_text sections.Lists = codes "lists"
-section_text sections.Expression = codes "expression"
-
--- the fault of a check of two sections: the section that has the fault, and then the fault
-unfoldable pub check_fault_text : CheckFault → List ℕ
-check_fault_text found = section_text found.section ++ codes ": " ++ fault_text found.fault
 
 unfoldable pub refused_line : Section → Fault → List ℕ
 refused_line section fault = codes "refused " ++ kind_text fault.kind ++ codes " " ++ section_text section

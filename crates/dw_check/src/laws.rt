@@ -1,10 +1,7 @@
-//! Laws about checks and requests. A law is a function that does nothing, whose contract is what
+//! Laws about reports and requests. A law is a function that does nothing, whose contract is what
 //! the law states.
 
-ghost use Rattle.std.specs.Prelude.{◌≡◌, ◌↔◌, ℕ, List, None};
-ghost use Rattle.dw_bytes.specs.declared.target.Target.{Target};
-ghost use Rattle.dw_check.specs.Checked.{AreWellFormed, check_fault};
-ghost use Rattle.dw_check.specs.Headline.{AreSound};
+ghost use Rattle.std.specs.Prelude.{◌≡◌, ◌↔◌, ℕ, List};
 ghost use Rattle.dw_check.specs.Report.{IsReport};
 ghost use Rattle.dw_loclists.specs.Reading.{IsChecked, ListSection};
 ghost use Rattle.dw_rows.specs.Section.{FrameSection};
@@ -39,35 +36,6 @@ pub fn needed_parts_decide()
         → IsReply asked files reply
         ↔ IsReply asked (needed_parts asked.task asked.hex 0 files) reply }
 {}
-
-/// Two sections have no fault exactly if they are well formed.
-pub fn sections_without_fault_are_well_formed()
-    ensures { (target : Target) (frame lists : List ℕ)
-        → (check_fault target frame lists ≡ None) ↔ AreWellFormed target frame lists }
-{
-    dw_rows::laws::frame_sections_without_fault_are_well_formed();
-    dw_loclists::laws::list_sections_without_fault_are_well_formed();
-}
-
-/// What holds for two sections without a fault, which are the sections that `check` accepts unless
-/// memory runs out. The CIEs, FDEs and lists read from them are what their bytes encode. Each
-/// address that an FDE covers has exactly one row, as DWARF 5 defines it; any other address has
-/// none. For all registers and memory, each expression of a rule or of a list ends within its
-/// number of operations, never pops an entry that isn't there, stays within its depth, and has
-/// exactly one outcome.
-pub fn accepted_sections_are_sound()
-    ensures { (target : Target) (frame lists : List ℕ) → check_fault target frame lists ≡ None
-        → AreSound target frame lists }
-{
-    dw_frame::laws::sections_are_records();
-    dw_rows::laws::exact_rows();
-    dw_rows::laws::checked_frame_sections();
-    dw_loclists::laws::checked_list_sections();
-    dw_stack::laws::each_has_a_depth();
-    dw_stack::laws::good_expressions_run_well();
-    dw_eval::laws::each_has_an_evaluation();
-    dw_eval::laws::evaluations_are_determined();
-}
 
 /// There is at most one report on two sections.
 pub fn one_report()

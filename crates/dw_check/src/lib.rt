@@ -1,12 +1,10 @@
-//! Checks a `.debug_frame` and a `.debug_loclists` section together, unwinds stacks with them, and
-//! produces the output of each `dwcheck` command.
+//! Produces the output of each `dwcheck` command, from the words of its command line and its files.
 #![tactic(auto)]
 
 mod abi_registers;
 mod addresses;
 mod arguments;
 mod caller_text;
-mod callers;
 mod command_line;
 mod evaluations;
 mod files;
@@ -29,11 +27,10 @@ mod source;
 mod state_line;
 mod stop;
 mod walk_text;
-mod whole_check;
 mod writer;
 
 pub use arguments::request;
-pub use callers::{backtrace, unwind, unwind_with};
+pub use dw_sections::{CheckFault, Checked, Section, backtrace, check, unwind, unwind_with};
 pub use dw_unwind::{
     Answer, Backtrace, BriefFrame, Caller, FoundRegisters, Frame, FrameRegisters, MAX_FOUND,
     Module, Stop, Unwinder, Walk, backtrace_by, backtrace_by_section, backtrace_in, unwind_by,
@@ -44,5 +41,4 @@ pub use requests::{End, ListLookup, Request, Task, Usage};
 pub use runs::run;
 pub use sink::{Sink, Stopped, Through};
 pub use source::{LoadFault, Reading, Reads, Source, load};
-pub use stop::{ReportFault, Section};
-pub use whole_check::{CheckFault, Checked, check};
+pub use stop::ReportFault;

@@ -11,10 +11,10 @@ ghost use Rattle.dw_check.specs.Text.{refused_line, expression_text, expression_
 ghost use Rattle.dw_check.specs.Text.{rule_text, register_text, row_line, digits_of, Fits};
 
 use crate::numbers::{push_decimal, push_offset, push_range, push_signed};
-use crate::stop::Section;
 use dw_bytes::{AddressSize, Fault, FaultKind};
 use dw_frame::{CommonInformationEntry, FrameDescriptionEntry};
 use dw_rows::{CfaRule, RegisterRule, RegisterRules, UnwindTableRow};
+use dw_sections::Section;
 use dw_stack::CheckedExpression;
 use std::alloc::AllocError;
 

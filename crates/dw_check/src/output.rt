@@ -9,11 +9,12 @@ ghost use Rattle.dw_check.specs.WriteResults.{IsSame, Writes, WritesWhole, is_wr
 
 use crate::lines::{push_fde, push_refused, push_row};
 use crate::sink::Sink;
-use crate::stop::{ReportFault, Section};
+use crate::stop::ReportFault;
 use crate::writer::{Writer, send_line};
 use dw_bytes::Fault;
 use dw_frame::{CommonInformationEntry, FrameDescriptionEntry};
 use dw_rows::{CheckedFrame, Rows, UnwindTableRow};
+use dw_sections::Section;
 
 /// Writes the line that says why an input is refused.
 pub(crate) fn write_refused<S: Sink>(

@@ -10,14 +10,14 @@ ghost use Rattle.dw_check.specs.Runs.{IsBadProcess, IsUnreadProcess, frame_refus
 ghost use Rattle.dw_check.specs.StateFile.{StateFact, IsGivenBy};
 ghost use Rattle.dw_check.specs.StateViews.{known_state_of};
 ghost use Rattle.dw_check.specs.Stops.{IsRefusal};
-ghost use Rattle.dw_check.specs.declared.stop.Section.TheVariants as sections;
+ghost use Rattle.dw_sections.specs.declared.section.Section.TheVariants as sections;
 
 use crate::files::Files;
 use crate::machine_state::MachineState;
-use crate::stop::{RunFault, Section};
-use crate::whole_check::{SECTION_LIMIT, TOO_LONG};
+use crate::stop::RunFault;
 use dw_bytes::Target;
 use dw_rows::{CheckedFrame, check_frame};
+use dw_sections::{SECTION_LIMIT, Section, TOO_LONG};
 use dw_unwind::Module;
 use std::alloc::{AllocError, Global};
 use std::borrow::CowSlice;

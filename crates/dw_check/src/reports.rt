@@ -10,15 +10,15 @@ ghost use Rattle.dw_check.specs.Report.{IsReport, AreLines, count_text, last_cou
 ghost use Rattle.dw_check.specs.Report.{lists_counts_line, frame_line, lists_line, summary_text, expression_kind_text, expression_line};
 ghost use Rattle.dw_check.specs.ReportViews.{line_of};
 ghost use Rattle.dw_check.specs.WriteResults.{IsSame, Writes, WritesWhole, is_write};
-ghost use Rattle.dw_check.specs.declared.stop.Section.TheVariants as sections;
+ghost use Rattle.dw_sections.specs.declared.section.Section.TheVariants as sections;
 
 use crate::numbers::{push_decimal, push_offset};
 use crate::sink::Sink;
-use crate::stop::{ReportFault, Section};
-use crate::whole_check::Checked;
+use crate::stop::ReportFault;
 use crate::writer::{Writer, send_line};
 use dw_loclists::{CheckedLists, Expressions};
 use dw_rows::CheckedFrame;
+use dw_sections::{Checked, Section};
 use dw_stack::{CheckedExpression, Kind};
 use std::alloc::{AllocError, Global};
 

@@ -7,13 +7,13 @@ ghost use Rattle.dw_stack.specs.Expressions.{IsOf};
 ghost use Rattle.dw_check.specs.Runs.{Ends, Goes, IsPlaceIn, IsReply, IsReplyTo, IsCheckReply, IsRowsReply, IsRowReply, IsLocsReply};
 ghost use Rattle.dw_check.specs.Runs.{IsEvalReply, IsUnwindReply, IsBacktraceReply, ShowsCaller, ShowsWalk};
 ghost use Rattle.dw_check.specs.Runs.{lists_refusal, expression_refusal};
-ghost use Rattle.dw_check.specs.Checked.{check_fault};
+ghost use Rattle.dw_sections.specs.Checked.{check_fault};
 ghost use Rattle.dw_unwind.specs.Modules.{unborrowed};
 ghost use Rattle.dw_check.specs.StateFile.{StateFact, IsGivenBy};
 ghost use Rattle.dw_check.specs.StateViews.{known_state_of};
 ghost use Rattle.dw_check.specs.Stops.{RefusesBoth, IsRefusal, ended_by, is_output};
 ghost use Rattle.dw_check.specs.WriteResults.{IsSame, Writes, WritesWhole, is_write};
-ghost use Rattle.dw_check.specs.declared.stop.Section.TheVariants as sections;
+ghost use Rattle.dw_sections.specs.declared.section.Section.TheVariants as sections;
 
 use crate::caller_text::write_caller;
 use crate::evaluations::write_outcome;
@@ -26,14 +26,14 @@ use crate::process::{frame_or_refusal, lent_modules, modules_or_refusal, read_pr
 use crate::reports::write_report;
 use crate::requests::{End, ListLookup, Request, Task};
 use crate::sink::Sink;
-use crate::stop::{ReportFault, RunFault, Section};
+use crate::stop::{ReportFault, RunFault};
 use crate::walk_text::write_walk;
-use crate::whole_check::{Checked, SECTION_LIMIT, TOO_LONG, check};
 use crate::writer::Writer;
 use dw_bytes::Target;
 use dw_loclists::{CheckedLists, check_lists};
 use dw_ops::Expression;
 use dw_rows::CheckedFrame;
+use dw_sections::{Checked, SECTION_LIMIT, Section, TOO_LONG, check};
 use dw_stack::{CheckedExpression, Kind, check_expression};
 use dw_unwind::laws::{
     one_caller_through_modules, one_walk_through_modules, sections_and_tables_always_unwind,

@@ -4,25 +4,14 @@ ghost use Rattle.std.specs.Prelude.{◌≡◌, ◌⊎◌, Option, Some};
 ghost use Rattle.dw_bytes.specs.Answers.{memory};
 ghost use Rattle.dw_bytes.specs.declared.fault.Fault.{Fault as FoundFault};
 ghost use Rattle.dw_check.specs.Stops.{stop_of, IsRefusal};
-ghost use Rattle.dw_check.specs.Text.{section_text};
 ghost use Rattle.dw_check.specs.declared.stop.ReportFault.TheVariants as faults;
 ghost use Rattle.dw_check.specs.declared.stop.RunFault.TheVariants as stops;
 
 use crate::sink::Stopped;
 use dw_bytes::{Fault, FaultKind};
+use dw_sections::Section;
 use std::alloc::{AllocError, AllocFailed};
 use thiserror::Error;
-
-/// Which input a refusal's offset refers to.
-#[derive(Clone, Copy, Debug, PartialEq, Eq)]
-pub enum Section {
-    /// A `.debug_frame` section.
-    Frame,
-    /// A `.debug_loclists` section.
-    Lists,
-    /// An expression that is checked by itself, not as part of a section.
-    Expression,
-}
 
 /// Why only a part of a text was written.
 #[derive(Clone, Copy, Debug, PartialEq, Eq, Error)]
@@ -49,19 +38,6 @@ pub(crate) enum RunFault {
     Memory,
     /// The sink stopped.
     Output,
-}
-
-impl Section {
-    /// The word for this input in the line of a refusal.
-    pub fn text(self) -> &'static str
-        ensures { result.now ≡ section_text self }
-    {
-        match self {
-            Section::Frame => "frame",
-            Section::Lists => "lists",
-            Section::Expression => "expression",
-        }
-    }
 }
 
 impl From<AllocError> for ReportFault {

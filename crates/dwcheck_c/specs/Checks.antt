@@ -1,8 +1,8 @@
 -- How the first fault of a check is reported to C.
 use Rattle.std.specs.Prelude.{◌≡◌, ℕ, Option, Some}
-use Rattle.dw_check.specs.declared.stop.Section.{Section}
-use Rattle.dw_check.specs.declared.stop.Section.TheVariants.{Frame, Lists, Expression}
-use Rattle.dw_check.specs.declared.whole_check.CheckFault.{CheckFault}
+use Rattle.dw_sections.specs.declared.section.Section.{Section}
+use Rattle.dw_sections.specs.declared.section.Section.TheVariants.{Frame, Lists, Expression}
+use Rattle.dw_sections.specs.declared.whole_check.CheckFault.{CheckFault}
 use Rattle.dwcheck_c.specs.declared.fault.CFault.{CFault}
 use Rattle.dwcheck_c.specs.declared.fault.TheConstants.{IN_FRAME, IN_LISTS, IN_EXPRESSION}
 use Rattle.dwcheck_c.specs.Faults.{cfault_of}

@@ -2,7 +2,7 @@
 
 ghost use Rattle.std.specs.Prelude.{◌≡◌, ◌≢◌, ◌⊎◌, None};
 ghost use Rattle.std.specs.Option.{IsSomeAnd};
-ghost use Rattle.dw_check.specs.Checked.{AreWellFormed, check_fault};
+ghost use Rattle.dw_sections.specs.Checked.{AreWellFormed, check_fault};
 ghost use Rattle.dwcheck_c.specs.Checks.{ReportsOf, section_number};
 ghost use Rattle.dwcheck_c.specs.Targets.{target_by};
 
@@ -10,7 +10,7 @@ use crate::fault::{CFault, IN_EXPRESSION, IN_FRAME, IN_LISTS, report};
 use crate::status::{BAD_TARGET, DONE, NO_MEMORY, REFUSED};
 use crate::target::target;
 use dw_bytes::FaultKind;
-use dw_check::{Section, check};
+use dw_sections::{Section, check};
 use std::alloc::Global;
 
 /// The number that tells C which input the offset of a fault refers to: the frame section, the

@@ -2,7 +2,7 @@
 
 ghost use Rattle.std.specs.Prelude.{◌≡◌, ◌≢◌, ◌⊎◌, ◌++◌, ◌-◌, ◌^◌, List, None, length, min};
 ghost use Rattle.std.specs.Option.{IsSomeAnd};
-ghost use Rattle.dw_check.specs.Checked.{AreWellFormed, check_fault};
+ghost use Rattle.dw_sections.specs.Checked.{AreWellFormed, check_fault};
 ghost use Rattle.dw_loclists.specs.Reading.{located_in};
 ghost use Rattle.dw_rows.specs.Section.{frame_of};
 ghost use Rattle.dw_stack.specs.Located.{all_located, located_of};
@@ -18,9 +18,9 @@ use crate::slots::put;
 use crate::status::{BAD_TARGET, DONE, NO_MEMORY, REFUSED};
 use crate::target::target;
 use dw_bytes::FaultKind;
-use dw_check::{Checked, check};
 use dw_loclists::Expressions;
 use dw_rows::CheckedFrame;
+use dw_sections::{Checked, check};
 use dw_stack::{CheckedExpression, Kind};
 use std::alloc::Global;
 

@@ -1,6 +1,6 @@
 use Rattle.std.specs.List.{flat_map}
 use Rattle.dw_check.specs.ReportViews.{line_of}
-use Rattle.dw_check.specs.declared.stop.Section.TheVariants as sections
+use Rattle.dw_sections.specs.declared.section.Section.TheVariants as sections
 use Rattle.dw_check.proofs.Growth.{front_wider}
 use Rattle.dw_check.proofs.Writing.{writes_front, writes_then}
 use Rattle.dw_check.proofs.reports.write_all_expressions.Goals as goal

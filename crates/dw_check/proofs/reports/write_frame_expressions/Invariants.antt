@@ -1,6 +1,6 @@
 use Rattle.std.proofs.Common.{◌≡◌, false, drop}
 use Rattle.dw_check.specs.ReportViews.{line_of}
-use Rattle.dw_check.specs.declared.stop.Section.TheVariants as sections
+use Rattle.dw_sections.specs.declared.section.Section.TheVariants as sections
 use Rattle.dw_check.specs.WriteResults.{IsSame}
 use Rattle.dw_check.proofs.Sent.{Sent}
 use Rattle.dw_check.proofs.reports.write_frame_expressions.Given as goal

@@ -1,7 +1,7 @@
 use Rattle.std.proofs.Common.{◌≡◌, ℕ, List, false}
 use Rattle.dw_check.specs.Report.{AreLines}
 use Rattle.dw_check.specs.WriteResults.{IsSame}
-use Rattle.dw_check.specs.declared.stop.Section.TheVariants as sections
+use Rattle.dw_sections.specs.declared.section.Section.TheVariants as sections
 use Rattle.dw_check.proofs.Lined.{Lined}
 use Rattle.dw_check.proofs.reports.write_list_expressions.Given as goal
 

@@ -8,7 +8,7 @@ use Rattle.dw_loclists.specs.Reading.{ListSection, IsChecked, located_in}
 use Rattle.dw_loclists.proofs.Standing.{good-expressions}
 use Rattle.dw_check.specs.Report.{AreLines, summary_text}
 use Rattle.dw_check.specs.ReportViews.{line_of}
-use Rattle.dw_check.specs.declared.stop.Section.TheVariants as sections
+use Rattle.dw_sections.specs.declared.section.Section.TheVariants as sections
 use Rattle.dw_rows.specs.Section.{FrameSection}
 use Rattle.dw_check.proofs.Growth.{appends_nothing, front_wider}
 use Rattle.dw_check.proofs.Writing.{writes_front, writes_then, writes_whole}

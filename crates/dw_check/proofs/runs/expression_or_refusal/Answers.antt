@@ -2,7 +2,7 @@ use Rattle.std.proofs.Common.{◌≡◌, ◌<◌, ◌^◌, ◌⊎◌, arith, len
 use Rattle.std.specs.Prelude.{Some}
 use Rattle.dw_bytes.specs.Answers.{memory}
 use Rattle.dw_check.specs.Runs.{expression_refusal}
-use Rattle.dw_check.proofs.Lengths.{short_fault}
+use Rattle.dw_sections.proofs.Lengths.{short_fault}
 use Rattle.dw_check.proofs.runs.expression_or_refusal.Goals as goal
 
 pub returns-in-Err-clause-stop : goal.returns-in-Err-clause-stop

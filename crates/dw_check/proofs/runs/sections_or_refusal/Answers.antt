@@ -1,4 +1,4 @@
-use Rattle.dw_check.specs.Checked.{check_fault}
+use Rattle.dw_sections.specs.Checked.{check_fault}
 use Rattle.dw_check.proofs.BothSections.{stopped}
 use Rattle.dw_check.proofs.runs.sections_or_refusal.Goals as goal
 

@@ -4,7 +4,7 @@ use Rattle.dw_loclists.specs.Reading.{ListSection}
 use Rattle.dw_check.specs.Files.{section_bytes, state_facts}
 use Rattle.dw_check.specs.Lookups.{ShowsList, list_that_begins_at}
 use Rattle.dw_check.specs.Runs.{text, OfState, Goes, IsLocsReply, IsFound, lists_refusal}
-use Rattle.dw_check.specs.declared.stop.Section.TheVariants.{Lists}
+use Rattle.dw_sections.specs.declared.section.Section.TheVariants.{Lists}
 use Rattle.dw_check.proofs.Found.{one_found}
 use Rattle.dw_check.proofs.Replies.{goes_section, goes_state, goes_refusal, goes_text, handed_on}
 use Rattle.dw_check.proofs.runs.show_locations.Goals as goal

@@ -7,9 +7,9 @@ use Rattle.dw_stack.proofs.Named.{good_if_none}
 use Rattle.dw_check.specs.Files.{section_bytes, state_facts}
 use Rattle.dw_check.specs.Runs.{OfState, Goes, IsEvalReply, IsOutcome, expression_refusal}
 use Rattle.dw_check.specs.WriteResults.{WritesWhole}
-use Rattle.dw_check.specs.declared.stop.Section.TheVariants.{Expression}
+use Rattle.dw_sections.specs.declared.section.Section.TheVariants.{Expression}
 use Rattle.dw_check.proofs.Evaluated.{good_checked, written_same}
-use Rattle.dw_check.proofs.Lengths.{short_fault}
+use Rattle.dw_sections.proofs.Lengths.{short_fault}
 use Rattle.dw_check.proofs.Replies.{goes_section, goes_state, goes_bad_state, goes_refusal, goes_whole, handed_on}
 use Rattle.dw_check.proofs.runs.show_outcome.Goals as goal
 

@@ -3,7 +3,7 @@ use Rattle.std.specs.Prelude.{Err, Some, slice_get}
 use Rattle.std.specs.Cow.{cow_slice_items}
 use Rattle.dw_rows.specs.Section.{FrameSection, frame_of}
 use Rattle.dw_loclists.specs.Reading.{ListSection}
-use Rattle.dw_check.specs.Checked.{check_fault}
+use Rattle.dw_sections.specs.Checked.{check_fault}
 use Rattle.dw_check.specs.Files.{section_bytes}
 use Rattle.dw_check.specs.Report.{IsReport}
 use Rattle.dw_check.specs.Runs.{text, OfSection, OfChecked, Goes, IsCheckReply}

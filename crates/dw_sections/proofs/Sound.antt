@@ -10,7 +10,7 @@ use Rattle.dw_stack.specs.Expressions.{Checked, IsChecked, IsGoodExpression, IsD
 use Rattle.dw_eval.specs.World.{World}
 use Rattle.dw_eval.specs.Results.{Outcome, IsEvaluation}
 use Rattle.dw_unwind.specs.Caller.{under}
-use Rattle.dw_check.specs.Headline.{IsSafe}
+use Rattle.dw_sections.specs.Headline.{IsSafe}
 
 -- if no item is a fault, the values among the items are all of them
 values_given : {X : Type 0} (xs : List X) → values_in {X = X} (map Ok xs) ≡ xs

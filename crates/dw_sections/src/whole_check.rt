@@ -3,10 +3,10 @@
 ghost use Rattle.std.specs.Prelude.{◌≡◌, ◌≤◌, ◌<◌, ◌^◌, ◌⊎◌, length, IfOk, IfErr, OnOk};
 ghost use Rattle.dw_bytes.specs.Answers.{memory};
 ghost use Rattle.dw_rows.specs.Section.{frame_of};
-ghost use Rattle.dw_check.specs.Checked.{AreWellFormed, Checks, check_fault, fault_within, length_fault, bytes_within};
+ghost use Rattle.dw_sections.specs.Checked.{AreWellFormed, Checks, check_fault, fault_within, length_fault, bytes_within};
 
 use crate::laws::sections_without_fault_are_well_formed;
-use crate::stop::Section;
+use crate::section::Section;
 use dw_bytes::{Fault, FaultKind, Target};
 use dw_loclists::{CheckedLists, check_lists};
 use dw_rows::{CheckedFrame, check_frame};
@@ -15,10 +15,10 @@ use std::error::Error;
 use std::fmt;
 
 /// Sections and expressions of this many bytes or more are refused.
-pub(crate) const SECTION_LIMIT: usize = 1 << 32;
+pub const SECTION_LIMIT: usize = 1 << 32;
 
 /// The fault of a section or expression that is too long.
-pub(crate) const TOO_LONG: Fault = Fault {
+pub const TOO_LONG: Fault = Fault {
     kind: FaultKind::SectionTooLong,
     at: 0,
 };
@@ -37,7 +37,7 @@ pub struct CheckFault {
 /// The section, then the fault: `frame: 9 NoSuchCie at 0x0000001c`.
 impl fmt::Display for CheckFault {
     ghost use Rattle.std.specs.Prelude.{Some};
-    ghost use Rattle.dw_check.specs.Text.{check_fault_text};
+    ghost use Rattle.dw_sections.specs.Text.{check_fault_text};
 
     ghost output = { λ found. Some (check_fault_text found) };
 

@@ -2,10 +2,10 @@ use Rattle.std.proofs.Common.{refl}
 use Rattle.dw_frame.specs.Sections.{entries_of}
 use Rattle.dw_rows.specs.Section.{IsChecked, frame_of, cies_among, fdes_among}
 use Rattle.dw_loclists.specs.Reading.{ListSection}
-use Rattle.dw_check.specs.Headline.{list_section}
-use Rattle.dw_check.proofs.WholeCheck.{each_without_fault}
-use Rattle.dw_check.proofs.Sound.{safe, made_of}
-use Rattle.dw_check.proofs.laws.accepted_sections_are_sound.Goals as goal
+use Rattle.dw_sections.specs.Headline.{list_section}
+use Rattle.dw_sections.proofs.WholeCheck.{each_without_fault}
+use Rattle.dw_sections.proofs.Sound.{safe, made_of}
+use Rattle.dw_sections.proofs.laws.accepted_sections_are_sound.Goals as goal
 
 pub returns : goal.returns
 returns c = λ target frame lists none.

@@ -5,7 +5,7 @@ use Rattle.std.specs.Option.{option_or}
 use Rattle.std.proofs.lemmas.Bool.Decides.{nat_tests}
 use borrow.Author.Tests.{lt-ltb}
 use Rattle.dw_bytes.specs.declared.fault.Fault.{Fault}
-use Rattle.dw_check.specs.Checked.{too_long, length_fault}
+use Rattle.dw_sections.specs.Checked.{too_long, length_fault}
 
 pub short_length : (bytes : List ℕ) → length bytes < 2 ^ 32 → length_fault bytes ≡ None
 short_length bytes h = rw (lt-ltb (length bytes) (2 ^ 32) h)

@@ -10,11 +10,11 @@ use Rattle.dw_rows.specs.Section.{section_fault}
 use Rattle.dw_rows.specs.WellFormed as frames
 use Rattle.dw_loclists.specs.Reading.{lists_fault}
 use Rattle.dw_loclists.specs.Lists as tables
-use Rattle.dw_check.specs.Checked.{AreWellFormed, Checks, check_fault, fault_within, length_fault}
-use Rattle.dw_check.specs.declared.stop.Section.{Section}
-use Rattle.dw_check.specs.declared.stop.Section.TheVariants.{Frame, Lists}
-use Rattle.dw_check.specs.declared.whole_check.CheckFault.{CheckFault}
-use Rattle.dw_check.proofs.Lengths.{short_length}
+use Rattle.dw_sections.specs.Checked.{AreWellFormed, Checks, check_fault, fault_within, length_fault}
+use Rattle.dw_sections.specs.declared.section.Section.{Section}
+use Rattle.dw_sections.specs.declared.section.Section.TheVariants.{Frame, Lists}
+use Rattle.dw_sections.specs.declared.whole_check.CheckFault.{CheckFault}
+use Rattle.dw_sections.proofs.Lengths.{short_length}
 
 -- ---- the first fault of two sections
 

@@ -1,5 +1,5 @@
-use Rattle.dw_check.proofs.WholeCheck.{accepts, refuses}
-use Rattle.dw_check.proofs.whole_check.check.Goals as goal
+use Rattle.dw_sections.proofs.WholeCheck.{accepts, refuses}
+use Rattle.dw_sections.proofs.whole_check.check.Goals as goal
 
 pub returns-clause-accepts : goal.returns-clause-accepts
 returns-clause-accepts c =

@@ -10,9 +10,9 @@ use Rattle.dw_rows.specs.Section.{section_fault}
 use Rattle.dw_rows.specs.WellFormed as frame
 use Rattle.dw_loclists.specs.Reading.{lists_fault}
 use Rattle.dw_loclists.specs.Lists as tables
-use Rattle.dw_check.specs.declared.whole_check.CheckFault.{CheckFault}
-use Rattle.dw_check.specs.declared.stop.Section.{Section}
-use Rattle.dw_check.specs.declared.stop.Section.TheVariants.{Frame, Lists, Expression}
+use Rattle.dw_sections.specs.declared.whole_check.CheckFault.{CheckFault}
+use Rattle.dw_sections.specs.declared.section.Section.{Section}
+use Rattle.dw_sections.specs.declared.section.Section.TheVariants.{Frame, Lists, Expression}
 
 -- Both sections are shorter than 2^32 bytes (a rule of dwcheck, not of DWARF), and each is well
 -- formed by itself. The frame section is CIEs and FDEs whose programs pass the check, and no two
