@@ -1,6 +1,7 @@
 //! C's structs for a row and for the rule of a register, and the conversions to them.
 
 ghost use Rattle.std.specs.Prelude.{◌≡◌, ◌≤◌, length, map, pos};
+ghost use Rattle.dw_rows.specs.SavedRules.{as_saved};
 ghost use Rattle.dw_rows.specs.Views.{rule_of, cfa_rule_of};
 ghost use Rattle.dw_stack.specs.Certificates.{checked_of};
 ghost use Rattle.dwcheck_c.specs.Rows.{crule_of, cfa_coded, coded, IsRowOf};
@@ -8,7 +9,7 @@ ghost use Rattle.dwcheck_c.specs.Slots.{put_into};
 
 use crate::slots::put;
 use dw_process::FoundRow;
-use dw_rows::{CfaRule, MAX_RULES, RegisterRule, RegisterRules};
+use dw_rows::{CfaRule, MAX_RULES, PlainRules, RegisterRule, RegisterRules, UnwindRow};
 use dw_stack::CheckedExpression;
 
 /// The rule of `register`. `kind` says which rule it is. 1: undefined. 2: same value. 3: saved at
@@ -136,12 +137,48 @@ fn write_rules(rules: RegisterRules<'_, '_>, slots: &mut [CRule]) -> u32
     count
 }
 
+/// The rule of a register that is saved at the CFA plus `offset`.
+fn saved_rule(register: u16, offset: i64) -> CRule
+    ensures { result ≡ crule_of (as_saved (register, offset)) }
+{
+    without_expression(register, 3, offset, 0)
+}
+
+/// Writes rules that only say where registers are saved to `slots`, as many as fit. Returns the
+/// number of rules, as `write_rules` does. Nearly all rows that compilers write for x86-64 have only
+/// such rules, and none of them has to be matched.
+fn write_saved(rules: PlainRules<'_>, slots: &mut [CRule]) -> u32
+    requires { length rules ≤ MAX_RULES }
+    ensures written { slots.new ≡ put_into (map crule_of (map as_saved rules.entry)) slots.old }
+    ensures count { result ≡ length rules.entry }
+{
+    let mut count: u32 = 0;
+    for (register, offset) in rules {
+        put(slots, count as usize, saved_rule(register, offset));
+        count += 1;
+    }
+    count
+}
+
+/// Writes the rules of a row to `slots`, as many as fit. Returns the number of rules.
+fn write_rules_of(row: &UnwindRow<'_, '_>, slots: &mut [CRule]) -> u32
+    ensures written { slots.new ≡ put_into (map crule_of row.now.rules) slots.old }
+    ensures count { result ≡ length row.now.rules }
+    ensures few { result ≤ MAX_RULES }
+{
+    let rules = row.rules();
+    match row.plain_rules(u16::MAX) {
+        Some(plain) => write_saved(plain, slots),
+        None => write_rules(rules, slots),
+    }
+}
+
 /// Writes a row to `row`, and its rules to `rules`, as many as fit.
 pub(crate) fn write_row(found: &FoundRow<'_>, row: &mut CRow, rules: &mut [CRule])
     ensures row { IsRowOf found.now row.new rules.old rules.new }
     ensures few { row.new.count ≤ MAX_RULES }
 {
-    let count = write_rules(found.row.rules(), rules);
+    let count = write_rules_of(&found.row, rules);
     *row = CRow {
         id: found.id,
         cookie: found.cookie,
