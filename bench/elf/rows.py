@@ -82,7 +82,7 @@ def by_readelf(path):
     its range, its rows and its CIE's rows. readelf prints a row for each advance of the location;
     of rows with the same address, only the last is returned. For an FDE without instructions
     readelf prints no row; then compare() takes the CIE's."""
-    command = ["readelf", "--debug-dump=frames-interp", "--wide", path]
+    command = ["readelf", "--debug-dump=no-follow-links", "--debug-dump=frames-interp", "--wide", path]
     shown = subprocess.run(command, capture_output=True, text=True, errors="replace").stdout
     sections, fdes, rows, columns, cies = {}, None, None, [], {}
     for line in shown.splitlines():
