@@ -11,6 +11,10 @@
 #              walks are compared with libunwind's too
 #     TESTS    crates/dw_tests/out/dw_tests_tests, which `rt test` in crates/dw_tests makes: then
 #              there are also runs in which each request for memory fails in turn
+#     ANSWERS  eh_frame_answers, an example of rust/dwcheck: then what the library finds in .eh_frame
+#              sections is compared with a model
+#     DAMAGED  damaged_eh_frame, an example of rust/dwcheck-elf: then damaged .eh_frame sections are
+#              checked, and compared with gimli
 #     SEED     a number that chooses the random cases; 1 if not set
 #     COUNT    the number of random cases of each kind; 2000 if not set
 set -u
@@ -46,6 +50,12 @@ if [ -n "$elf" ]; then
     run elf-rows "$here/elf/rows.py" "$elf" 300000 /usr/bin
     run elf-damage "$here/elf/damage.py" "$elf" 1000 "$seed" --jobs 2
     run lint-damage "$here/elf/damage_lint.py" "$elf" 1000 "$seed" --jobs 2
+fi
+if [ -n "${ANSWERS:-}" ]; then
+    run eh-frame "$here/comparisons/compare_eh_frame.py" "$(realpath "$ANSWERS")" "$count" "$seed" --jobs 2 --pieces 1 /bin/ls
+fi
+if [ -n "${DAMAGED:-}" ]; then
+    run eh-damage "$(realpath "$DAMAGED")" $((100 * count)) "$seed" 2 /bin/ls /usr/bin/env
 fi
 if [ -n "${TESTS:-}" ]; then
     run memory "$here/stress/refused_memory.py" "$(realpath "$TESTS")" "$program"
