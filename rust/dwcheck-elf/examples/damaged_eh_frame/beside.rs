@@ -124,7 +124,9 @@ impl<'a> Beside<'a> {
         let letters = letters(&self.section.bytes[cie.offset as usize..cie.next as usize]);
         let has = |some: &[u8]| letters.iter().any(|letter| some.contains(letter));
         match error {
-            UnknownAugmentation if has(b"BGe") => Some(Limit::Letters),
+            // gimli takes the address after the string for the fields that follow it.
+            _ if letters == b"eh" => Some(Limit::Letters),
+            UnknownAugmentation if has(b"BG") => Some(Limit::Letters),
             UnsupportedPointerEncoding if has(b"R") => Some(Limit::Aligned),
             BadUnsignedLeb128 | BadSignedLeb128 | UnexpectedEof(_) | UnknownPointerEncoding if has(b"LP") => {
                 Some(Limit::UnreadPointer)
