@@ -27,6 +27,7 @@ UNSIGNED_LEB, SIGNED_LEB = 0x1, 0x9
 # The high four bits of those that are relative to something.
 FROM_PLACE, FROM_TEXT, FROM_DATA = 0x10, 0x20, 0x30
 ALIGNED, OMITTED, INDIRECT = 0x50, 0xff, 0x80
+# Those that may stand beside the low four bits in the encoding of an FDE's addresses.
 RELATIONS = (0, FROM_PLACE, FROM_TEXT, FROM_DATA)
 
 # The instructions that both formats have, with their codes, and those that only `.eh_frame` has. These
@@ -191,7 +192,8 @@ def without_copies(fdes):
 def accepted_text(cies, fdes, kept, found, size):
     """What a section without a fault contains, where exact copies count once; all FDEs with their
     rows, copies too; and which FDEs are signal frames'."""
-    rows = sum(len(rows) for described, _, rows in found if any(described is one for one in kept))
+    counted = {described["at"] for described in kept}
+    rows = sum(len(rows) for described, _, rows in found if described["at"] in counted)
     expressions = sum(len(one["expressions"]) for one in [*cies.values(), *kept])
     text = f"accepted cies {len(cies)} fdes {len(kept)} rows {rows} expressions {expressions}\n"
     signals = [f" 0x{described['at']:08x}" for described in fdes if cies[described["pointer"]]["signal"]]
