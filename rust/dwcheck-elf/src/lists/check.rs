@@ -1,10 +1,10 @@
 //! Checks all location lists of a program.
 
-use super::contents::Doubtful;
 use super::expression::Scope;
 use super::lints::Surroundings;
 use super::look_ups::LookUps;
-use super::references::{abbreviations_length, references, References};
+use super::problem::Problem;
+use super::references::{abbreviations_length, references, Reference, References};
 use super::report::{report, units, NAMES};
 use super::section::{checked, every_problem, Section};
 use super::unit::{Source, UnitLists};
@@ -255,21 +255,7 @@ impl<'a> Lists<'a> {
         let (load, known) = (0, &|_, _: &[u8]| None);
         let scope = Scope { target: self.target, version, offset_size, address: &address, load, known };
         let source = Source { bytes: section.bytes, section: name, scope, base: unit.low_pc };
-        let mut lists = UnitLists::default();
-        let mut problems = Vec::new();
-        for reference in &references.all {
-            match lists.add(*reference, &source, |_| false) {
-                Ok(found) => problems.extend(found),
-                Err(problem) => problems.push(problem),
-            }
-            if lists.original_bytes > section.left {
-                return Err(InspectError::DebugInfo(None, format!("{}: lists share too many bytes", name)));
-            }
-        }
-        let failed = |error| InspectError::Dwcheck(name, error);
-        if checked(&lists.bytes, self.target).map_err(failed)?.is_some() {
-            problems.extend(every_problem(&lists, &source, self.target).map_err(failed)?);
-        }
+        let (lists, problems) = read_lists(&references.all, &source, section.left)?;
         let compared = validate(dwarf, unit, &lists, name, source.new_base(unit.low_pc));
         section.contents.not_compared += compared.map_err(|difference| InspectError::List(name, difference))?;
         if let Some(look_ups) = &mut self.look_ups {
@@ -281,16 +267,34 @@ impl<'a> Lists<'a> {
         let (lowest, target) = (self.lowest, self.target);
         let surroundings =
             Surroundings { section: section.bytes, unit: &ranges, around: &references.around, lowest, target };
-        let (keeps, doubtful) = (self.check.doubtful, &mut section.doubtful);
-        section.contents.lints.add(&lists, &surroundings, |lint, list, entry| {
-            if keeps {
-                let (list, reference) = (list.original.start as u64, list.reference.entry);
-                let (entry, range) = (entry.offset as u64, entry.range.clone());
-                doubtful.push((index, reference, Doubtful { lint, entry, list, range, variable: None }));
-            }
-        });
+        section.add_doubtful(index, &lists, &surroundings, self.check.doubtful);
         section.note(&lists, &source);
         section.problems.extend(problems.into_iter().map(|problem| (index, problem)));
         Ok(())
     }
+}
+
+/// Reads the lists of a unit, which may have so many bytes, and checks them. Returns what is wrong with them too.
+fn read_lists(
+    references: &[Reference],
+    source: &Source<'_>,
+    left: usize,
+) -> Result<(UnitLists, Vec<Problem>), InspectError> {
+    let (name, target) = (source.section, source.scope.target);
+    let mut lists = UnitLists::default();
+    let mut problems = Vec::new();
+    for reference in references {
+        match lists.add(*reference, source, |_| false) {
+            Ok(found) => problems.extend(found),
+            Err(problem) => problems.push(problem),
+        }
+        if lists.original_bytes > left {
+            return Err(InspectError::DebugInfo(None, format!("{}: lists share too many bytes", name)));
+        }
+    }
+    let failed = |error| InspectError::Dwcheck(name, error);
+    if checked(&lists.bytes, target).map_err(failed)?.is_some() {
+        problems.extend(every_problem(&lists, source, target).map_err(failed)?);
+    }
+    Ok((lists, problems))
 }

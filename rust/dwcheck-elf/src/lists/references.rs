@@ -2,7 +2,9 @@
 
 use super::around::{is_scope, Around, Bounds, Nesting};
 use crate::debug_info::Slice;
-use gimli::{Abbreviation, AttributeValue, DwAt, DwForm, DwarfFileType, EntriesRaw, Reader, Unit, UnitOffset};
+use gimli::{
+    Abbreviation, Attribute, AttributeValue, DwAt, DwForm, DwarfFileType, EntriesRaw, Reader, Unit, UnitOffset,
+};
 use std::fmt;
 
 /// `DW_AT_GNU_locviews`: where the view numbers of a list are.
@@ -87,6 +89,14 @@ fn may_refer(abbreviation: &Abbreviation) -> bool {
     abbreviation.attributes().iter().any(|attribute| is_reference(attribute.form()))
 }
 
+/// What an attribute refers to in the section of lists.
+enum Referred {
+    /// A list, by its offset. `None` if the index of the attribute leads to none.
+    List(Option<u64>),
+    /// The view numbers of a list, by their offset.
+    Views(u64),
+}
+
 /// Reads the entries of a unit one after another.
 struct ReferenceReader<'r, 'a> {
     dwarf: &'r gimli::Dwarf<Slice<'a>>,
@@ -107,22 +117,12 @@ impl<'a> ReferenceReader<'_, 'a> {
         let (mut views, mut bounds) = (None, Bounds::default());
         for specification in abbreviation.attributes() {
             let attribute = entries.read_attribute(*specification)?;
-            let list = match attribute.value() {
-                AttributeValue::LocationListsRef(list) => Some(list.0 as u64),
-                AttributeValue::DebugLocListsIndex(index) => {
-                    self.dwarf.locations_offset(self.unit, index).ok().map(|list| list.0 as u64)
-                }
-                AttributeValue::SecOffset(offset) if attribute.name() == LOCVIEWS => {
-                    views = Some(offset as u64 + views_base(self.dwarf, self.unit));
-                    continue;
-                }
-                _ => {
-                    bounds.note(&attribute);
-                    continue;
-                }
-            };
+            match self.referred(&attribute) {
+                Some(Referred::List(list)) => self.found.push(Reference { list, entry, views: None, around: None }),
+                Some(Referred::Views(at)) => views = Some(at),
+                None => {}
+            }
             bounds.note(&attribute);
-            self.found.push(Reference { list, entry, views: None, around: None });
         }
         if is_scope(abbreviation.tag()) {
             self.nesting.enter(depth, abbreviation.tag(), bounds);
@@ -136,6 +136,21 @@ impl<'a> ReferenceReader<'_, 'a> {
             self.found[first..].iter_mut().for_each(|reference| reference.around = around);
         }
         Ok(())
+    }
+
+    /// What an attribute refers to. `None` if that isn't in the section of lists.
+    fn referred(&self, attribute: &Attribute<Slice<'a>>) -> Option<Referred> {
+        match attribute.value() {
+            AttributeValue::LocationListsRef(list) => Some(Referred::List(Some(list.0 as u64))),
+            AttributeValue::DebugLocListsIndex(index) => {
+                let list = self.dwarf.locations_offset(self.unit, index).ok();
+                Some(Referred::List(list.map(|list| list.0 as u64)))
+            }
+            AttributeValue::SecOffset(offset) if attribute.name() == LOCVIEWS => {
+                Some(Referred::Views((offset as u64).saturating_add(views_base(self.dwarf, self.unit))))
+            }
+            _ => None,
+        }
     }
 }
 

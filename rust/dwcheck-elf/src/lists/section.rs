@@ -3,6 +3,7 @@
 use super::contents::{Contents, Doubtful};
 use super::coverage::{headers_alone, tables, Coverage, Part};
 use super::entry::end_of_views;
+use super::lints::Surroundings;
 use super::problem::{Kind, Problem};
 use super::unit::{Entry, Source, UnitLists, TABLE_HEADER};
 use crate::frames::Name;
@@ -55,6 +56,18 @@ impl<'a> Section<'a> {
         self.contents.entries += lists.entries.len();
         self.contents.with_holes += lists.with_holes;
         lists.holes.iter().for_each(|(hole, count)| *self.contents.holes.entry(*hole).or_default() += count);
+    }
+
+    /// Counts the entries of a unit's lists that are most likely mistakes, and keeps them if they are asked for.
+    pub fn add_doubtful(&mut self, unit: usize, lists: &UnitLists, surroundings: &Surroundings<'_>, keeps: bool) {
+        let doubtful = &mut self.doubtful;
+        self.contents.lints.add(lists, surroundings, |lint, list, entry| {
+            if keeps {
+                let (list, reference) = (list.original.start as u64, list.reference.entry);
+                let (entry, range) = (entry.offset as u64, entry.range.clone());
+                doubtful.push((unit, reference, Doubtful { lint, entry, list, range, variable: None }));
+            }
+        });
     }
 
     /// Checks the headers of the tables, and accounts for all bytes.

@@ -59,35 +59,54 @@ fn check_one(words: &CheckWords, path: &Path, out: &mut impl Write) -> Result<Do
     }
     for section in &sections {
         let file = section.file.as_deref().or(separate.as_deref()).filter(|_| section.lists.is_some());
-        match &section.verdict {
-            Verdict::Refused(defects) => {
-                defects.iter().try_for_each(|defect| write_defect(out, file.unwrap_or(path), defect))?;
-                done = done.max(write_rest(out, path, section)?);
-                section.lists.as_ref().map_or(Ok(()), |lists| write_found(out, lists))?;
-            }
-            Verdict::FoundLists => write_found_lists(out, path, file, section)?,
-            Verdict::Unread(error) => {
-                out.flush()?;
-                note(path, error);
-                done = Done::Unread;
-                continue;
-            }
-            _ => {
-                writeln!(out, "{}: {}: accepted", shown(path), section.name)?;
-                write_accepted(out, section)?;
-            }
+        done = done.max(write_verdict(out, path, file, section)?);
+        if matches!(section.verdict, Verdict::Unread(_)) {
+            continue;
         }
-        for one in section.lists.iter().flat_map(|lists| &lists.doubtful) {
-            writeln!(out, "{}: {}{}", shown(file.unwrap_or(path)), section.name, one)?;
-        }
+        write_doubtful(out, file.unwrap_or(path), section)?;
         if let Some(frames) = &section.frames {
             write_header(out, path, &program, frames)?;
-        }
-        if let Some(frames) = section.frames.as_ref().filter(|_| words.notes.notes) {
-            write_notes(out, frames)?;
+            if words.notes.notes {
+                write_notes(out, frames)?;
+            }
         }
     }
     Ok(done)
+}
+
+/// Writes whether a section is accepted, or what is refused, and what it holds. `separate` is the file that has
+/// it, if it isn't the program itself.
+fn write_verdict(
+    out: &mut impl Write,
+    path: &Path,
+    separate: Option<&Path>,
+    section: &Inspected<'_>,
+) -> Result<Done, Failure> {
+    match &section.verdict {
+        Verdict::Refused(defects) => {
+            defects.iter().try_for_each(|defect| write_defect(out, separate.unwrap_or(path), defect))?;
+            let done = write_rest(out, path, section)?;
+            section.lists.as_ref().map_or(Ok(()), |lists| write_found(out, lists))?;
+            return Ok(done);
+        }
+        Verdict::FoundLists => write_found_lists(out, path, separate, section)?,
+        Verdict::Unread(error) => {
+            out.flush()?;
+            note(path, error);
+            return Ok(Done::Unread);
+        }
+        _ => {
+            writeln!(out, "{}: {}: accepted", shown(path), section.name)?;
+            write_accepted(out, section)?;
+        }
+    }
+    Ok(Done::Accepted)
+}
+
+/// Writes a line for each entry of location lists that is most likely a mistake, if they are asked for.
+fn write_doubtful(out: &mut impl Write, file: &Path, section: &Inspected<'_>) -> io::Result<()> {
+    let mut doubtful = section.lists.iter().flat_map(|lists| &lists.doubtful);
+    doubtful.try_for_each(|one| writeln!(out, "{}: {}{}", shown(file), section.name, one))
 }
 
 /// Adds the location lists of a program to its sections. Returns the path of the separate file of debug

@@ -97,26 +97,39 @@ pub fn survey(words: &SurveyWords, out: &mut impl Write) -> Result<Done, Failure
         in_order(surveyed, |one| {
             bar.inc(1);
             totals.count(&one);
-            bar.suspend(|| match (words.json, words.sarif) {
-                (true, _) => json::write_file(out, &one),
-                (false, true) => {
-                    results.add(&one);
-                    note_errors(&one);
-                    Ok(())
-                }
-                (false, false) => write_refused(out, &one),
-            })
+            bar.suspend(|| write_one(out, words, &one, &mut results))
         })
     })?;
     bar.finish_and_clear();
-    if words.json {
-        json::write_totals(out, &totals)?;
-    } else if words.sarif {
-        results.write(out, json::totals(&totals))?;
-    } else {
-        totals.write(out, words.notes.notes)?;
-    }
+    write_totals(out, words, &totals, results)?;
     Ok(totals.done())
+}
+
+/// Writes what was found in a file, or keeps it for the document of SARIF.
+fn write_one(
+    out: &mut impl Write,
+    words: &SurveyWords,
+    one: &Surveyed,
+    results: &mut sarif::Results,
+) -> io::Result<()> {
+    match (words.json, words.sarif) {
+        (true, _) => json::write_file(out, one),
+        (false, true) => {
+            results.add(one);
+            note_errors(one);
+            Ok(())
+        }
+        (false, false) => write_refused(out, one),
+    }
+}
+
+/// Writes the totals, and the document of SARIF that has them.
+fn write_totals(out: &mut impl Write, words: &SurveyWords, totals: &Totals, results: sarif::Results) -> io::Result<()> {
+    match (words.json, words.sarif) {
+        (true, _) => json::write_totals(out, totals),
+        (false, true) => results.write(out, json::totals(totals)),
+        (false, false) => totals.write(out, words.notes.notes),
+    }
 }
 
 /// Calls `take` with the results in the order of their numbers, each as soon as those before it are there.
