@@ -8,7 +8,8 @@ For example: bench/elf/debug_packages.py build/dwcheck-elf libc6-dbg python3.11-
 Each PACKAGE is a name, which `apt-get download` fetches, or a .deb file, or a folder with files. The
 packages are read one after another. Their files are written to a temporary folder, at most 1 GB of them
 at once, checked by `dwcheck-elf survey --lists`, and deleted. A file that is a copy of an earlier one is
-checked once. With --minutes, no package is begun after that time. Only files with .debug_loc or .debug_loclists count. Each of them is counted once:
+checked once. With --minutes, no package is begun after that time. An interrupt (SIGINT) ends a run, which then
+prints what it found until then. Only files with .debug_loc or .debug_loclists count. Each of them is counted once:
 
     accepted               all of its lists are checked, and accepted
     accepted in part       the same, but the lists have expressions that pass a limit of dwcheck, or whose
@@ -119,7 +120,7 @@ class Survey:
         self.counts["files"] += 1
         for one in sections:
             self.counts["sections"] += 1
-            self.counts["lists"] += one.get("lists", 0)
+            self.counts["lists that are accepted"] += one.get("lists", 0)
             self.counts["entries"] += one.get("entries", 0)
             self.counts["entries with holes"] += one.get("not_evaluated", 0)
             self.counts["lists not compared to their end"] += one.get("not_compared", 0)
@@ -210,6 +211,8 @@ def main():
             survey.check()
             read += 1
             print(f"{name}: {survey.counts['files']} files so far", file=sys.stderr, flush=True)
+    except KeyboardInterrupt:
+        survey.problems.append("interrupted")
     finally:
         shutil.rmtree(work)
     print(f"packages {read} of {len(words.packages)}")
