@@ -64,8 +64,7 @@ def plain(value, depth=1):
             return {"points_to": plain(value.dereference(), depth)}
         return hex(int(value) & (1 << 8 * kind.sizeof) - 1)
     if kind.code == gdb.TYPE_CODE_FLT:
-        number = float(value)
-        return repr(struct.unpack("<f", struct.pack("<f", number))[0]) if kind.sizeof == 4 else repr(number)
+        return single(float(value)) if kind.sizeof == 4 else repr(float(value))
     if kind.code == gdb.TYPE_CODE_ENUM:
         return str(value).split("::")[-1]
     if kind.code == gdb.TYPE_CODE_BOOL:
@@ -80,6 +79,12 @@ def plain(value, depth=1):
             return "?"
         return [part(value[place], depth) for place in range(low, min(high, low + 199) + 1)]
     return "?"
+
+
+def single(number):
+    """The shortest text of a number of 4 bytes, which vars writes."""
+    texts = ("%.*g" % (digits, number) for digits in range(1, 10))
+    return next((text for text in texts if struct.pack("<f", float(text)) == struct.pack("<f", number)), repr(number))
 
 
 def part(value, depth):
@@ -152,6 +157,7 @@ def in_gdb():
     """Stops the program at instructions, and writes what gdb knows there."""
     with open(os.environ["VARIABLES_PY"]) as file:
         asked = json.load(file)
+    asked["drawn"] = set(asked["places"])
     for line in ("pagination off", "confirm off", "width 0", "disable-randomization on", "startup-with-shell off"):
         gdb.execute("set " + line)
     stops, runs = [], 0
@@ -177,7 +183,9 @@ def run(asked, stops):
         if not gdb.selected_inferior().pid:
             break
         waiting = [point for point in waiting if point.is_valid()]
-        stops.append(stop(asked, load, len(stops)))
+        # A signal can stop the program elsewhere.
+        if gdb.newest_frame().pc() - load in asked["drawn"]:
+            stops.append(stop(asked, load, len(stops)))
     for point in waiting:
         if point.is_valid():
             point.delete()
@@ -222,9 +230,9 @@ def same(one, other):
         if other.split(" ")[0] == one:
             return True
         try:
-            return float(one) == float(other)
+            return one.lower() == other.lower() or float(one) == float(other)
         except ValueError:
-            return one.lower() == other.lower()
+            return False
     return False
 
 
@@ -237,40 +245,61 @@ def zeros(value, one):
     return all(same(left, right) or right is None and left in ("0", "0x0", "false") for left, right in pairs)
 
 
+def pairs(theirs, ours):
+    """Pairs gdb's values of the variables of one name with those of vars: first those that are the same, then the
+    rest in gdb's order, which is that from the innermost block outward. gdb lists some variables of inlined functions
+    twice, once without a value: values that it doesn't have, or that can't be compared, come last. Without a partner,
+    a value has None."""
+    theirs = sorted(theirs, key=lambda value: 2 if value is None else value == "?")
+    left, found, rest = list(reversed(ours)), [], []
+    for value in theirs:
+        one = next((one for one in left if value is not None and same(value, one["value"])), None)
+        if one is None:
+            rest.append(value)
+        else:
+            found.append((value, one))
+            left.remove(one)
+    missing = [None] * (len(rest) - len(left))
+    return found + list(zip(rest, left + missing)), left[len(rest):]
+
+
+def classify(value, one):
+    """The line in which a variable is counted that gdb lists, by gdb's value and by what vars says of it."""
+    if one is None:
+        return "neither" if value is None else "only gdb"
+    if value is None:
+        return "neither" if one["value"] is None else "only dwcheck-elf"
+    if one["value"] is None:
+        return f"not evaluated: {one['missing']}"
+    if isinstance(one["value"], str) and one["value"].startswith("points to "):
+        return "implicit pointer"
+    if isinstance(value, dict) and value.get("points_to", "") is None:
+        return "only dwcheck-elf"
+    return "equal" if same(value, one["value"]) else "zeros" if zeros(value, one) else "DIFFERENT"
+
+
 def compare(stop, shown, count):
     """Counts the variables of a stop by what gdb and vars say."""
-    ours = collections.defaultdict(list)
+    ours, theirs = collections.defaultdict(list), collections.defaultdict(list)
     for depth, function in enumerate(reversed(shown["functions"])):
         for variable in function["variables"]:
             ours[depth, variable["name"]].append(variable)
     for depth, name, value in stop["variables"]:
-        found = ours[depth, name]
-        place = next((place for place, one in enumerate(found) if same(value, one["value"])), 0)
-        where = f"{stop['address']:#x} {name}"
-        if not found:
-            count("neither" if value is None else "only gdb", f"{where}: {value}")
-            continue
-        one = found.pop(place)
-        missing = one["missing"]
-        if value is None:
-            count("neither" if one["value"] is None else "only dwcheck-elf", f"{where}: {one}")
-        elif one["value"] is None:
-            count(f"not evaluated: {missing}", f"{where}: {value}")
-        elif isinstance(one["value"], str) and one["value"].startswith("points to "):
-            count("implicit pointer", f"{where}: {value}, {one}")
-        elif isinstance(value, dict) and value.get("points_to", "") is None:
-            count("only dwcheck-elf", f"{where}: {one}")
-        else:
-            what = "equal" if same(value, one["value"]) else "zeros" if zeros(value, one) else "DIFFERENT"
-            count(what, f"{where}: {value}, {one}")
-    for (depth, name), left in ours.items():
+        theirs[depth, name].append(value)
+    for key in {**theirs, **ours}:
+        found, left = pairs(theirs[key], ours[key])
+        where = f"{stop['address']:#x} {key[1]}"
+        for value, one in found:
+            count(classify(value, one), f"{where}: {value}, {one}")
         for one in left:
-            count("neither" if one["value"] is None else "not in gdb", f"{stop['address']:#x} {name}: {one}")
+            count("neither" if one["value"] is None else "not in gdb", f"{where}: {one}")
 
 
 def instructions(program, word):
     """The addresses of the instructions of the program's own functions whose names contain a word."""
-    shown = subprocess.run(["objdump", "-d", "-j", ".text", program], capture_output=True, text=True, check=True).stdout
+    # -w keeps each instruction on one line: the rest of a long one would look like an instruction.
+    words = ["objdump", "-d", "-w", "-j", ".text", program]
+    shown = subprocess.run(words, capture_output=True, text=True, check=True).stdout
     functions = re.split(r"^[0-9a-f]+ <(.*)>:$", shown, flags=re.M)
     own = [text for name, text in zip(functions[1::2], functions[2::2]) if word in name]
     return [int(found, 16) for text in own for found in re.findall(r"^ +([0-9a-f]+):\t", text, re.M)]
