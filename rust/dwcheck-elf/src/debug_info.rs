@@ -1,5 +1,6 @@
 //! The sections of debug information of a program, as gimli takes them.
 
+mod definitions;
 mod split;
 mod units;
 

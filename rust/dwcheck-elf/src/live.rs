@@ -147,7 +147,7 @@ impl Snapshot {
             Err(TraceError::Gone) => return,
             Err(error) => return self.skipped.push((tid, error)),
         };
-        let registers = stopped.registers(self.target, self.abi);
+        let (registers, vectors) = (stopped.registers(self.target, self.abi), stopped.vectors(self.target, self.abi));
         let stack = registers.as_ref().and_then(|registers| self.stack(registers));
         let own = registers.as_ref().and_then(|registers| self.own_stack(tid, registers, stack.as_ref()));
         self.pac_mask = self.pac_mask.or_else(|| stopped.pac_mask());
@@ -158,7 +158,7 @@ impl Snapshot {
         if let Some(registers) = registers {
             self.blocks.extend(stack.into_iter().chain(own));
             let name = self.process.thread_name(tid);
-            self.threads.push(Thread { id: tid, name, signal: 0, registers });
+            self.threads.push(Thread { id: tid, name, signal: 0, registers, vectors });
         }
     }
 

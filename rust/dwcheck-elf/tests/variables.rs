@@ -14,6 +14,7 @@ __attribute__((noinline)) int work(struct point p, enum color c, const char *tex
     int local[3] = {1, -2, 3};
     short many[256] = {[255] = 7};
     long long big = -5000000000;
+    double huge = 1e300, tiny = 2.5e-310;
     struct point *self = &p;
     {
         unsigned char in_block = 200;
@@ -53,6 +54,8 @@ fn values_of_each_kind_of_type() {
             "var local: int [3] = {1, -2, 3}",
             "var many: short int [256] = {0, 0, 0",
             "var big: long long int = -5000000000",
+            "var huge: double = 1e300",
+            "var tiny: double = 2.5e-310",
             "var self: struct point * = 0x",
             "var in_block: unsigned char = 200 '\\xc8'",
         ];
@@ -66,7 +69,138 @@ fn values_of_each_kind_of_type() {
         let deeper = dwcheck_elf(&folder, "vars --core core --depth 2");
         assert!(deeper.out.contains("in = {d = 1.5}"), "{}", deeper.out);
         let main = dwcheck_elf(&folder, "vars --core core --frame 1");
-        assert!(main.out.starts_with("function main (a.c:16)\n    param argc: int = 1 "), "{}", main.out);
+        assert!(main.out.starts_with("function main (a.c:17)\n    param argc: int = 1 "), "{}", main.out);
+    }
+}
+
+/// Numbers of enumerations for which there is no name. Those of an enumeration without negative constants have no
+/// sign, so that `unnamed` is more than the greatest signed number.
+const ENUMERATIONS: &str = "
+enum color { RED, GREEN = 5, BLUE = 0x80000000 };
+enum below { UNDER = -9, ZERO = 0 };
+__attribute__((noinline)) int work(int n) {
+    enum color unnamed = (enum color)(0x80000000 + n), blue = BLUE;
+    enum below under = (enum below)(n - 8), lowest = UNDER;
+    __builtin_trap();
+    return unnamed + blue + under + lowest;
+}
+int main(int argc, char **argv) { return work(argc); }
+";
+
+#[test]
+fn numbers_of_enumerations_have_their_sign() {
+    let folder = Folder::new("vars-enumerations");
+    if !may_trace() {
+        return;
+    }
+    folder.write("a.c", ENUMERATIONS);
+    for compiler in ["gcc -gdwarf-5", "gcc -gdwarf-4", "clang -gdwarf-5"] {
+        if !has(compiler.split(' ').next().unwrap()) {
+            continue;
+        }
+        folder.run(&format!("{} -O0 -g a.c -o program", compiler));
+        folder.crash("./program");
+        let by_gdb = folder.run("gdb --batch -nx -ex 'info locals' program core 2> /dev/null");
+        let ran = dwcheck_elf(&folder, "vars --core core");
+        let found = values(&ran);
+        let expected = [
+            ("color", "unnamed = 2147483649"),
+            ("color", "blue = BLUE"),
+            ("below", "under = -7"),
+            ("below", "lowest = UNDER"),
+        ];
+        for (kind, shown) in expected {
+            assert!(by_gdb.lines().any(|line| line == shown), "{}: no {}: {}", compiler, shown, by_gdb);
+            let (name, value) = shown.split_once(" = ").unwrap();
+            let line = format!("var {}: enum {} = {}", name, kind, value);
+            assert!(found.contains(&line), "{}: no {}: {} {}", compiler, line, ran.out, ran.error);
+        }
+    }
+}
+
+/// Members of bits, with the signs and the names of their types.
+const BITS: &str = "
+enum color { RED, GREEN = 5, BLUE };
+enum below { UNDER = -3, ZERO = 0 };
+struct bits {
+    enum color color : 3, other : 3;
+    enum below below : 4, under : 4;
+    _Bool yes : 1;
+    int small : 5;
+    unsigned wide : 5;
+};
+__attribute__((noinline)) int work(struct bits b) { __builtin_trap(); return b.small; }
+int main(int argc, char **argv) { return work((struct bits){BLUE, 7, UNDER, -7, 1, -3, 17}); }
+";
+
+#[test]
+fn members_of_bits_are_shown_by_their_types() {
+    let folder = Folder::new("vars-bits");
+    if !may_trace() {
+        return;
+    }
+    folder.write("a.c", BITS);
+    // The last one says nothing of the signs of enumerations.
+    for flags in ["-gdwarf-5", "-gdwarf-4", "-gdwarf-3 -gstrict-dwarf"] {
+        folder.run(&format!("gcc -O0 {} a.c -o program", flags));
+        folder.crash("./program");
+        let shown = "b = {color = BLUE, other = 7, below = UNDER, under = -7, yes = true, small = -3, wide = 17}";
+        let by_gdb = folder.run("gdb --batch -nx -ex 'info args' program core 2> /dev/null");
+        assert!(by_gdb.lines().any(|line| line == shown), "{}", by_gdb);
+        let ran = dwcheck_elf(&folder, "vars --core core");
+        let line = format!("param b: struct bits = {}", shown.split_once(" = ").unwrap().1);
+        assert!(values(&ran).contains(&line), "{}: {} {}", flags, ran.out, ran.error);
+    }
+}
+
+#[test]
+fn numbers_in_vector_registers_are_shown() {
+    let folder = Folder::new("vars-vectors");
+    if !may_trace() {
+        return;
+    }
+    folder.write(
+        "a.c",
+        "__attribute__((noipa)) double inner(double d, float f) { __builtin_trap(); return d + f; }
+__attribute__((noipa)) double outer(double e, float f) { return inner(e * 2, f + 1) + e; }
+int main(int argc, char **argv) { return outer(argc + 0.25, -argc) > 4; }
+",
+    );
+    folder.run("gcc -O2 -g a.c -o program");
+    // Core files of gdb and of the kernel have them.
+    folder.run("gdb --batch -ex 'set startup-with-shell off' -ex run -ex 'gcore core' ./program < /dev/null");
+    let ran = dwcheck_elf(&folder, "vars --core core");
+    assert_eq!(values(&ran), ["param d: double = 2.5", "param f: float = 0"], "{:?}", ran);
+    // A call may change them, so that they aren't those of the caller: `e` is in memory.
+    let caller = dwcheck_elf(&folder, "vars --core core --frame 1");
+    assert_eq!(
+        values(&caller),
+        ["param e: double = 1.25", "param f: float: not evaluated: entry_value"],
+        "{:?}",
+        caller
+    );
+}
+
+/// clang describes a class where its constructor is, and only declares it elsewhere.
+#[test]
+fn types_that_another_unit_defines_are_found() {
+    let folder = Folder::new("vars-declared");
+    if !may_trace() || !has("clang++") {
+        return;
+    }
+    let class = "namespace forms { struct shape { shape(int sides); int sides; double size; }; }\n";
+    let uses = "__attribute__((noinline)) int work(int n) { forms::shape s(n); __builtin_trap(); return s.sides; }
+int main(int argc, char **argv) { return work(argc + 3); }
+";
+    folder.write("a.cc", format!("{}{}", class, uses));
+    folder.write("b.cc", format!("{}forms::shape::shape(int n) : sides(n), size(n * 1.5) {{}}\n", class));
+    // Another type of this name, in another namespace.
+    folder.write("c.cc", "namespace others { struct shape { char c; }; } others::shape none() { return {}; }\n");
+    for flags in ["-gdwarf-5", "-gdwarf-4"] {
+        folder.run(&format!("clang++ -O0 {} c.cc a.cc b.cc -o program", flags));
+        folder.crash("./program");
+        let ran = dwcheck_elf(&folder, "vars --core core");
+        assert!(values(&ran).contains(&"var s: shape = {sides = 4, size = 6}".to_string()), "{:?}", ran);
     }
 }
 

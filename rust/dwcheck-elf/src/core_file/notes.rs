@@ -1,12 +1,12 @@
 //! Reads the notes of a core file.
 
-use super::registers::{thread, Thread};
+use super::registers::{thread, vectors, Thread};
 use super::{CoreError, Signal};
 use crate::abi::Abi;
 use crate::bytes::{Cursor, ReadError};
 use crate::live::Map;
 use crate::target::{AddressSize, Target};
-use object::elf::{NT_AUXV, NT_FILE, NT_PRPSINFO, NT_PRSTATUS, NT_SIGINFO};
+use object::elf::{NT_AUXV, NT_FILE, NT_PRFPREG, NT_PRPSINFO, NT_PRSTATUS, NT_SIGINFO};
 
 /// The type of the entry of the auxiliary vector that has the address of the program's first
 /// instruction.
@@ -86,6 +86,10 @@ impl<'data> Notes<'data> {
             NT_ARM_PAC_MASK if owner == b"LINUX" => self.pac_mask(bytes),
             _ if owner != b"CORE" => Ok(()),
             NT_PRSTATUS => thread(bytes, self.target, self.abi).map(|thread| self.threads.push(thread)),
+            NT_PRFPREG => {
+                self.vectors(bytes);
+                Ok(())
+            }
             NT_SIGINFO => signal(bytes, self.target).map(|signal| self.signal = self.signal.or(Some(signal))),
             NT_FILE => self.files(bytes),
             NT_PRPSINFO => process(bytes, self.target).map(|process| self.process = Some(process)),
@@ -98,6 +102,14 @@ impl<'data> Notes<'data> {
             _ => Ok(()),
         };
         read.map_err(|_| CoreError::Note(kind))
+    }
+
+    /// Reads an `NT_PRFPREG` note, which is of the thread before it. Walks need nothing of it, so that it may be
+    /// cut.
+    fn vectors(&mut self, bytes: &[u8]) {
+        if let Some(thread) = self.threads.last_mut() {
+            thread.vectors = vectors(bytes, self.target, self.abi).unwrap_or_default();
+        }
     }
 
     /// Reads an `NT_ARM_PAC_MASK` note: a mask for addresses of data, and one for those of code.

@@ -17,6 +17,8 @@ pub struct Thread {
     pub signal: u16,
     /// Its registers by their DWARF numbers, ascending.
     pub registers: Vec<(u16, u64)>,
+    /// The low 8 bytes of its vector registers by their DWARF numbers, ascending: numbers with a fraction are there.
+    pub vectors: Vec<(u16, u64)>,
 }
 
 impl Thread {
@@ -72,7 +74,7 @@ pub(super) fn thread(bytes: &[u8], target: Target, abi: &Abi) -> Result<Thread, 
     let id = cursor.number(4)? as u32;
     cursor.take(registers - cursor.at() as u64)?;
     let registers = general(cursor.rest(), target, abi)?;
-    Ok(Thread { id, name: None, signal, registers })
+    Ok(Thread { id, name: None, signal, registers, vectors: Vec::new() })
 }
 
 /// Reads the general registers of a thread, as the kernel writes them for debuggers
@@ -89,4 +91,22 @@ pub(crate) fn general(bytes: &[u8], target: Target, abi: &Abi) -> Result<Vec<(u1
     }
     held.sort_unstable();
     Ok(held)
+}
+
+/// Reads the low 8 bytes of the vector registers of a thread, as the kernel writes them for debuggers
+/// (`elf_fpregset_t`): xmm0 to xmm15 of x86-64, and v0 to v31 of aarch64.
+pub(crate) fn vectors(bytes: &[u8], target: Target, abi: &Abi) -> Result<Vec<(u16, u64)>, ReadError> {
+    // On x86-64, 32 bytes of flags and 8 registers of the x87 come first.
+    let (first, before, count) = match abi.machine {
+        elf::EM_X86_64 => (17, 160, 16),
+        elf::EM_AARCH64 => (64, 0, 32),
+        _ => return Ok(Vec::new()),
+    };
+    let mut cursor = Cursor::new(bytes, target);
+    cursor.take(before)?;
+    let mut vector = || {
+        let low = cursor.number(8)?;
+        cursor.take(8).map(|_| low)
+    };
+    (first..first + count).map(|number| Ok((number, vector()?))).collect()
 }

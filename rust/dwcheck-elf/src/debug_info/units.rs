@@ -1,5 +1,6 @@
 //! The units of debug information, and references between their entries.
 
+use super::definitions::Definitions;
 use super::Slice;
 use gimli::{AttributeValue, DebugInfoOffset, DebuggingInformationEntry, DwAt, Dwarf, Unit};
 use gimli::{DebugTypeSignature, DwTag, RangeIter, UnitHeader, UnitOffset, UnitSectionOffset, UnitType};
@@ -27,6 +28,8 @@ pub(crate) struct Units<'a> {
     shared: Option<Box<Units<'a>>>,
     /// The unit of the program of which this file has the rest.
     skeleton: Option<Rc<Unit<Slice<'a>>>>,
+    /// The types that the units define, by their names.
+    pub(super) definitions: Definitions,
 }
 
 /// An entry of debug information.
@@ -51,8 +54,8 @@ impl<'a> Units<'a> {
             headers.push(header);
         }
         let shared = shared.map(|shared| Units::read(shared, None).map(Box::new)).transpose()?;
-        let (read, types) = (RefCell::default(), RefCell::default());
-        Ok(Units { dwarf, headers, in_info, read, types, shared, skeleton: None })
+        let (read, types, definitions) = (RefCell::default(), RefCell::default(), Definitions::default());
+        Ok(Units { dwarf, headers, in_info, read, types, shared, skeleton: None, definitions })
     }
 
     /// Reads the headers of the units of a file that has the rest of a unit (`-gsplit-dwarf`).
@@ -96,6 +99,17 @@ impl<'a> Units<'a> {
         let unit = self.unit(index).ok()?;
         let offset = offset.to_unit_offset(&unit.header)?;
         Some(Die { units: self, unit, offset })
+    }
+
+    /// The index of the unit that begins at an offset.
+    pub(super) fn index_of(&self, offset: UnitSectionOffset<usize>) -> Option<usize> {
+        let headers = match offset {
+            UnitSectionOffset::DebugInfoOffset(_) => 0..self.in_info,
+            UnitSectionOffset::DebugTypesOffset(_) => self.in_info..self.headers.len(),
+        };
+        let first = headers.start;
+        let found = self.headers[headers].binary_search_by_key(&offset, |header| header.offset());
+        found.ok().map(|index| first + index)
     }
 
     /// The type with a signature.

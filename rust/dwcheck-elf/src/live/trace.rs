@@ -13,6 +13,9 @@ use std::time::{Duration, Instant};
 /// A thread that the kernel doesn't stop within this time is skipped.
 const PATIENCE: Duration = Duration::from_secs(1);
 
+/// The kind of the set of vector registers.
+const NT_PRFPREG: usize = 2;
+
 /// The kind of register set that says which bits of an address hold an authentication code.
 const NT_ARM_PAC_MASK: usize = 0x406;
 
@@ -51,6 +54,12 @@ impl Stopped {
     pub fn registers(&self, target: Target, abi: &Abi) -> Option<Vec<(u16, u64)>> {
         let bytes = self.register_set(libc::NT_PRSTATUS as usize)?;
         registers::general(&bytes, target, abi).ok()
+    }
+
+    /// The low 8 bytes of the vector registers by their DWARF numbers, ascending. Empty if the kernel has none.
+    pub fn vectors(&self, target: Target, abi: &Abi) -> Vec<(u16, u64)> {
+        let bytes = self.register_set(NT_PRFPREG);
+        bytes.and_then(|bytes| registers::vectors(&bytes, target, abi).ok()).unwrap_or_default()
     }
 
     /// The bits of a return address that hold an authentication code.

@@ -15,14 +15,17 @@ impl<'a> Stacks<'a> {
     pub fn variables(&self, stack: &Stack<'_, 'a>, frame: usize, shape: Shape) -> Vec<Function> {
         let tables = self.tables.borrow();
         let module_of = |frame: &Frame| tables.module_at(frame.looked_up());
-        let frames = stack.frames.get(frame..).unwrap_or(&[]);
+        let (is_innermost, frames) = (frame == 0, stack.frames.get(frame..).unwrap_or(&[]));
         let place = frames.first().and_then(module_of);
         let (place, module) = match place.and_then(|place| Some((place, tables.modules().get(place)?))) {
             Some(found) => found,
             None => return Vec::new(),
         };
         let in_file = frames.iter().take(1 + MAX_CALLERS).take_while(|frame| module_of(frame) == Some(place));
-        let steps: Vec<_> = in_file.map(step).collect();
+        let mut steps: Vec<_> = in_file.map(step).collect();
+        if let Some(first) = steps.first_mut().filter(|_| is_innermost) {
+            stack.vectors().for_each(|(number, value)| first.registers.set(number, value));
+        }
         let pointer = self.core.abi().stack_pointer;
         let blocks = self.blocks(steps.first().and_then(|step| step.registers.get(pointer)).unwrap_or(0));
         let mut opened = self.variables.borrow_mut();
@@ -58,6 +61,12 @@ impl Stack<'_, '_> {
         let number = self.stacks.core.abi().thread_pointer?;
         let (_, pointer) = self.frames.first()?.registers.iter().find(|(one, _)| *one == number)?;
         Some(*pointer)
+    }
+
+    /// The vector registers of the thread. Calls don't keep them, so that they are those of its first frame alone.
+    fn vectors(&self) -> impl Iterator<Item = (u16, u64)> + '_ {
+        let thread = self.stacks.core.threads().iter().find(|thread| u64::from(thread.id) == self.thread);
+        thread.into_iter().flat_map(|thread| thread.vectors.iter().copied())
     }
 
     /// The same for a frame, if variables are shown.

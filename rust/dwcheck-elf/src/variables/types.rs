@@ -16,10 +16,13 @@ pub(super) fn type_of<'u, 'a>(die: &Die<'u, 'a>) -> Option<Die<'u, 'a>> {
     holder.at(value)
 }
 
-/// The type that a name such as `size_t` or a qualifier such as `const` stands for.
+/// The type that a name such as `size_t` or a qualifier such as `const` stands for. If it is only declared here, and
+/// is defined in another unit, it is the one of that unit.
 pub(super) fn plain<'u, 'a>(of: &Die<'u, 'a>) -> Option<Die<'u, 'a>> {
     let next = |die: &Die<'u, 'a>| die.tag().filter(|tag| is_other_name(*tag)).and_then(|_| type_of(die));
-    std::iter::successors(Some(of.clone()), next).take(MAX_TYPES).find(|die| !die.tag().map_or(false, is_other_name))
+    let mut types = std::iter::successors(Some(of.clone()), next).take(MAX_TYPES);
+    let found = types.find(|die| !die.tag().map_or(false, is_other_name))?;
+    Some(found.units.defined(found))
 }
 
 fn is_other_name(tag: DwTag) -> bool {
@@ -132,8 +135,8 @@ fn named(of: Option<Die<'_, '_>>, left: usize) -> String {
         Some(gimli::DW_TAG_pointer_type) => die.name().unwrap_or_else(|| pointer(inner(), "*")),
         Some(gimli::DW_TAG_reference_type) => pointer(inner(), "&"),
         Some(gimli::DW_TAG_rvalue_reference_type) => pointer(inner(), "&&"),
-        Some(gimli::DW_TAG_const_type) => format!("const {}", inner()),
-        Some(gimli::DW_TAG_volatile_type) => format!("volatile {}", inner()),
+        Some(gimli::DW_TAG_const_type) => qualified(&die, "const", inner()),
+        Some(gimli::DW_TAG_volatile_type) => qualified(&die, "volatile", inner()),
         Some(gimli::DW_TAG_restrict_type) => format!("{} restrict", inner()),
         Some(gimli::DW_TAG_atomic_type) => format!("_Atomic {}", inner()),
         Some(gimli::DW_TAG_array_type) => {
@@ -150,6 +153,16 @@ fn named(of: Option<Die<'_, '_>>, left: usize) -> String {
         Some(gimli::DW_TAG_union_type) => aggregate(&die, "union ", own()),
         Some(gimli::DW_TAG_enumeration_type) => aggregate(&die, "enum ", own()),
         _ => own(),
+    }
+}
+
+/// C writes a qualifier after the sign of a pointer, and before any other type.
+fn qualified(die: &Die<'_, '_>, qualifier: &str, inner: String) -> String {
+    let is_signed = type_of(die).and_then(|of| Some(is_pointer(of.tag()?) && of.name().is_none()));
+    if is_signed == Some(true) {
+        format!("{} {}", inner, qualifier)
+    } else {
+        format!("{} {}", qualifier, inner)
     }
 }
 

@@ -240,11 +240,17 @@ impl<'v, 'a> Locator<'v, 'a> {
         let offset = part.offset.saturating_add(byte);
         let bytes = self.machine.bytes(part.place, part.size, offset, length as usize)?;
         let value = unsigned(&bytes) >> bit & ((1u128 << bits) - 1);
-        let encoding = plain(kind).and_then(|kind| kind.attribute(gimli::DW_AT_encoding));
-        let is_signed = matches!(encoding, Some(AttributeValue::Encoding(gimli::DW_ATE_signed)));
-        let is_negative = is_signed && bits > 0 && value >> (bits - 1) == 1;
-        let value = if is_negative { value as i128 - (1i128 << bits) } else { value as i128 };
-        Ok(Value::Plain(value.to_string()))
+        let is_negative = bits > 0 && value >> (bits - 1) == 1 && is_signed(kind);
+        let value = if is_negative { value | u128::MAX << bits } else { value };
+        self.held(kind, value.to_le_bytes().to_vec())
+    }
+
+    /// The value of a type with no parts, whose bytes these are, least significant one first.
+    fn held(&self, kind: &Die<'v, 'a>, mut bytes: Vec<u8>) -> Result<Value, Missing> {
+        let size = size_of(kind).and_then(|size| usize::try_from(size).ok()).filter(|size| *size <= bytes.len());
+        let size = size.ok_or(Missing::Unsupported("a member of bits of this type"))?;
+        bytes.truncate(size);
+        self.part(kind, Part { place: &Place::Bytes(bytes), size, offset: 0 }, Shape::default(), &mut 0)
     }
 }
 
@@ -267,11 +273,38 @@ fn is_member(die: &Die<'_, '_>) -> bool {
     }
 }
 
-/// Whether the numbers of an enumeration have no sign, by its own encoding or that of its type.
+/// Whether the numbers of an enumeration have no sign, by its own encoding or that of its type. Without either,
+/// they have none if no constant is negative, as gdb takes it.
 fn is_unsigned(kind: &Die<'_, '_>) -> bool {
     let own = kind.attribute(gimli::DW_AT_encoding);
     let held = own.or_else(|| plain(&type_of(kind)?)?.attribute(gimli::DW_AT_encoding));
-    matches!(held, Some(AttributeValue::Encoding(gimli::DW_ATE_unsigned | gimli::DW_ATE_unsigned_char)))
+    match held {
+        Some(AttributeValue::Encoding(encoding)) => {
+            matches!(encoding, gimli::DW_ATE_unsigned | gimli::DW_ATE_unsigned_char)
+        }
+        _ => !kind.children().iter().any(is_negative),
+    }
+}
+
+/// Whether an entry has a negative number.
+fn is_negative(constant: &Die<'_, '_>) -> bool {
+    let value = constant.attribute(gimli::DW_AT_const_value);
+    value.map_or(false, |value| value.udata_value().is_none() && value.sdata_value().map_or(false, |held| held < 0))
+}
+
+/// Whether the numbers of a type may be negative.
+fn is_signed(kind: &Die<'_, '_>) -> bool {
+    let kind = match plain(kind) {
+        Some(kind) => kind,
+        None => return false,
+    };
+    match kind.attribute(gimli::DW_AT_encoding) {
+        _ if kind.tag() == Some(gimli::DW_TAG_enumeration_type) => !is_unsigned(&kind),
+        Some(AttributeValue::Encoding(encoding)) => {
+            matches!(encoding, gimli::DW_ATE_signed | gimli::DW_ATE_signed_char)
+        }
+        _ => false,
+    }
 }
 
 fn is_character(kind: &Die<'_, '_>) -> bool {
@@ -302,12 +335,18 @@ fn shown(encoding: DwAte, bytes: &[u8]) -> Option<String> {
             }
         }
         gimli::DW_ATE_float => match *bytes {
-            [a, b, c, d] => f32::from_le_bytes([a, b, c, d]).to_string(),
-            [a, b, c, d, e, f, g, h] => f64::from_le_bytes([a, b, c, d, e, f, g, h]).to_string(),
+            [a, b, c, d] => fraction(f32::from_le_bytes([a, b, c, d])),
+            [a, b, c, d, e, f, g, h] => fraction(f64::from_le_bytes([a, b, c, d, e, f, g, h])),
             _ => return None,
         },
         _ => return None,
     })
+}
+
+/// A number with a fraction. Very large and very small ones have an exponent, which `Display` doesn't write.
+fn fraction(number: impl std::fmt::Debug) -> String {
+    let text = format!("{:?}", number);
+    text.strip_suffix(".0").unwrap_or(&text).to_string()
 }
 
 fn character(number: i128, bytes: &[u8]) -> String {
