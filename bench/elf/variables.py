@@ -66,7 +66,9 @@ def plain(value, depth=1):
     if kind.code == gdb.TYPE_CODE_FLT:
         return single(float(value)) if kind.sizeof == 4 else repr(float(value))
     if kind.code == gdb.TYPE_CODE_ENUM:
-        return str(value).split("::")[-1]
+        # gdb writes numbers without a name of their own as flags: (A | B), (unknown: 0x73)
+        text = str(value)
+        return str(int(value)) if text.startswith("(") else text.split("::")[-1]
     if kind.code == gdb.TYPE_CODE_BOOL:
         return {0: "false", 1: "true"}.get(int(value), str(int(value)))
     if kind.code in (gdb.TYPE_CODE_INT, gdb.TYPE_CODE_CHAR):
