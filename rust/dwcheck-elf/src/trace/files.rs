@@ -17,10 +17,12 @@ use dwcheck_lint::machine::Machine;
 use dwcheck_lint::module::{Convention, Module};
 use dwcheck_lint::register::{Register, Registers};
 use dwcheck_lint::table::{Cfa, Row, Rule as RowRule};
+use std::cell::RefCell;
 use std::collections::{BTreeSet, HashMap};
 use std::ffi::OsStr;
 use std::fmt;
 use std::io;
+use std::ops::Range;
 use std::os::unix::ffi::OsStrExt;
 use std::path::{Path, PathBuf};
 use typed_arena::Arena;
@@ -51,6 +53,14 @@ pub struct ModuleFile<'s> {
     pub(super) entries: BTreeSet<u64>,
     /// The addresses at which other modules may have been loaded.
     pub(super) loads: BTreeSet<u64>,
+    last_row: RefCell<Option<LastRow>>,
+}
+
+/// The row that was looked up last. Most instructions have the row of the one that was asked for before.
+struct LastRow {
+    fde: usize,
+    addresses: Range<u64>,
+    judged: Result<Judged, Rule>,
 }
 
 /// Why a file can't be read.
@@ -176,6 +186,7 @@ impl<'s> ModuleFile<'s> {
             segments: program.segments(),
             entries: BTreeSet::new(),
             loads,
+            last_row: RefCell::new(None),
             module,
         };
         if is_stepped {
@@ -253,12 +264,24 @@ impl<'s> ModuleFile<'s> {
 
     /// How the row of an address is judged, or why it isn't.
     fn judged(&self, address: u64, fde: Option<usize>) -> Result<Judged, Rule> {
+        let is_last = |last: &LastRow| Some(last.fde) == fde && last.addresses.contains(&address);
+        if let Some(judged) = self.last_row.borrow().as_ref().filter(|last| is_last(last)).map(|last| last.judged) {
+            return judged;
+        }
         let row = self.module.rows.row(address).ok_or(Rule::NoRow)?;
+        let judged = self.judged_by(&row, address, fde);
+        let addresses = row.begin..row.end;
+        *self.last_row.borrow_mut() = fde.map(|fde| LastRow { fde, addresses, judged });
+        judged
+    }
+
+    /// How this row is judged, which an address has.
+    fn judged_by(&self, row: &Row<'_>, address: u64, fde: Option<usize>) -> Result<Judged, Rule> {
         let section = self.sections.processes().position(|process| process.row(address).is_some());
         let section = section.ok_or(Rule::NoRow)?;
         let is_signal = fde.map_or(false, |fde| self.module.fdes[fde].is_signal);
         if !is_signal {
-            unjudged(self.module.machine, &row).map_or(Ok(()), |reason| Err(Rule::from(reason)))?;
+            unjudged(self.module.machine, row).map_or(Ok(()), |reason| Err(Rule::from(reason)))?;
         }
         let keeps = self.module.convention == Convention::KeepsRegisters;
         let kept = KEPT_NUMBERS.map(|number| match row.rule(Register(number as u8)) {
@@ -267,8 +290,8 @@ impl<'s> ModuleFile<'s> {
             None | Some(RowRule::Same) => Kept::InPlace,
             Some(_) => Kept::Elsewhere,
         });
-        let reads = reads(self.module.machine, &row, &kept);
-        Ok(Judged { section, kept, begin: row.begin, reads, lowest: lowest(&row), is_signal })
+        let reads = reads(self.module.machine, row, &kept);
+        Ok(Judged { section, kept, begin: row.begin, reads, lowest: lowest(row), is_signal })
     }
 }
 

@@ -7,7 +7,7 @@ use super::site::{Judged, Kept, Places, Wrong};
 use super::space::Space;
 use super::thread::{Mode, Thread};
 use super::tracer::Tracer;
-use dwcheck::{Abi, Cursor, Error, Process, State};
+use dwcheck::{Abi, Block, Cursor, Error, Process, State};
 use dwcheck_lint::judge::{Facts, Verdict, WrongCfa, WrongRule};
 
 /// How many bytes below the CFA are read at once. Most functions save their registers there.
@@ -18,6 +18,9 @@ const SEARCHED: u64 = 4096;
 
 /// The bytes below the stack pointer that a function may use.
 const RED_ZONE: u64 = 128;
+
+/// A CFA that is farther off than this isn't off by a number: the register by which it is found has something else.
+const FARTHEST_OFF: i64 = 1 << 20;
 
 /// How often it is looked where the values are, if something is wrong at an instruction.
 const MOST_LOOKS: u64 = 16;
@@ -42,43 +45,54 @@ pub(super) struct Caller {
     pub registers: [Option<u64>; COUNT],
 }
 
-/// Reads the memory of a process, that below a frame's CFA at once.
-struct Reader<'a> {
-    space: &'a Space,
-    begin: u64,
-    bytes: Option<[u8; READ_AT_ONCE]>,
+/// The memory below a frame's CFA, as it was when its thread stopped.
+#[derive(Clone, Copy, Debug)]
+pub(super) struct Below {
+    cfa: u64,
+    bytes: [u8; READ_AT_ONCE],
 }
 
-impl<'a> Reader<'a> {
-    fn new(space: &'a Space, cfa: u64) -> Self {
-        let begin = cfa.wrapping_sub(READ_AT_ONCE as u64);
-        let mut bytes = [0; READ_AT_ONCE];
-        let is_read = space.read(begin, &mut bytes);
-        Reader { space, begin, bytes: is_read.then_some(bytes) }
+impl Below {
+    /// Reads it. `None` if a part of it can't be read.
+    pub fn read(space: &Space, cfa: u64) -> Option<Below> {
+        let mut below = Below { cfa, bytes: [0; READ_AT_ONCE] };
+        space.read(below.begin(), &mut below.bytes).then_some(below)
     }
 
-    fn read(&self, address: u64, wanted: &mut [u8]) -> bool {
-        let offset = usize::try_from(address.wrapping_sub(self.begin)).unwrap_or(usize::MAX);
-        let known = self.bytes.as_ref().and_then(|bytes| bytes.get(offset..offset.checked_add(wanted.len())?));
-        match known {
-            Some(known) => {
-                wanted.copy_from_slice(known);
-                true
-            }
-            None => self.space.read(address, wanted),
-        }
+    /// Whether it is below this address.
+    pub fn is_of(&self, cfa: u64) -> bool {
+        self.cfa == cfa
+    }
+
+    fn begin(&self) -> u64 {
+        self.cfa.wrapping_sub(READ_AT_ONCE as u64)
+    }
+
+    fn block(&self) -> Block<'_> {
+        Block::new(self.begin(), &self.bytes)
     }
 }
 
 impl Unwound {
     /// What `dwcheck` computes by the row of an address in a file, whose frame has these registers.
-    fn of(process: &Process, address: u64, known: &dwcheck::Registers, memory: &Reader<'_>) -> Result<Unwound, Error> {
+    fn of(process: &Process, address: u64, known: &dwcheck::Registers, space: &Space) -> Result<Unwound, Error> {
         let state = State { registers: known, memory: &[], abi: Abi::X86_64 };
         let mut cursor = Cursor::new(address, &state)?;
-        let frame = process.step_with(&mut cursor, &state, |address, bytes| memory.read(address, bytes))?;
+        let frame = process.step_with(&mut cursor, &state, |address, bytes| space.read(address, bytes))?;
+        Ok(Unwound::at(&cursor, frame))
+    }
+
+    /// The same, as far as it follows from this memory.
+    fn by(process: &Process, address: u64, known: &dwcheck::Registers, memory: Block<'_>) -> Result<Unwound, Error> {
+        let state = State { registers: known, memory: &[memory], abi: Abi::X86_64 };
+        let mut cursor = Cursor::new(address, &state)?;
+        let frame = process.step(&mut cursor, &state)?;
+        Ok(Unwound::at(&cursor, frame))
+    }
+
+    fn at(cursor: &Cursor, frame: Option<dwcheck::Frame>) -> Unwound {
         let cfa = frame.and_then(|frame| frame.cfa()).and_then(|cfa| cfa.value());
-        let caller = cursor.stop().is_none().then(|| Caller::of(&cursor));
-        Ok(Unwound { cfa, caller })
+        Unwound { cfa, caller: cursor.stop().is_none().then(|| Caller::of(cursor)) }
     }
 }
 
@@ -108,7 +122,8 @@ impl Tracer<'_, '_> {
             Ok(_) => return self.counts.rules.add(Rule::SignalReturn),
             Err(rule) => return self.counts.rules.add(rule),
         };
-        let verdict = self.verdict_on(thread.here.site, judged, &thread.registers, frame, space);
+        thread.below = Below::read(space, frame.cfa);
+        let verdict = self.verdict_on(thread.here.site, judged, &thread.registers, frame, space, thread.below.as_ref());
         if !verdict.wrong.is_empty() && frame.origin != Origin::Signal {
             // What isn't where the call put it isn't known anymore.
             if space.word(frame.slot) != Some(frame.return_address) {
@@ -133,7 +148,9 @@ impl Tracer<'_, '_> {
         let judged = self.sites.at(thread.here.site).row.ok().filter(|judged| !judged.is_signal);
         match (judged, thread.shadow.frames.last()) {
             (Some(judged), Some(frame)) => {
-                let wrong = self.verdict_on(thread.here.site, judged, &thread.registers, frame, space).wrong;
+                let below = Below::read(space, frame.cfa);
+                let registers = &thread.registers;
+                let wrong = self.verdict_on(thread.here.site, judged, registers, frame, space, below.as_ref()).wrong;
                 !wrong.registers().without(frame.wrong).is_empty()
             }
             _ => false,
@@ -149,7 +166,8 @@ impl Tracer<'_, '_> {
         site.judged += 1;
     }
 
-    /// Compares the row of an instruction, where a thread has these registers, with a frame.
+    /// Compares the row of an instruction, where a thread has these registers, with a frame. What is known of
+    /// the memory below its CFA is enough for most rows that are right.
     pub(super) fn verdict_on(
         &mut self,
         site: usize,
@@ -157,20 +175,37 @@ impl Tracer<'_, '_> {
         registers: &Registers,
         frame: &Frame,
         space: &Space,
+        below: Option<&Below>,
     ) -> Verdict {
-        let unwound = self.unwind(site, judged, registers, frame.cfa, space);
-        verdict(judged, &unwound, frame)
+        let quick = below.map(|below| {
+            let unwound = self.unwind(site, judged, registers, |process, address, known| {
+                Unwound::by(process, address, known, below.block())
+            });
+            verdict(judged, &unwound, frame)
+        });
+        quick.filter(|verdict| verdict.wrong.is_empty()).unwrap_or_else(|| {
+            let unwound = self.unwind_in(site, judged, registers, space);
+            verdict(judged, &unwound, frame)
+        })
     }
 
-    /// What `dwcheck` computes by the row of an instruction. Its frame has these registers, and its CFA
-    /// is near this address.
-    fn unwind(&mut self, site: usize, judged: Judged, registers: &Registers, cfa: u64, space: &Space) -> Unwound {
+    /// What `dwcheck` computes by the row of an instruction, whose frame has these registers.
+    fn unwind_in(&mut self, site: usize, judged: Judged, registers: &Registers, space: &Space) -> Unwound {
+        self.unwind(site, judged, registers, |process, address, known| Unwound::of(process, address, known, space))
+    }
+
+    /// The same, by a function that is given the frame section, the address and the registers.
+    fn unwind(
+        &mut self,
+        site: usize,
+        judged: Judged,
+        registers: &Registers,
+        unwind: impl FnOnce(&Process, u64, &dwcheck::Registers) -> Result<Unwound, Error>,
+    ) -> Unwound {
         let site = self.sites.at(site);
         let process = site.file.and_then(|file| self.files.at(file).process(judged.section));
         registers.iter().for_each(|(number, value)| self.known.set(number, value));
-        let memory = Reader::new(space, cfa);
-        let unwound = process.map(|process| Unwound::of(process, site.address, &self.known, &memory));
-        unwound.and_then(Result::ok).unwrap_or_default()
+        process.and_then(|process| unwind(process, site.address, &self.known).ok()).unwrap_or_default()
     }
 
     /// Notes what is wrong at the instruction before which a thread is.
@@ -200,7 +235,7 @@ impl Tracer<'_, '_> {
                 Ok(judged) if !frame.is_distrusted => judged,
                 _ => return false,
             };
-            let unwound = self.unwind(site, judged, &registers, frame.cfa, space);
+            let unwound = self.unwind_in(site, judged, &registers, space);
             let caller = match unwound.caller {
                 Some(caller) if unwound.cfa == Some(frame.cfa) && caller.return_address == frame.return_address => {
                     caller
@@ -223,7 +258,10 @@ fn verdict(judged: Judged, unwound: &Unwound, frame: &Frame) -> Verdict {
     let mut verdict = Verdict::default();
     if unwound.cfa != Some(frame.cfa) {
         verdict.wrong.add(Facts::CFA);
-        let off = |cfa: u64| WrongCfa::OffBy(cfa.wrapping_sub(frame.cfa) as i64);
+        let off = |cfa: u64| match cfa.wrapping_sub(frame.cfa) as i64 {
+            off if (-FARTHEST_OFF..=FARTHEST_OFF).contains(&off) => WrongCfa::OffBy(off),
+            _ => WrongCfa::Clobbered,
+        };
         verdict.cfa = Some(unwound.cfa.map_or(WrongCfa::Dynamic, off));
         return verdict;
     }

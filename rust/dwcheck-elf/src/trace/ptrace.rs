@@ -17,6 +17,10 @@ use std::ptr::null_mut;
 /// The id of a thread, as the kernel gives it.
 pub type Tid = pid_t;
 
+/// Where the kernel's structure for a thread has the instruction pointer: it is the 17th of the registers, with
+/// which it begins.
+const PROGRAM_COUNTER: usize = 16 * std::mem::size_of::<u64>();
+
 /// Where the kernel's structure for a thread has the debug registers: they are its last field.
 const DEBUG_REGISTERS: usize = std::mem::size_of::<libc::user>() - 8 * std::mem::size_of::<u64>();
 
@@ -108,19 +112,18 @@ pub fn registers(tid: Tid) -> Result<Registers, Errno> {
     Ok(Registers::of(&ptrace::getregs(Pid::from_raw(tid))?))
 }
 
-/// Sets the address of the next instruction of a stopped thread.
+/// Sets the address of the next instruction of a thread that a trap has stopped.
 pub fn set_program_counter(tid: Tid, address: u64) {
-    if let Ok(mut raw) = ptrace::getregs(Pid::from_raw(tid)) {
-        raw.rip = address;
-        // The thread isn't in a system call that would have to be made again.
-        raw.orig_rax = u64::MAX;
-        let _ = ptrace::setregs(Pid::from_raw(tid), raw);
-    }
+    let _ = set_word(tid, PROGRAM_COUNTER, address);
 }
 
 /// Sets a debug register of a stopped thread.
 pub fn set_debug_register(tid: Tid, index: usize, value: u64) -> Result<(), Errno> {
-    let offset = DEBUG_REGISTERS + std::mem::size_of::<u64>() * index;
+    set_word(tid, DEBUG_REGISTERS + std::mem::size_of::<u64>() * index, value)
+}
+
+/// Sets eight bytes in the kernel's structure for a stopped thread.
+fn set_word(tid: Tid, offset: usize, value: u64) -> Result<(), Errno> {
     // SAFETY: the request takes an offset in the kernel's structure, and a number.
     let result = unsafe { libc::ptrace(libc::PTRACE_POKEUSER, tid, offset, value) };
     Errno::result(result).map(|_| ())

@@ -20,7 +20,9 @@ impl Tracer<'_, '_> {
         let signals = self.stop_all();
         let mut threads: Vec<Thread> = self.threads.drain().map(|(_, thread)| thread).collect();
         for thread in &mut threads {
-            thread.space.borrow_mut().take_out();
+            let mut space = thread.space.borrow_mut();
+            thread.stretch.take().iter().for_each(|stretch| stretch.lift(&space));
+            space.take_out();
         }
         for thread in threads.iter_mut().filter(|thread| thread.is_stopped) {
             thread.hardware.clear(thread.tid);
@@ -96,7 +98,8 @@ impl Tracer<'_, '_> {
 /// Sets a thread that has executed a breakpoint back to it. Returns false if the trap is the program's own.
 fn rewind(thread: &mut Thread) -> bool {
     let code = ptrace::signal_code(thread.tid).unwrap_or(BY_KERNEL);
-    if thread.mode != Mode::Running && code > 0 {
+    let ends_stretch = thread.stretch.is_some() && code == BY_KERNEL;
+    if thread.mode != Mode::Running && code > 0 && !ends_stretch {
         return true;
     }
     if code != BY_KERNEL {
@@ -107,6 +110,10 @@ fn rewind(thread: &mut Thread) -> bool {
         Err(_) => return true,
     };
     let address = registers.program_counter().wrapping_sub(1);
+    if thread.stretch.as_ref().map_or(false, |stretch| stretch.has_trap_at(address)) {
+        ptrace::set_program_counter(thread.tid, address);
+        return true;
+    }
     let mut byte = [0];
     let is_gone = thread.space.borrow().read(address, &mut byte) && byte != [TRAP];
     let is_breakpoint = thread.space.borrow().breakpoints.at(address).is_some() || is_gone;

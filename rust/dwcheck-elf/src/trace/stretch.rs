@@ -1,12 +1,12 @@
-//! Stretches: instructions that a thread runs at once, up to a breakpoint of the processor.
+//! Stretches: instructions that a thread runs at once, up to a breakpoint.
 //!
 //! A stretch begins where a row was right. None of its instructions writes a register by which one of its rows
 //! finds anything, calls, returns or enters the kernel. So the values that its rows say are the same all along,
 //! and each row was compared with them before the stretch began; at its end, the row there is judged as after a
-//! step. Jumps may branch: each way ends at a breakpoint of its own, of which the processor has four, and no two
-//! ways share an instruction, so the one where the thread stops says which way it took.
+//! step. Jumps may branch: each way ends at a breakpoint of its own, and no two ways share an instruction, so the
+//! one where the thread stops says which way it took.
 
-use super::ptrace::{self, Tid};
+use super::ends::{Traps, MOST_ENDS};
 use super::registers::Registers;
 use super::site::Judged;
 use super::space::Space;
@@ -15,12 +15,7 @@ use super::tracer::Tracer;
 use dwcheck_lint::instruction::{Effect, Place as Location, Target};
 use dwcheck_lint::register::Registers as Set;
 use std::collections::VecDeque;
-
-/// How many breakpoints the processor has.
-const MOST_ENDS: usize = 4;
-
-/// The debug register that says which breakpoints stop a thread.
-const CONTROL: usize = 7;
+use std::rc::Rc;
 
 /// The stack pointer.
 const STACK: Set = Set::of(&[7]);
@@ -36,13 +31,8 @@ const SHORTEST: usize = 2;
 pub(super) struct Stretch {
     /// The first one is where it begins.
     places: Vec<Place>,
-}
-
-/// The breakpoints of the processor that a thread has.
-#[derive(Debug, Default)]
-pub(super) struct Hardware {
-    addresses: [Option<u64>; MOST_ENDS],
-    control: u64,
+    /// The traps in the code that end it. `None` if breakpoints of the processor do.
+    traps: Option<Traps>,
 }
 
 /// An instruction of a stretch.
@@ -70,6 +60,16 @@ impl Stretch {
         self.places.iter().filter(|place| place.is_end).map(|place| place.address)
     }
 
+    /// Takes its traps out of the code, after which it has no ends.
+    pub fn lift(&self, space: &Space) {
+        self.traps.iter().for_each(|traps| traps.lift(space));
+    }
+
+    /// Whether one of its traps is at an address.
+    pub fn has_trap_at(&self, address: u64) -> bool {
+        self.traps.is_some() && self.place_at(address).map_or(false, |place| place.is_end)
+    }
+
     fn place_at(&self, address: u64) -> Option<&Place> {
         self.places.iter().find(|place| place.address == address)
     }
@@ -88,15 +88,29 @@ impl Stretch {
 }
 
 impl Tracer<'_, '_> {
+    /// Whether a thread that is stepped runs a stretch next.
+    pub(super) fn begins_stretch(&mut self, thread: &mut Thread) -> bool {
+        // A trap would stop other threads, too.
+        let is_alone = Rc::strong_count(&thread.space) == 1;
+        let space = Rc::clone(&thread.space);
+        let mut space = space.borrow_mut();
+        thread.stretch = self.stretch(thread, &mut space).and_then(|mut stretch| {
+            stretch.traps = if is_alone { Traps::set(&space, stretch.ends()) } else { None };
+            let is_set = stretch.traps.is_some() || thread.hardware.set(thread.tid, stretch.ends());
+            is_set.then_some(stretch)
+        });
+        thread.stretch.is_some()
+    }
+
     /// The stretch that begins where a thread is. `None` if it isn't worth it.
-    pub(super) fn stretch(&mut self, thread: &Thread, space: &mut Space) -> Option<Stretch> {
+    fn stretch(&mut self, thread: &Thread, space: &mut Space) -> Option<Stretch> {
         let address = thread.program_counter();
         if !thread.is_right || space.breakpoints.at(address).is_some() {
             return None;
         }
         let mut reads = self.sites.at(thread.here.site).row.ok()?.reads?.with(STACK);
         let begin = Place { site: thread.here.site, address, before: 0, depth: 0, written: Set::NONE, is_end: false };
-        let mut stretch = Stretch { places: vec![begin] };
+        let mut stretch = Stretch { places: vec![begin], traps: None };
         let (mut open, mut ends) = (VecDeque::from([0]), 1);
         while let Some(index) = open.pop_front() {
             let ways = self.ways(thread, &stretch.places[index], reads);
@@ -198,7 +212,8 @@ impl Tracer<'_, '_> {
             Some(frame) => frame,
             None => return false,
         };
-        self.verdict_on(site, judged, &thread.registers, frame, space).wrong.is_empty()
+        let below = thread.below.as_ref().filter(|below| below.is_of(frame.cfa));
+        self.verdict_on(site, judged, &thread.registers, frame, space, below).wrong.is_empty()
     }
 
     /// A thread that ran a stretch has stopped, and has these registers.
@@ -228,45 +243,6 @@ impl Tracer<'_, '_> {
         if thread.is_right {
             passed.iter().for_each(|site| self.count_right(*site));
         }
-    }
-}
-
-impl Hardware {
-    /// Sets breakpoints at these addresses, at most [`MOST_ENDS`], for a stopped thread. Others may stay. Returns
-    /// false if it can't have them.
-    pub fn set(&mut self, tid: Tid, ends: impl Iterator<Item = u64> + Clone) -> bool {
-        for end in ends.clone() {
-            if self.addresses.contains(&Some(end)) {
-                continue;
-            }
-            let is_free =
-                |address: &Option<u64>| address.map_or(true, |address| ends.clone().all(|end| end != address));
-            let free = match self.addresses.iter().position(is_free) {
-                Some(free) => free,
-                None => return false,
-            };
-            self.addresses[free] = Some(end);
-            if ptrace::set_debug_register(tid, free, end).is_err() {
-                self.addresses[free] = None;
-                return false;
-            }
-        }
-        let used = (0..).zip(&self.addresses).filter(|(_, address)| address.is_some());
-        let wanted = used.fold(0, |bits, (index, _)| bits | 1 << (2 * index));
-        self.is_set(tid, wanted)
-    }
-
-    /// Takes all breakpoints out.
-    pub fn clear(&mut self, tid: Tid) {
-        self.is_set(tid, 0);
-    }
-
-    /// Sets which breakpoints stop the thread.
-    fn is_set(&mut self, tid: Tid, control: u64) -> bool {
-        if self.control != control && ptrace::set_debug_register(tid, CONTROL, control).is_ok() {
-            self.control = control;
-        }
-        self.control == control
     }
 }
 

@@ -1,10 +1,12 @@
 //! The threads that are traced.
 
+use super::ends::Hardware;
+use super::judge::Below;
 use super::ptrace::Tid;
 use super::registers::Registers;
 use super::shadow::{FdeId, Shadow};
 use super::space::Space;
-use super::stretch::{Hardware, Stretch};
+use super::stretch::Stretch;
 use dwcheck_lint::instruction::Effect;
 use std::cell::RefCell;
 use std::rc::Rc;
@@ -36,6 +38,8 @@ pub(super) struct Thread {
     pub lifted: Option<u64>,
     /// Whether the row of the instruction before which it is was judged, and is right.
     pub is_right: bool,
+    /// The memory below the CFA there.
+    pub below: Option<Below>,
     /// The stretch that it runs.
     pub stretch: Option<Stretch>,
     pub hardware: Hardware,
@@ -75,6 +79,7 @@ impl Thread {
             shadow: Shadow::default(),
             lifted: None,
             is_right: false,
+            below: None,
             stretch: None,
             hardware: Hardware::default(),
             got_signal: false,

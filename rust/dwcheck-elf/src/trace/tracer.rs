@@ -161,6 +161,12 @@ impl Tracer<'_, '_> {
             Some(thread) => thread,
             None => return self.stopped_first(tid),
         };
+        if report == Report::Stop && thread.stretch.is_some() {
+            // Nothing is wanted of it. The trap that ends the stretch may be waiting.
+            ptrace::run(tid, 0);
+            self.threads.insert(tid, thread);
+            return;
+        }
         thread.is_stopped = true;
         if report != Report::Signal(libc::SIGTRAP) {
             self.interrupted(&mut thread);
@@ -191,18 +197,25 @@ impl Tracer<'_, '_> {
 
     /// A thread stopped for another reason than a trap. If it ran a stretch, this ends that.
     fn interrupted(&mut self, thread: &mut Thread) {
+        let stretch = match thread.stretch.take() {
+            Some(stretch) => stretch,
+            None => return,
+        };
         let space = Rc::clone(&thread.space);
-        if let (Some(stretch), Ok(registers)) = (thread.stretch.take(), ptrace::registers(thread.tid)) {
+        stretch.lift(&space.borrow());
+        if let Ok(registers) = ptrace::registers(thread.tid) {
             self.arrived(thread, &mut space.borrow_mut(), &stretch, &registers);
         }
     }
 
     /// A thread that ran a stretch got the signal of a trap. Returns the signal that it gets, 0 if none.
     fn ran(&mut self, thread: &mut Thread, space: &mut Space, stretch: &Stretch, registers: Registers) -> i32 {
+        stretch.lift(space);
         let code = ptrace::signal_code(thread.tid).unwrap_or(BY_KERNEL);
         let at_breakpoint = registers.program_counter().wrapping_sub(1);
         // Another thread may have set a breakpoint in the code meanwhile.
-        let is_rewound = code == BY_KERNEL && space.breakpoints.is_known(at_breakpoint);
+        let is_trap = stretch.has_trap_at(at_breakpoint) || space.breakpoints.is_known(at_breakpoint);
+        let is_rewound = code == BY_KERNEL && is_trap;
         let registers = if is_rewound { registers.at(at_breakpoint) } else { registers };
         if is_rewound {
             ptrace::set_program_counter(thread.tid, at_breakpoint);
@@ -405,10 +418,12 @@ impl Tracer<'_, '_> {
     fn resume(&mut self, thread: &mut Thread, signal: i32) {
         thread.got_signal = signal != 0 && thread.mode == Mode::Stepping;
         thread.is_stopped = false;
+        let is_quick =
+            thread.mode == Mode::Stepping && signal == 0 && (self.passes_call(thread) || self.begins_stretch(thread));
         if thread.mode != Mode::Stepping {
             thread.hardware.clear(thread.tid);
         }
-        if thread.mode == Mode::Running || thread.mode == Mode::Stepping && signal == 0 && self.begins_stretch(thread) {
+        if thread.mode == Mode::Running || is_quick {
             ptrace::run(thread.tid, signal);
             return;
         }
@@ -417,14 +432,6 @@ impl Tracer<'_, '_> {
             thread.lifted = Some(address);
         }
         ptrace::step(thread.tid, signal);
-    }
-
-    /// Whether a thread that is stepped runs a stretch next.
-    fn begins_stretch(&mut self, thread: &mut Thread) -> bool {
-        let space = Rc::clone(&thread.space);
-        let stretch = self.stretch(thread, &mut space.borrow_mut());
-        thread.stretch = stretch.filter(|stretch| thread.hardware.set(thread.tid, stretch.ends()));
-        thread.stretch.is_some()
     }
 
     fn ended(&mut self, tid: Tid, end: End) {

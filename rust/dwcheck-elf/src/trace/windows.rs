@@ -5,11 +5,14 @@ use super::breakpoints::Breakpoint;
 use super::registers::Registers;
 use super::rules::Rule;
 use super::shadow::{Awaited, Origin};
+use super::site::Site;
 use super::space::Space;
 use super::thread::{Here, Mode, Thread};
 use super::tracer::Tracer;
 use crate::stack::ends_with_call;
-use dwcheck_lint::instruction::Effect;
+use dwcheck_lint::instruction::{Effect, Target};
+use dwcheck_lint::register::Register;
+use std::rc::Rc;
 
 /// How often a thread may come to the beginning of a function in another way than by a call, before the
 /// breakpoint there is taken out.
@@ -164,7 +167,7 @@ impl Tracer<'_, '_> {
     /// has been seen in it for a time.
     fn is_enough(&mut self, thread: &mut Thread, space: &mut Space) -> bool {
         let (site, stack) = (self.sites.at(thread.here.site), thread.stack_pointer());
-        let is_stepped = site.file.map_or(false, |file| self.files.at(file).is_stepped);
+        let is_stepped = self.is_stepped(site);
         let frame = match thread.shadow.frames.last_mut() {
             Some(frame) => frame,
             None => return true,
@@ -174,8 +177,63 @@ impl Tracer<'_, '_> {
         if is_begin && site.is_entry && is_stepped && site.visits + 1 == self.options.calls {
             space.forget_entry(thread.registers.program_counter());
         }
+        let is_idle = frame.idle > self.options.idle;
+        is_begin && self.is_done(self.sites.at(thread.here.site)) || is_idle
+    }
+
+    fn is_stepped(&self, site: &Site) -> bool {
+        site.file.map_or(false, |file| self.files.at(file).is_stepped)
+    }
+
+    /// Whether a function that begins at an instruction isn't stepped, or not anymore.
+    fn is_done(&self, site: &Site) -> bool {
         let is_known = site.is_entry && site.visits >= self.options.calls;
-        is_begin && (is_known || site.fde.is_none() || !is_stepped) || frame.idle > self.options.idle
+        is_known || site.fde.is_none() || !self.is_stepped(site)
+    }
+
+    /// Lets a call of a function that isn't stepped run at full speed, up to its return. Returns whether a thread is
+    /// before such a call.
+    pub(super) fn passes_call(&mut self, thread: &mut Thread) -> bool {
+        let target = match thread.here.effect {
+            Effect::Call { target } if !self.options.all => target,
+            _ => return false,
+        };
+        let space = Rc::clone(&thread.space);
+        let mut space = space.borrow_mut();
+        let (address, stack_pointer) = (thread.program_counter(), thread.stack_pointer());
+        let bias = address.wrapping_sub(thread.here.address);
+        let is_free = space.breakpoints.at(address).is_none();
+        let callee = pointed_to(target, bias, &thread.registers, &space).filter(|_| is_free);
+        if !callee.map_or(false, |callee| self.is_done_at(&mut space, callee)) {
+            return false;
+        }
+        let frame = match thread.shadow.frames.last_mut().filter(|frame| frame.awaited.is_none()) {
+            Some(frame) => frame,
+            None => return false,
+        };
+        let next = thread.here.next.wrapping_add(bias);
+        frame.awaited = Some(Awaited { address: next, stack_pointer });
+        space.await_return(next);
+        thread.mode = Mode::Running;
+        true
+    }
+
+    /// Whether a function at an address isn't stepped, also if a stub that was stepped before jumps to it.
+    fn is_done_at(&mut self, space: &mut Space, address: u64) -> bool {
+        let here = self.here(space, address);
+        let site = self.sites.at(here.site);
+        let (effect, is_seen, linked) = (site.effect, site.visits > 0, site.address);
+        if self.is_done(site) {
+            return true;
+        }
+        let end = match effect {
+            Effect::Jump { target: target @ Target::Pointer(_) } if is_seen => {
+                pointed_to(target, address.wrapping_sub(linked), &Registers::default(), space)
+            }
+            _ => None,
+        };
+        let end = end.map(|end| self.here(space, end).site);
+        end.map_or(false, |end| self.is_done(self.sites.at(end)))
     }
 
     /// Lets the function on top run to its end at full speed. Its caller, if that is stepped, waits for its
@@ -190,6 +248,17 @@ impl Tracer<'_, '_> {
             caller.awaited = Some(Awaited { address: frame.return_address, stack_pointer: frame.cfa });
             space.await_return(frame.return_address);
         }
+    }
+}
+
+/// Where a call or a jump goes to, in code that is loaded so much higher than its file says. `None` if that isn't known
+/// before.
+fn pointed_to(target: Target, bias: u64, registers: &Registers, space: &Space) -> Option<u64> {
+    match target {
+        Target::Code(address) => Some(address.wrapping_add(bias)),
+        Target::Pointer(address) => space.word(address.wrapping_add(bias)),
+        Target::Register(Register(number)) => registers.get(number.into()),
+        _ => None,
     }
 }
 
