@@ -41,7 +41,7 @@ mod windows;
 pub use confirm::{Confirmation, Confirmed, Suspect};
 pub use files::{FileError, ModuleFile};
 pub use guard::guarded;
-pub use report::{Counts, Coverage, FileReport, Found};
+pub use report::{Counts, Coverage, FdeCoverage, FileReport, Found};
 pub use rules::{Rule, RuleCounts};
 pub use tracer::Tracer;
 

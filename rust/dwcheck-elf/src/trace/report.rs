@@ -10,7 +10,7 @@ use dwcheck_lint::judge::{Facts, Verdict};
 use dwcheck_lint::judging::{Mark, Way};
 use dwcheck_lint::lint::Outcome;
 use dwcheck_lint::register::Register;
-use dwcheck_lint::table::{Cfa, Row};
+use dwcheck_lint::table::{Cfa, Fde, Row};
 use dwcheck_lint::truth::{Location, Truth};
 use std::collections::BTreeMap;
 use std::path::Path;
@@ -63,6 +63,19 @@ pub struct Coverage {
     pub wrong: usize,
 }
 
+/// What was seen of an FDE.
+#[derive(Clone, Copy, Debug, PartialEq, Eq)]
+pub struct FdeCoverage {
+    /// Its first address.
+    pub begin: u64,
+    /// Its bytes.
+    pub bytes: u64,
+    /// Those of them that instructions have which were judged.
+    pub judged_bytes: u64,
+    /// The instructions at which something was wrong.
+    pub wrong: u64,
+}
+
 /// A defect that a run shows.
 #[derive(Debug)]
 pub struct Found<'m> {
@@ -83,6 +96,8 @@ pub struct FileReport<'t, 's> {
     pub found: Vec<Found<'t>>,
     /// What was seen.
     pub coverage: Coverage,
+    /// What was seen of each FDE, ascending by address.
+    pub fdes: Vec<FdeCoverage>,
 }
 
 impl Counts {
@@ -126,6 +141,13 @@ impl Coverage {
     }
 }
 
+impl FdeCoverage {
+    /// Each count with its name.
+    pub fn named(&self) -> [(&'static str, u64); 3] {
+        [("bytes", self.bytes), ("judged-bytes", self.judged_bytes), ("wrong", self.wrong)]
+    }
+}
+
 impl<'s> Tracer<'_, 's> {
     /// What was counted over all files.
     pub fn counts(&self) -> &Counts {
@@ -163,7 +185,7 @@ impl<'s> Tracer<'_, 's> {
             judged: judged().count(),
             wrong: sites.iter().filter(|site| site.wrong.is_some()).count(),
         };
-        FileReport { file, found: self.found(index, file, sites), coverage }
+        FileReport { file, found: self.found(index, file, sites), coverage, fdes: fdes(file, sites) }
     }
 
     /// What was wrong in a file.
@@ -196,6 +218,19 @@ impl<'s> Tracer<'_, 's> {
         };
         findings(&file.module, &file.module.fdes[fde], outcome).into_iter().map(counted).collect()
     }
+}
+
+/// What was seen of each FDE of a file.
+fn fdes(file: &ModuleFile<'_>, sites: &[&Site]) -> Vec<FdeCoverage> {
+    let none = |fde: &Fde| FdeCoverage { begin: fde.begin, bytes: fde.end - fde.begin, judged_bytes: 0, wrong: 0 };
+    let mut all: Vec<_> = file.module.fdes.iter().map(none).collect();
+    for site in sites {
+        if let Some(seen) = site.fde.and_then(|(_, fde)| all.get_mut(fde)) {
+            seen.judged_bytes += if site.judged > 0 { u64::from(site.length) } else { 0 };
+            seen.wrong += u64::from(site.wrong.is_some());
+        }
+    }
+    all
 }
 
 /// A finding that is as bad as a walk shows it to be.

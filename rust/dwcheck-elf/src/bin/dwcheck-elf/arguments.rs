@@ -345,6 +345,9 @@ pub struct TraceWords {
     /// Show functions, too, that never give a callee-saved register back
     #[arg(long)]
     pub private: bool,
+    /// Write a line for each function: how much of it was judged, and at how many instructions its rows are wrong
+    #[arg(long)]
+    pub functions: bool,
     /// Write a line of JSON for each finding, for each file and for the totals
     #[arg(long)]
     pub json: bool,

@@ -2,7 +2,8 @@
 
 use crate::arguments::{LintWords, TraceWords};
 use crate::end::{shown, Done, Failure};
-use dwcheck_elf::trace::{guarded, Confirmed, End, FileReport, Found, Options, TraceError, Tracer};
+use dwcheck_elf::trace::{guarded, Confirmed, End, FdeCoverage, FileReport, Found, ModuleFile, Options};
+use dwcheck_elf::trace::{TraceError, Tracer};
 use dwcheck_lint::finding::Severity;
 use dwcheck_lint::report::{Json, Quoted, Text};
 use std::ffi::OsString;
@@ -169,13 +170,36 @@ fn write_file(
         totals.count(found.finding.severity);
         write_found(out, report, found, words.json)?;
     }
+    if words.functions {
+        report.fdes.iter().try_for_each(|fde| write_function(out, report.file, fde, words.json))?;
+    }
     let counts = report.coverage.named();
     if words.json {
-        let counts = counts.iter().map(|(name, count)| format!("\"{}\":{}", name, count)).collect::<Vec<_>>();
-        return writeln!(out, "{{\"file\":{},\"coverage\":{{{}}}}}", Quoted(&path), counts.join(","));
+        return writeln!(out, "{{\"file\":{},\"coverage\":{{{}}}}}", Quoted(&path), keyed(&counts));
     }
-    let counts = counts.iter().map(|(name, count)| format!("{} {}", name, count)).collect::<Vec<_>>();
-    writeln!(out, "{}: {}", path, counts.join(" "))
+    writeln!(out, "{}: {}", path, counted(&counts))
+}
+
+/// Writes how much of a function was seen.
+fn write_function(out: &mut dyn Write, file: &ModuleFile<'_>, seen: &FdeCoverage, json: bool) -> io::Result<()> {
+    let (path, counts, name) = (shown(&file.path), seen.named(), file.name(seen.begin));
+    if json {
+        let name = name.map_or_else(String::new, |name| format!("\"name\":{},", Quoted(&name)));
+        let (path, counts) = (Quoted(&path), keyed(&counts));
+        return writeln!(out, "{{\"file\":{},\"function\":{{\"fde\":{},{}{}}}}}", path, seen.begin, name, counts);
+    }
+    let name = name.unwrap_or_else(|| "a function without a name".to_string());
+    writeln!(out, "{}: {} ({:#x}): {}", path, name, seen.begin, counted(&counts))
+}
+
+/// Counts as keys of JSON.
+fn keyed(counts: &[(&str, u64)]) -> String {
+    counts.iter().map(|(name, count)| format!("\"{}\":{}", name, count)).collect::<Vec<_>>().join(",")
+}
+
+/// Counts as text.
+fn counted(counts: &[(&str, u64)]) -> String {
+    counts.iter().map(|(name, count)| format!("{} {}", name, count)).collect::<Vec<_>>().join(" ")
 }
 
 fn write_found(out: &mut dyn Write, report: &FileReport<'_, '_>, found: &Found<'_>, json: bool) -> io::Result<()> {
