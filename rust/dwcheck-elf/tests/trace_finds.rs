@@ -82,6 +82,32 @@ const PLANTED: &str = "
         ret
         .cfi_endproc
 
+        sub_no_row: .cfi_startproc
+        sub $264, %rsp
+        RIGHT .cfi_adjust_cfa_offset 264
+        lea 1(%rdi), %rax
+        add $264, %rsp
+        RIGHT .cfi_adjust_cfa_offset -264
+        ret
+        .cfi_endproc
+
+        sub_register: .cfi_startproc
+        push %rbp
+        .cfi_adjust_cfa_offset 8
+        .cfi_offset rbp, -16
+        mov %rsp, %rbp
+        RIGHT .cfi_def_cfa_register rbp
+        mov $64, %eax
+        sub %rax, %rsp
+        lea 1(%rdi), %rax
+        mov %rbp, %rsp
+        pop %rbp
+        RIGHT .cfi_def_cfa rsp, 8
+        WRONG .cfi_adjust_cfa_offset -8
+        .cfi_restore rbp
+        ret
+        .cfi_endproc
+
         own_convention: .cfi_startproc
         inc %rbx
         lea 1(%rdi), %rax
@@ -106,6 +132,10 @@ const PLANTED: &str = "
         call pop_no_row
         mov %rax, %rdi
         call wrong_sign
+        mov %rax, %rdi
+        call sub_no_row
+        mov %rax, %rdi
+        call sub_register
         mov %rax, %rdi
         call own_convention
         pop %rbx
@@ -139,20 +169,45 @@ fn planted_defects_are_found() {
     let folder = built("trace-planted", "WRONG", "RIGHT");
     for options in ["", "--all "] {
         let traced = trace(&folder, &format!("{}--module planted", options), "./planted");
-        assert_eq!(traced.status, 8, "{}", traced.log);
+        assert_eq!(traced.status, 10, "{}", traced.log);
         let mut found = traced.found();
         found.sort();
         let expected = [
             ("late push", "late_row+0x1", "backtrace broken"),
             ("moved epilogue", "wrong_sign+0xc", "backtrace broken"),
+            ("moved stack pointer", "sub_register+0xc", "backtrace broken"),
             ("pop without row", "pop_no_row+0x5", "backtrace broken"),
             ("push without row", "push_no_row+0x1", "backtrace broken"),
             ("register overwritten", "not_saved+0x4", "register lost"),
             ("slot overwritten", "other_slot+0x1", "register lost"),
+            ("subtraction without row", "sub_no_row+0x7", "backtrace broken"),
         ];
         let expected: Vec<_> = expected.map(|(kind, place, how)| [kind, place, how].map(String::from)).into();
         assert_eq!(found, expected, "{}", traced.log);
     }
+}
+
+/// Each function has a line with its bytes, those that were judged, and how many of its rows are wrong, also one that
+/// doesn't run.
+#[test]
+fn functions_are_counted() {
+    if !may_trace_programs() {
+        return;
+    }
+    let folder = Folder::new("trace-functions");
+    let unused = "never: .cfi_startproc\n lea 1(%rdi), %rax\n ret\n .cfi_endproc\n";
+    folder.write("planted.s", variant(PLANTED, "WRONG", "RIGHT") + "\n.text\n" + unused);
+    folder.run("gcc planted.s -o planted");
+    let traced = trace(&folder, "--functions --module planted", "./planted");
+    let of = |name: &str| {
+        let line = traced.log.lines().find(|line| line.contains(&format!("/planted: {} (0x", name)));
+        line.and_then(|line| line.rsplit_once("): ")).map(|(_, counts)| counts.to_string())
+    };
+    assert_eq!(of("late_row").as_deref(), Some("bytes 9 judged-bytes 9 wrong 1"), "{}", traced.log);
+    assert_eq!(of("sub_no_row").as_deref(), Some("bytes 19 judged-bytes 19 wrong 2"), "{}", traced.log);
+    assert_eq!(of("never").as_deref(), Some("bytes 5 judged-bytes 0 wrong 0"), "{}", traced.log);
+    let traced = trace(&folder, "--functions --json --module planted", "./planted");
+    assert!(traced.log.contains("\"name\":\"never\",\"bytes\":5,\"judged-bytes\":0,\"wrong\":0}}"), "{}", traced.log);
 }
 
 /// Nothing is found where the rows are right, and a register that a function never gives back is shown only
@@ -241,8 +296,60 @@ fn findings_of_the_lint_are_confirmed() {
     assert_eq!(ran.status, 1, "{}{}", ran.out, ran.error);
     let said: Vec<_> = ran.lines();
     let confirmed = said.iter().filter(|line| line.starts_with("    run: confirmed: wrong 1 of 1 times")).count();
-    assert_eq!(said.last(), Some(&"findings 7 confirmed 6 refuted 0 not-reached 1"), "{}{}", ran.out, ran.error);
-    assert_eq!(confirmed, 6, "{}", ran.out);
+    assert_eq!(said.last(), Some(&"findings 9 confirmed 8 refuted 0 not-reached 1"), "{}{}", ran.out, ran.error);
+    assert_eq!(confirmed, 8, "{}", ran.out);
     let never = said.iter().position(|line| line.contains(" at never+0x1")).unwrap();
     assert!(said[never..].contains(&"    run: not reached"), "{}", ran.out);
+}
+
+/// A library with a defect.
+const LIBRARY: &str = "
+        .globl loaded
+        .type loaded, @function
+        loaded: .cfi_startproc
+        push %rbx
+        mov %rdi, %rbx
+        lea 1(%rbx), %rax
+        pop %rbx
+        ret
+        .cfi_endproc
+        .section .note.GNU-stack,\"\",@progbits
+";
+
+/// Loads the library, calls it and unloads it, three times.
+const LOADS: &str = "
+#include <dlfcn.h>
+#include <stdio.h>
+int main(void) {
+    long sum = 0;
+    for (int i = 0; i < 3; i++) {
+        void *library = dlopen(\"./library.so\", RTLD_NOW);
+        sum += ((long (*)(long))dlsym(library, \"loaded\"))(i);
+        dlclose(library);
+    }
+    printf(\"%ld\\n\", sum);
+    return 0;
+}
+";
+
+/// Libraries that a program loads later are stepped too, each time when they are loaded, also if the dynamic
+/// linker is stepped meanwhile.
+#[test]
+fn libraries_that_are_loaded_later() {
+    if !may_trace_programs() {
+        return;
+    }
+    let folder = Folder::new("trace-loads");
+    folder.write("library.s", LIBRARY);
+    folder.write("loads.c", LOADS);
+    folder.run("gcc -shared library.s -o library.so && gcc loads.c -o loads -ldl");
+    for options in ["--module library.so", "--module library.so --all", ""] {
+        let traced = trace(&folder, &format!("--calls 3 {}", options), "./loads");
+        assert_eq!((traced.status, traced.out.as_str()), (0, "6\n"), "{}", traced.log);
+        let found = traced.found();
+        let found: Vec<_> = found.iter().filter(|[_, place, _]| place.starts_with("loaded+")).collect();
+        let expected = ["push without row", "loaded+0x1", "backtrace broken"].map(String::from);
+        assert_eq!(found, [&expected], "{}: {}", options, traced.log);
+        assert!(traced.log.contains("    run: wrong 3 of 3 times"), "{}: {}", options, traced.log);
+    }
 }

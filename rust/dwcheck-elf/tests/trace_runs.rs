@@ -197,6 +197,52 @@ fn many_processes_and_threads() {
     assert_eq!(traced.found(), Vec::<[String; 3]>::new(), "{}", traced.log);
 }
 
+const SECURE: &str = "
+#include <stddef.h>
+#include <linux/filter.h>
+#include <linux/seccomp.h>
+#include <stdio.h>
+#include <string.h>
+#include <sys/prctl.h>
+#include <sys/syscall.h>
+#include <unistd.h>
+__attribute__((noinline)) static int digits(int n) { char text[32]; snprintf(text, sizeof text, \"%d\", n); return (int)strlen(text); }
+int main(int argc, char **argv) {
+    struct sock_filter lines[] = {
+        BPF_STMT(BPF_LD | BPF_W | BPF_ABS, offsetof(struct seccomp_data, nr)),
+        BPF_JUMP(BPF_JMP | BPF_JEQ | BPF_K, SYS_getppid, 0, 1),
+        BPF_STMT(BPF_RET | BPF_K, SECCOMP_RET_ERRNO | 42),
+        BPF_STMT(BPF_RET | BPF_K, SECCOMP_RET_ALLOW),
+    };
+    struct sock_fprog filter = {4, lines};
+    if (argc > 1) {
+        if (prctl(PR_SET_SECCOMP, SECCOMP_MODE_STRICT)) return 2;
+        char text[] = {(char)('0' + digits(argc)), 10};
+        write(1, text, 2);
+        syscall(argv[1][0] == 'k' ? SYS_getpid : SYS_exit, 7);
+        return 3;
+    }
+    prctl(PR_SET_NO_NEW_PRIVS, 1, 0, 0, 0);
+    if (prctl(PR_SET_SECCOMP, SECCOMP_MODE_FILTER, &filter)) return 2;
+    printf(\"%ld %d\\n\", syscall(SYS_getppid), digits(12345));
+}
+";
+
+/// Programs that have given up the right to make system calls.
+#[test]
+fn programs_with_few_system_calls() {
+    if !may_trace_programs() {
+        return;
+    }
+    let folder = Folder::new("trace-secure");
+    folder.write("secure.c", SECURE);
+    folder.run("gcc -O1 secure.c -o secure");
+    for line in ["./secure", "./secure exits", "./secure killed"] {
+        runs_alike(&folder, "", line);
+        runs_alike(&folder, "--all --module secure", line);
+    }
+}
+
 /// What a program starts runs on after it, and isn't traced unless that is asked for.
 #[test]
 fn what_it_starts_goes_on() {

@@ -132,6 +132,11 @@ impl Kind {
                 (false, true) => Kind::MovedPrologue,
                 (false, false) => Kind::SubtractionWithoutRow,
             },
+            Some(Effect::AddRegister { to, .. } | Effect::SubtractRegister { to, .. } | Effect::Align { to, .. })
+                if to == pointer && is_by_stack_pointer(module, &group.mark.row) =>
+            {
+                Kind::MovedStackPointer
+            }
             None if is_in_part(module, group.mark.address) => Kind::WrongRowInPart,
             None => Kind::WrongRowAtBlock,
             Some(_) => Kind::WrongCfa,
