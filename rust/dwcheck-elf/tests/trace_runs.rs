@@ -132,6 +132,30 @@ fn signals_arrive() {
     assert_eq!(traced.found(), Vec::<[String; 3]>::new(), "{}", traced.log);
 }
 
+const FLAGS: &str = "
+#include <stdio.h>
+long saves(long);
+__asm__(\".globl saves\\nsaves: .cfi_startproc\\n pushf\\n .cfi_adjust_cfa_offset 8\\n lea 1(%rdi), %rax\\n popf\\n\"
+    \".cfi_adjust_cfa_offset -8\\n ret\\n .cfi_endproc\");
+int main(void) { printf(\"%ld\\n\", saves(1) + saves(2)); return 0; }
+";
+
+/// Code that pushes and pops the flags, of which the kernel uses one for steps.
+#[test]
+fn flags_are_the_programs_own() {
+    if !may_trace_programs() {
+        return;
+    }
+    let folder = Folder::new("trace-flags");
+    folder.write("flags.c", FLAGS);
+    folder.run("gcc -O1 flags.c -o flags");
+    for options in ["--module flags", "--all --module flags", "--calls 5 --module flags"] {
+        runs_alike(&folder, options, "./flags");
+        let traced = trace(&folder, options, "./flags");
+        assert_eq!(traced.found(), Vec::<[String; 3]>::new(), "{}", traced.log);
+    }
+}
+
 const STORM: &str = "
 #define _GNU_SOURCE
 #include <pthread.h>

@@ -21,6 +21,12 @@ pub type Tid = pid_t;
 /// which it begins.
 const PROGRAM_COUNTER: usize = 16 * std::mem::size_of::<u64>();
 
+/// Where it has the flags: they are the 19th.
+const FLAGS: usize = 18 * std::mem::size_of::<u64>();
+
+/// The flag by which the processor stops after each instruction.
+pub const TRAP_FLAG: u64 = 1 << 8;
+
 /// Where the kernel's structure for a thread has the debug registers: they are its last field.
 const DEBUG_REGISTERS: usize = std::mem::size_of::<libc::user>() - 8 * std::mem::size_of::<u64>();
 
@@ -115,6 +121,14 @@ pub fn registers(tid: Tid) -> Result<Registers, Errno> {
 /// Sets the address of the next instruction of a thread that a trap has stopped.
 pub fn set_program_counter(tid: Tid, address: u64) {
     let _ = set_word(tid, PROGRAM_COUNTER, address);
+}
+
+/// Takes the flag of stepping out of the flags of a stopped thread.
+pub fn clear_trap_flag(tid: Tid) {
+    let flags = ptrace::getregs(Pid::from_raw(tid)).map_or(0, |raw| raw.eflags);
+    if flags & TRAP_FLAG != 0 {
+        let _ = set_word(tid, FLAGS, flags & !TRAP_FLAG);
+    }
 }
 
 /// Sets a debug register of a stopped thread.

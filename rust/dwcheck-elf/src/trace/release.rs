@@ -26,6 +26,7 @@ impl Tracer<'_, '_> {
         }
         for thread in threads.iter_mut().filter(|thread| thread.is_stopped) {
             thread.hardware.clear(thread.tid);
+            thread.end_steps();
             ptrace::detach(thread.tid, signals.get(&thread.tid).copied().unwrap_or(0));
         }
         for tid in std::mem::take(&mut self.early) {

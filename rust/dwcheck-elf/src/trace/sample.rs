@@ -104,7 +104,7 @@ impl Tracer<'_, '_> {
                 break;
             }
             thread.got_signal = signal != 0;
-            ptrace::step(tid, std::mem::take(&mut signal));
+            thread.step(&space, std::mem::take(&mut signal));
             match ptrace::wait_for_stop(tid).ok()? {
                 Report::Signal(libc::SIGTRAP) => {
                     let registers = ptrace::registers(tid).ok()?;
@@ -115,6 +115,7 @@ impl Tracer<'_, '_> {
                 _ => break,
             }
         }
+        thread.end_steps();
         while ptrace::trap_waits(tid) {
             ptrace::run(tid, 0);
             match ptrace::wait_for_stop(tid).ok()? {

@@ -2,7 +2,7 @@
 
 use super::ends::Hardware;
 use super::judge::Below;
-use super::ptrace::Tid;
+use super::ptrace::{self, Tid};
 use super::registers::Registers;
 use super::shadow::{FdeId, Shadow};
 use super::space::Space;
@@ -43,6 +43,9 @@ pub(super) struct Thread {
     /// The stretch that it runs.
     pub stretch: Option<Stretch>,
     pub hardware: Hardware,
+    /// Whether it stepped over an instruction that pops the flags. The kernel then takes the flag of stepping for the
+    /// program's own, and leaves it set when the thread runs.
+    pub popped_flags: bool,
     /// Whether it was given a signal when it went on.
     pub got_signal: bool,
     /// Whether it is stopped.
@@ -82,8 +85,25 @@ impl Thread {
             below: None,
             stretch: None,
             hardware: Hardware::default(),
+            popped_flags: false,
             got_signal: false,
             is_stopped: false,
+        }
+    }
+
+    /// Lets it make a step. It gets the signal, if that isn't 0.
+    pub fn step(&mut self, space: &Space, signal: i32) {
+        if self.here.effect == Effect::PopFlags {
+            let has_flag = space.word(self.stack_pointer()).map_or(false, |flags| flags & ptrace::TRAP_FLAG != 0);
+            self.popped_flags |= !has_flag;
+        }
+        ptrace::step(self.tid, signal);
+    }
+
+    /// Takes the flag of stepping away that the kernel would leave set. To be called before the thread runs.
+    pub fn end_steps(&mut self) {
+        if std::mem::take(&mut self.popped_flags) {
+            ptrace::clear_trap_flag(self.tid);
         }
     }
 

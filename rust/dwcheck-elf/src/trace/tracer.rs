@@ -424,6 +424,7 @@ impl Tracer<'_, '_> {
             thread.hardware.clear(thread.tid);
         }
         if thread.mode == Mode::Running || is_quick {
+            thread.end_steps();
             ptrace::run(thread.tid, signal);
             return;
         }
@@ -431,7 +432,8 @@ impl Tracer<'_, '_> {
         if thread.space.borrow_mut().lift(address) {
             thread.lifted = Some(address);
         }
-        ptrace::step(thread.tid, signal);
+        let space = Rc::clone(&thread.space);
+        thread.step(&space.borrow(), signal);
     }
 
     fn ended(&mut self, tid: Tid, end: End) {

@@ -2,6 +2,7 @@
 //! stepped already run at full speed.
 
 use super::breakpoints::Breakpoint;
+use super::ptrace::TRAP_FLAG;
 use super::registers::Registers;
 use super::rules::Rule;
 use super::shadow::{Awaited, Origin};
@@ -17,9 +18,6 @@ use std::rc::Rc;
 /// How often a thread may come to the beginning of a function in another way than by a call, before the
 /// breakpoint there is taken out.
 const MOST_MISSES: u8 = 8;
-
-/// The flag by which the processor stops after each instruction.
-const TRAP_FLAG: u64 = 1 << 8;
 
 impl Tracer<'_, '_> {
     /// A thread that runs has come to a breakpoint, and its registers are those before that.
