@@ -25,8 +25,8 @@ impl Table {
         Table { process: Process::new(target.into()), seen: HashSet::new() }
     }
 
-    /// Compiles the FDE that covers an address, if there is one that can be used. Returns whether a row
-    /// covers the address, and adds to `problems` what is refused.
+    /// Compiles the FDE that covers an address, if there is one that can be used. Returns whether a module
+    /// covers the address now, and adds to `problems` what is refused.
     fn prepare(&mut self, loaded: &Loaded, address: u64, problems: &mut Vec<String>) -> bool {
         if self.process.module_at(address).is_some() {
             return true;
@@ -42,7 +42,9 @@ impl Table {
                 add_fde(&mut self.process, &one, &module, address).map_err(|error| error.to_string())
             });
             match added {
-                Ok(()) => return true,
+                // What was added may be for other addresses, if the section says something odd.
+                Ok(()) if self.process.module_at(address).is_some() => return true,
+                Ok(()) => {}
                 Err(why) if self.seen.insert((place, piece.fde)) => problems.push(section.problem(piece.fde, &why)),
                 Err(_) => {}
             }
