@@ -57,7 +57,7 @@ fn read<R: Read + Seek>(mut file: R, most: usize) -> Functions {
         Ok(Some(target)) => target,
         _ => return functions,
     };
-    while let Ok(Some(record)) = Record::read(&mut file, target) {
+    while let Ok(record) = Record::read(&mut file, target) {
         let (index, function) = match record {
             Record::Load { index, begin, size, name } => (index, (begin, size, name)),
             Record::Move { index, begin, size } => match by_index.get(&index) {
@@ -98,40 +98,30 @@ enum Record {
     Other,
 }
 
+/// The error for what ends too early: the process is still writing it, or a length is wrong.
+fn ended() -> io::Error {
+    io::ErrorKind::UnexpectedEof.into()
+}
+
 impl Record {
-    /// Reads a record. `None` if its length is wrong, or if its name has no end.
-    fn read<R: Read + Seek>(file: &mut R, target: Target) -> io::Result<Option<Record>> {
+    fn read<R: Read + Seek>(file: &mut R, target: Target) -> io::Result<Record> {
         let mut head = [0; RECORD_HEAD];
         file.read_exact(&mut head)?;
         let (kind, size) = (target.number(&head[..4]), target.number(&head[4..8]));
-        let mut rest = match size.checked_sub(RECORD_HEAD as u64) {
-            Some(rest) => rest,
-            None => return Ok(None),
-        };
-        let mut body = [0; MOVE_BODY];
         let fixed = match kind {
             LOAD => LOAD_BODY,
             MOVE => MOVE_BODY,
             _ => 0,
         };
-        rest = match rest.checked_sub(fixed as u64) {
-            Some(rest) => rest,
-            None => return Ok(None),
-        };
+        let mut rest = size.checked_sub((RECORD_HEAD + fixed) as u64).ok_or_else(ended)?;
+        let mut body = [0; MOVE_BODY];
         file.read_exact(&mut body[..fixed])?;
         let word = |place: usize| target.number(&body[8 * place..8 * place + 8]);
         let record = match kind {
             // The process and the thread, where the code is in memory, its address, length and index.
             LOAD => {
-                let length = rest.saturating_sub(word(3));
-                let mut name = Vec::new();
-                rest -= file.take(length.min(LONGEST)).read_to_end(&mut name)? as u64;
-                match name.iter().position(|byte| *byte == 0) {
-                    Some(end) => name.truncate(end),
-                    None if name.len() as u64 == LONGEST => {}
-                    // The process is still writing it.
-                    None => return Ok(None),
-                }
+                let (name, length) = name(file, rest.saturating_sub(word(3)))?;
+                rest -= length;
                 Record::Load { index: word(4), begin: word(2), size: word(3), name }
             }
             // Before its new address is its old one.
@@ -139,8 +129,20 @@ impl Record {
             _ => Record::Other,
         };
         file.seek(SeekFrom::Current(i64::try_from(rest).unwrap_or(i64::MAX)))?;
-        Ok(Some(record))
+        Ok(record)
     }
+}
+
+/// Reads a name that has at most so many bytes with the zero at its end. Returns the number of bytes that were read too.
+fn name<R: Read>(file: &mut R, most: u64) -> io::Result<(Vec<u8>, u64)> {
+    let mut name = Vec::new();
+    let read = file.take(most.min(LONGEST)).read_to_end(&mut name)? as u64;
+    match name.iter().position(|byte| *byte == 0) {
+        Some(end) => name.truncate(end),
+        None if read == LONGEST => {}
+        None => return Err(ended()),
+    }
+    Ok((name, read))
 }
 
 #[cfg(test)]
