@@ -8,10 +8,11 @@
 //! 1; a panic or memory that can't be had ends it, too. At the end it says how many were read, how many of them were
 //! damaged as the reader noticed, how many samples they had, and the most memory and time that one took.
 
+use dwcheck_elf::mapped::Bytes;
 use dwcheck_elf::profile::script::{self, ScriptOptions};
 use dwcheck_elf::profile::{firefox, folded, html, pprof, speedscope, top, Names, Options, Places, Profile, Recording};
 use std::alloc::{GlobalAlloc, Layout, System};
-use std::io::{self, Cursor, Write};
+use std::io::{self, Write};
 use std::path::Path;
 use std::sync::atomic::{AtomicUsize, Ordering};
 use std::time::{Duration, Instant};
@@ -145,7 +146,7 @@ struct Result {
 
 /// Reads a recording, and writes its profile in a format.
 fn profile(bytes: &[u8], root: &Path, format: usize) -> Result {
-    let mut recording = match Recording::of_file(Cursor::new(bytes)) {
+    let mut recording = match Recording::of_bytes(Bytes::from(bytes.to_vec())) {
         Ok(recording) => recording,
         Err(_) => return Result::default(),
     };

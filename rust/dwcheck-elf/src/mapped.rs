@@ -4,7 +4,7 @@ use memmap2::Mmap;
 use nix::fcntl::{fcntl, FcntlArg, OFlag};
 use std::fs::{File, OpenOptions};
 use std::io::{self, Read};
-use std::ops::Deref;
+use std::ops::{Deref, Range};
 use std::os::unix::fs::OpenOptionsExt;
 use std::os::unix::io::AsRawFd;
 use std::path::Path;
@@ -12,6 +12,9 @@ use std::sync::Arc;
 
 /// The most bytes that are read of a file that can't be mapped, such as a pipe.
 pub const STREAM_LIMIT: u64 = 48 << 20;
+
+/// Pages of memory have this many bytes, or a part of them.
+const PAGE: usize = 1 << 16;
 
 /// The first bytes of an ELF file.
 const MAGIC: &[u8] = b"\x7fELF";
@@ -58,6 +61,24 @@ impl Bytes {
         #[allow(unsafe_code)]
         let mapped = unsafe { Mmap::map(file) }?;
         Ok(Bytes(Arc::new(Held::Mapped(mapped))))
+    }
+
+    /// Gives back the memory of the bytes in a range, which won't be read again soon. If they are read, they are
+    /// those of the file, as before.
+    pub(crate) fn give_back(&self, range: Range<usize>) {
+        let bytes = match &*self.0 {
+            Held::Mapped(bytes) => bytes,
+            Held::Read(_) => return,
+        };
+        let first = range.start.saturating_add(PAGE - 1) / PAGE * PAGE;
+        let end = range.end.min(bytes.len()) / PAGE * PAGE;
+        if let Some(unused) = bytes.get(first..end).filter(|unused| !unused.is_empty()) {
+            let address = unused.as_ptr() as *mut libc::c_void;
+            // SAFETY: the memory is a mapping of a file that is only read, so that the kernel reads the file again
+            // if these bytes are needed. If it doesn't do what is asked, nothing changes.
+            #[allow(unsafe_code)]
+            let _ = unsafe { libc::madvise(address, unused.len(), libc::MADV_DONTNEED) };
+        }
     }
 
     fn of_stream(mut file: File) -> io::Result<Bytes> {

@@ -4,7 +4,7 @@
 //! ```no_run
 //! use dwcheck_elf::profile::{folded, Names, Options, Profile, Recording};
 //!
-//! let mut recording = Recording::of_file(std::fs::File::open("perf.data")?)?;
+//! let mut recording = Recording::of_file(&std::fs::File::open("perf.data")?)?;
 //! let profile = Profile::read(&mut recording, &Options::default(), |_| true);
 //! let names = Names::read(&profile, &Default::default());
 //! folded::write(&profile, &names, 0, &mut std::io::stdout().lock())?;

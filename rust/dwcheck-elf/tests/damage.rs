@@ -8,12 +8,12 @@ use dwcheck_elf::alone::{accepted_part, every_fault};
 use dwcheck_elf::core_file::{CoreFile, Files};
 use dwcheck_elf::frames::{FrameSection, Frames, Name};
 use dwcheck_elf::inspect::{inspect, Check, Inspected, Verdict};
+use dwcheck_elf::mapped::Bytes;
 use dwcheck_elf::profile::script::{self, ScriptOptions};
 use dwcheck_elf::profile::{self, firefox, folded, html, pprof, speedscope, top, Names, Places, Profile, Recording};
 use dwcheck_elf::program::{Program, Section};
 use dwcheck_elf::stack::{Stacks, WalkOptions};
 use dwcheck_elf::validate::{validate_rows, What};
-use std::io::Cursor;
 use std::path::Path;
 
 /// Pseudorandom numbers, the same in each run (xorshift).
@@ -123,7 +123,7 @@ fn core(bytes: &[u8]) -> bool {
 
 /// Reads a recording, and writes its profile in all formats. Returns false if its header can't be read.
 fn recording(bytes: &[u8], root: &Path) -> bool {
-    let opened = Recording::of_file(Cursor::new(bytes));
+    let opened = Recording::of_bytes(Bytes::from(bytes.to_vec()));
     let mut recording = match opened {
         Ok(recording) => recording,
         Err(damage) => {

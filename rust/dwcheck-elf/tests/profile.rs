@@ -42,6 +42,33 @@ fn the_lines_are_those_of_perf() {
     }
 }
 
+/// perf wrote a file for each processor, and the program was moved from one to another.
+#[test]
+fn the_lines_of_a_folder_are_those_of_perf() {
+    let folder = Folder::new("profile-folder");
+    let ran = profile(&folder, "threads.perf", &["--format", "script", "--no-inline"]);
+    assert_eq!(ran.out, script("threads.script"));
+}
+
+#[test]
+fn a_file_of_a_folder_that_is_cut_off_is_named() {
+    let folder = Folder::new("profile-folder-cut");
+    for name in ["data", "data.0", "data.1", "data.2", "data.3"] {
+        let bytes = std::fs::read(recordings().join("threads.perf").join(name)).unwrap();
+        let end = if name == "data.1" { bytes.len() - 1 } else { bytes.len() };
+        folder.write(name, &bytes[..end]);
+    }
+    let (root, path) = (recordings(), folder.path().to_str().unwrap().to_string());
+    let ran = dwcheck_elf_words(&folder, &["profile", "--root", root.to_str().unwrap(), "--quiet", &path]);
+    assert_eq!(ran.status, 3);
+    let name = format!("dwcheck-elf: {}: data.1: ends inside of the record at ", path);
+    assert!(ran.error.starts_with(&name), "{}", ran.error);
+    assert!(ran.out.starts_with("spin;_start;main;middle;twice;leaf "), "{}", ran.out);
+    std::fs::remove_file(folder.file("data")).unwrap();
+    let ran = dwcheck_elf_words(&folder, &["profile", &path]);
+    assert!(ran.status == 3 && ran.error.contains(": data: can't be read: "), "{}", ran.error);
+}
+
 #[test]
 fn a_pipe_is_read_while_it_is_written() {
     let folder = Folder::new("profile-pipe");

@@ -1,7 +1,8 @@
 //! Reads the recordings of perf: the files that `perf record` writes, and what it writes to a pipe.
 //!
-//! Records are read one after another, and given in the order of their times, as perf does it. What is
-//! held in memory is bounded: the records of two rounds of perf, or 32 MiB.
+//! Records are read one after another, and given in the order of their times, as perf does it. Files are mapped into
+//! memory, and records are read where they are. What is held in memory is bounded: the records of two rounds of
+//! perf, or 32 MiB; the memory of what was given is given back.
 //!
 //! Debian has a crate that reads such files, `linux-perf-data`. It gives no samples of compressed
 //! recordings and doesn't say so, it reads neither pipes nor groups whose counts are read together,
@@ -10,6 +11,7 @@
 
 mod event;
 mod features;
+mod folder;
 mod header;
 mod order;
 mod record;
@@ -22,13 +24,16 @@ pub use record::{Comm, Fork, Mapped, Record};
 pub use sample::{Mode, Sample, TaskRegisters};
 
 use crate::bytes::{Cursor, ReadError};
+use crate::mapped::Bytes;
 use crate::target::{AddressSize, Order, Target};
 use event::Events;
+use folder::Part;
 use header::Header;
 use order::{Held, Queue};
 use source::Source;
 use std::fmt;
-use std::io::{Read, Seek};
+use std::fs::File;
+use std::io::{self, Read};
 
 /// The numbers of records that are about the recording.
 mod kind {
@@ -64,6 +69,8 @@ pub enum Damage {
     Read(String),
     /// A part of the header is shorter than what it should have.
     Short,
+    /// What is wrong with this file of a folder.
+    InFile(String, Box<Damage>),
 }
 
 /// What a recording says of its events and of itself. What comes through a pipe says it in its records.
@@ -88,13 +95,31 @@ impl About {
 
 /// A recording: a reader of its records.
 pub struct Recording<'r> {
-    source: Source<'r>,
+    parts: Vec<Part<'r>>,
+    /// The files in which records are.
+    files: Vec<Bytes>,
     queue: Queue,
     about: About,
     target: Target,
     /// How the recording ended, if it didn't end as it should.
     damage: Option<Damage>,
     is_at_end: bool,
+}
+
+/// The memory of a file is given back in pieces of at least this many bytes.
+const GIVEN_BACK: usize = 4 << 20;
+
+/// Why no more records of a part are read for now.
+#[derive(Clone, Copy, Debug, PartialEq, Eq)]
+enum Pause {
+    /// The part is at its end.
+    End,
+    /// A round of perf is at its end.
+    Round,
+    /// As much was read as was asked for.
+    Enough,
+    /// Too much waits.
+    Full,
 }
 
 /// The first bytes of a record.
@@ -121,25 +146,36 @@ impl<'r> Recording<'r> {
     ///
     /// # Errors
     ///
+    /// If the file or its header can't be read.
+    pub fn of_file(file: &File) -> Result<Recording<'r>, Damage> {
+        Recording::of_bytes(Bytes::of_file(file, file.metadata()?.len())?)
+    }
+
+    /// Opens the bytes of such a file.
+    ///
+    /// # Errors
+    ///
     /// If the header can't be read.
-    pub fn of_file<R: Read + Seek + Send + 'r>(mut file: R) -> Result<Recording<'r>, Damage> {
-        let header = Header::read(&mut file)?;
+    pub fn of_bytes(bytes: Bytes) -> Result<Recording<'r>, Damage> {
+        let file = &mut io::Cursor::new(&*bytes);
+        let header = Header::read(file)?;
         let target = Target { order: header.order, address_size: AddressSize::Eight };
+        let size = bytes.len() as u64;
         if header.is_pipe {
-            return Ok(Recording::with(Source::of_pipe(file, target), target));
+            let source = Source::of_file(bytes.clone(), 0, target, header::PIPE_SIZE, size);
+            return Ok(Recording { files: vec![bytes], ..Recording::with(source, target) });
         }
-        let size = header::end(&mut file)?;
         let mut about = About::default();
-        header.events(&mut file, target)?.into_iter().for_each(|event| about.events.add(event));
+        header.events(file, target)?.into_iter().for_each(|event| about.events.add(event));
         let About { events, features } = &mut about;
-        header.features(&mut file, target, |number, bytes| features.add(number, bytes, target, events))?;
+        header.features(file, target, |number, bytes| features.add(number, bytes, target, events))?;
         if about.events().is_empty() {
             return Err(Damage::NoEvent);
         }
         let (begin, end) = header.data(size);
-        let source = Source::of_file(file, target, begin, end)?;
+        let source = Source::of_file(bytes.clone(), 0, target, begin, end);
         let damage = header.data_damage(size);
-        Ok(Recording { about, damage, ..Recording::with(source, target) })
+        Ok(Recording { about, damage, files: vec![bytes], ..Recording::with(source, target) })
     }
 
     /// Reads what `perf record -o -` writes to a pipe.
@@ -158,7 +194,8 @@ impl<'r> Recording<'r> {
 
     fn with(source: Source<'r>, target: Target) -> Self {
         let (queue, about) = Default::default();
-        Recording { source, queue, about, target, damage: None, is_at_end: false }
+        let parts = vec![Part::new(source)];
+        Recording { parts, files: Vec::new(), queue, about, target, damage: None, is_at_end: false }
     }
 
     /// The byte order of the machine that was recorded.
@@ -178,7 +215,13 @@ impl<'r> Recording<'r> {
 
     /// The number of bytes that were read so far.
     pub fn position(&self) -> u64 {
-        self.source.position()
+        self.parts.iter().map(|part| part.source.position()).sum()
+    }
+
+    /// The number of bytes of all files. `None` for a pipe.
+    pub fn size(&self) -> Option<u64> {
+        let sizes = self.files.iter().map(|file| file.len() as u64);
+        Some(sizes.sum()).filter(|_| !self.files.is_empty())
     }
 
     /// The next records, in the order of their times. `None` at the end: then
@@ -186,50 +229,102 @@ impl<'r> Recording<'r> {
     pub fn next_batch(&mut self) -> Option<Batch<'_>> {
         if self.queue.is_given() {
             self.queue.forget_given();
+            self.give_back();
             while !self.is_at_end && !self.queue.has_enough() {
                 self.read_round();
             }
         }
-        let (held, bytes) = self.queue.give();
-        let batch = Batch { held, bytes, about: &self.about, target: self.target };
+        let (held, copied) = self.queue.give();
+        let batch = Batch { held, files: &self.files, copied, about: &self.about, target: self.target };
         Some(batch).filter(|batch| !batch.held.is_empty())
+    }
+
+    /// Gives back the memory of what was given of each file.
+    fn give_back(&mut self) {
+        for part in &mut self.parts {
+            let file = match part.source.file() {
+                Some(file) => file,
+                None => continue,
+            };
+            let read = usize::try_from(part.source.position()).unwrap_or(usize::MAX);
+            let end = self.queue.first_needed(file).unwrap_or(read);
+            if end.saturating_sub(part.given_back) > GIVEN_BACK {
+                self.files[file].give_back(part.given_back..end);
+                part.given_back = end;
+            }
+        }
     }
 
     /// Reads records up to the end of a round, and gives those free for which it is certain that no
     /// earlier one follows.
     fn read_round(&mut self) {
-        loop {
-            let start = self.queue.room().len();
-            let head = match self.source.read(self.queue.room()) {
-                Ok(Some(head)) => head,
-                end => {
-                    self.damage = end.err().or_else(|| self.damage.take());
-                    self.is_at_end = true;
-                    return self.queue.release_all();
-                }
-            };
-            if head.kind == kind::FINISHED_ROUND {
-                self.queue.drop_last(start);
-                return self.queue.release_round();
-            }
-            self.hold(head, start);
-            if self.queue.is_full() {
-                return self.queue.release_half();
-            }
+        match self.read_part(0, u64::MAX) {
+            Pause::Full => self.queue.release_half(),
+            Pause::Round if self.parts.len() == 1 => self.queue.release_round(),
+            Pause::Round | Pause::Enough => {}
+            Pause::End => self.read_thread(),
         }
     }
 
-    /// Puts the record that was just read into the queue, or uses it at once if it is about the
-    /// recording itself.
-    fn hold(&mut self, head: RecordHead, start: usize) {
-        let body = self.queue.read_since(start);
+    /// Reads some records of the thread's file that is furthest behind: what follows in it and in the others isn't
+    /// older than what it has given before.
+    fn read_thread(&mut self) {
+        let others = self.parts.iter().enumerate().skip(1).filter(|(_, part)| !part.is_at_end);
+        let behind = others.min_by_key(|(_, part)| part.latest).map(|(place, _)| place);
+        let pause = match behind {
+            Some(place) => self.read_part(place, folder::STEP / self.parts.len() as u64),
+            None => {
+                self.is_at_end = true;
+                return self.queue.release_all();
+            }
+        };
+        if pause == Pause::Full {
+            return self.queue.release_half();
+        }
+        let others = self.parts.iter().skip(1).filter(|part| !part.is_at_end);
+        self.queue.release(others.map(|part| part.before).min().unwrap_or(u64::MAX));
+    }
+
+    /// Reads records of a part, up to the end of a round, or about `most` bytes.
+    fn read_part(&mut self, place: usize, most: u64) -> Pause {
+        let part = &mut self.parts[place];
+        if part.is_at_end {
+            return Pause::End;
+        }
+        part.before = part.latest;
+        let end = part.source.position().saturating_add(most);
+        while self.parts[place].source.position() < end {
+            if let Some(pause) = self.read_record(place) {
+                return pause;
+            }
+        }
+        Pause::Enough
+    }
+
+    /// Reads a record of a part, and puts it into the queue, or uses it at once if it is about the recording
+    /// itself. Returns why no more should be read now.
+    fn read_record(&mut self, place: usize) -> Option<Pause> {
+        let Recording { parts, files, queue, about, .. } = self;
+        let part = &mut parts[place];
+        let (head, body) = match part.source.read(queue.room()) {
+            Ok(Some(record)) => record,
+            end => {
+                self.damage = end.err().map(|damage| part.damaged(damage)).or_else(|| self.damage.take());
+                part.is_at_end = true;
+                return Some(Pause::End);
+            }
+        };
+        let bytes = body.of(files, queue.copied());
         if head.kind >= kind::ATTRIBUTE {
             // What can't be read of them is left out; the records tell for themselves.
-            let _ = describe(head, body, self.target, &mut self.about);
-            return self.queue.drop_last(start);
+            let _ = describe(head, bytes, self.target, about);
+            queue.drop_last(body);
+            return (head.kind == kind::FINISHED_ROUND).then_some(Pause::Round);
         }
-        let time = record::time(head, Cursor::new(body, self.target), &self.about.events);
-        self.queue.push(Held { time, head, start, end: start + body.len() });
+        let time = record::time(head, Cursor::new(bytes, self.target), &about.events);
+        part.saw(time);
+        queue.push(Held { time, head, body });
+        queue.is_full().then_some(Pause::Full)
     }
 }
 
@@ -237,7 +332,9 @@ impl<'r> Recording<'r> {
 #[derive(Clone, Copy, Debug)]
 pub struct Batch<'b> {
     held: &'b [Held],
-    bytes: &'b [u8],
+    files: &'b [Bytes],
+    /// The bodies that aren't in files.
+    copied: &'b [u8],
     about: &'b About,
     target: Target,
 }
@@ -250,9 +347,8 @@ impl<'b> Batch<'b> {
 
     /// The records, in the order of their times.
     pub fn records(&self) -> impl Iterator<Item = Record<'b>> {
-        let Batch { bytes, about, target, .. } = *self;
-        let body = move |held: &Held| bytes.get(held.start..held.end).unwrap_or(&[]);
-        self.held.iter().map(move |held| Record::read(held.head, body(held), target, &about.events))
+        let Batch { files, copied, about, target, .. } = *self;
+        self.held.iter().map(move |held| Record::read(held.head, held.body.of(files, copied), target, &about.events))
     }
 }
 
@@ -309,6 +405,7 @@ impl fmt::Display for Damage {
             Damage::Compressed(at) => write!(f, "the compressed record before {:#x} can't be decompressed", at),
             Damage::Read(error) => write!(f, "can't be read: {}", error),
             Damage::Short => f.write_str("its header is cut off or wrong"),
+            Damage::InFile(name, damage) => write!(f, "{}: {}", name, damage),
         }
     }
 }

@@ -42,7 +42,7 @@ fn read(words: &ProfileWords) -> Result<(Profile, Names), Failure> {
         File::open(path).map_err(|error| Failure::File(format!("cannot read {}: {}", shown(path), error)))?;
     }
     let mut recording = open(&words.recording)?;
-    let bar = bar(&words.recording);
+    let bar = bar(recording.size());
     let pool = rayon::ThreadPoolBuilder::new().num_threads(words.jobs.unwrap_or(0)).stack_size(STACK);
     let pool = pool.build().map_err(|error| Failure::File(format!("no threads: {}", error)))?;
     Ok(pool.install(|| {
@@ -85,16 +85,16 @@ fn open(path: &Path) -> Result<Recording<'static>, Failure> {
     let cannot = |error: &dyn std::fmt::Display| Failure::File(format!("cannot read {}: {}", shown(path), error));
     let file = File::open(opened).map_err(|error| cannot(&error))?;
     let metadata = file.metadata().map_err(|error| cannot(&error))?;
-    if metadata.is_dir() {
-        return Err(failed(&"is a folder; perf record --threads writes such, which aren't read"));
-    }
-    let recording = if metadata.is_file() { Recording::of_file(file) } else { Recording::of_pipe(file) };
+    let recording = match metadata {
+        folder if folder.is_dir() => Recording::of_folder(opened),
+        regular if regular.is_file() => Recording::of_file(&file),
+        _ => Recording::of_pipe(file),
+    };
     recording.map_err(|damage| failed(&damage))
 }
 
 /// Shows on a terminal how much of the recording was read.
-fn bar(path: &Path) -> ProgressBar {
-    let size = path.metadata().ok().filter(|file| file.is_file()).map(|file| file.len());
+fn bar(size: Option<u64>) -> ProgressBar {
     let bar = match size {
         Some(size) => ProgressBar::new(size),
         None => return ProgressBar::hidden(),

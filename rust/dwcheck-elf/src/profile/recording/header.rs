@@ -12,7 +12,7 @@ const MAGIC: &[u8; 8] = b"PERFILE2";
 const OLD_MAGIC: &[u8; 8] = b"PERFFILE";
 
 /// The length of the header of what perf writes to a pipe.
-const PIPE_SIZE: u64 = 16;
+pub(super) const PIPE_SIZE: u64 = 16;
 
 /// The length of the header of a file.
 const FILE_SIZE: u64 = 104;
@@ -160,9 +160,4 @@ impl Header {
         let is_cut = self.data.size == 0 || self.data.offset.saturating_add(self.data.size) > size;
         is_cut.then_some(Damage::Format("perf didn't finish it, or it is cut off"))
     }
-}
-
-/// The size of a file.
-pub(super) fn end<R: Seek>(file: &mut R) -> Result<u64, Damage> {
-    Ok(file.seek(SeekFrom::End(0))?)
 }

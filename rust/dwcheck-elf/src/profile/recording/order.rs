@@ -4,6 +4,7 @@
 //! a record that says so. What comes after the end of a round isn't older than what was the newest at
 //! the end of the round before.
 
+use super::source::Body;
 use super::RecordHead;
 
 /// The most bytes that wait. If there are more, the older half is given free.
@@ -18,23 +19,27 @@ const ENOUGH_BYTES: usize = 8 << 20;
 /// The most records that are given at once.
 const MOST_GIVEN: usize = 4096;
 
-/// A record that waits: where its body is in the bytes of the queue.
+/// A record that waits.
 #[derive(Clone, Copy, Debug)]
 pub(super) struct Held {
     /// When it was recorded. Records without a time have 0, and come first.
     pub time: u64,
     pub head: RecordHead,
-    pub start: usize,
-    pub end: usize,
+    pub body: Body,
 }
 
 /// The records that were read and not given yet.
 #[derive(Debug, Default)]
 pub(super) struct Queue {
-    bytes: Vec<u8>,
+    /// The bodies that aren't in files.
+    copied: Vec<u8>,
+    /// Where those of them go that are kept.
+    spare: Vec<u8>,
     /// The records, in the order in which they were read; those that are free come first, in the
     /// order of their times.
     held: Vec<Held>,
+    /// The bytes of the bodies of all that are held.
+    size: usize,
     /// How many of `held` are free.
     free: usize,
     /// How many of `held` were given.
@@ -46,24 +51,27 @@ pub(super) struct Queue {
 }
 
 impl Queue {
-    /// Where the next record's body is read to: the end of the bytes.
+    /// Where the next record's body is copied to: the end of the bytes.
     pub fn room(&mut self) -> &mut Vec<u8> {
-        &mut self.bytes
+        &mut self.copied
     }
 
-    /// The bytes that were read since the bytes had this length.
-    pub fn read_since(&self, start: usize) -> &[u8] {
-        self.bytes.get(start..).unwrap_or(&[])
+    /// The bodies that aren't in files.
+    pub fn copied(&self) -> &[u8] {
+        &self.copied
     }
 
-    /// Forgets the bytes that were read since the bytes had this length.
-    pub fn drop_last(&mut self, start: usize) {
-        self.bytes.truncate(start);
+    /// Forgets a body that was just read.
+    pub fn drop_last(&mut self, body: Body) {
+        if body.file.is_none() {
+            self.copied.truncate(body.start);
+        }
     }
 
     /// Adds a record whose body was just read.
     pub fn push(&mut self, record: Held) {
         self.latest = self.latest.max(record.time);
+        self.size += record.body.size();
         self.held.push(record);
     }
 
@@ -74,20 +82,20 @@ impl Queue {
 
     /// Whether enough are free.
     pub fn has_enough(&self) -> bool {
-        self.free >= ENOUGH || self.free > 0 && self.bytes.len() > ENOUGH_BYTES
+        self.free >= ENOUGH || self.free > 0 && self.size > ENOUGH_BYTES
     }
 
-    /// Gives the next records that are free, with the bytes in which their bodies are.
+    /// Gives the next records that are free, with the bodies that aren't in files.
     pub fn give(&mut self) -> (&[Held], &[u8]) {
         let end = self.free.min(self.given.saturating_add(MOST_GIVEN));
         let given = self.held.get(self.given..end).unwrap_or(&[]);
         self.given = end;
-        (given, &self.bytes)
+        (given, &self.copied)
     }
 
     /// Whether no more records should be read before some are given.
     pub fn is_full(&self) -> bool {
-        self.bytes.len() > MOST_HELD
+        self.size > MOST_HELD
     }
 
     /// At the end of a round: gives those free that aren't newer than the newest of the round before.
@@ -109,28 +117,32 @@ impl Queue {
         self.release(u64::MAX);
     }
 
-    fn release(&mut self, limit: u64) {
+    /// Gives those free that aren't newer than this.
+    pub fn release(&mut self, limit: u64) {
         // The sort is stable: of records with the same time, the first one that was read comes first.
         self.held.sort_by_key(|record| record.time);
         self.free = self.held.partition_point(|record| record.time <= limit);
     }
 
-    /// Drops the records that were given, and moves the bytes of the others to the beginning.
+    /// Drops the records that were given. Of the bodies that aren't in files, only those of the others are kept.
     pub fn forget_given(&mut self) {
         if self.given == 0 {
             return;
         }
-        self.held.drain(..self.given);
-        self.held.sort_by_key(|record| record.start);
-        let mut end = 0;
-        for record in &mut self.held {
-            self.bytes.copy_within(record.start..record.end, end);
-            let length = record.end - record.start;
-            (record.start, record.end) = (end, end + length);
-            end += length;
+        self.size -= self.held.drain(..self.given).map(|record| record.body.size()).sum::<usize>();
+        self.spare.clear();
+        for body in self.held.iter_mut().map(|record| &mut record.body).filter(|body| body.file.is_none()) {
+            let start = self.spare.len();
+            self.spare.extend_from_slice(body.of(&[], &self.copied));
+            (body.start, body.end) = (start, self.spare.len());
         }
-        self.bytes.truncate(end);
+        std::mem::swap(&mut self.copied, &mut self.spare);
         (self.free, self.given) = (0, 0);
+    }
+
+    /// The first byte of a file that a record needs. `None` if none needs one.
+    pub fn first_needed(&self, file: usize) -> Option<usize> {
+        self.held.iter().map(|record| record.body).filter(|body| body.file == Some(file)).map(|body| body.start).min()
     }
 }
 
@@ -141,12 +153,12 @@ mod tests {
     fn held(queue: &mut Queue, time: u64) {
         let start = queue.room().len();
         queue.room().push(time as u8);
-        queue.push(Held { time, head: RecordHead::default(), start, end: start + 1 });
+        queue.push(Held { time, head: RecordHead::default(), body: Body { file: None, start, end: start + 1 } });
     }
 
     fn given(queue: &mut Queue) -> Vec<(u64, Vec<u8>)> {
         let (records, bytes) = queue.give();
-        let given = records.iter().map(|record| (record.time, bytes[record.start..record.end].to_vec())).collect();
+        let given = records.iter().map(|record| (record.time, record.body.of(&[], bytes).to_vec())).collect();
         queue.forget_given();
         given
     }
