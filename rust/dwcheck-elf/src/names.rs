@@ -75,7 +75,10 @@ pub(crate) fn short_name(symbol: &str) -> String {
 
 /// A function's name as it is in the file, without control characters.
 pub(crate) fn raw_name(symbol: &str) -> String {
-    shown(symbol).collect()
+    match symbol.contains(char::is_control) {
+        true => shown(symbol).collect(),
+        false => symbol.to_string(),
+    }
 }
 
 /// Whether the function that has the name `symbol` in the file is shown as `name`.

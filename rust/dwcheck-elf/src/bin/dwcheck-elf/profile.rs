@@ -20,6 +20,7 @@ const TOP: usize = 50;
 
 /// Writes the profile of a recording on `out` or to a file, and a summary on standard error.
 pub fn profile(words: &ProfileWords, out: &mut impl Write) -> Result<Done, Failure> {
+    start_threads(words)?;
     let (profile, names) = read(words)?;
     match &words.output {
         None => write(words, &profile, &names, out)?,
@@ -34,7 +35,13 @@ pub fn profile(words: &ProfileWords, out: &mut impl Write) -> Result<Done, Failu
     Ok(if profile.damage.is_some() { Done::Unread } else { Done::Accepted })
 }
 
-/// Reads the recording, on as many processors as are asked for.
+/// Starts as many threads as are asked for.
+fn start_threads(words: &ProfileWords) -> Result<(), Failure> {
+    let threads = rayon::ThreadPoolBuilder::new().num_threads(words.jobs.unwrap_or(0)).stack_size(STACK);
+    threads.build_global().map_err(|error| Failure::File(format!("no threads: {}", error)))
+}
+
+/// Reads the recording.
 fn read(words: &ProfileWords) -> Result<(Profile, Names), Failure> {
     let options = options(words)?;
     let kernel = words.kallsyms.clone();
@@ -43,9 +50,8 @@ fn read(words: &ProfileWords) -> Result<(Profile, Names), Failure> {
     }
     let mut recording = open(&words.recording)?;
     let bar = bar(recording.size());
-    let pool = rayon::ThreadPoolBuilder::new().num_threads(words.jobs.unwrap_or(0)).stack_size(STACK);
-    let pool = pool.build().map_err(|error| Failure::File(format!("no threads: {}", error)))?;
-    Ok(pool.install(|| {
+    // This runs in one of the threads, which have stacks of the size that is asked for.
+    Ok(rayon::scope(|_| {
         let profile = Profile::read(&mut recording, &options, |position| {
             bar.set_position(position);
             true
