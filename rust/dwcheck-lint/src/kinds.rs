@@ -39,7 +39,7 @@ kinds! {
     WrongRowAtJump = "wrong row at jmp",
     /// After the frame pointer of a realigned stack is popped, rows still find registers by it.
     DrapEpilogue = "DRAP epilogue",
-    /// The CFA is relative to a stack pointer that was moved by a number that isn't known.
+    /// The CFA is relative to a stack pointer that was moved by a register, or by a number that isn't known.
     MovedStackPointer = "moved stack pointer",
     /// The register of the CFA holds something else.
     CfaRegisterOverwritten = "CFA register overwritten",

@@ -118,8 +118,7 @@ fn large_frames_by_a_register() {
         add sp, sp, x12
         .cfi_def_cfa_offset 0
         ret";
-    // Such a subtraction has no name of its own.
-    AARCH64.planted("large", "wrong CFA", text);
+    AARCH64.planted("large", "moved stack pointer", text);
 }
 
 /// Rows for calls: what LLVM 14 writes. Only calls are judged.
