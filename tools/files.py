@@ -30,7 +30,7 @@ def first_sentence(file):
             break
         lines.append(comment[1])
     text = " ".join(lines)
-    ends = re.search(r"\.(?= [A-Z`])(?<!\bi\.e\.)(?<!\be\.g\.)", text)
+    ends = re.search(r"\.(?= [A-Z`])", text)
     return text[:ends.end()] if ends else text
 
 

@@ -113,7 +113,7 @@ def changed_lengths(piece):
 
 
 def changed_pointers(piece):
-    """The pointers to CIEs lead to each offset before them and some behind, and nowhere."""
+    """The pointers to CIEs lead to each offset before them, to some after them, and nowhere."""
     for start, _, cie in places(piece.section, piece.big, piece.size):
         if cie is None:
             continue

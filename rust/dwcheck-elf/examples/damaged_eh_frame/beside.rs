@@ -30,7 +30,7 @@ pub enum Limit {
 
 /// How an FDE compares.
 pub enum Compared {
-    /// It has so many rows, which are all equal.
+    /// How many rows it has, which are all equal.
     Equal(usize),
     /// gimli can't read it.
     Unread(Limit),

@@ -7,7 +7,7 @@ use std::collections::BTreeMap;
 use std::fmt;
 use std::time::Duration;
 
-/// So many problems are kept as text.
+/// How many problems are kept as text.
 const KEPT: usize = 20;
 
 /// The counts of some cases.

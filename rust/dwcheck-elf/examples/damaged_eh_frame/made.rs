@@ -52,7 +52,7 @@ impl Maker<'_> {
         self.section.bytes.extend_from_slice(bytes);
     }
 
-    /// A number in so many bytes.
+    /// A number in this number of bytes.
     fn fixed(&mut self, number: u64, size: usize) {
         match self.section.target.order {
             Order::Little => self.push(&number.to_le_bytes()[..size]),

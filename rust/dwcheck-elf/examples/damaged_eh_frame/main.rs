@@ -31,9 +31,9 @@ use std::time::{Duration, Instant};
 
 /// The longest that one case may take.
 const LONGEST: Duration = Duration::from_secs(20);
-/// A thread takes so many cases at a time.
+/// How many cases a thread takes at a time.
 const IN_A_BATCH: u64 = 5_000;
-/// At least so many sections are made.
+/// The least number of sections that are made.
 const MADE: usize = 2_000;
 
 /// The sections of the programs, and made ones.

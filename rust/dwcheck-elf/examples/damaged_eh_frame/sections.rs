@@ -5,7 +5,7 @@ use dwcheck::{AddressSize, EhFrame, FrameSection, Order, Record, RecordKind, Tar
 use object::{Architecture, Object, ObjectSection};
 use std::ops::Range;
 
-/// At most so many small sections are taken from a program's section.
+/// The most small sections that are taken from a program's section.
 const FROM_A_PROGRAM: usize = 500;
 
 /// A section, and how it is read.

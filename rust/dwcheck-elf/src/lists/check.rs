@@ -274,7 +274,7 @@ impl<'a> Lists<'a> {
     }
 }
 
-/// Reads the lists of a unit, which may have so many bytes, and checks them. Returns what is wrong with them too.
+/// Reads the lists of a unit, which may have this many bytes, and checks them. Returns what is wrong with them too.
 fn read_lists(
     references: &[Reference],
     source: &Source<'_>,

@@ -133,7 +133,7 @@ impl Record {
     }
 }
 
-/// Reads a name that has at most so many bytes with the zero at its end. Returns the number of bytes that were read too.
+/// Reads a name that has at most this many bytes with the zero at its end. Returns the number of bytes that were read too.
 fn name<R: Read>(file: &mut R, most: u64) -> io::Result<(Vec<u8>, u64)> {
     let mut name = Vec::new();
     let read = file.take(most.min(LONGEST)).read_to_end(&mut name)? as u64;

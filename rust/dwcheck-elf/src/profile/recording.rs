@@ -266,12 +266,12 @@ impl<'r> Recording<'r> {
         }
     }
 
-    /// Reads some records of the thread's file that is furthest behind: what follows in it and in the others isn't
-    /// older than what it has given before.
+    /// Reads some records of the thread's file whose last record is the oldest: what follows in it and in the others
+    /// isn't older than what it has given before.
     fn read_thread(&mut self) {
         let others = self.parts.iter().enumerate().skip(1).filter(|(_, part)| !part.is_at_end);
-        let behind = others.min_by_key(|(_, part)| part.latest).map(|(place, _)| place);
-        let pause = match behind {
+        let oldest = others.min_by_key(|(_, part)| part.latest).map(|(place, _)| place);
+        let pause = match oldest {
             Some(place) => self.read_part(place, folder::STEP / self.parts.len() as u64),
             None => {
                 self.is_at_end = true;
