@@ -102,8 +102,8 @@ step : {X : Type 0} (read : ReadPosition → Result (X × ReadPosition) Fault) (
     → ((r : ReadPosition) (fault : Fault) → On r → read r ≡ Err fault → P (Err fault))
     → (others : ReadPosition → List (Result X Fault)) → ((r : ReadPosition) → On r → AllByRecursion P (others r))
     → (r : ReadPosition) (x : Result (X × ReadPosition) Fault) → read r ≡ x → On r → AllByRecursion P (and_then x others)
-step read On P good bad others behind r (Ok x) is on = let h = good r x.0 x.1 on is in (h.0, behind x.1 h.1)
-step read On P good bad others behind r (Err fault) is on = (bad r fault on is, tt)
+step read On P good bad others past r (Ok x) is on = let h = good r x.0 x.1 on is in (h.0, past x.1 h.1)
+step read On P good bad others past r (Err fault) is on = (bad r fault on is, tt)
 
 -- If P holds for each value and each fault that one read gives, P holds for all items of the list
 -- that reading again and again gives.

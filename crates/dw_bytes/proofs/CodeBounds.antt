@@ -15,10 +15,10 @@ use Rattle.dw_bytes.proofs.Bounds.{take-stays}
 abbrev block-of : ℕ → Target → List ℕ → Block
 block-of offset target bytes = record { offset = offset; target = target; bytes = bytes }
 
-abbrev block-behind : Target → ℕ → ReadPosition → Result (Block × ReadPosition) Fault
-block-behind target n s = take_at n s >>= λ b. Ok (block-of s.position target b.0, b.1)
+abbrev block-past : Target → ℕ → ReadPosition → Result (Block × ReadPosition) Fault
+block-past target n s = take_at n s >>= λ b. Ok (block-of s.position target b.0, b.1)
 
-block-stays : (from : ℕ) (target : Target) (n : ℕ) → AlwaysStays from (block-behind target n)
+block-stays : (from : ℕ) (target : Target) (n : ℕ) → AlwaysStays from (block-past target n)
 block-stays from target n s h = bind-stays from s (take_at n s) (λ b t. Ok (block-of s.position target b, t)) h (take-stays from n s h)
     (λ b. made-stays from (block-of s.position target b))
 
@@ -32,7 +32,7 @@ operand-stays from signed = sleb-stays from
 operand-stays from register_number = uleb-stays from
 operand-stays from read_size = fixed-stays from 1
 operand-stays from piece_size = uleb-stays from
-operand-stays from block = λ r h. bind-stays from r (uleb_at r) (block-behind r.target) h (uleb-stays from r h) (block-stays from r.target)
+operand-stays from block = λ r h. bind-stays from r (uleb_at r) (block-past r.target) h (uleb-stays from r h) (block-stays from r.target)
 
 values-stay : (from : ℕ) (kinds : List OperandKind) → AlwaysStays from (values_at kinds)
 values-stay from [] = λ r h. (omega arith, refl)
@@ -63,15 +63,15 @@ ranges-at target at (kind ∷ kinds) vs =
     (range-at at (fits target kind vs.0) vs.0 (range_fault kind))
     (λ v. bind-at at (in_ranges target at kinds vs.1) (λ others. Ok (v, others)) (ranges-at target at kinds vs.1) (λ others. tt))
 
-judged-stays : {A : Type 0} (at : ℕ) (r : ReadPosition) (x : Result A Fault) → at ≤ r.position → IsAt at x
+checked-stays : {A : Type 0} (at : ℕ) (r : ReadPosition) (x : Result A Fault) → at ≤ r.position → IsAt at x
     → Stays {X = A} at r (x >>= λ a. Ok (a, r))
-judged-stays at r (Ok a) h k = (omega arith, refl)
-judged-stays at r (Err fault) h k = (omega (arith, k), omega (arith, k))
+checked-stays at r (Ok a) h k = (omega arith, refl)
+checked-stays at r (Err fault) h k = (omega (arith, k), omega (arith, k))
 
 given-stays : (at : ℕ) (kinds : List OperandKind) → AlwaysStays at (operands_in_range_at at kinds)
 given-stays at kinds r h =
     bind-stays at r (values_at kinds r) (λ vs s. in_ranges r.target at kinds vs >>= λ given. Ok (given, s)) h (values-stay at kinds r h)
-    (λ vs s k. judged-stays at s (in_ranges r.target at kinds vs) k (ranges-at r.target at kinds vs))
+    (λ vs s k. checked-stays at s (in_ranges r.target at kinds vs) k (ranges-at r.target at kinds vs))
 
 operands-stay : {I : Type 0} (unknown : FaultKind) (at : ℕ) (of : Option (Line I)) → AlwaysStays at (operands_at unknown at of)
 operands-stay unknown at None r h = (omega arith, omega arith)

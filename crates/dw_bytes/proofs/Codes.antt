@@ -158,10 +158,10 @@ ranged : {A : Type 0} (b : Bool) (fault : Fault) (v w : A) → cond b (fine v) (
 ranged true fault v w is = (refl, cc)
 ranged false fault v w is = absurd cc
 
-abbrev judged : (kinds : List OperandKind) → Result (Operands kinds) Fault → Operands kinds → Type 0
-judged kinds result vs = result ≡ Ok vs
+abbrev checked : (kinds : List OperandKind) → Result (Operands kinds) Fault → Operands kinds → Type 0
+checked kinds result vs = result ≡ Ok vs
 
-in-ranges : (target : Target) (at : ℕ) (kinds : List OperandKind) (vs ws : Operands kinds) → judged kinds (in_ranges target at kinds vs) ws
+in-ranges : (target : Target) (at : ℕ) (kinds : List OperandKind) (vs ws : Operands kinds) → checked kinds (in_ranges target at kinds vs) ws
     → Fit target kinds vs × (vs ≡ ws)
 in-ranges target at [] vs ws is = (tt, refl)
 in-ranges target at (kind ∷ kinds) vs ws is =
@@ -173,7 +173,7 @@ in-ranges target at (kind ∷ kinds) vs ws is =
     ((first.0, rest.0), ap (λ (x : Operand kind). (x, vs.1)) first.1 ∙ (ap (λ (x : Operands kinds). (v.0, x)) rest.1 ∙ all))
 
 ranges-fit : (target : Target) (at : ℕ) (kinds : List OperandKind) (vs : Operands kinds) → Fit target kinds vs
-    → judged kinds (in_ranges target at kinds vs) vs
+    → checked kinds (in_ranges target at kinds vs) vs
 ranges-fit target at [] vs fit = refl
 ranges-fit target at (kind ∷ kinds) vs fit =
     let first : in_range target at kind vs.0 ≡ Ok vs.0 = rw fit.0 refl in

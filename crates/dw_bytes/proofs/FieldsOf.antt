@@ -22,9 +22,9 @@ passed false fault is = absurd cc
 abbrev fine : {A : Type 0} → A → Result A Fault
 fine a = Ok a
 
-unjudged : {X : Type 0} (fault : Option FaultKind) (at : ℕ) (x y : X) → ok_unless fault at x ≡ fine y → (fault ≡ None) × (x ≡ y)
-unjudged None at x y is = (refl, cc)
-unjudged (Some kind) at x y is = absurd cc
+unchecked : {X : Type 0} (fault : Option FaultKind) (at : ℕ) (x y : X) → ok_unless fault at x ≡ fine y → (fault ≡ None) × (x ≡ y)
+unchecked None at x y is = (refl, cc)
+unchecked (Some kind) at x y is = absurd cc
 
 pub fields-exact : {B : Type 0} (target : Target) (fields : Fields B) → ExactAt target (fields_at fields) (Encodes target fields)
 fields-exact {B} target (made b) r same = record {
@@ -40,11 +40,11 @@ fields-exact {B} target (field kind fault next) r same = record {
   found = λ v after is.
       let a = bind-ok (field_at kind fault r) (λ x. fields_at (next x.0) x.1) (v, after) is in
       let x = bind-ok (operand_at kind r) (λ x. ok_unless (fault x.0) r.position x) a.0 a.1 in
-      let ok = unjudged (fault x.0.0) r.position x.0 a.0 x.2 in
-      let behind : fields_at (next x.0.0) x.0.1 ≡ finish v after =
+      let ok = unchecked (fault x.0.0) r.position x.0 a.0 x.2 in
+      let past : fields_at (next x.0.0) x.0.1 ≡ finish v after =
       subst (λ (p : Operand kind × ReadPosition). fields_at (next p.0) p.1 ≡ finish v after) (sym ok.1) a.2 in
       let h = (operand-exact target kind r same).found x.0.0 x.0.1 x.1 in
-      let k = (fields-exact target (next x.0.0) x.0.1 (h.target ∙ same)).found v after behind in
+      let k = (fields-exact target (next x.0.0) x.0.1 (h.target ∙ same)).found v after past in
       record {
         bytes = h.bytes ++ k.bytes;
         encoded = (
@@ -87,14 +87,14 @@ fields-exact {B} target (field kind fault next) r same = record {
       ap (λ (x : Result (Operand kind × ReadPosition) Fault). x >>= λ y. fields_at (next y.0) y.1) first ∙ others;
 }
 
-judged-stays : {A : Type 0} (from : ℕ) (r : ReadPosition) (fault : Option FaultKind) (x : A × ReadPosition) → from ≤ r.position
+checked-stays : {A : Type 0} (from : ℕ) (r : ReadPosition) (fault : Option FaultKind) (x : A × ReadPosition) → from ≤ r.position
     → Stays {X = A} from r (Ok x) → Stays {X = A} from r (ok_unless fault r.position x)
-judged-stays from r None x h k = k
-judged-stays from r (Some kind) x h k = (h, omega arith)
+checked-stays from r None x h k = k
+checked-stays from r (Some kind) x h k = (h, omega arith)
 
 field-stays : {A : Type 0} (from : ℕ) (r : ReadPosition) (fault : A → Option FaultKind) (x : Result (A × ReadPosition) Fault)
     → from ≤ r.position → Stays from r x → Stays from r (x >>= λ v. ok_unless (fault v.0) r.position v)
-field-stays from r fault (Ok x) h k = judged-stays from r (fault x.0) x h k
+field-stays from r fault (Ok x) h k = checked-stays from r (fault x.0) x h k
 field-stays from r fault (Err e) h k = k
 
 pub fields-stay : {B : Type 0} (from : ℕ) (fields : Fields B) → AlwaysStays from (fields_at fields)

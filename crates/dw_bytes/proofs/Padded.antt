@@ -29,8 +29,8 @@ length-hex zero n = refl
 length-hex (suc k) n = length-append (hex_digits k (n / 16)) (digit (n % 16) ∷ []) ∙ let e = length-hex k (n / 16) in omega (arith, e)
 
 -- the j + 1 hex digits of n are some zeros, and then the digits of n without padding
-abbrev Behind : ℕ → ℕ → ℕ → List ℕ → Type 0
-Behind j k n acc = (p : ℕ) × (hex_digits (suc j) n ++ acc ≡ replicate p 48 ++ digits_onto k 16 false n acc)
+abbrev Past : ℕ → ℕ → ℕ → List ℕ → Type 0
+Past j k n acc = (p : ℕ) × (hex_digits (suc j) n ++ acc ≡ replicate p 48 ++ digits_onto k 16 false n acc)
 
 chosen_first : (q : ℕ) (x y : List ℕ) → q ≡ 0 → (if q == 0 then x else y) ≡ x
 chosen_first zero x y h = refl
@@ -44,8 +44,8 @@ zero_or_more : (q : ℕ) → (q ≡ 0) ⊎ (0 < q)
 zero_or_more zero = inl refl
 zero_or_more (suc q) = inr (omega arith)
 
-last_behind : (j k n : ℕ) (acc : List ℕ) → n / 16 ≡ 0 → Behind j (suc k) n acc
-last_behind j k n acc none = (
+last_past : (j k n : ℕ) (acc : List ℕ) → n / 16 ≡ 0 → Past j (suc k) n acc
+last_past j k n acc none = (
   j,
   hex_step j n acc ∙ ap (λ (q : ℕ). hex_digits j q ++ (digit (n % 16) ∷ acc)) none
       ∙ ap (λ (l : List ℕ). l ++ (digit (n % 16) ∷ acc)) (hex_zero j)
@@ -54,11 +54,11 @@ last_behind j k n acc none = (
       (digits_onto k 16 false (n / 16) (digit_glyph false (n % 16) ∷ acc)) none)),
 )
 
-padded_onto : (j k n : ℕ) (acc : List ℕ) → n < 16 ^ suc j → suc j ≤ k → Behind j k n acc
+padded_onto : (j k n : ℕ) (acc : List ℕ) → n < 16 ^ suc j → suc j ≤ k → Past j k n acc
 padded_onto j zero n acc h l = absurd (omega arith)
-padded_onto zero (suc k) n acc h l = last_behind zero k n acc (omega arith)
+padded_onto zero (suc k) n acc h l = last_past zero k n acc (omega arith)
 padded_onto (suc j) (suc k) n acc h l = elim (zero_or_more (n / 16)) [
-  | inl none ↦ last_behind (suc j) k n acc none
+  | inl none ↦ last_past (suc j) k n acc none
   | inr more ↦
       let smaller : n / 16 < 16 ^ suc j = omega (arith, pow-suc 16 (suc j)) in
       let rest = padded_onto j k (n / 16) (digit (n % 16) ∷ acc) smaller (omega arith) in (

@@ -83,8 +83,8 @@ one-encoding {X} target read IsEncoding exact at a b x y m n p q e =
     let second = (exact r refl).only n (reading-of target (at + length b) y) (at-start (IsEncoding at) target at (a ++ x) b y n e q) in
     let both : (m, reading-of target (at + length a) x) ≡ (n, reading-of target (at + length b) y) =
     ok-is (m, reading-of target (at + length a) x) (n, reading-of target (at + length b) y) (sym first ∙ second) in
-    let behind : at + length a ≡ at + length b = ap (λ (w : X × ReadPosition). w.1.position) both in
-    let len : length a ≡ length b = omega (arith, behind) in
+    let past : at + length a ≡ at + length b = ap (λ (w : X × ReadPosition). w.1.position) both in
+    let len : length a ≡ length b = omega (arith, past) in
     (sym (take_at a x (length a) refl) ∙ ap (take (length a)) e ∙ take_at b y (length a) (sym len), ap (λ (w : X × ReadPosition). w.0) both)
 
 -- ---- what is left of a section

@@ -224,8 +224,8 @@ exactly-exact {X} target read IsEncoding exact (suc count) r same = record {
     some-only : ((mid : ReadPosition) → mid.target ≡ target → IsExact (exactly_of read count) (Exactly IsEncoding count mid.position) mid)
         → (ys : List X) (after : ReadPosition) → Next (Exactly IsEncoding (suc count) r.position) r ys after
         → exactly_of read (suc count) r ≡ Ok (ys, after)
-    some-only behind [] after h = absurd (omega (arith, h.encoded.1))
-    some-only behind (x ∷ xs) after h =
+    some-only past [] after h = absurd (omega (arith, h.encoded.1))
+    some-only past (x ∷ xs) after h =
         let s = h.encoded.0 in
         let mid : ReadPosition = record { target = r.target; position = r.position + length s.0; rest = s.1 ++ after.rest } in
         let one = (exact r same).only x mid (record {
@@ -236,7 +236,7 @@ exactly-exact {X} target read IsEncoding exact (suc count) r same = record {
           position = refl;
           target = refl;
         }) in
-        let others = (behind mid same).only xs after
+        let others = (past mid same).only xs after
         (record {
           bytes = s.1;
           encoded = (s.4, omega (arith, h.encoded.1));

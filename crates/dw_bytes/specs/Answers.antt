@@ -5,9 +5,9 @@ use Rattle.dw_bytes.specs.declared.fault.Fault.{Fault}
 use Rattle.dw_bytes.specs.declared.fault.FaultKind.TheVariants.{Memory}
 
 -- The check passes only if there is no fault; otherwise it returns that fault.
-abbrev pub Judges : {X : Type 0} → Option Fault → Result X Fault → Type 0
-Judges fault (Ok _) = fault ≡ None
-Judges fault (Err f) = fault ≡ Some f
+abbrev pub Checks : {X : Type 0} → Option Fault → Result X Fault → Type 0
+Checks fault (Ok _) = fault ≡ None
+Checks fault (Err f) = fault ≡ Some f
 
 -- the fault of a failed allocation
 abbrev pub memory : Fault

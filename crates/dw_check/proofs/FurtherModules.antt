@@ -26,9 +26,9 @@ one_more_read before place load found section (Err n) is = rw is refl
 one_more_read before place load found section (Ok others) is = rw is (ap Ok (sym (append_assoc before (loaded_at load section ∷ []) others)))
 
 -- putting a module without a fault in front of others doesn't change their first fault
-pub one_more_judged : (target : Target) (m : Module (List ℕ)) (modules : List (Module (List ℕ))) → frame_refusal target m.rows ≡ None
+pub one_more_checked : (target : Target) (m : Module (List ℕ)) (modules : List (Module (List ℕ))) → frame_refusal target m.rows ≡ None
     → modules_refusal target (m ∷ modules) ≡ modules_refusal target modules
-one_more_judged target m modules none = ap (λ (f : Option Fault). option_or f (modules_refusal target modules)) none
+one_more_checked target m modules none = ap (λ (f : Option Fault). option_or f (modules_refusal target modules)) none
 
 -- if `stop` says why the section of the next module can't be read, it also says why the whole list
 -- of modules can't be read

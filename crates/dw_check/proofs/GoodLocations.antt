@@ -115,7 +115,7 @@ block-shows target at end (Some b) within short under good = (
 entries-show : (target : Target) (at : ℕ) (bytes : List ℕ) (es others : List Entry) → Sequence (IsEntry target) at bytes (es ++ others)
     → AllByRecursion (λ e. IsGoodLocation (expression_in e)) es → at + length bytes < 2 ^ 32 → AllShowable target (expressions_of es)
 entries-show target at bytes [] others encoded good short = tt
-entries-show target at bytes (e ∷ es) others (first, rest, parts, here, behind) good short =
+entries-show target at bytes (e ∷ es) others (first, rest, parts, here, past) good short =
     let long : length bytes ≡ length first + length rest = ap length parts ∙ length-append first rest in
     let own : AllShowable target (expressions_of (e ∷ [])) =
     subst (AllShowable target) (sym (expressions-as e))
@@ -123,7 +123,7 @@ entries-show target at bytes (e ∷ es) others (first, rest, parts, here, behind
     (entry-under target at first e here) good.0) in
     subst (AllShowable target) (sym (entries-front e es))
     (both target (expressions_of (e ∷ [])) (expressions_of es) own
-    (entries-show target (at + length first) rest es others behind good.1 (omega (arith, long, short))))
+    (entries-show target (at + length first) rest es others past good.1 (omega (arith, long, short))))
 
 -- ---- the expressions that apply at an address
 
@@ -135,9 +135,9 @@ front : (target : Target) (xs ys : List LocatedExpression) → AllShowable targe
 front target [] ys h = tt
 front target (x ∷ xs) ys h = (h.0, front target xs ys h.1)
 
-behind : (target : Target) (xs ys : List LocatedExpression) → AllShowable target (xs ++ ys) → AllShowable target ys
-behind target [] ys h = h
-behind target (x ∷ xs) ys h = behind target xs ys h.1
+past : (target : Target) (xs ys : List LocatedExpression) → AllShowable target (xs ++ ys) → AllShowable target ys
+past target [] ys h = h
+past target (x ∷ xs) ys h = past target xs ys h.1
 
 -- if all expressions of e ∷ es can be shown, then the expression of e (if any) can be shown, and
 -- all expressions of es can be shown
@@ -145,7 +145,7 @@ split : (target : Target) (e : Entry) (es : List Entry) → AllShowable target (
     → AllShowable target (expressions_of (e ∷ [])) × AllShowable target (expressions_of es)
 split target e es h = let all = subst (AllShowable target) (entries-front e es) h in (
   front target (expressions_of (e ∷ [])) (expressions_of es) all,
-  behind target (expressions_of (e ∷ [])) (expressions_of es) all,
+  past target (expressions_of (e ∷ [])) (expressions_of es) all,
 )
 
 bounded-show : (target : Target) (base address : ℕ) (es : List Entry) → AllShowable target (expressions_of es)

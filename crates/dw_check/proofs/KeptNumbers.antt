@@ -35,9 +35,9 @@ second_of_both before (x ∷ xs) ys =
 
 -- the first repetition in kept ++ n is in kept; if there is none in kept, it is n if kept has n; if
 -- kept doesn't have n, there is no repetition
-second_behind : (kept : List ℕ) (n : ℕ) (t : Bool) → is_among n kept ≡ t
+second_past : (kept : List ℕ) (n : ℕ) (t : Bool) → is_among n kept ≡ t
     → place_of_second [] (kept ++ n ∷ []) ≡ option_or (place_of_second [] kept) (if t then Some (length kept) else None)
-second_behind kept n t is = rw (second_of_both [] kept (n ∷ []), is) refl
+second_past kept n t is = rw (second_of_both [] kept (n ∷ []), is) refl
 
 -- ---- the fault of an ABI, by its number of registers and the first that occurs a second time
 
@@ -80,14 +80,14 @@ pub one_more_fits : (kept : List ℕ) (sp : Option ℕ) (n : ℕ) → abi_fault 
 one_more_fits kept None n fit new other small =
     let none = none_twice _ _ _ (place_of_second [] (kept ++ [])) fit in
     let each : place_of_second [] kept ≡ None = ap (place_of_second []) (sym (append-nil kept)) ∙ none in
-    rw (short kept n small, append-nil (kept ++ n ∷ []), second_behind kept n false new, each) refl
+    rw (short kept n small, append-nil (kept ++ n ∷ []), second_past kept n false new, each) refl
 one_more_fits kept (Some m) n fit new other small =
-    let none = sym (second_behind kept m (is_among m kept) refl) ∙ none_twice _ _ _ (place_of_second [] (kept ++ m ∷ [])) fit in
+    let none = sym (second_past kept m (is_among m kept) refl) ∙ none_twice _ _ _ (place_of_second [] (kept ++ m ∷ [])) fit in
     let each : place_of_second [] kept ≡ None = left_none _ _ none in
     let apart : is_among m kept ≡ false = not_there _ _ _ none in
     let differ : (n == m) ≡ false = grind (arith, nat_tests, other) in
     let not_among : is_among m (kept ++ n ∷ []) ≡ false = rw (list_any-append (λ x. x == m) kept (n ∷ []), apart, differ) refl in
-    rw (short kept n small, second_behind (kept ++ n ∷ []) m false not_among, second_behind kept n false new, each) refl
+    rw (short kept n small, second_past (kept ++ n ∷ []) m false not_among, second_past kept n false new, each) refl
 
 pub one_too_many : (kept : List ℕ) (sp : Option ℕ) (n : ℕ) → length kept ≡ MAX_KEPT → is_none (abi_fault (kept ++ n ∷ []) sp) ≡ false
 one_too_many kept sp n full = rw (long kept n full) refl
@@ -99,7 +99,7 @@ stack_pointer_stays kept (Some m) n is =
     let same : (n == m) ≡ true = grind (arith, nat_tests, is) in
     let there : is_among m (kept ++ n ∷ []) ≡ true =
     rw (list_any-append (λ x. x == m) kept (n ∷ []), same) (or_true (is_among m kept)) in
-    rw (second_behind (kept ++ n ∷ []) m true there) (faulty _ _ _ _ _)
+    rw (second_past (kept ++ n ∷ []) m true there) (faulty _ _ _ _ _)
 
 pub is_stack_pointer : (sp : Option ℕ) (n : ℕ) → is_among n (option_to_list sp) ≡ option_eq nat_eq sp (Some n)
 is_stack_pointer None n = refl
@@ -111,7 +111,7 @@ pub stack_pointer_fits : (kept : List ℕ) (n : ℕ) → abi_fault kept None ≡
 stack_pointer_fits kept n fit new =
     let none = none_twice _ _ _ (place_of_second [] (kept ++ [])) fit in
     let each : place_of_second [] kept ≡ None = ap (place_of_second []) (sym (append-nil kept)) ∙ none in
-    rw (few (nat_lt MAX_KEPT (length kept)) _ _ _ fit, second_behind kept n false new, each) refl
+    rw (few (nat_lt MAX_KEPT (length kept)) _ _ _ fit, second_past kept n false new, each) refl
 
 pub kept_stays : (kept : List ℕ) (n : ℕ) → is_among n kept ≡ true → is_none (abi_fault kept (Some n)) ≡ false
-kept_stays kept n there = rw (second_behind kept n true there) (faulty _ _ _ _ _)
+kept_stays kept n there = rw (second_past kept n true there) (faulty _ _ _ _ _)

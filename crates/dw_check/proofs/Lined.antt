@@ -30,9 +30,9 @@ lined_none section text all a are = record { came = []; left = text; whole = ref
 
 -- what is left of the text: the line of the next expression, then the lines of the others
 record Next (section : Section) (rest : List LocatedExpression) (y : ℕ × CheckedExpression) (left : List ℕ) : Type 0 where
-  pub behind : List ℕ
-  pub ahead : AreLines section rest behind
-  pub parts : left ≡ line_of section y ++ behind
+  pub past : List ℕ
+  pub ahead : AreLines section rest past
+  pub parts : left ≡ line_of section y ++ past
 
 next_line : (section : Section) (all rest : List LocatedExpression) (y : ℕ × CheckedExpression) (left : List ℕ) → all ≡ located_of y ∷ rest
     → AreLines section all left → Next section rest y left
@@ -41,7 +41,7 @@ next_line section all rest y left e are =
     let h = subst (λ (l : List LocatedExpression). AreLines section l left) e are in
     let depth : h.0 ≡ it.depth =
     one_depth it.kind (operations_in it.target it.bytes) (length it.bytes) h.0 it.depth h.2 (checked_stable it y.1.checked).depth in
-    record { behind = h.1; ahead = h.3; parts = h.4 ∙ ap (λ d. expression_line section (located_of y) d ++ h.1) depth }
+    record { past = h.1; ahead = h.3; parts = h.4 ∙ ap (λ d. expression_line section (located_of y) d ++ h.1) depth }
 
 -- after the next expression's line is written too, that expression counts as visited
 pub lined_next : (section : Section) (text : List ℕ) (all rest : List LocatedExpression) (y : ℕ × CheckedExpression)
@@ -51,8 +51,8 @@ lined_next section text all rest y a b c e s more =
     let next = next_line section all rest y s.left e s.ahead in
     record {
       came = s.came ++ line_of section y;
-      left = next.behind;
-      whole = append_assoc s.came (line_of section y) next.behind ∙ ap (λ (l : List ℕ). s.came ++ l) (sym next.parts) ∙ s.whole;
+      left = next.past;
+      whole = append_assoc s.came (line_of section y) next.past ∙ ap (λ (l : List ℕ). s.came ++ l) (sym next.parts) ∙ s.whole;
       sent = appends_more a b c s.came (line_of section y) s.sent more;
       ahead = next.ahead;
     }
@@ -64,9 +64,9 @@ pub lined_front : (section : Section) (text : List ℕ) (all rest : List Located
     → all ≡ located_of y ∷ rest → Lined section text all a b → AppendsFront b c (line_of section y) → AppendsFront a c text
 lined_front section text all rest y a b c e s part =
     let next = next_line section all rest y s.left e s.ahead in
-    let parts : s.came ++ (line_of section y ++ next.behind) ≡ text = ap (λ (l : List ℕ). s.came ++ l) (sym next.parts) ∙ s.whole in
+    let parts : s.came ++ (line_of section y ++ next.past) ≡ text = ap (λ (l : List ℕ). s.came ++ l) (sym next.parts) ∙ s.whole in
     subst (AppendsFront a c) parts
-    (front_more a b c s.came (line_of section y ++ next.behind) s.sent (front_wider b c (line_of section y) next.behind part))
+    (front_more a b c s.came (line_of section y ++ next.past) s.sent (front_wider b c (line_of section y) next.past part))
 
 -- when no expression is left, the whole text is written
 pub lined_all : (section : Section) (text : List ℕ) (left : List LocatedExpression) (a b : Option (List ℕ)) → left ≡ []

@@ -29,5 +29,5 @@ uncut s [] none = refl
 uncut s (b ∷ bytes) none = uncut_step s b bytes (b == s) refl (none 0 (omega arith))
     (uncut s bytes (λ i l. none (suc i) (omega (arith, l))))
 
-pub all_behind : (bytes : List ℕ) (k : ℕ) → take (length bytes - k) (drop k bytes) ≡ drop k bytes
-all_behind bytes k = rw (sym (length-drop k bytes)) (take-length (drop k bytes))
+pub all_past : (bytes : List ℕ) (k : ℕ) → take (length bytes - k) (drop k bytes) ≡ drop k bytes
+all_past bytes k = rw (sym (length-drop k bytes)) (take-length (drop k bytes))

@@ -20,19 +20,19 @@ use Rattle.dw_check.proofs.Growth.{appends_nothing, appends_more, front_more, fr
 pub record Shown (gs : List StateFact) (all rest : List LocatedExpression) (old new : Option (List ℕ)) : Type 0 where
   pub came : List ℕ
   pub sent : Appends old new came
-  pub whole : (behind : List ℕ) → AreEvaluated gs rest behind → AreEvaluated gs all (came ++ behind)
+  pub whole : (past : List ℕ) → AreEvaluated gs rest past → AreEvaluated gs all (came ++ past)
 
 pub shown_none : (gs : List StateFact) (all : List LocatedExpression) (a : Option (List ℕ)) → Shown gs all all a a
-shown_none gs all a = record { came = []; sent = appends_nothing a; whole = λ behind h. h }
+shown_none gs all a = record { came = []; sent = appends_nothing a; whole = λ past h. h }
 
 -- a text that shows the expression x, followed by a text that shows the expressions `rest`, shows
 -- the expressions x ∷ rest
-next_before : (gs : List StateFact) (left rest : List LocatedExpression) (x : LocatedExpression) (own behind : List ℕ) → left ≡ x ∷ rest
-    → Evaluates x.kind x.target x.bytes gs own → AreEvaluated gs rest behind
-    → AreEvaluated gs left ((expression_offset_line x.offset ++ own) ++ behind)
-next_before gs left rest x own behind e h k =
-    subst (λ (l : List LocatedExpression). AreEvaluated gs l ((expression_offset_line x.offset ++ own) ++ behind)) (sym e)
-    (own, behind, refl, h, k)
+next_before : (gs : List StateFact) (left rest : List LocatedExpression) (x : LocatedExpression) (own past : List ℕ) → left ≡ x ∷ rest
+    → Evaluates x.kind x.target x.bytes gs own → AreEvaluated gs rest past
+    → AreEvaluated gs left ((expression_offset_line x.offset ++ own) ++ past)
+next_before gs left rest x own past e h k =
+    subst (λ (l : List LocatedExpression). AreEvaluated gs l ((expression_offset_line x.offset ++ own) ++ past)) (sym e)
+    (own, past, refl, h, k)
 
 -- after the next expression's text is written too, that expression counts as visited
 pub shown_next : (gs : List StateFact) (all left rest : List LocatedExpression) (x : LocatedExpression) (own : List ℕ)
@@ -44,8 +44,8 @@ shown_next gs all left rest x own a b c e s h more =
     record {
       came = s.came ++ line;
       sent = appends_more a b c s.came line s.sent more;
-      whole = λ behind k. subst (AreEvaluated gs all) (sym (append_assoc s.came line behind))
-          (s.whole (line ++ behind) (next_before gs left rest x own behind e h k));
+      whole = λ past k. subst (AreEvaluated gs all) (sym (append_assoc s.came line past))
+          (s.whole (line ++ past) (next_before gs left rest x own past e h k));
     }
 
 -- if only a beginning of the next expression's text is written, then a beginning of a text that

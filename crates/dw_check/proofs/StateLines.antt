@@ -43,8 +43,8 @@ pub record Reading (target : Target) (text : List ℕ) (before : List (List ℕ)
   pub first : first_bad_line target (parts_of 10 text) ≡ find (is_bad target text) (range_with_len (n + 1) (length lines))
 
 -- whether a line isn't bad, given that none of the lines `before` it is bad
-abbrev pub goes_behind : Target → List (List ℕ) → List ℕ → Bool
-goes_behind target before line = is_line target line && go_together (facts_of_lines target before ++ facts_of_lines target (line ∷ []))
+abbrev pub goes_past : Target → List (List ℕ) → List ℕ → Bool
+goes_past target before line = is_line target line && go_together (facts_of_lines target before ++ facts_of_lines target (line ∷ []))
 
 taken : (before : List (List ℕ)) (line : List ℕ) (lines : List (List ℕ))
     → take (length before + 1) (before ++ line ∷ lines) ≡ before ++ line ∷ []
@@ -57,7 +57,7 @@ each_more : (target : Target) (before : List (List ℕ)) (line : List ℕ) → l
 each_more target before line each = rw (list_all-append (is_line target) before (line ∷ []), each) (and_true (is_line target line))
 
 good_more : (target : Target) (text : List ℕ) (before : List (List ℕ)) (n : ℕ) (line : List ℕ) (lines : List (List ℕ))
-    → Reading target text before n (line ∷ lines) → is_bad target text (n + 1) ≡ not (goes_behind target before line)
+    → Reading target text before n (line ∷ lines) → is_bad target text (n + 1) ≡ not (goes_past target before line)
 good_more target text before n line lines h =
     rw (
       h.is,
@@ -68,7 +68,7 @@ good_more target text before n line lines h =
     ) refl
 
 pub reads_line : (target : Target) (text : List ℕ) (before : List (List ℕ)) (n : ℕ) (line : List ℕ) (lines : List (List ℕ))
-    → Reading target text before n (line ∷ lines) → goes_behind target before line ≡ true
+    → Reading target text before n (line ∷ lines) → goes_past target before line ≡ true
     → Reading target text (before ++ line ∷ []) (n + 1) lines
 reads_line target text before n line lines h good = record {
   is = h.is ∙ sym (append_assoc before (line ∷ []) lines);
@@ -78,6 +78,6 @@ reads_line target text before n line lines h good = record {
 }
 
 pub reads_bad : (target : Target) (text : List ℕ) (before : List (List ℕ)) (n : ℕ) (line : List ℕ) (lines : List (List ℕ))
-    → Reading target text before n (line ∷ lines) → goes_behind target before line ≡ false → facts_of_file target text ≡ Err (n + 1)
+    → Reading target text before n (line ∷ lines) → goes_past target before line ≡ false → facts_of_file target text ≡ Err (n + 1)
 reads_bad target text before n line lines h bad =
     rw (h.first, good_more target text before n line lines h, bad) refl

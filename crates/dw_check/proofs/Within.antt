@@ -13,7 +13,7 @@ use Rattle.dw_rows.specs.Rules.{Row}
 use Rattle.dw_stack.specs.Located.{LocatedExpression}
 use Rattle.dw_rows.specs.GivenRows.{given_row}
 use Rattle.dw_rows.proofs.GivenRows.{cover-with}
-use Rattle.dw_rows.specs.Judgement.{fde_fault}
+use Rattle.dw_rows.specs.ProgramFault.{fde_fault}
 use Rattle.dw_rows.specs.UnwindRows.{Cover, rows_of}
 use Rattle.dw_rows.proofs.Covering.{cover-rows}
 use Rattle.dw_check.specs.Text.{Fits, digits_of}

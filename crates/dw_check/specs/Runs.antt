@@ -185,7 +185,7 @@ abbrev pub OfFurther : Result (List (Module (List ℕ))) ℕ → (List (Module (
 OfFurther (Err n) Is reply = reply ≡ not_hex n
 OfFurther (Ok modules) Is reply = Is modules reply
 
--- The reply for the files of a process, which are judged in this order: FRAME, the files of
+-- The reply for the files of a process, which are checked in this order: FRAME, the files of
 -- `--module`, and the state file. So it is `not_hex` for the first file that must be hex text and
 -- isn't; otherwise `bad_line`, if the state file has a bad line; and otherwise a reply that `Is`
 -- allows for the state file's facts and the modules.

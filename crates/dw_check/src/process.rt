@@ -80,7 +80,7 @@ pub(crate) fn read_process<'a>(
 
 /// Checks the frame sections of `modules`, in order. The error is the first fault of the first
 /// section that has a fault, or out of memory.
-#[tactic(auto, using(crate::proofs::FurtherModules::one_more_judged))]
+#[tactic(auto, using(crate::proofs::FurtherModules::one_more_checked))]
 pub(crate) fn modules_or_refusal<'s>(
     alloc: Global,
     target: Target,

@@ -41,7 +41,7 @@ laid target at bytes r is =
     subst (Laid at bytes) (sym is.record_is)
     (laid-from at is.format (at + length is.front) is.header program bytes (omega (arith, some)) (omega (arith, long, one, two)))
 
--- a later record begins where an earlier one ends, or behind that
+-- a later record begins where an earlier one ends, or past that
 later-start : (target : Target) (at : ℕ) (bytes : List ℕ) (pairs : List Pair) (p : Pair) → AreRecords target at bytes (made-records pairs)
     → Contains pairs p → (at ≤ offset_of p.1) × (offset_of p.1 < (written_program p.1).position)
 later-start target at bytes [] p are (k, less, is) = absurd (omega arith)

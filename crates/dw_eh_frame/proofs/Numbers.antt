@@ -8,7 +8,7 @@ use Rattle.dw_bytes.specs.declared.fault.FaultKind.TheVariants.{AddressSize, Seg
 use Rattle.dw_bytes.specs.Encoding.{bytes_of_address}
 use Rattle.dw_bytes.specs.Fields.{Encodes, made, field, byte, fields_at}
 use Rattle.dw_bytes.proofs.FieldsOf.{fields-exact}
-use Rattle.dw_frame.specs.Sections.{Header, column_fault, factors, behind_augmentation}
+use Rattle.dw_frame.specs.Sections.{Header, column_fault, factors, past_augmentation}
 use Rattle.dw_eh_frame.specs.Written.{EncodesNumbers}
 
 -- the same bytes encode the return address register at any other offset
@@ -52,23 +52,23 @@ front-same (a ∷ s) (b ∷ t) x y long e =
     cc
 
 -- in version 4 the sizes come first
-behind-anywhere : (target : Target) (version at other : ℕ) (is_four : Bool) (bytes : List ℕ) (h : Header)
+past-anywhere : (target : Target) (version at other : ℕ) (is_four : Bool) (bytes : List ℕ) (h : Header)
     → Encodes target (cond is_four (byte AddressSize (bytes_of_address target.address_size) (byte SegmentSize 0 (factors version)))
     (factors version)) at bytes h
     → Encodes target (cond is_four (byte AddressSize (bytes_of_address target.address_size) (byte SegmentSize 0 (factors version)))
     (factors version)) other bytes h
-behind-anywhere target version at other false bytes h e = factors-anywhere target version at other bytes h e
-behind-anywhere target version at other true bytes h (a, x, more, parts, first, fine, (b, y, last, split, second, good, e)) =
+past-anywhere target version at other false bytes h e = factors-anywhere target version at other bytes h e
+past-anywhere target version at other true bytes h (a, x, more, parts, first, fine, (b, y, last, split, second, good, e)) =
     (a, x, more, parts, first, fine, (b, y, last, split, second, good, factors-anywhere target version _ _ last h e))
 
 pub numbers-encoded : (target : Target) (version : ℕ) (r after left : ReadPosition) (h : Header) (numbers : List ℕ) → r.target ≡ target
-    → fields_at (behind_augmentation target version) r ≡ Ok (h, after) → r.rest ≡ numbers ++ left.rest → r.position + length numbers ≡ after.position
+    → fields_at (past_augmentation target version) r ≡ Ok (h, after) → r.rest ≡ numbers ++ left.rest → r.position + length numbers ≡ after.position
     → EncodesNumbers target version numbers h
 numbers-encoded target version r after left h numbers same is split long =
-    let next = (fields-exact target (behind_augmentation target version) r same).found h after is in
+    let next = (fields-exact target (past_augmentation target version) r same).found h after is in
     let equal : next.bytes ≡ numbers = front-same next.bytes numbers after.rest left.rest (omega (arith, next.position, long))
     (sym next.parts ∙ split) in
     record {
-      at_each = λ at. behind-anywhere target version r.position at (version == 4) numbers h
-          (subst (λ (b : List ℕ). Encodes target (behind_augmentation target version) r.position b h) equal next.encoded);
+      at_each = λ at. past-anywhere target version r.position at (version == 4) numbers h
+          (subst (λ (b : List ℕ). Encodes target (past_augmentation target version) r.position b h) equal next.encoded);
     }

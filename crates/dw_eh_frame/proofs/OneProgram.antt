@@ -14,8 +14,8 @@ cancel : (f r t : List ℕ) → f ++ r ≡ f ++ t → r ≡ t
 cancel [] r t e = e
 cancel (b ∷ f) r t e = let tail : f ++ r ≡ f ++ t = cc in cancel f r t tail
 
-pub behind-front : (f g r t : List ℕ) → f ≡ g → f ++ r ≡ g ++ t → r ≡ t
-behind-front f g r t same e = cancel g r t (ap (λ (h : List ℕ). h ++ r) (sym same) ∙ e)
+pub past-front : (f g r t : List ℕ) → f ≡ g → f ++ r ≡ g ++ t → r ≡ t
+past-front f g r t same e = cancel g r t (ap (λ (h : List ℕ). h ++ r) (sym same) ∙ e)
 
 abbrev pub AreCoded : {I : Type 0} → (ℕ → Option (Line I)) → Target → ℕ → List ℕ → List (ℕ × I) → Type 0
 AreCoded table target = Sequence (Located (Coded table target))
@@ -33,7 +33,7 @@ one-list {I} target table at bytes (x ∷ is) (y ∷ js) (f, r, p, (n, e), more)
     let seam : f ++ r ≡ g ++ t = sym p ∙ q in
     let same = one-encoding target (coded_at table UnknownInstruction) (Coded table target) (coded-exact target table UnknownInstruction) at f g r t
     x.1 y.1 e h seam in
-    let left : r ≡ t = behind-front f g r t same.0 seam in
+    let left : r ≡ t = past-front f g r t same.0 seam in
     let tail : AreCoded table target (at + length f) r js =
     subst (λ (b : List ℕ). AreCoded table target (at + length f) b js) (sym left)
     (subst (λ (b : List ℕ). AreCoded table target (at + length b) t js) (sym same.0) others) in

@@ -12,7 +12,7 @@ use Rattle.dw_bytes.proofs.Bodies.{not-err}
 use Rattle.dw_bytes.proofs.Codes.{coded-exact}
 use Rattle.dw_frame.specs.Instructions.{Instruction, nop}
 use Rattle.dw_frame.specs.Codes.{line_of, EncodesInstruction, AreInstructions, instruction_at}
-use Rattle.dw_eh_frame.proofs.OneProgram.{behind-front, one-list}
+use Rattle.dw_eh_frame.proofs.OneProgram.{past-front, one-list}
 use Rattle.dw_frame.proofs.EachInstruction.{one-instruction, exact-instruction}
 use Rattle.dw_eh_frame.specs.declared.dialect.Dialect.{Dialect}
 use Rattle.dw_eh_frame.specs.Instructions.{EhInstruction, plain, eh_line_of, eh_instruction_at, is_foreign, EncodesEhInstruction, AreEhInstructions}
@@ -37,15 +37,15 @@ pub record Decodes (target : Target) (at : ℕ) (bytes : List ℕ) : Type 0 wher
   pub are : AreInstructions target at bytes items
 
 -- if an instruction and what follows it can be read, what follows can be read
-behind-one : (target : Target) (at : ℕ) (first tail bytes : List ℕ) (i : Instruction) (again : List (ℕ × Instruction)) → 0 < length first
+past-one : (target : Target) (at : ℕ) (first tail bytes : List ℕ) (i : Instruction) (again : List (ℕ × Instruction)) → 0 < length first
     → EncodesInstruction target at first i → bytes ≡ first ++ tail → AreInstructions target at bytes again
     → Decodes target (at + length first) tail
-behind-one target at first tail bytes i [] some e split are =
+past-one target at first tail bytes i [] some e split are =
     absurd (omega (arith, some, ap length split, ap length are, length-append first tail))
-behind-one target at first tail bytes i (x ∷ again) some e split (front, rest, parts, (place, one), others) =
+past-one target at first tail bytes i (x ∷ again) some e split (front, rest, parts, (place, one), others) =
     let seam : front ++ rest ≡ first ++ tail = sym parts ∙ split in
     let same = one-instruction target at front first rest tail x.1 i one e seam in
-    let left : rest ≡ tail = behind-front front first rest tail same.0 seam in
+    let left : rest ≡ tail = past-front front first rest tail same.0 seam in
     record {
       items = again;
       are = subst (λ (t : List ℕ). AreInstructions target (at + length first) t again) left
@@ -53,15 +53,15 @@ behind-one target at first tail bytes i (x ∷ again) some e split (front, rest,
     }
 
 -- if nops and what follows them can be read, what follows can be read
-behind-nops : (target : Target) (at k : ℕ) (tail : List ℕ) (again : List (ℕ × Instruction))
+past-nops : (target : Target) (at k : ℕ) (tail : List ℕ) (again : List (ℕ × Instruction))
     → AreInstructions target at (replicate k 0 ++ tail) again → Decodes target (at + k) tail
-behind-nops target at zero tail again are =
+past-nops target at zero tail again are =
     let here : at + zero ≡ at = omega arith in
     record { items = again; are = subst (λ n. AreInstructions target n tail again) (sym here) are }
-behind-nops target at (suc k) tail again are =
-    let one = behind-one target at (0 ∷ []) (replicate k 0 ++ tail) (replicate (suc k) 0 ++ tail) nop again (omega arith)
+past-nops target at (suc k) tail again are =
+    let one = past-one target at (0 ∷ []) (replicate k 0 ++ tail) (replicate (suc k) 0 ++ tail) nop again (omega arith)
     (encodes-nop target at) refl are in
-    let more = behind-nops target (at + 1) k tail one.items one.are in
+    let more = past-nops target (at + 1) k tail one.items one.are in
     let here : at + 1 + k ≡ at + suc k = omega arith in
     record { items = more.items; are = subst (λ n. AreInstructions target n tail more.items) here more.are }
 
@@ -103,13 +103,13 @@ pub record Piece (a : Dialect) (target : Target) (at to : ℕ) (bytes : List ℕ
 tail-of : (a : Dialect) (target : Target) (at to : ℕ) (bytes : List ℕ) (v : Bool) (i : EhInstruction) (first rest others : List ℕ)
     (again : List (ℕ × Instruction)) → EncodesEhInstruction a target at first i → v ≡ is_foreign i → bytes ≡ first ++ rest → 0 < length first
     → AreInstructions target to (piece v (length first) bytes ++ others) again → Decodes target (to + length first) others
-tail-of a target at to bytes true i first rest others again e foreign parts some are = behind-nops target to (length first) others again are
+tail-of a target at to bytes true i first rest others again e foreign parts some are = past-nops target to (length first) others again are
 tail-of a target at to bytes false i first rest others again e foreign parts some are = elim (kind-of a target at first i e) [
   | inl f ↦ let never : false ≡ true = foreign ∙ f in absurd cc
   | inr k ↦
       let moved = move-instruction a target at to first k.0 k.2 in
       let front : take (length first) bytes ≡ first = ap (λ (b : List ℕ). take (length first) b) parts ∙ take-append_seam first rest in
-      behind-one target to first others (take (length first) bytes ++ others) moved.instruction again some
+      past-one target to first others (take (length first) bytes ++ others) moved.instruction again some
       (as-dwarf a target to first moved.instruction moved.encoded)
       (ap (λ (f : List ℕ). f ++ others) front) are
 ]

@@ -92,7 +92,7 @@ body-starts : (bases : Bases) (section : List ℕ) (at : ℕ) (format : Format) 
 unfolding eh_body_at
 body-starts bases section at format body x is = body-by bases section at format body x _ is
 
--- a record begins where it is read, and ends behind that
+-- a record begins where it is read, and ends past that
 pub record-starts : (bases : Bases) (section : List ℕ) (r : ReadPosition) (x : EhRecord) (after : ReadPosition)
     → eh_record_at bases section r ≡ Ok (x, after) → (source_start x ≡ r.position) × (r.position < after.position)
 unfolding eh_record_at
@@ -117,19 +117,19 @@ then-found (Ok found) others y rest is =
     (found.1, ap (λ (z : EhRecord). Ok (z, found.1)) same, cc)
 then-found (Err fault) others y rest is = absurd cc
 
-abbrev Behind : ℕ → List EhRecord → Type 0
-Behind n records = AllByRecursion (λ x. n ≤ source_start x) records
+abbrev Past : ℕ → List EhRecord → Type 0
+Past n records = AllByRecursion (λ x. n ≤ source_start x) records
 
-above : (n m : ℕ) (records : List EhRecord) → n < m → Behind m records → AllByRecursion (λ x. n < source_start x) records
+above : (n m : ℕ) (records : List EhRecord) → n < m → Past m records → AllByRecursion (λ x. n < source_start x) records
 above n m [] less all = tt
 above n m (x ∷ records) less all = (omega (arith, less, all.0), above n m records less all.1)
 
-lower : (n m : ℕ) (records : List EhRecord) → n ≤ m → Behind m records → Behind n records
+lower : (n m : ℕ) (records : List EhRecord) → n ≤ m → Past m records → Past n records
 lower n m [] less all = tt
 lower n m (x ∷ records) less all = (omega (arith, less, all.0), lower n m records less all.1)
 
 up-to-rise : (bases : Bases) (section : List ℕ) (n : ℕ) (r : ReadPosition) (records : List EhRecord)
-    → at_most_of (eh_record_at bases section) n r ≡ map Ok records → Ascends source_start records × Behind r.position records
+    → at_most_of (eh_record_at bases section) n r ≡ map Ok records → Ascends source_start records × Past r.position records
 up-to-rise bases section n r [] is = (tt, tt)
 up-to-rise bases section zero r (x ∷ records) is = absurd cc
 up-to-rise bases section (suc n) r (x ∷ records) is = elim (cases_lt 0 (length r.rest)) [

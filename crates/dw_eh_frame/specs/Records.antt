@@ -12,7 +12,7 @@ use Rattle.dw_bytes.specs.Fields.{unless, field_at, fields_at}
 use Rattle.dw_bytes.specs.Bodies.{framed_at}
 use Rattle.dw_bytes.specs.Sequence.{sequence_of}
 use Rattle.dw_frame.specs.Records.{is_version}
-use Rattle.dw_frame.specs.Sections.{Header, behind_augmentation}
+use Rattle.dw_frame.specs.Sections.{Header, past_augmentation}
 use Rattle.dw_eh_frame.specs.declared.augmentation.Augmentation.{Augmentation}
 use Rattle.dw_eh_frame.specs.declared.pointer.Bases.{Bases}
 use Rattle.dw_eh_frame.specs.Pointers.{pointer_at, range_at}
@@ -80,8 +80,8 @@ unfoldable pub eh_cie_head_at : ReadPosition → Result (EhCieHead × ReadPositi
 eh_cie_head_at r = do
   version ← field_at (fixed 1) (λ number. unless (is_version number) Version) r
   letters ← string_at version.1
-  behind ← eh_data_at letters.0 letters.1
-  numbers ← fields_at (behind_augmentation r.target version.0) behind
+  past ← eh_data_at letters.0 letters.1
+  numbers ← fields_at (past_augmentation r.target version.0) past
   augmentation ← augmentation_at version.1.position letters.0 numbers.1
   Ok (record { version = version.0; numbers = numbers.0; augmentation = augmentation.0 }, augmentation.1)
 

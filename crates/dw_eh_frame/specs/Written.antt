@@ -1,7 +1,7 @@
 -- The bytes that are written for a record of a `.debug_frame` section.
 use Rattle.std.specs.Prelude.{ℕ, List, ◌∷◌, ◌++◌, length}
 use Rattle.dw_bytes.specs.Fields.{Encodes}
-use Rattle.dw_frame.specs.Sections.{Header, behind_augmentation}
+use Rattle.dw_frame.specs.Sections.{Header, past_augmentation}
 use Rattle.byteorder.specs.Endian.{big_bytes, little_bytes}
 use Rattle.dw_bytes.specs.declared.target.Target.{Target}
 use Rattle.dw_bytes.specs.declared.target.Order.{Order}
@@ -34,4 +34,4 @@ fde_bytes target pointer initial range =
 -- The bytes encode what follows the augmentation of a CIE with this version, up to the return address
 -- register, at any offset.
 pub record EncodesNumbers (target : Target) (version : ℕ) (numbers : List ℕ) (h : Header) : Type 0 where
-  pub at_each : (at : ℕ) → Encodes target (behind_augmentation target version) at numbers h
+  pub at_each : (at : ℕ) → Encodes target (past_augmentation target version) at numbers h

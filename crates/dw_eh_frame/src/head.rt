@@ -6,7 +6,7 @@ ghost use Rattle.dw_bytes.specs.Operands.{fixed};
 ghost use Rattle.dw_bytes.specs.Reading.{MovesForward};
 ghost use Rattle.dw_bytes.specs.Readers.{IsRefusedWithin, ParsesBy};
 ghost use Rattle.dw_bytes.specs.Fields.{unless, field_at, fields_at};
-ghost use Rattle.dw_frame.specs.Sections.{behind_augmentation, factors};
+ghost use Rattle.dw_frame.specs.Sections.{past_augmentation, factors};
 ghost use Rattle.dw_eh_frame.specs.Augmentations.{string_at};
 ghost use Rattle.dw_frame.specs.Records.{is_version};
 ghost use Rattle.dw_eh_frame.specs.Records.{eh_cie_head_at};
@@ -111,7 +111,7 @@ fn read_factors(cursor: &mut Cursor<'_>, version: u8) -> Result<Factors, Fault>
 /// Reads what follows the augmentation's string: in version 4 the sizes of an address and of a segment
 /// selector, and then the alignment factors and the return address register.
 fn read_numbers(cursor: &mut Cursor<'_>, target: Target, version: u8) -> Result<Factors, Fault>
-    ensures exact { ParsesBy factors_of (fields_at (behind_augmentation target version)) cursor.old result cursor.new }
+    ensures exact { ParsesBy factors_of (fields_at (past_augmentation target version)) cursor.old result cursor.new }
     ensures version { IfOk result (λ found. found.version ≡ version) }
     ensures within { IsRefusedWithin cursor.old result }
     ensures goes_on { MovesForward cursor.old cursor.new }
@@ -140,14 +140,14 @@ pub(crate) fn read_head<'a>(cursor: &mut Cursor<'a>, end: u32) -> Result<EhCieHe
     let at = cursor.position();
     let letters = read_letters(cursor, end)?;
     skip_eh_data(cursor, letters)?;
-    let mut behind = cursor.copy();
-    let factors = read_numbers(&mut behind, target, version)?;
-    let size = behind.position() - cursor.position();
+    let mut past = cursor.copy();
+    let factors = read_numbers(&mut past, target, version)?;
+    let size = past.position() - cursor.position();
     let Ok(numbers) = cursor.take(u64::from(size)) else {
         unreachable!()
     };
-    let augmentation = read_augmentation(&mut behind, at, letters)?;
-    *cursor = behind;
+    let augmentation = read_augmentation(&mut past, at, letters)?;
+    *cursor = past;
     Ok(EhCieHead {
         factors,
         numbers,

@@ -11,7 +11,7 @@ use Rattle.dw_frame.specs.Records.{Cie}
 use Rattle.dw_stack.specs.declared.state.Kind.{Kind}
 use Rattle.dw_stack.specs.FirstFault.{expression_fault}
 use Rattle.dw_stack.specs.Located.{located_fault, moved_by}
-use Rattle.dw_rows.specs.declared.map.TheConstants.{MAX_RULES}
+use Rattle.dw_rows.specs.declared.register_rules.TheConstants.{MAX_RULES}
 use Rattle.dw_rows.specs.declared.remember_stack.TheConstants.{MAX_REMEMBERED}
 use Rattle.dw_rows.specs.Rules.{PlacedRule, PlacedCfa, Rule, default, undefined, same_value, offset, val_offset, register, rule_list, rule_count}
 use Rattle.dw_rows.specs.Rules.{expression, val_expression, register_and_offset, cfa_expression}
@@ -20,8 +20,8 @@ use Rattle.dw_rows.specs.Effects.{remembers_state, restores_state, effect_of, ne
 use Rattle.dw_rows.specs.Expressions.{expression_in}
 use Rattle.dw_rows.specs.GivenRows.{nowhere}
 use Rattle.dw_rows.specs.InForce.{Start, location_of, rule_at, cfa_at, open_count, not_register_cfa, cie_start}
-use Rattle.dw_rows.specs.Judgement.{goes_back, lacks_cfa, is_restore_state, is_remember_state, refusal_at, refusal_at_end, cie_refusal_at}
-use Rattle.dw_rows.specs.Judgement.{standing_at, fault_from, first_refusal}
+use Rattle.dw_rows.specs.ProgramFault.{goes_back, lacks_cfa, is_restore_state, is_remember_state, refusal_at, refusal_at_end, cie_refusal_at}
+use Rattle.dw_rows.specs.ProgramFault.{standing_at, fault_from, first_refusal}
 use Rattle.dw_eh_frame.specs.Instructions.{plain, args_size, negate_ra_state}
 use Rattle.dw_eh_frame.specs.Same.{unplaced, AreNops}
 use Rattle.dw_eh_frame.proofs.Shifted.{item-by, instruction-by, eh-instruction-by}
@@ -347,8 +347,8 @@ effect-by cie made p q n i factors =
     factors (instruction-by q i)
     ∙ moved-effect cie n (instruction-by p i) (instruction-by q i) (unplaced-by q i ∙ sym (unplaced-by p i))
 
--- what is needed of two ways to judge programs that begin at the offsets p and q
-pub record Judge (p q : ℕ) (s t : Start) (cie made : Cie) (own_refusal made_refusal : List Effect → Effect → Option FaultKind)
+-- what is needed of two ways to check programs that begin at the offsets p and q
+pub record Check (p q : ℕ) (s t : Start) (cie made : Cie) (own_refusal made_refusal : List Effect → Effect → Option FaultKind)
     (own_ending made_ending : List Effect → Option Fault) : Type 0 where
   pub factors : (i : Instruction) → effect_of made i ≡ effect_of cie i
   pub refuse : (b c : List Effect) (k : ℕ) (x : Effect) → SameState s t b c → own_refusal b x ≡ made_refusal c (effect_to k x)
@@ -383,34 +383,34 @@ past-nops q s t made refusal ending p o b ((m, i) ∷ nops) rest quiet each more
 
 -- an instruction of a vendor, and the nops for it
 foreign-matched : (p q : ℕ) (s t : Start) (cie made : Cie) (R Q : List Effect → Effect → Option FaultKind) (E F : List Effect → Option Fault)
-    → Judge p q s t cie made R Q E F → (m : ℕ) (ys : Items) (silent : Silent m ys) (o : Option Fault) (b : List Effect)
+    → Check p q s t cie made R Q E F → (m : ℕ) (ys : Items) (silent : Silent m ys) (o : Option Fault) (b : List Effect)
     → ((d : List Effect) → SameState s t (stays ∷ b) d → Matched p q o (fault_from Q F made d (moved q silent.rest)))
     → (c : List Effect) → SameState s t b c
     → Matched p q (option_or (standing_at (m + p) (R b stays)) o) (fault_from Q F made c (moved q ys))
-foreign-matched p q s t cie made R Q E F judge m ys silent o b more c state =
-    let refused : R b stays ≡ Q c stays = judge.refuse b c 0 stays state in
+foreign-matched p q s t cie made R Q E F check m ys silent o b more c state =
+    let refused : R b stays ≡ Q c stays = check.refuse b c 0 stays state in
     subst (λ (l : Items). Matched p q (option_or (standing_at (m + p) (R b stays)) o) (fault_from Q F made c (moved q l))) (sym silent.is)
     (either-matched p q (standing_at (m + p) (R b stays)) (standing_at (m + q) (Q c stays)) o
     (fault_from Q F made (stays ∷ c) (moved q (map Ok silent.nops ++ silent.rest)))
     (standing-matched p q m (R b stays) (Q c stays) refused)
-    (λ u v. past-nops q s t made Q F p o (stays ∷ b) silent.nops silent.rest judge.quiet silent.each more (stays ∷ c)
-    (state-left s t b (stays ∷ c) (state-right s t b c state)) (judge.quiet c ∙ none-standing (m + q) (Q c stays) v)))
+    (λ u v. past-nops q s t made Q F p o (stays ∷ b) silent.nops silent.rest check.quiet silent.each more (stays ∷ c)
+    (state-left s t b (stays ∷ c) (state-right s t b c state)) (check.quiet c ∙ none-standing (m + q) (Q c stays) v)))
 
 pub faults-matched : (p q : ℕ) (s t : Start) (cie made : Cie) (own_refusal made_refusal : List Effect → Effect → Option FaultKind)
-    (own_ending made_ending : List Effect → Option Fault) → Judge p q s t cie made own_refusal made_refusal own_ending made_ending
+    (own_ending made_ending : List Effect → Option Fault) → Check p q s t cie made own_refusal made_refusal own_ending made_ending
     → (xs : EhItems) (ys : Items) → ReadTwice xs ys → (n : ℕ) (b c : List Effect) → SameState s t b c
     → Matched p q (eh_fault_from own_refusal own_ending cie n b (eh-moved p xs)) (fault_from made_refusal made_ending made c (moved q ys))
-faults-matched p q s t cie made R Q E F judge [] ys twice n b c state =
-    subst (λ (l : Items). Matched p q (E b) (fault_from Q F made c (moved q l))) (sym twice) (judge.ends b c state)
-faults-matched p q s t cie made R Q E F judge (Err fault ∷ xs) ys twice n b c state =
+faults-matched p q s t cie made R Q E F check [] ys twice n b c state =
+    subst (λ (l : Items). Matched p q (E b) (fault_from Q F made c (moved q l))) (sym twice) (check.ends b c state)
+faults-matched p q s t cie made R Q E F check (Err fault ∷ xs) ys twice n b c state =
     subst (λ (l : Items). Matched p q (Some (record { kind = fault.kind; at = fault.at + p })) (fault_from Q F made c (moved q l))) (sym twice)
     (record { kind = refl; from = fault.at; own = refl; made = refl })
-faults-matched p q s t cie made R Q E F judge (Ok (m, plain i) ∷ xs) ys (rest, is, twice) n b c state =
+faults-matched p q s t cie made R Q E F check (Ok (m, plain i) ∷ xs) ys (rest, is, twice) n b c state =
     let x = effect_of cie (numbered n (instruction-by p i)) in
     let y = effect_of made (instruction-by q i) in
     let k = place-in (expression_in (instruction-by q i)) in
-    let effect : y ≡ effect_to k x = effect-by cie made p q n i judge.factors in
-    let refused : R b x ≡ Q c y = judge.refuse b c k x state ∙ ap (Q c) (sym effect) in
+    let effect : y ≡ effect_to k x = effect-by cie made p q n i check.factors in
+    let refused : R b x ≡ Q c y = check.refuse b c k x state ∙ ap (Q c) (sym effect) in
     let next : SameState s t (x ∷ b) (y ∷ c) =
     subst (λ (z : Effect). SameState s t (x ∷ b) (z ∷ c)) (sym effect) (state-next s t b c k x state) in
     subst (λ (l : Items). Matched p q (eh_fault_from R E cie n b (eh-moved p (Ok (m, plain i) ∷ xs))) (fault_from Q F made c (moved q l))) (sym is)
@@ -420,10 +420,10 @@ faults-matched p q s t cie made R Q E F judge (Ok (m, plain i) ∷ xs) ys (rest,
     (eh_fault_from R E cie (n + 1) (x ∷ b) (eh-moved p xs)) (fault_from Q F made (y ∷ c) (moved q rest))
     (either-matched p q (located_fault (expression_in (instruction-by p i))) (located_fault (expression_in (instruction-by q i)))
     (standing_at (m + p) (R b x)) (standing_at (m + q) (Q c y)) (located-matched p q i) (λ u v. standing-matched p q m (R b x) (Q c y) refused))
-    (λ u v. faults-matched p q s t cie made R Q E F judge xs rest twice (n + 1) (x ∷ b) (y ∷ c) next))
-faults-matched p q s t cie made R Q E F judge (Ok (m, args_size j) ∷ xs) ys (silent, twice) n b c state =
-    foreign-matched p q s t cie made R Q E F judge m ys silent (eh_fault_from R E cie (n + 1) (stays ∷ b) (eh-moved p xs)) b
-    (λ d here. faults-matched p q s t cie made R Q E F judge xs silent.rest twice (n + 1) (stays ∷ b) d here) c state
-faults-matched p q s t cie made R Q E F judge (Ok (m, negate_ra_state w) ∷ xs) ys (silent, twice) n b c state =
-    foreign-matched p q s t cie made R Q E F judge m ys silent (eh_fault_from R E cie (n + 1) (stays ∷ b) (eh-moved p xs)) b
-    (λ d here. faults-matched p q s t cie made R Q E F judge xs silent.rest twice (n + 1) (stays ∷ b) d here) c state
+    (λ u v. faults-matched p q s t cie made R Q E F check xs rest twice (n + 1) (x ∷ b) (y ∷ c) next))
+faults-matched p q s t cie made R Q E F check (Ok (m, args_size j) ∷ xs) ys (silent, twice) n b c state =
+    foreign-matched p q s t cie made R Q E F check m ys silent (eh_fault_from R E cie (n + 1) (stays ∷ b) (eh-moved p xs)) b
+    (λ d here. faults-matched p q s t cie made R Q E F check xs silent.rest twice (n + 1) (stays ∷ b) d here) c state
+faults-matched p q s t cie made R Q E F check (Ok (m, negate_ra_state w) ∷ xs) ys (silent, twice) n b c state =
+    foreign-matched p q s t cie made R Q E F check m ys silent (eh_fault_from R E cie (n + 1) (stays ∷ b) (eh-moved p xs)) b
+    (λ d here. faults-matched p q s t cie made R Q E F check xs silent.rest twice (n + 1) (stays ∷ b) d here) c state

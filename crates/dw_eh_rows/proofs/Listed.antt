@@ -126,21 +126,21 @@ found-at (d ∷ cies) up c at (suc k, less, is) same =
 abbrev written : Pair → Record
 written p = p.1
 
-behind : (n : ℕ) (pairs : List Pair) (p : Pair) → AllByRecursion (λ r. n < offset_of r) (map written pairs) → Contains pairs p → n < offset_of p.1
-behind n [] p all (k, less, is) = absurd (omega arith)
-behind n (q ∷ pairs) p all (zero, less, is) = subst (λ (r : Pair). n < offset_of r.1) is all.0
-behind n (q ∷ pairs) p all (suc k, less, is) = behind n pairs p all.1 (k, omega arith, is)
+past : (n : ℕ) (pairs : List Pair) (p : Pair) → AllByRecursion (λ r. n < offset_of r) (map written pairs) → Contains pairs p → n < offset_of p.1
+past n [] p all (k, less, is) = absurd (omega arith)
+past n (q ∷ pairs) p all (zero, less, is) = subst (λ (r : Pair). n < offset_of r.1) is all.0
+past n (q ∷ pairs) p all (suc k, less, is) = past n pairs p all.1 (k, omega arith, is)
 
 -- two pairs with the same written record are the same
 pub one-pair : (pairs : List Pair) (p q : Pair) → Ascends offset_of (map written pairs) → Contains pairs p → Contains pairs q → p.1 ≡ q.1 → p ≡ q
 one-pair [] p q up (k, less, is) there same = absurd (omega arith)
 one-pair (x ∷ pairs) p q up (zero, less, is) (zero, lower, at) same = sym is ∙ at
 one-pair (x ∷ pairs) p q up (zero, less, is) (suc j, lower, at) same =
-    let above = behind (offset_of x.1) pairs q up.0 (j, omega arith, at) in
+    let above = past (offset_of x.1) pairs q up.0 (j, omega arith, at) in
     let level : offset_of x.1 ≡ offset_of q.1 = ap (λ (r : Pair). offset_of r.1) is ∙ ap offset_of same in
     absurd (omega (arith, above, level))
 one-pair (x ∷ pairs) p q up (suc k, less, is) (zero, lower, at) same =
-    let above = behind (offset_of x.1) pairs p up.0 (k, omega arith, is) in
+    let above = past (offset_of x.1) pairs p up.0 (k, omega arith, is) in
     let level : offset_of x.1 ≡ offset_of p.1 = ap (λ (r : Pair). offset_of r.1) at ∙ ap offset_of (sym same) in
     absurd (omega (arith, above, level))
 one-pair (x ∷ pairs) p q up (suc k, less, is) (suc j, lower, at) same =

@@ -10,8 +10,8 @@ use Rattle.dw_frame.specs.Records.{Cie, Fde}
 use Rattle.dw_frame.specs.Sections.{Header, cie_header, fde_header}
 use Rattle.dw_rows.specs.Effects.{Effect, stays, effect_of, effects_by, effects_of}
 use Rattle.dw_rows.specs.Expressions.{expression_in}
-use Rattle.dw_rows.specs.InForce.{Start, start_behind, fde_start, cie_start}
-use Rattle.dw_rows.specs.Judgement.{standing_at, refusal_at, refusal_at_end, cie_refusal_at, fault_from, end_of, cie_fault, fde_fault}
+use Rattle.dw_rows.specs.InForce.{Start, start_past, fde_start, cie_start}
+use Rattle.dw_rows.specs.ProgramFault.{standing_at, refusal_at, refusal_at_end, cie_refusal_at, fault_from, end_of, cie_fault, fde_fault}
 use Rattle.dw_eh_frame.specs.Records.{EhCie, EhFde}
 use Rattle.dw_eh_frame.specs.Instructions.{EhInstruction, plain, args_size, negate_ra_state, dialect_of}
 use Rattle.dw_eh_frame.specs.Rewriting.{IsSameCie, IsSameFde}
@@ -25,7 +25,7 @@ use Rattle.dw_eh_rows.proofs.Alike.{effect_to, Alike, left, right, both, lefts, 
 use Rattle.dw_eh_rows.proofs.Agreeing.{Agreeing, place-in}
 use Rattle.dw_eh_rows.proofs.OnlyRows.{with-factors, by-factors, code-in, number-in}
 use Rattle.dw_eh_rows.proofs.RowsKept.{start-of}
-use Rattle.dw_eh_rows.proofs.FaultsAlike.{unnamed, SameState, Judge, Matched, always-fits, effect-by, refusal-same, cie-refusal-same, end-refusal-same, standing-matched, moved, eh-moved, faults-matched}
+use Rattle.dw_eh_rows.proofs.FaultsAlike.{unnamed, SameState, Check, Matched, always-fits, effect-by, refusal-same, cie-refusal-same, end-refusal-same, standing-matched, moved, eh-moved, faults-matched}
 
 -- ---- effects of what was read
 
@@ -118,7 +118,7 @@ cie-matched a e c same =
     let p = e.program.position in
     let q = c.program.position in
     let alike = read-alike (dialect_of a e.head.augmentation) e.program c.program same.program in
-    let judge : Judge p q cie_start cie_start (as_cie e) c cie_refusal_at cie_refusal_at (λ _. None) (λ _. None) = record {
+    let check : Check p q cie_start cie_start (as_cie e) c cie_refusal_at cie_refusal_at (λ _. None) (λ _. None) = record {
       factors = same-factors a e c same;
       refuse = cie-refusal-same;
       quiet = λ c. refl;
@@ -129,7 +129,7 @@ cie-matched a e c same =
     (fault_from cie_refusal_at (λ _. None) c [] (instructions_of c.program))) (sym alike.own_is)
     (subst (λ (ys : Items). Matched p q (eh_fault_from cie_refusal_at (λ _. None) (as_cie e) 0 [] (eh-moved p alike.own))
     (fault_from cie_refusal_at (λ _. None) c [] ys)) (sym alike.made_is)
-    (faults-matched p q cie_start cie_start (as_cie e) c cie_refusal_at cie_refusal_at (λ _. None) (λ _. None) judge alike.own alike.made alike.twice 0
+    (faults-matched p q cie_start cie_start (as_cie e) c cie_refusal_at cie_refusal_at (λ _. None) (λ _. None) check alike.own alike.made alike.twice 0
     [] [] start))
 
 -- ---- the programs of an FDE
@@ -146,12 +146,12 @@ fde-starts a e f c same of_cie =
     let own : eh_effects_from d 0 (first-of a e) ≡ lefts agree.steps =
     ap (λ (l : EhItems). eh_effects_from d 0 (values_in l)) alike.own_is ∙ agree.left_is in
     let made : effects_of c (instructions_of c.program) ≡ rights agree.steps = ap (effects_of c) alike.made_is ∙ agree.right_is in
-    let s : start_after e (first-of a e) ≡ start_behind (reverse (lefts agree.steps)) f =
-    ap (λ (l : List Effect). start_behind (reverse l) (as_fde e)) own
+    let s : start_after e (first-of a e) ≡ start_past (reverse (lefts agree.steps)) f =
+    ap (λ (l : List Effect). start_past (reverse l) (as_fde e)) own
     ∙ start-of e f (reverse (lefts agree.steps)) same.initial_location same.address_range in
-    let t : fde_start c f ≡ start_behind (reverse (rights agree.steps)) f = ap (λ (l : List Effect). start_behind (reverse l) f) made in
+    let t : fde_start c f ≡ start_past (reverse (rights agree.steps)) f = ap (λ (l : List Effect). start_past (reverse l) f) made in
     subst (λ (x : Start). Alike unnamed unnamed x (fde_start c f) [] []) (sym s)
-    (subst (λ (y : Start). Alike unnamed unnamed (start_behind (reverse (lefts agree.steps)) f) y [] []) (sym t)
+    (subst (λ (y : Start). Alike unnamed unnamed (start_past (reverse (lefts agree.steps)) f) y [] []) (sym t)
     (start-alike unnamed unnamed f agree.steps agree.fit))
 
 ends-matched : (e : EhFde) (f : Fde) (s t : Start) → length f.program.rest ≡ length e.program.rest → (b c : List Effect) → SameState s t b c
@@ -181,7 +181,7 @@ fde-matched a e f c same of_cie =
     let long : length f.program.rest ≡ length e.program.rest =
     ap (λ (l : List ℕ). length l) same.program.bytes
     ∙ silenced-long (dialect_in a e) (record { target = e.program.target; position = 0; rest = e.program.rest }) in
-    let judge : Judge p q s t d c (refusal_at s) (refusal_at t) E F = record {
+    let check : Check p q s t d c (refusal_at s) (refusal_at t) E F = record {
       factors = same-factors a e.cie c of_cie;
       refuse = refusal-same s t;
       quiet = λ c. refl;
@@ -192,4 +192,4 @@ fde-matched a e f c same of_cie =
     (sym alike.own_is)
     (subst (λ (ys : Items). Matched p q (eh_fault_from (refusal_at s) E d n [] (eh-moved p alike.own)) (fault_from (refusal_at t) F c [] ys))
     (sym alike.made_is)
-    (faults-matched p q s t d c (refusal_at s) (refusal_at t) E F judge alike.own alike.made alike.twice n [] [] start))
+    (faults-matched p q s t d c (refusal_at s) (refusal_at t) E F check alike.own alike.made alike.twice n [] [] start))

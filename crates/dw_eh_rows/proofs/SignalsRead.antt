@@ -66,9 +66,9 @@ unfolding eh_entries_from
 at-fault bases target section at fault h is = stops (eh_record_at bases section) (section_from target section at) fault
     (omega (arith, length-drop at section)) is
 
-behind-good : (records : List EhRecord) (fault : Fault) → fault_in {X = EhRecord} (map Ok records ++ Err fault ∷ []) ≡ Some fault
-behind-good [] fault = refl
-behind-good (x ∷ records) fault = behind-good records fault
+past-good : (records : List EhRecord) (fault : Fault) → fault_in {X = EhRecord} (map Ok records ++ Err fault ∷ []) ≡ Some fault
+past-good [] fault = refl
+past-good (x ∷ records) fault = past-good records fault
 
 pub signals-refused : (bases : Bases) (target : Target) (section : List ℕ) (at : ℕ) (ranges : List AddressRange) (fault : Fault)
     → AreSignals bases target section at ranges → at < length section
@@ -76,4 +76,4 @@ pub signals-refused : (bases : Bases) (target : Target) (section : List ℕ) (at
     → fault_in (eh_entries_of bases target section) ≡ Some fault
 signals-refused bases target section at ranges fault so_far some is =
     ap (λ items. fault_in {X = EhRecord} items) (so_far.read ∙ ap (λ (xs : List (Result EhRecord Fault)). map Ok so_far.records ++ xs)
-    (at-fault bases target section at fault some is)) ∙ behind-good so_far.records fault
+    (at-fault bases target section at fault some is)) ∙ past-good so_far.records fault

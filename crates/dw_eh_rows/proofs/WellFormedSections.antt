@@ -255,7 +255,7 @@ covered-once : (fdes : List EhFde) → Ascends fde-start fdes → first_fault (e
     → Contains fdes e → Contains fdes g → EhCovers e a → EhCovers g a → e ≡ g
 covered-once fdes up none a e g e_in g_in one two = elim (cases_lt e.offset g.offset) [
   | inl before ↦ absurd (never-before fdes none a e g e_in g_in one two before)
-  | inr behind ↦ elim (cases_lt g.offset e.offset) [
+  | inr past ↦ elim (cases_lt g.offset e.offset) [
     | inl before ↦ absurd (never-before fdes none a g e g_in e_in two one before)
     | inr other ↦ one-at fdes e g up e_in g_in (omega arith)
   ]

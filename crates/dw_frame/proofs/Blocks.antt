@@ -33,7 +33,7 @@ without start target kinds make all at bytes i lt (vs, encoded, fit, is) =
 block-ends : (target : Target) (start at end : ℕ) (bytes : List ℕ) (b : Block) → start < at → at + length bytes ≡ end
     → IsBlock target at bytes b → EndsWith target start end b
 block-ends target start at end bytes b lt is_end h = record {
-  behind = omega (arith, h.offset_is);
+  past = omega (arith, h.offset_is);
   ends = omega (arith, is_end, h.offset_is, ap length h.parts, length-append h.count b.bytes);
   target_is = h.target_is;
 }

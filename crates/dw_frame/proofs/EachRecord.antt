@@ -15,7 +15,7 @@ use Rattle.dw_bytes.proofs.Bodies.{framed-found, framed-only}
 use Rattle.dw_bytes.proofs.Sequences.{ReadsEach, Forward, forward, goes-on, stops, ends, all-read, sequence-exact}
 use Rattle.dw_frame.specs.Records.{Record}
 use Rattle.dw_frame.specs.Sections.{Header, IsHeader, IsRecord, AreRecords, record_from, header_at, record_at, entries_from, entries_of}
-use Rattle.dw_frame.specs.Bounds.{IsBehind}
+use Rattle.dw_frame.specs.Bounds.{IsAfter}
 use Rattle.dw_frame.proofs.Headers.{header-exact}
 
 -- ---- a record
@@ -144,7 +144,7 @@ at-record target section at next x is = goes-on record_at records-forward (secti
     (section_from target section next) is
 
 pub record-leaves : (target : Target) (section : List ℕ) (at : ℕ) (x : Record) (after : ReadPosition) → at ≤ length section
-    → record_at (section_from target section at) ≡ Ok (x, after) → IsBehind target section at after
+    → record_at (section_from target section at) ≡ Ok (x, after) → IsAfter target section at after
 record-leaves target section at x after inside is =
     let next = record-found (section_from target section at) x after is in
     let some = some-bytes target at next.bytes x next.encoded in

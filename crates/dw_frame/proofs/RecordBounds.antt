@@ -82,17 +82,17 @@ factors-range target version at bytes h known s =
     let column = column-range target _ (version == 1) make s.6.2 h s.6.6 in
     subst (InRange target) (sym column.2) (known, column.1)
 
-behind-range : (target : Target) (version at : ℕ) (has_sizes : Bool) (bytes : List ℕ) (h : Header) → is_version version ≡ true
+past-range : (target : Target) (version at : ℕ) (has_sizes : Bool) (bytes : List ℕ) (h : Header) → is_version version ≡ true
     → Encodes target (cond has_sizes
     (byte AddressSize (bytes_of_address target.address_size) (byte SegmentSize 0 (factors version))) (factors version)) at bytes h
     → InRange target h
-behind-range target version at true bytes h known s = factors-range target version _ s.6.2 h known s.6.6
-behind-range target version at false bytes h known s = factors-range target version at bytes h known s
+past-range target version at true bytes h known s = factors-range target version _ s.6.2 h known s.6.6
+past-range target version at false bytes h known s = factors-range target version at bytes h known s
 
 from-id-range : (target : Target) (id at : ℕ) (is_cie : Bool) (bytes : List ℕ) (h : Header)
     → Encodes target (cond is_cie (cie_fields target) (fde_fields target id)) at bytes h → InRange target h
 from-id-range target id at true bytes h s =
-    behind-range target s.0 _ (s.0 == 4) s.6.2 h (passed (is_version s.0) Version s.5) s.6.6
+    past-range target s.0 _ (s.0 == 4) s.6.2 h (passed (is_version s.0) Version s.5) s.6.6
 from-id-range target id at false bytes h s =
     let last = s.6 in
     subst (InRange target) (sym last.6.1) (leb-true (s.0 + last.0) (top_of target)
@@ -112,17 +112,17 @@ some-fields target format at bytes h (id, x, y, parts, first, fine, second) =
 sound-from : (target : Target) (size at body : ℕ) (format : Format) (h : Header) (program : ReadPosition) → InRange target h → at < body
     → body < program.position → end-of program ≤ size → program.target ≡ target
     → IsSoundRecord target size (record_from at format body h program)
-sound-from target size at body format (cie_header h) program range before behind ends same =
+sound-from target size at body format (cie_header h) program range before past ends same =
     record {
       program = record { begins = omega arith; ends = ends; target_is = same };
       version = range.0;
       return_address_register = range.1;
     }
-sound-from target size at body format (fde_header h) program range before behind ends same =
+sound-from target size at body format (fde_header h) program range before past ends same =
     record {
       program = record { begins = omega arith; ends = ends; target_is = same };
-      pointer_behind = before;
-      pointer_before = behind;
+      pointer_past = before;
+      pointer_before = past;
       range = range;
     }
 
@@ -178,12 +178,12 @@ pub record-offset : (target : Target) (at : ℕ) (bytes : List ℕ) (x : Record)
 record-offset target at bytes x s = ap offset_of s.record_is ∙ from-offset at (at + length s.front) s.format s.header
     (record { target = target; position = at + length s.front + length s.fields; rest = s.program })
 
-all-behind : (target : Target) (n at : ℕ) (bytes : List ℕ) (records : List Record) → n < at → AreRecords target at bytes records
+all-past : (target : Target) (n at : ℕ) (bytes : List ℕ) (records : List Record) → n < at → AreRecords target at bytes records
     → AllByRecursion (λ x. n < offset_of x) records
-all-behind target n at bytes [] lt are = tt
-all-behind target n at bytes (x ∷ records) lt (first, rest, parts, record_is, others) =
+all-past target n at bytes [] lt are = tt
+all-past target n at bytes (x ∷ records) lt (first, rest, parts, record_is, others) =
     let offset = record-offset target at first x record_is in
-    (omega (arith, offset), all-behind target n (at + length first) rest records (omega arith) others)
+    (omega (arith, offset), all-past target n (at + length first) rest records (omega arith) others)
 
 pub records-ascend : (target : Target) (at : ℕ) (bytes : List ℕ) (records : List Record) → AreRecords target at bytes records
     → Ascends offset_of records
@@ -191,6 +191,6 @@ records-ascend target at bytes [] are = tt
 records-ascend target at bytes (x ∷ records) (first, rest, parts, record_is, others) =
     let some = some-bytes target at first x record_is in
     let offset = record-offset target at first x record_is in (
-      all-behind target (offset_of x) (at + length first) rest records (omega (arith, some, offset)) others,
+      all-past target (offset_of x) (at + length first) rest records (omega (arith, some, offset)) others,
       records-ascend target (at + length first) rest records others,
     )

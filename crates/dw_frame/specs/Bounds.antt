@@ -16,7 +16,7 @@ StandsIn r (Err fault) = (r.position ≤ fault.at) × (fault.at ≤ r.position +
 
 -- Block b begins after offset `at`, ends at offset `end`, and has this target.
 pub record EndsWith (target : Target) (at end : ℕ) (b : Block) : Type 0 where
-  pub behind : at < b.offset
+  pub past : at < b.offset
   pub ends : b.offset + length b.bytes ≡ end
   pub target_is : b.target ≡ target
 
@@ -30,7 +30,7 @@ EndsWithItsBlock target at end _ = Unit {0}
 
 -- `after` is what is left to read of the section from offset `after.position` on. That offset is
 -- above `at`, and at most the section's length.
-pub record IsBehind (target : Target) (section : List ℕ) (at : ℕ) (after : ReadPosition) : Type 0 where
+pub record IsAfter (target : Target) (section : List ℕ) (at : ℕ) (after : ReadPosition) : Type 0 where
   pub later : at < after.position
   pub inside : after.position ≤ length section
   pub left : after ≡ section_from target section after.position
@@ -51,7 +51,7 @@ pub record IsSoundCie (target : Target) (size : ℕ) (c : Cie) : Type 0 where
 -- FDE's range is at most the target's highest address.
 pub record IsSoundFde (target : Target) (size : ℕ) (f : Fde) : Type 0 where
   pub program : LiesIn target size f.offset f.program
-  pub pointer_behind : f.offset < f.cie_pointer_offset
+  pub pointer_past : f.offset < f.cie_pointer_offset
   pub pointer_before : f.cie_pointer_offset < f.program.position
   pub range : f.initial_location + f.address_range ≤ top_of target
 

@@ -77,8 +77,8 @@ factors version =
 -- The fields of a CIE after the augmentation. In version 4 alone, two sizes come first: the address
 -- size, which must be the target's, and the segment selector size, which must be 0. Then, in every
 -- version, come the alignment factors and the return address register.
-abbrev pub behind_augmentation : Target → ℕ → Fields Header
-behind_augmentation target version =
+abbrev pub past_augmentation : Target → ℕ → Fields Header
+past_augmentation target version =
     if version == 4
     then byte AddressSize (bytes_of_address target.address_size) (byte SegmentSize 0 (factors version))
     else factors version
@@ -88,7 +88,7 @@ behind_augmentation target version =
 abbrev pub cie_fields : Target → Fields Header
 cie_fields target =
     field (fixed 1) (λ number. unless (is_version number) Version) (λ version.
-    byte Augmentation 0 (behind_augmentation target version))
+    byte Augmentation 0 (past_augmentation target version))
 
 -- The fields of an FDE after the CIE_pointer: its first address, and the number of its addresses.
 -- Their sum must be at most the highest address.

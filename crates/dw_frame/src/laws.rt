@@ -8,7 +8,7 @@ ghost use Rattle.dw_frame.specs.Instructions.{Instruction};
 ghost use Rattle.dw_frame.specs.Records.{Cie, Record, cie_record};
 ghost use Rattle.dw_frame.specs.Codes.{EncodesInstruction, AreInstructions, instruction_at, instructions_of};
 ghost use Rattle.dw_frame.specs.Sections.{IsRecord, AreRecords, record_at, entries_from, entries_of, cie_among};
-ghost use Rattle.dw_frame.specs.Bounds.{StandsIn, EndsWithItsBlock, IsBehind, offset_of, Ascends, IsSound, IsSoundRecord};
+ghost use Rattle.dw_frame.specs.Bounds.{StandsIn, EndsWithItsBlock, IsAfter, offset_of, Ascends, IsSound, IsSoundRecord};
 
 /// No instruction's encoding is a proper prefix of another encoding, and the same bytes encode only
 /// one instruction.
@@ -84,10 +84,10 @@ pub fn records_come_in_order()
 
 /// After a record is read, what is left to read is the section from a later offset on. That offset
 /// is at most the section's length.
-pub fn records_lie_behind_each_other()
+pub fn records_follow_each_other()
     ensures { (target : Target) (section : List ℕ) (at : ℕ) (x : Record) (after : ReadPosition)
         → at ≤ length section → record_at (section_from target section at) ≡ Ok (x, after)
-        → IsBehind target section at after }
+        → IsAfter target section at after }
 {}
 
 /// The records of a section are in order of their offsets, and no two have the same offset.

@@ -49,7 +49,7 @@ impl<'a> Program<'a> {
     /// The offset in the section after the program's last byte.
     pub fn end(&self) -> u32
         ensures end { result ≡ end_of self.now }
-        ensures behind { result ≡ (reading_of self.now).position + length
+        ensures past { result ≡ (reading_of self.now).position + length
             (reading_of self.now).rest }
     {
         self.section.len() as u32

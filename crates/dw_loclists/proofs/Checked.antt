@@ -11,16 +11,16 @@ use Rattle.dw_bytes.specs.Reading.{section_from}
 use Rattle.dw_loclists.specs.Reading.{table_at, tables_from, tables_of, lists_fault, ListSection, IsChecked, tables_in, lists_in}
 use Rattle.dw_loclists.specs.Reading.{located_in}
 use Rattle.dw_loclists.proofs.EachTable.{sections-are-tables, at-end, at-table}
-use Rattle.dw_loclists.proofs.KeptLists.{nothing}
+use Rattle.dw_loclists.proofs.StoredLists.{nothing}
 use Rattle.dw_loclists.proofs.Order.{tables-start, tables-rise, offsets-of}
 use Rattle.dw_loclists.proofs.Search.{rise-ascends}
 
 abbrev Items : Type 0
 Items = List (Result Table Fault)
 
-fault-behind : (ts : List Table) (items : Items) → fault_in (all-read ts ++ items) ≡ fault_in items
-fault-behind [] items = refl
-fault-behind (t ∷ ts) items = fault-behind ts items
+fault-past : (ts : List Table) (items : Items) → fault_in (all-read ts ++ items) ≡ fault_in items
+fault-past [] items = refl
+fault-past (t ∷ ts) items = fault-past ts items
 
 values-all : (ts : List Table) → values_in (all-read ts) ≡ ts
 values-all [] = refl
@@ -48,7 +48,7 @@ tables-are target section ts is = ap (λ (xs : Items). values_in xs) is ∙ valu
 pub tables-fault : (target : Target) (section : List ℕ) (ts : List Table) (items : Items) (f : Fault)
     → tables_of target section ≡ all-read ts ++ items → items ≡ Err f ∷ [] → lists_fault target section ≡ Some f
 tables-fault target section ts items f is bad = ap (λ (xs : Items). fault_in xs) is
-    ∙ (fault-behind ts items ∙ ap (λ (xs : Items). fault_in xs) bad)
+    ∙ (fault-past ts items ∙ ap (λ (xs : Items). fault_in xs) bad)
 
 abbrev some : Fault → Option Fault
 some f = Some f

@@ -33,7 +33,7 @@ entry-some target at bytes e h = coded-some target entry_line at bytes e h
 block-within : (target : Target) (start at : ℕ) (bytes : List ℕ) (b : Block) → start < at → IsBlock target at bytes b
     → StandsWithin target start (at + length bytes) b
 block-within target start at bytes b lt h = record {
-  behind = omega (arith, h.offset_is);
+  past = omega (arith, h.offset_is);
   ends = omega (arith, h.offset_is, ap length h.parts, length-append h.count b.bytes);
   of_target = h.target_is;
 }
@@ -63,7 +63,7 @@ default-block start target at bytes e lt (vs, (first, rest, parts, is_block, end
     let within = block-within target start at first vs.0 lt is_block in
     subst (λ x. AllWithin target start (at + length bytes) (expression_in x)) (sym is)
     (record {
-      behind = within.behind;
+      past = within.past;
       ends = omega (arith, within.ends, ap length parts, length-append first rest, ap length ended);
       of_target = within.of_target;
     })
@@ -77,7 +77,7 @@ third-block start target first second make has at bytes e lt (vs, (a, ra, pa, ia
     subst (λ x. AllWithin target start (at + length bytes) (expression_in x)) (sym is)
     (subst (AllWithin target start (at + length bytes)) (sym (has vs))
     (record {
-      behind = within.behind;
+      past = within.past;
       ends =
           omega (
             arith,

@@ -19,9 +19,9 @@ use Rattle.dw_loclists.specs.Locations.{location_of, expressions_of}
 use Rattle.dw_stack.specs.Located.{LocatedExpression}
 use Rattle.dw_loclists.specs.Reading.{checked_entry_at, no_end, at_most_entries, entries_at, list_at}
 use Rattle.dw_loclists.proofs.EachEntry.{IsFine, entry-some, checked-found, checked-only}
-use Rattle.dw_loclists.specs.declared.kept.KeptExpression.{KeptExpression}
+use Rattle.dw_loclists.specs.declared.stored_lists.StoredExpression.{StoredExpression}
 use Rattle.dw_loclists.specs.Kept.{KeepsMore}
-use Rattle.dw_loclists.proofs.KeptLists.{nothing, keeps-then}
+use Rattle.dw_loclists.proofs.StoredLists.{nothing, keeps-then}
 
 -- the bytes encode entries without faults and then an end_of_list; `has_default` tells whether a
 -- default_location came before these entries
@@ -432,7 +432,7 @@ next-entry r s after d next es e so_far is going or =
 
 -- if the expressions of the entries `es` and then the expression of e were stored, the expressions
 -- of `es` with e at the end were stored
-pub keeps-entry : (es : List Entry) (e : Entry) (old mid new : List KeptExpression) → KeepsMore (expressions_of es) old mid
+pub keeps-entry : (es : List Entry) (e : Entry) (old mid new : List StoredExpression) → KeepsMore (expressions_of es) old mid
     → KeepsMore (expressions_of (e ∷ [])) mid new → KeepsMore (expressions_of (es ++ e ∷ [])) old new
 keeps-entry es e old mid new h k =
     subst (λ (ys : List LocatedExpression). KeepsMore ys old new) (sym (expressions-more es e))
@@ -440,7 +440,7 @@ keeps-entry es e old mid new h k =
 
 -- if the expressions of the entries `es` were stored and then e was read, an end_of_list, which has
 -- no expression, just the expressions of `es` were stored
-pub keeps-end : (es : List Entry) (e : Entry) (old mid new : List KeptExpression) → is_end e ≡ true → KeepsMore (expressions_of es) old mid
+pub keeps-end : (es : List Entry) (e : Entry) (old mid new : List StoredExpression) → is_end e ≡ true → KeepsMore (expressions_of es) old mid
     → KeepsMore (expressions_of (e ∷ [])) mid new → KeepsMore (expressions_of es) old new
 keeps-end es e old mid new is h k =
     subst (λ (ys : List LocatedExpression). KeepsMore ys old new)

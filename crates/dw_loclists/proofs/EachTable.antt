@@ -148,9 +148,9 @@ not-among starts at never = which (is_among at starts) refl
 abbrev number : ℕ → ReadPosition → Result (ℕ × ReadPosition) Fault
 number n r = Ok (n, r)
 
-unjudged : (b : Bool) (at : ℕ) (x y : ℕ × ReadPosition) → ok_unless (unless b BadOffsetEntry) at x ≡ number y.0 y.1 → (b ≡ true) × (x ≡ y)
-unjudged true at x y is = (refl, ok-is x y is)
-unjudged false at x y is = absurd cc
+unchecked : (b : Bool) (at : ℕ) (x y : ℕ × ReadPosition) → ok_unless (unless b BadOffsetEntry) at x ≡ number y.0 y.1 → (b ≡ true) × (x ≡ y)
+unchecked true at x y is = (refl, ok-is x y is)
+unchecked false at x y is = absurd cc
 
 pub list-offset-exact : (target : Target) (format : Format) (array : ℕ) (lists : List ℕ)
     → ExactAt target (list_offset_at format array lists) (IsListOffset target format array lists)
@@ -158,7 +158,7 @@ list-offset-exact target format array lists r same = record {
   found = λ v after is.
       let o =
       bind-ok (offset_at format r) (λ o. ok_unless (unless (is_among (array + o.0) lists) BadOffsetEntry) r.position o) (v, after) is in
-      let ok = unjudged (is_among (array + o.0.0) lists) r.position o.0 (v, after) o.2 in
+      let ok = unchecked (is_among (array + o.0.0) lists) r.position o.0 (v, after) o.2 in
       let next = (offset-exact target format r same).found o.0.0 o.0.1 o.1 in
       subst (λ (p : ℕ × ReadPosition). Next (IsListOffset target format array lists r.position) r p.0 p.1) ok.1
       (record {

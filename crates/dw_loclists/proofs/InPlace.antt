@@ -12,15 +12,15 @@ use Rattle.dw_bytes.specs.Sequence.{Sequence}
 use Rattle.dw_stack.specs.declared.state.Kind as stack_kind
 use Rattle.dw_stack.specs.declared.state.Kind.TheVariants.{Location}
 use Rattle.dw_stack.specs.Located.{LocatedExpression}
-use Rattle.dw_loclists.specs.declared.kept.KeptExpression.{KeptExpression}
+use Rattle.dw_loclists.specs.declared.stored_lists.StoredExpression.{StoredExpression}
 use Rattle.dw_loclists.specs.Entries.{Entry, end_of_list, offset_pair, default_location, base_address, start_end, start_length, entry_line}
 use Rattle.dw_loclists.specs.Entries.{IsEntry, expression_in}
 use Rattle.dw_loclists.specs.Lists.{Loclist, IsList, Table, IsTable, AreTables, lists_of}
 use Rattle.dw_loclists.specs.Locations.{location_of, expressions_of, expressions_in}
 use Rattle.dw_loclists.specs.Reading.{ListSection, IsChecked, tables_in, located_in}
-use Rattle.dw_loclists.specs.Kept.{IsKeptOf, AreKeptOf, lent_from, all_lent_from, IsLendable}
+use Rattle.dw_loclists.specs.Kept.{IsStoredOf, AreStoredOf, lent_from, all_lent_from, IsLendable}
 use Rattle.dw_loclists.proofs.Checked.{checked-tables}
-use Rattle.dw_loclists.proofs.KeptLists.{nothing}
+use Rattle.dw_loclists.proofs.StoredLists.{nothing}
 use Rattle.dw_loclists.proofs.Order.{entries-front, located-of}
 
 -- x is a location with this target; `bytes`, which begin at offset `at` of the section, have x's
@@ -37,26 +37,26 @@ abbrev AreIn : Target → ℕ → List ℕ → List LocatedExpression → Type 0
 AreIn target at bytes xs = AllByRecursion (IsIn target at bytes) xs
 
 -- an expression in some bytes is also in longer bytes that contain them
-one-within : (target : Target) (at other : ℕ) (before bytes behind whole : List ℕ) (x : LocatedExpression)
-    → whole ≡ before ++ (bytes ++ behind) → other ≡ at + length before → IsIn target other bytes x → IsIn target at whole x
-one-within target at other before bytes behind whole x parts at_is h = record {
+one-within : (target : Target) (at other : ℕ) (before bytes past whole : List ℕ) (x : LocatedExpression)
+    → whole ≡ before ++ (bytes ++ past) → other ≡ at + length before → IsIn target other bytes x → IsIn target at whole x
+one-within target at other before bytes past whole x parts at_is h = record {
   front = before ++ h.front;
-  rest = h.rest ++ behind;
-  parts = parts ∙ (ap (λ (t : List ℕ). before ++ (t ++ behind)) h.parts
+  rest = h.rest ++ past;
+  parts = parts ∙ (ap (λ (t : List ℕ). before ++ (t ++ past)) h.parts
       ∙ (ap (λ (t : List ℕ). before ++ t)
-      (append_assoc h.front (x.bytes ++ h.rest) behind ∙ ap (λ (t : List ℕ). h.front ++ t) (append_assoc x.bytes h.rest behind))
-      ∙ sym (append_assoc before h.front (x.bytes ++ (h.rest ++ behind)))));
+      (append_assoc h.front (x.bytes ++ h.rest) past ∙ ap (λ (t : List ℕ). h.front ++ t) (append_assoc x.bytes h.rest past))
+      ∙ sym (append_assoc before h.front (x.bytes ++ (h.rest ++ past)))));
   offset_is = omega (arith, h.offset_is, at_is, length-append before h.front);
   kind_is = h.kind_is;
   target_is = h.target_is;
 }
 
-within : (target : Target) (at other : ℕ) (before bytes behind whole : List ℕ) (xs : List LocatedExpression)
-    → whole ≡ before ++ (bytes ++ behind) → other ≡ at + length before → AreIn target other bytes xs → AreIn target at whole xs
-within target at other before bytes behind whole [] parts at_is h = tt
-within target at other before bytes behind whole (x ∷ xs) parts at_is h = (
-  one-within target at other before bytes behind whole x parts at_is h.0,
-  within target at other before bytes behind whole xs parts at_is h.1,
+within : (target : Target) (at other : ℕ) (before bytes past whole : List ℕ) (xs : List LocatedExpression)
+    → whole ≡ before ++ (bytes ++ past) → other ≡ at + length before → AreIn target other bytes xs → AreIn target at whole xs
+within target at other before bytes past whole [] parts at_is h = tt
+within target at other before bytes past whole (x ∷ xs) parts at_is h = (
+  one-within target at other before bytes past whole x parts at_is h.0,
+  within target at other before bytes past whole xs parts at_is h.1,
 )
 
 both : (target : Target) (at : ℕ) (bytes : List ℕ) (xs ys : List LocatedExpression) → AreIn target at bytes xs → AreIn target at bytes ys
@@ -65,8 +65,8 @@ both target at bytes [] ys h k = k
 both target at bytes (x ∷ xs) ys h k = (h.0, both target at bytes xs ys h.1 k)
 
 -- bytes that consist of two parts also consist of these two and an empty third part
-behind-all : (first rest bytes : List ℕ) → bytes ≡ first ++ rest → bytes ≡ first ++ (rest ++ [])
-behind-all first rest bytes parts = parts ∙ ap (λ (t : List ℕ). first ++ t) (sym (nothing rest))
+past-all : (first rest bytes : List ℕ) → bytes ≡ first ++ rest → bytes ≡ first ++ (rest ++ [])
+past-all first rest bytes parts = parts ∙ ap (λ (t : List ℕ). first ++ t) (sym (nothing rest))
 
 -- ---- the expression of an entry
 
@@ -74,7 +74,7 @@ block-in : (target : Target) (at : ℕ) (bytes : List ℕ) (b : Block) → IsBlo
 block-in target at bytes b h = record {
   front = h.count;
   rest = [];
-  parts = behind-all h.count b.bytes bytes h.parts;
+  parts = past-all h.count b.bytes bytes h.parts;
   offset_is = h.offset_is;
   kind_is = refl;
   target_is = h.target_is;
@@ -150,7 +150,7 @@ unfolding Holds
 entry-in target at bytes e (code, front, operands, parts, first, second) =
     subst (AreIn target at bytes) (sym (as-located e))
     (within target at (at + length front) front operands [] bytes (located-of (expression_in e))
-    (behind-all front operands bytes parts) refl
+    (past-all front operands bytes parts) refl
     (all-lines target code (at + length front) operands e second))
 
 -- ---- the expressions of lists and of tables
@@ -158,22 +158,22 @@ entry-in target at bytes e (code, front, operands, parts, first, second) =
 entries-in : (target : Target) (at : ℕ) (bytes : List ℕ) (es others : List Entry) → Sequence (IsEntry target) at bytes (es ++ others)
     → AreIn target at bytes (expressions_of es)
 entries-in target at bytes [] others h = tt
-entries-in target at bytes (e ∷ es) others (first, rest, parts, here, behind) =
+entries-in target at bytes (e ∷ es) others (first, rest, parts, here, past) =
     subst (AreIn target at bytes) (sym (entries-front e es))
     (both target at bytes (expressions_of (e ∷ [])) (expressions_of es)
     (within target at at [] first rest bytes (expressions_of (e ∷ [])) parts (omega arith) (entry-in target at first e here))
-    (within target at (at + length first) first rest [] bytes (expressions_of es) (behind-all first rest bytes parts) refl
-    (entries-in target (at + length first) rest es others behind)))
+    (within target at (at + length first) first rest [] bytes (expressions_of es) (past-all first rest bytes parts) refl
+    (entries-in target (at + length first) rest es others past)))
 
 lists-in : (target : Target) (at : ℕ) (bytes : List ℕ) (ls : List Loclist) → Sequence (IsList target) at bytes ls
     → AreIn target at bytes (expressions_in ls)
 lists-in target at bytes [] h = tt
-lists-in target at bytes (l ∷ ls) (first, rest, parts, here, behind) =
+lists-in target at bytes (l ∷ ls) (first, rest, parts, here, past) =
     both target at bytes (expressions_of l.entries) (expressions_in ls)
     (within target at at [] first rest bytes (expressions_of l.entries) parts (omega arith)
     (entries-in target at first l.entries (end_of_list ∷ []) here.encoded))
-    (within target at (at + length first) first rest [] bytes (expressions_in ls) (behind-all first rest bytes parts) refl
-    (lists-in target (at + length first) rest ls behind))
+    (within target at (at + length first) first rest [] bytes (expressions_in ls) (past-all first rest bytes parts) refl
+    (lists-in target (at + length first) rest ls past))
 
 table-in : (target : Target) (at : ℕ) (bytes : List ℕ) (t : Table) → IsTable target at bytes t
     → AreIn target at bytes (expressions_in t.lists)
@@ -182,19 +182,19 @@ table-in target at bytes t s =
     let parts : bytes ≡ before ++ s.lists =
     s.parts ∙ (ap (λ (u : List ℕ). s.front ++ u) (sym (append_assoc s.header s.offsets s.lists))
     ∙ sym (append_assoc s.front (s.header ++ s.offsets) s.lists)) in
-    within target at (t.array + length s.offsets) before s.lists [] bytes (expressions_in t.lists) (behind-all before s.lists bytes parts)
+    within target at (t.array + length s.offsets) before s.lists [] bytes (expressions_in t.lists) (past-all before s.lists bytes parts)
     (omega (arith, s.array_is, length-append s.front (s.header ++ s.offsets), length-append s.header s.offsets))
     (lists-in target (t.array + length s.offsets) s.lists t.lists s.lists_are)
 
 tables-in : (target : Target) (at : ℕ) (bytes : List ℕ) (ts : List Table) → AreTables target at bytes ts
     → AreIn target at bytes (expressions_in (lists_of ts))
 tables-in target at bytes [] h = tt
-tables-in target at bytes (t ∷ ts) (first, rest, parts, here, behind) =
+tables-in target at bytes (t ∷ ts) (first, rest, parts, here, past) =
     subst (AreIn target at bytes) (sym (flat_map-append (λ (l : Loclist). expressions_of l.entries) t.lists (lists_of ts)))
     (both target at bytes (expressions_in t.lists) (expressions_in (lists_of ts))
     (within target at at [] first rest bytes (expressions_in t.lists) parts (omega arith) (table-in target at first t here))
-    (within target at (at + length first) first rest [] bytes (expressions_in (lists_of ts)) (behind-all first rest bytes parts) refl
-    (tables-in target (at + length first) rest ts behind)))
+    (within target at (at + length first) first rest [] bytes (expressions_in (lists_of ts)) (past-all first rest bytes parts) refl
+    (tables-in target (at + length first) rest ts past)))
 
 -- ---- expressions that are borrowed from a section
 
@@ -215,7 +215,7 @@ abbrev located-as : ℕ → stack_kind.Kind → Target → List ℕ → LocatedE
 located-as offset kind target bytes = record { offset = offset; kind = kind; target = target; bytes = bytes }
 
 -- borrowing a stored expression from the section gives the expression that was stored
-lent-is : (target : Target) (section : List ℕ) (x : LocatedExpression) (k : KeptExpression) → IsIn target 0 section x → IsKeptOf x k
+lent-is : (target : Target) (section : List ℕ) (x : LocatedExpression) (k : StoredExpression) → IsIn target 0 section x → IsStoredOf x k
     → lent_from target section k ≡ x
 lent-is target section x k h kept =
     let bytes : take k.length (drop k.offset section) ≡ x.bytes =
@@ -226,23 +226,23 @@ lent-is target section x k h kept =
     ∙ (ap (λ (t : Target). located-as x.offset Location t x.bytes) (sym h.target_is)
     ∙ ap (λ (d : stack_kind.Kind). located-as x.offset d x.target x.bytes) (sym h.kind_is)))
 
-one-lendable : (target : Target) (section : List ℕ) (x : LocatedExpression) (k : KeptExpression) → IsIn target 0 section x → IsKeptOf x k
+one-lendable : (target : Target) (section : List ℕ) (x : LocatedExpression) (k : StoredExpression) → IsIn target 0 section x → IsStoredOf x k
     → IsLendable target section k
 one-lendable target section x k h kept = record {
   inside = omega (arith, inside target section x h, kept.offset_is, kept.length_is);
-  kept = subst (λ (y : LocatedExpression). IsKeptOf y k) (sym (lent-is target section x k h kept)) kept;
+  kept = subst (λ (y : LocatedExpression). IsStoredOf y k) (sym (lent-is target section x k h kept)) kept;
 }
 
-each-lendable : (target : Target) (section : List ℕ) (xs : List LocatedExpression) (ks : List KeptExpression) → AreIn target 0 section xs
-    → AreKeptOf xs ks → AllByRecursion (IsLendable target section) ks
+each-lendable : (target : Target) (section : List ℕ) (xs : List LocatedExpression) (ks : List StoredExpression) → AreIn target 0 section xs
+    → AreStoredOf xs ks → AllByRecursion (IsLendable target section) ks
 each-lendable target section [] [] h kept = tt
 each-lendable target section [] (k ∷ ks) h kept = absurd kept
 each-lendable target section (x ∷ xs) [] h kept = tt
 each-lendable target section (x ∷ xs) (k ∷ ks) h kept =
     (one-lendable target section x k h.0 kept.0, each-lendable target section xs ks h.1 kept.1)
 
-each-lent : (target : Target) (section : List ℕ) (xs : List LocatedExpression) (ks : List KeptExpression) → AreIn target 0 section xs
-    → AreKeptOf xs ks → all_lent_from target section ks ≡ xs
+each-lent : (target : Target) (section : List ℕ) (xs : List LocatedExpression) (ks : List StoredExpression) → AreIn target 0 section xs
+    → AreStoredOf xs ks → all_lent_from target section ks ≡ xs
 each-lent target section [] [] h kept = refl
 each-lent target section [] (k ∷ ks) h kept = absurd kept
 each-lent target section (x ∷ xs) [] h kept = absurd kept
@@ -254,11 +254,11 @@ all-in : (s : ListSection) → IsChecked s → AreIn s.target 0 s.section (locat
 all-in s checked = tables-in s.target 0 s.section (tables_in s) (checked-tables s checked)
 
 -- all stored expressions of a checked section can be borrowed from the section
-pub all-lendable : (s : ListSection) (ks : List KeptExpression) → IsChecked s → AreKeptOf (located_in s) ks
+pub all-lendable : (s : ListSection) (ks : List StoredExpression) → IsChecked s → AreStoredOf (located_in s) ks
     → AllByRecursion (IsLendable s.target s.section) ks
 all-lendable s ks checked kept = each-lendable s.target s.section (located_in s) ks (all-in s checked) kept
 
 -- borrowing all stored expressions of a checked section gives the section's expressions
-pub all-lent : (s : ListSection) (ks : List KeptExpression) → IsChecked s → AreKeptOf (located_in s) ks
+pub all-lent : (s : ListSection) (ks : List StoredExpression) → IsChecked s → AreStoredOf (located_in s) ks
     → all_lent_from s.target s.section ks ≡ located_in s
 all-lent s ks checked kept = each-lent s.target s.section (located_in s) ks (all-in s checked) kept

@@ -2,7 +2,7 @@ pub mod EachEntry
 pub mod EachList
 pub mod Passing
 pub mod EachTable
-pub mod KeptLists
+pub mod StoredLists
 pub mod Search
 pub mod Order
 pub mod Checked

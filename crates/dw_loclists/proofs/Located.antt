@@ -16,28 +16,28 @@ use Rattle.dw_stack.specs.Located.{LocatedExpression}
 use Rattle.dw_loclists.specs.Locations.{default_of, defaults_in}
 use Rattle.dw_loclists.specs.Reading.{entries_at, list_at, IsListAt, ListSection, IsChecked, tables_in, lists_in, located_in}
 use Rattle.dw_loclists.proofs.EachList.{entries-read, list-found, list-only}
-use Rattle.dw_loclists.specs.declared.kept.KeptExpression.{KeptExpression}
+use Rattle.dw_loclists.specs.declared.stored_lists.StoredExpression.{StoredExpression}
 use Rattle.dw_loclists.specs.Bounds.{Ascends, StandsIn}
-use Rattle.dw_loclists.specs.Kept.{IsKeptOf, AreKeptOf, IsAmong}
+use Rattle.dw_loclists.specs.Kept.{IsStoredOf, AreStoredOf, IsAmong}
 use Rattle.dw_loclists.specs.Views.{offset_of}
 use Rattle.dw_loclists.proofs.Order.{entries-front, list-rises, offsets-of}
 use Rattle.dw_loclists.proofs.Checked.{checked-tables, lists-ascend, expressions-ascend}
-use Rattle.dw_loclists.proofs.Search.{ascends-back, ascending-same, contains-behind, rise-ascends}
+use Rattle.dw_loclists.proofs.Search.{ascends-back, ascending-same, contains-past, rise-ascends}
 
 no-list : {X : Type 0} (x : X) → Contains [] x → ⊥
 no-list x (k, lt, is) = omega arith
 
 -- a list in some bytes is also in longer bytes that contain them
-within : (target : Target) (at other : ℕ) (before bytes behind whole : List ℕ) (l : Loclist) → whole ≡ before ++ (bytes ++ behind)
+within : (target : Target) (at other : ℕ) (before bytes past whole : List ℕ) (l : Loclist) → whole ≡ before ++ (bytes ++ past)
     → other ≡ at + length before → StandsIn target other bytes l → StandsIn target at whole l
-within target at other before bytes behind whole l parts at_is h = record {
+within target at other before bytes past whole l parts at_is h = record {
   front = before ++ h.front;
   own = h.own;
-  rest = h.rest ++ behind;
-  parts = parts ∙ (ap (λ (t : List ℕ). before ++ (t ++ behind)) h.parts
+  rest = h.rest ++ past;
+  parts = parts ∙ (ap (λ (t : List ℕ). before ++ (t ++ past)) h.parts
       ∙ (ap (λ (t : List ℕ). before ++ t)
-      (append_assoc h.front (h.own ++ h.rest) behind ∙ ap (λ (t : List ℕ). h.front ++ t) (append_assoc h.own h.rest behind))
-      ∙ sym (append_assoc before h.front (h.own ++ (h.rest ++ behind)))));
+      (append_assoc h.front (h.own ++ h.rest) past ∙ ap (λ (t : List ℕ). h.front ++ t) (append_assoc h.own h.rest past))
+      ∙ sym (append_assoc before h.front (h.own ++ (h.rest ++ past)))));
   offset_is = omega (arith, h.offset_is, at_is, length-append before h.front);
   list_is = h.list_is;
 }
@@ -81,9 +81,9 @@ among-tables target at bytes [] l are among = absurd (no-list l among)
 among-tables target at bytes (t ∷ ts) l (first, rest, parts, here, others) among =
     elim (Contains-append_cases t.lists (lists_of ts) l among) [
       | inl own ↦ within target at at [] first rest bytes l parts (omega arith) (in-table target at first t l here own)
-      | inr behind ↦ within target at (at + length first) first rest [] bytes l
+      | inr past ↦ within target at (at + length first) first rest [] bytes l
           (parts ∙ ap (λ (u : List ℕ). first ++ u) (sym (no-more rest)))
-          refl (among-tables target (at + length first) rest ts l others behind)
+          refl (among-tables target (at + length first) rest ts l others past)
     ]
 
 -- the bytes at a list's offset encode the list
@@ -144,8 +144,8 @@ in-front : (e : Entry) (es : List Entry) (x : LocatedExpression) → Contains (e
 in-front e es x h = subst (λ (xs : List LocatedExpression). Contains xs x) (sym (entries-front e es))
     (Contains-append_left (expressions_of (e ∷ [])) (expressions_of es) x h)
 
-in-behind : (e : Entry) (es : List Entry) (x : LocatedExpression) → Contains (expressions_of es) x → Contains (expressions_of (e ∷ es)) x
-in-behind e es x h = subst (λ (xs : List LocatedExpression). Contains xs x) (sym (entries-front e es))
+in-past : (e : Entry) (es : List Entry) (x : LocatedExpression) → Contains (expressions_of es) x → Contains (expressions_of (e ∷ es)) x
+in-past e es x h = subst (λ (xs : List LocatedExpression). Contains xs x) (sym (entries-front e es))
     (Contains-append_right (expressions_of (e ∷ [])) (expressions_of es) x h)
 
 bounded-among : (base address : ℕ) (es : List Entry) (x : LocatedExpression) → Contains (bounded_at base address es) x
@@ -154,14 +154,14 @@ bounded-among base address [] x among = absurd (no-list x among)
 bounded-among base address (e ∷ es) x among =
     elim (Contains-append_cases (held_by base address e) (bounded_at (base_after base (e ∷ [])) address es) x among) [
       | inl own ↦ in-front e es x (held-among base address e x own)
-      | inr behind ↦ in-behind e es x (bounded-among (base_after base (e ∷ [])) address es x behind)
+      | inr past ↦ in-past e es x (bounded-among (base_after base (e ∷ [])) address es x past)
     ]
 
 defaults-among : (es : List Entry) (x : LocatedExpression) → Contains (defaults_in es) x → Contains (expressions_of es) x
 defaults-among [] x among = absurd (no-list x among)
 defaults-among (e ∷ es) x among = elim (Contains-append_cases (default_of e) (defaults_in es) x among) [
   | inl own ↦ in-front e es x (default-among e x own)
-  | inr behind ↦ in-behind e es x (defaults-among es x behind)
+  | inr past ↦ in-past e es x (defaults-among es x past)
 ]
 
 of-lists : (ls : List Loclist) (l : Loclist) (x : LocatedExpression) → Contains ls l → Contains (expressions_of l.entries) x
@@ -191,29 +191,29 @@ given-among s l base address x l_in among = of-lists (lists_in s) l x l_in (entr
 
 -- if `ks` is what is stored about the expressions `xs`, each expression in `xs` is among the stored
 -- ones
-pub kept-among : (xs : List LocatedExpression) (ks : List KeptExpression) (x : LocatedExpression) → AreKeptOf xs ks → Contains xs x
+pub kept-among : (xs : List LocatedExpression) (ks : List StoredExpression) (x : LocatedExpression) → AreStoredOf xs ks → Contains xs x
     → IsAmong ks x
 kept-among [] ks x kept among = absurd (no-list x among)
 kept-among (y ∷ xs) [] x kept among = absurd kept
 kept-among (y ∷ xs) (k ∷ ks) x kept (zero, lt, is) =
-    (k, (zero, omega arith, refl), subst (λ (z : LocatedExpression). IsKeptOf z k) is kept.0)
+    (k, (zero, omega arith, refl), subst (λ (z : LocatedExpression). IsStoredOf z k) is kept.0)
 kept-among (y ∷ xs) (k ∷ ks) x kept (suc j, lt, is) =
-    let rest = kept-among xs ks x kept.1 (j, omega arith, is) in (rest.0, contains-behind rest.0 k ks rest.1, rest.2)
+    let rest = kept-among xs ks x kept.1 (j, omega arith, is) in (rest.0, contains-past rest.0 k ks rest.1, rest.2)
 
-same-offsets : (xs : List LocatedExpression) (ks : List KeptExpression) → AreKeptOf xs ks → offsets-of xs ≡ map offset_of ks
+same-offsets : (xs : List LocatedExpression) (ks : List StoredExpression) → AreStoredOf xs ks → offsets-of xs ≡ map offset_of ks
 same-offsets [] [] kept = refl
 same-offsets [] (k ∷ ks) kept = absurd kept
 same-offsets (x ∷ xs) [] kept = absurd kept
 same-offsets (x ∷ xs) (k ∷ ks) kept =
     ap (λ n. n ∷ offsets-of xs) (sym kept.0.offset_is) ∙ ap (λ (t : List ℕ). offset_of k ∷ t) (same-offsets xs ks kept.1)
 
-pub kept-ascend : (s : ListSection) (ks : List KeptExpression) → IsChecked s → AreKeptOf (located_in s) ks → Ascends offset_of ks
+pub kept-ascend : (s : ListSection) (ks : List StoredExpression) → IsChecked s → AreStoredOf (located_in s) ks → Ascends offset_of ks
 kept-ascend s ks checked kept = ascends-back offset_of ks
     (subst (Ascends (λ n. n)) (same-offsets (located_in s) ks kept) (expressions-ascend s checked))
 
 -- what is stored about the expressions of one list
-pub list-ascend : (target : Target) (r : ReadPosition) (l : Loclist) (after : ReadPosition) (ks : List KeptExpression) → r.target ≡ target
-    → list_at r ≡ Ok (l, after) → AreKeptOf (expressions_of l.entries) ks → Ascends offset_of ks
+pub list-ascend : (target : Target) (r : ReadPosition) (l : Loclist) (after : ReadPosition) (ks : List StoredExpression) → r.target ≡ target
+    → list_at r ≡ Ok (l, after) → AreStoredOf (expressions_of l.entries) ks → Ascends offset_of ks
 list-ascend target r l after ks same read kept =
     let h = list-found target r l after same read in
     let rise = list-rises target r.position h.bytes l h.encoded in

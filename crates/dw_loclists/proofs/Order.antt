@@ -60,7 +60,7 @@ expressions-as e = from (expression_in e)
 block-rises : (target : Target) (at end : ℕ) (b : Option Block) → at < end → AllWithin target at end b
     → RiseWithin (at + 1) (end + 1) (offsets-of (located-of b))
 block-rises target at end None lt within = omega arith
-block-rises target at end (Some b) lt within = (omega (arith, within.behind), omega (arith, within.ends))
+block-rises target at end (Some b) lt within = (omega (arith, within.past), omega (arith, within.ends))
 
 entry-rises : (target : Target) (at : ℕ) (bytes : List ℕ) (e : Entry) → IsEntry target at bytes e
     → RiseWithin (at + 1) (at + length bytes + 1) (offsets-of (expressions_of (e ∷ [])))

@@ -4,15 +4,15 @@ use Rattle.std.specs.Prelude.{◌&&◌, ◌||◌}
 use Rattle.dw_bytes.specs.declared.fault.Fault.{Fault}
 use Rattle.dw_bytes.specs.Reading.{ReadPosition, MovesForward, fixed_at, address_at, uleb_at}
 use Rattle.dw_bytes.specs.Operands.{Block, block_at}
-use Rattle.dw_loclists.specs.declared.kept.KeptExpression.{KeptExpression}
+use Rattle.dw_loclists.specs.declared.stored_lists.StoredExpression.{StoredExpression}
 use Rattle.dw_loclists.specs.Entries.{Entry, end_of_list, offset_pair, base_address, start_length}
 use Rattle.dw_loclists.specs.Lists.{Loclist}
 use Rattle.dw_loclists.specs.Locations.{location_of, expressions_of}
-use Rattle.dw_loclists.specs.Kept.{AreKeptOf, KeepsMore, Passes}
+use Rattle.dw_loclists.specs.Kept.{AreStoredOf, KeepsMore, Passes}
 use Rattle.dw_stack.specs.Located.{LocatedExpression}
 use Rattle.dw_loclists.specs.Reading.{entry_at, location_fault, checked_entry_at, entries_at, list_at}
 use Rattle.dw_loclists.proofs.EachEntry.{checked-none, location-good, none-if-fine}
-use Rattle.dw_loclists.proofs.KeptLists.{nothing}
+use Rattle.dw_loclists.proofs.StoredLists.{nothing}
 use Rattle.dw_loclists.proofs.EachList.{listed, put_all, next-entry, entries-last, entries-refused, list-ends, list-stops, keeps-entry, keeps-end}
 
 -- ---- what kind of entry is read, by its code and its operands
@@ -40,10 +40,10 @@ and-false : (b : Bool) → (b && false) ≡ false
 and-false true = refl
 and-false false = refl
 
-nothing-kept : (items : List KeptExpression) → KeepsMore [] items items
-nothing-kept items = λ xs kept. subst (λ (ys : List LocatedExpression). AreKeptOf ys items) (sym (nothing xs)) kept
+nothing-kept : (items : List StoredExpression) → KeepsMore [] items items
+nothing-kept items = λ xs kept. subst (λ (ys : List LocatedExpression). AreStoredOf ys items) (sym (nothing xs)) kept
 
-pub end-passes : (d : Bool) (r a : ReadPosition) (items : List KeptExpression) → fixed_at 1 r ≡ Ok (0, a)
+pub end-passes : (d : Bool) (r a : ReadPosition) (items : List StoredExpression) → fixed_at 1 r ≡ Ok (0, a)
     → Passes d true false r a items items
 end-passes d r a items code = record {
   entry = end_of_list;
@@ -54,7 +54,7 @@ end-passes d r a items code = record {
   kept = nothing-kept items;
 }
 
-pub base-passes : (d : Bool) (r a b : ReadPosition) (base : ℕ) (items : List KeptExpression) → fixed_at 1 r ≡ Ok (6, a)
+pub base-passes : (d : Bool) (r a b : ReadPosition) (base : ℕ) (items : List StoredExpression) → fixed_at 1 r ≡ Ok (6, a)
     → address_at a ≡ Ok (base, b) → Passes d false false r b items items
 base-passes d r a b base items code first = record {
   entry = base_address base;
@@ -65,7 +65,7 @@ base-passes d r a b base items code first = record {
   kept = nothing-kept items;
 }
 
-pub pair-passes : (dflt : Bool) (r a b c d : ReadPosition) (begin end : ℕ) (x : Block) (before after : List KeptExpression)
+pub pair-passes : (dflt : Bool) (r a b c d : ReadPosition) (begin end : ℕ) (x : Block) (before after : List StoredExpression)
     → fixed_at 1 r ≡ Ok (4, a) → uleb_at a ≡ Ok (begin, b) → uleb_at b ≡ Ok (end, c) → block_at c ≡ Ok (x, d) → begin ≤ end
     → location_fault (Some x) ≡ None → KeepsMore (location_of x ∷ []) before after → Passes dflt false false r d before after
 pair-passes dflt r a b c d begin end x before after code first second third range good kept = record {
@@ -78,7 +78,7 @@ pair-passes dflt r a b c d begin end x before after code first second third rang
   kept = kept;
 }
 
-pub length-passes : (dflt : Bool) (r a b c d : ReadPosition) (begin count : ℕ) (x : Block) (before after : List KeptExpression)
+pub length-passes : (dflt : Bool) (r a b c d : ReadPosition) (begin count : ℕ) (x : Block) (before after : List StoredExpression)
     → fixed_at 1 r ≡ Ok (8, a) → address_at a ≡ Ok (begin, b) → uleb_at b ≡ Ok (count, c) → block_at c ≡ Ok (x, d)
     → location_fault (Some x) ≡ None → KeepsMore (location_of x ∷ []) before after → Passes dflt false false r d before after
 length-passes dflt r a b c d begin count x before after code first second third good kept = record {
@@ -108,11 +108,11 @@ goes-nowhere a = record { forward = omega arith; same_end = refl; same_target = 
 
 -- ---- a list that is partly read: the entries read so far, their stored expressions, and the rest
 
-abbrev pub SoFar : ReadPosition → List KeptExpression → Bool → ReadPosition → List KeptExpression → Type 0
+abbrev pub SoFar : ReadPosition → List StoredExpression → Bool → ReadPosition → List StoredExpression → Type 0
 SoFar first old has_default here now =
     (es : List Entry) × (entries_at false first ≡ put_all es (entries_at has_default here)) × KeepsMore (expressions_of es) old now
 
-pub one-more : (first here after : ReadPosition) (old mid new : List KeptExpression) (d default next : Bool)
+pub one-more : (first here after : ReadPosition) (old mid new : List StoredExpression) (d default next : Bool)
     → SoFar first old d here mid → Passes d false default here after mid new → (d || default) ≡ next → SoFar first old next after new
 one-more first here after old mid new d default next so_far p or =
     let es = so_far.0 in (
@@ -121,7 +121,7 @@ one-more first here after old mid new d default next so_far p or =
       keeps-entry es p.entry old mid new so_far.2 p.kept,
     )
 
-pub last-one : (first here after : ReadPosition) (old mid new : List KeptExpression) (d default : Bool) → SoFar first old d here mid
+pub last-one : (first here after : ReadPosition) (old mid new : List StoredExpression) (d default : Bool) → SoFar first old d here mid
     → Passes d true default here after mid new
     → (l : Loclist) × (list_at first ≡ Ok (l, after)) × KeepsMore (expressions_of l.entries) old new
 last-one first here after old mid new d default so_far p =
@@ -131,7 +131,7 @@ last-one first here after old mid new d default so_far p =
       keeps-end es p.entry old mid new p.end_is so_far.2 p.kept,
     )
 
-pub refused : (first here : ReadPosition) (old mid : List KeptExpression) (d : Bool) (f : Fault) → SoFar first old d here mid
+pub refused : (first here : ReadPosition) (old mid : List StoredExpression) (d : Bool) (f : Fault) → SoFar first old d here mid
     → 0 < length here.rest → checked_entry_at d here ≡ Err f → list_at first ≡ Err f
 refused first here old mid d f so_far some bad =
     list-stops first here d so_far.0 f so_far.1 (entries-refused d here f some bad)

@@ -101,5 +101,5 @@ ascending-same at xs up x y (i, i_in, i_is) (j, j_in, j_is) same =
       ]
     ]
 
-pub contains-behind : {X : Type 0} (x y : X) (xs : List X) → Contains xs x → Contains (y ∷ xs) x
-contains-behind x y xs (k, lt, is) = (suc k, omega arith, is)
+pub contains-past : {X : Type 0} (x y : X) (xs : List X) → Contains xs x → Contains (y ∷ xs) x
+contains-past x y xs (k, lt, is) = (suc k, omega arith, is)

@@ -93,21 +93,21 @@ base-more base (base_address other) es = refl
 base-more base (start_end begin end e) es = refl
 base-more base (start_length begin count e) es = refl
 
-pub held-by-base : (base address : ℕ) (before : List Entry) (e : Entry) (behind : List Entry)
-    → bounded_at base address (before ++ e ∷ behind) ≡ bounded_at base address before ++
-    (held_by (base_after base before) address e ++ bounded_at (base_after base (before ++ e ∷ [])) address behind)
-held-by-base base address [] e behind = refl
-held-by-base base address (x ∷ before) e behind =
+pub held-by-base : (base address : ℕ) (before : List Entry) (e : Entry) (past : List Entry)
+    → bounded_at base address (before ++ e ∷ past) ≡ bounded_at base address before ++
+    (held_by (base_after base before) address e ++ bounded_at (base_after base (before ++ e ∷ [])) address past)
+held-by-base base address [] e past = refl
+held-by-base base address (x ∷ before) e past =
     let next = base_after base (x ∷ []) in
-    ap (λ (l : List LocatedExpression). held_by base address x ++ l) (held-by-base next address before e behind)
+    ap (λ (l : List LocatedExpression). held_by base address x ++ l) (held-by-base next address before e past)
     ∙ (ap (λ (n : ℕ). held_by base address x ++
-    (bounded_at next address before ++ (held_by n address e ++ bounded_at (base_after next (before ++ e ∷ [])) address behind)))
+    (bounded_at next address before ++ (held_by n address e ++ bounded_at (base_after next (before ++ e ∷ [])) address past)))
     (sym (base-more base x before))
     ∙ (ap (λ (n : ℕ). held_by base address x ++
-    (bounded_at next address before ++ (held_by (base_after base (x ∷ before)) address e ++ bounded_at n address behind)))
+    (bounded_at next address before ++ (held_by (base_after base (x ∷ before)) address e ++ bounded_at n address past)))
     (sym (base-more base x (before ++ e ∷ [])))
     ∙ sym (append_assoc (held_by base address x) (bounded_at next address before)
-    (held_by (base_after base (x ∷ before)) address e ++ bounded_at (base_after base (x ∷ (before ++ e ∷ []))) address behind))))
+    (held_by (base_after base (x ∷ before)) address e ++ bounded_at (base_after base (x ∷ (before ++ e ∷ []))) address past))))
 
 -- ---- the default_locations of a list
 

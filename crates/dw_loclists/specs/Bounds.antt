@@ -30,7 +30,7 @@ RiseWithin low high (n ∷ ns) = (low ≤ n) × RiseWithin (n + 1) high ns
 -- the expression begins after its entry's first byte, which is at offset `at`, ends where the entry
 -- ends, at offset `end`, and has the section's target
 pub record StandsWithin (target : Target) (at end : ℕ) (b : Block) : Type 0 where
-  pub behind : at < b.offset
+  pub past : at < b.offset
   pub ends : b.offset + length b.bytes ≡ end
   pub of_target : b.target ≡ target
 

@@ -4,7 +4,7 @@ use Rattle.std.specs.Prelude.{◌≡◌, ◌<◌, ◌≤◌, ◌+◌, ◌^◌, l
 use Rattle.std.specs.List.{AllByRecursion, AllZip}
 use Rattle.dw_bytes.specs.declared.target.Target.{Target}
 use Rattle.dw_loclists.specs.declared.contents.Contents.{Contents}
-use Rattle.dw_loclists.specs.declared.kept.KeptExpression.{KeptExpression}
+use Rattle.dw_loclists.specs.declared.stored_lists.StoredExpression.{StoredExpression}
 use Rattle.dw_bytes.specs.declared.fault.Fault.{Fault}
 use Rattle.dw_bytes.specs.Reading.{ReadPosition, section_from}
 use Rattle.dw_loclists.specs.Entries.{Entry, is_end, is_default}
@@ -20,24 +20,24 @@ use Rattle.dw_loclists.specs.Views.{start_of}
 
 -- k is what the code stores about the expression x: its offset and length, its stack depth, and its
 -- number of operations. x passed the check with this depth and this number.
-pub record IsKeptOf (x : LocatedExpression) (k : KeptExpression) : Type 0 where
+pub record IsStoredOf (x : LocatedExpression) (k : StoredExpression) : Type 0 where
   pub offset_is : k.offset ≡ x.offset
   pub length_is : k.length ≡ length x.bytes
   pub checked : stack.IsChecked (record { kind = x.kind; target = x.target; bytes = x.bytes; depth = k.depth; count = k.count })
 
 -- the second list has what the code stores about each expression in the first, in the same order
-abbrev pub AreKeptOf : List LocatedExpression → List KeptExpression → Type 0
-AreKeptOf = AllZip IsKeptOf
+abbrev pub AreStoredOf : List LocatedExpression → List StoredExpression → Type 0
+AreStoredOf = AllZip IsStoredOf
 
 -- the stored expressions grew from `old` to `new`: what is stored about the expressions in `more`
 -- was added at the end
-abbrev pub KeepsMore : List LocatedExpression → List KeptExpression → List KeptExpression → Type 0
-KeepsMore more old new = (xs : List LocatedExpression) → AreKeptOf xs old → AreKeptOf (xs ++ more) new
+abbrev pub KeepsMore : List LocatedExpression → List StoredExpression → List StoredExpression → Type 0
+KeepsMore more old new = (xs : List LocatedExpression) → AreStoredOf xs old → AreStoredOf (xs ++ more) new
 
 -- An entry was read from `old` on, up to `new`. It has no fault, and its expression, if it has one,
 -- was added to the stored expressions. The flags tell whether the list already had a
 -- default_location, whether the entry is an end_of_list, and whether it is a default_location.
-pub record Passes (has_default ended default : Bool) (old new : ReadPosition) (before after : List KeptExpression) : Type 0 where
+pub record Passes (has_default ended default : Bool) (old new : ReadPosition) (before after : List StoredExpression) : Type 0 where
   pub entry : Entry
   pub read : checked_entry_at has_default old ≡ Ok (entry, new)
   pub end_is : is_end entry ≡ ended
@@ -45,23 +45,23 @@ pub record Passes (has_default ended default : Bool) (old new : ReadPosition) (b
   pub kept : KeepsMore (expressions_of (entry ∷ [])) before after
 
 -- the expression x is among the stored ones
-abbrev pub IsAmong : List KeptExpression → LocatedExpression → Type 0
-IsAmong kept x = (k : KeptExpression) × Contains kept k × IsKeptOf x k
+abbrev pub IsAmong : List StoredExpression → LocatedExpression → Type 0
+IsAmong kept x = (k : StoredExpression) × Contains kept k × IsStoredOf x k
 
 -- the expression that k is stored for, with its bytes taken from the section
-abbrev pub lent_from : Target → List ℕ → KeptExpression → LocatedExpression
+abbrev pub lent_from : Target → List ℕ → StoredExpression → LocatedExpression
 lent_from target section k = record { offset = k.offset; kind = Location; target = target; bytes = take k.length (drop k.offset section) }
 
-abbrev pub all_lent_from : Target → List ℕ → List KeptExpression → List LocatedExpression
+abbrev pub all_lent_from : Target → List ℕ → List StoredExpression → List LocatedExpression
 all_lent_from target section kept = map (lent_from target section) kept
 
 -- all bytes of the stored expression k are inside the section, and k is what the code stores about
 -- the expression with these bytes
-pub record IsLendable (target : Target) (section : List ℕ) (k : KeptExpression) : Type 0 where
+pub record IsLendable (target : Target) (section : List ℕ) (k : StoredExpression) : Type 0 where
   pub inside : k.offset + k.length ≤ length section
-  pub kept : IsKeptOf (lent_from target section k) k
+  pub kept : IsStoredOf (lent_from target section k) k
 
-pub record AreLendable (target : Target) (section : List ℕ) (kept : List KeptExpression) : Type 0 where
+pub record AreLendable (target : Target) (section : List ℕ) (kept : List StoredExpression) : Type 0 where
   pub each : AllByRecursion (IsLendable target section) kept
   pub short : length section < 2 ^ 32
 
@@ -72,11 +72,11 @@ pub record Kept : Type 0 where
   pub tables : List ℕ
   pub lists : List ℕ
 
-abbrev pub kept_of : Contents → Kept
-kept_of c = record { tables = c.tables.items; lists = map start_of c.lists.items }
+abbrev pub stored_of : Contents → Kept
+stored_of c = record { tables = c.tables.items; lists = map start_of c.lists.items }
 
-abbrev pub nothing_kept : Kept
-nothing_kept = record { tables = []; lists = [] }
+abbrev pub nothing_stored : Kept
+nothing_stored = record { tables = []; lists = [] }
 
 -- k with the offsets of these lists added at the end
 abbrev pub with_lists : Kept → List Loclist → Kept
@@ -87,27 +87,27 @@ abbrev pub with_table : Kept → Table → Kept
 with_table k t = record { tables = k.tables ++ t.offset ∷ []; lists = k.lists ++ starts_of t.lists }
 
 -- what is stored about a section that has exactly these tables
-abbrev pub kept_from : List Table → Kept
-kept_from tables = record { tables = map (λ (t : Table). t.offset) tables; lists = starts_of (lists_of tables) }
+abbrev pub stored_from : List Table → Kept
+stored_from tables = record { tables = map (λ (t : Table). t.offset) tables; lists = starts_of (lists_of tables) }
 
 -- ---- tables, lists and expressions together
 
 -- these lists and their expressions were added to what is stored
 pub record KeepsLists (lists : List Loclist) (old new : Contents) : Type 0 where
-  pub kept : kept_of new ≡ with_lists (kept_of old) lists
+  pub kept : stored_of new ≡ with_lists (stored_of old) lists
   pub expressions : KeepsMore (expressions_in lists) old.expressions.items new.expressions.items
 
 -- this table, its lists and their expressions were added to what is stored
 pub record KeepsTable (t : Table) (old new : Contents) : Type 0 where
-  pub kept : kept_of new ≡ with_table (kept_of old) t
+  pub kept : stored_of new ≡ with_table (stored_of old) t
   pub expressions : KeepsMore (expressions_in t.lists) old.expressions.items new.expressions.items
 
 -- c is what is stored about the section s, which passed the check: the offsets of all its tables
 -- and lists, and all its expressions
 pub record IsKept (s : ListSection) (c : Contents) : Type 0 where
   pub checked : IsChecked s
-  pub kept : kept_of c ≡ kept_from (tables_in s)
-  pub expressions : AreKeptOf (located_in s) c.expressions.items
+  pub kept : stored_of c ≡ stored_from (tables_in s)
+  pub expressions : AreStoredOf (located_in s) c.expressions.items
   pub short : length s.section < 2 ^ 32
 
 -- ---- one list by itself
@@ -122,10 +122,10 @@ abbrev pub list_from : ReadPosition → Loclist
 list_from r = list_found r (list_at r)
 
 -- the list at an offset of a section can be read, and `kept` is what is stored about its expressions
-pub record IsKeptList (target : Target) (section : List ℕ) (at : ℕ) (kept : List KeptExpression) : Type 0 where
+pub record IsKeptList (target : Target) (section : List ℕ) (at : ℕ) (kept : List StoredExpression) : Type 0 where
   pub list : Loclist
   pub after : ReadPosition
   pub read : list_at (section_from target section at) ≡ Ok (list, after)
-  pub expressions : AreKeptOf (expressions_of list.entries) kept
+  pub expressions : AreStoredOf (expressions_of list.entries) kept
   pub inside : at ≤ length section
   pub short : length section < 2 ^ 32

@@ -2,7 +2,7 @@
 -- lists and stored expressions have.
 use Rattle.std.specs.Prelude.{ℕ}
 use Rattle.dw_bytes.specs.Operands.{block_of}
-use Rattle.dw_loclists.specs.declared.kept.KeptExpression.{KeptExpression}
+use Rattle.dw_loclists.specs.declared.stored_lists.StoredExpression.{StoredExpression}
 use Rattle.dw_loclists.specs.declared.entry.Entry as declared
 use Rattle.dw_loclists.specs.declared.contents.LocationList as declared_list
 use Rattle.dw_loclists.specs.declared.entry.Entry.TheVariants as entries
@@ -21,5 +21,5 @@ abbrev pub start_of : declared_list.LocationList → ℕ
 start_of l = l.offset
 
 -- the offset of a stored expression's first byte in the section
-abbrev pub offset_of : KeptExpression → ℕ
+abbrev pub offset_of : StoredExpression → ℕ
 offset_of k = k.offset

@@ -7,7 +7,7 @@ use Rattle.dw_bytes.specs.declared.fault.Fault.{Fault}
 use Rattle.dw_bytes.specs.Operands.{block_of}
 use Rattle.dw_bytes.specs.Reading.{ReadPosition}
 use Rattle.dw_loclists.specs.declared.walk.ListWalk.{ListWalk}
-use Rattle.dw_loclists.specs.declared.kept.KeptExpression.{KeptExpression}
+use Rattle.dw_loclists.specs.declared.stored_lists.StoredExpression.{StoredExpression}
 use Rattle.dw_loclists.specs.Bounds.{Ascends}
 use Rattle.dw_loclists.specs.Entries.{Entry}
 use Rattle.dw_loclists.specs.Locations.{location_of, bounded_at, defaults_in, or_else_all}
@@ -51,7 +51,7 @@ still_to_come found address w = if found then held_ahead address w else or_else_
 -- A walk over a list: unless the walk has ended, the rest of its list can be read up to the end,
 -- and all expressions that the walk can still return are stored. The stored expressions are in
 -- ascending order of their offsets.
-pub record IsWalk (ended : Bool) (address : ℕ) (w : ListWalk) (kept : List KeptExpression) : Type 0 where
+pub record IsWalk (ended : Bool) (address : ℕ) (w : ListWalk) (kept : List StoredExpression) : Type 0 where
   pub readable : ended ≡ false → IsReadable w
   pub order : Ascends offset_of kept
   pub among : ended ≡ false → (x : LocatedExpression) → Contains (held_ahead address w ++ default_ahead w) x → IsAmong kept x

@@ -2,7 +2,7 @@
 
 ghost use Rattle.std.specs.Prelude.{◌<◌, ◌^◌};
 
-use crate::kept::KeptExpression;
+use crate::stored_lists::StoredExpression;
 use std::alloc::Global;
 
 /// A location list (DWARF 5, section 7.7.3), identified by the offset in the section where it
@@ -39,16 +39,16 @@ impl LocationList {
 pub struct Contents {
     pub tables: Vec<u32>,
     pub lists: Vec<LocationList>,
-    pub expressions: Vec<KeptExpression>,
+    pub expressions: Vec<StoredExpression>,
 }
 
 impl Contents {
     ghost use Rattle.std.specs.Prelude.{◌≡◌, []};
-    ghost use Rattle.dw_loclists.specs.Kept.{kept_of, nothing_kept};
+    ghost use Rattle.dw_loclists.specs.Kept.{stored_of, nothing_stored};
 
     /// The contents before anything is read.
     pub fn new(alloc: Global) -> Self
-        ensures kept { kept_of result ≡ nothing_kept }
+        ensures kept { stored_of result ≡ nothing_stored }
         ensures expressions { result.expressions.items ≡ [] }
     {
         Contents {

@@ -9,7 +9,7 @@ ghost use Rattle.dw_loclists.specs.Kept.{IsAmong};
 ghost use Rattle.dw_stack.specs.Located.{located_of};
 
 use crate::contents::LocationList;
-use crate::kept::KeptExpression;
+use crate::stored_lists::StoredExpression;
 use dw_bytes::Block;
 use dw_stack::CheckedExpression;
 
@@ -29,7 +29,7 @@ pub fn find_list(lists: &[LocationList], offset: u64) -> Option<LocationList>
 /// The offset and the checked expression of `block`, which must be among the stored expressions. It
 /// is found there by its offset.
 pub fn find_expression<'a>(
-    expressions: &[KeptExpression],
+    expressions: &[StoredExpression],
     block: Block<'a>,
 ) -> (u32, CheckedExpression<'a>)
     requires order { Ascends offset_of expressions.now }

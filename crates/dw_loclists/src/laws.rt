@@ -81,10 +81,10 @@ pub fn checked_list_sections()
 /// base_address in front of the entry in its list sets, or with the unit's base address if there is
 /// none. A list has at most one default.
 pub fn entries_hold_by_the_base_before_them()
-    ensures held { (base address : ℕ) (before : List Entry) (e : Entry) (behind : List Entry) →
-        bounded_at base address (before ++ e ∷ behind) ≡ bounded_at base address before
+    ensures held { (base address : ℕ) (before : List Entry) (e : Entry) (past : List Entry) →
+        bounded_at base address (before ++ e ∷ past) ≡ bounded_at base address before
         ++ (held_by (base_after base before) address e
-        ++ bounded_at (base_after base (before ++ e ∷ [])) address behind) }
+        ++ bounded_at (base_after base (before ++ e ∷ [])) address past) }
     ensures one_default { (target : Target) (at : ℕ) (bytes : List ℕ) (l : Loclist) →
         IsList target at bytes l → length (defaults_in l.entries) ≤ 1 }
 {}

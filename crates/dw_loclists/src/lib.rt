@@ -3,19 +3,19 @@
 
 mod contents;
 mod entry;
+mod expressions;
 mod find;
-mod kept;
 pub mod laws;
-mod lent;
 mod list;
 mod lists;
 mod locations;
 mod one_list;
+mod stored_lists;
 mod table;
 mod walk;
 
 pub use contents::LocationList;
-pub use lent::Expressions;
+pub use expressions::Expressions;
 pub use lists::{CheckedLists, check_lists};
 pub use locations::LocationsAt;
 pub use one_list::{CheckedList, check_list};

@@ -14,7 +14,7 @@ ghost use Rattle.dw_loclists.specs.Reading.{entry_fault, location_fault, checked
 ghost use Rattle.dw_loclists.specs.Views.{entry_of};
 
 use crate::entry::Entry;
-use crate::kept::KeptExpression;
+use crate::stored_lists::StoredExpression;
 use dw_bytes::{Block, Cursor, Fault, FaultKind, OUT_OF_MEMORY, operands};
 use dw_ops::Expression;
 use dw_stack::{Kind, check_expression, check_register};
@@ -26,7 +26,7 @@ use std::alloc::Global;
 fn check_entry_expression(
     alloc: Global,
     block: Block<'_>,
-    expressions: &mut Vec<KeptExpression>,
+    expressions: &mut Vec<StoredExpression>,
 ) -> Result<(), Fault>
     ensures answer { Answers (location_fault (Some (block_of block.entry))) result }
     ensures kept { OnOk result (KeepsMore (location_of (block_of block.entry) ∷ [])
@@ -37,7 +37,7 @@ fn check_entry_expression(
     let expression = Expression::new(block.bytes, block.target);
     match check_expression(alloc, expression, Kind::Location) {
         Ok(checked) => {
-            expressions.push(KeptExpression::new(block, &checked))?;
+            expressions.push(StoredExpression::new(block, &checked))?;
             Ok(())
         }
         Err(fault) if fault.kind == FaultKind::Memory => Err(OUT_OF_MEMORY),
@@ -56,7 +56,7 @@ fn check_entry(
     entry: &Entry<'_>,
     at: u32,
     has_default: bool,
-    expressions: &mut Vec<KeptExpression>,
+    expressions: &mut Vec<StoredExpression>,
 ) -> Result<(), Fault>
     ensures answer { Answers (entry_fault has_default at (entry_of entry.now)) result }
     ensures kept { OnOk result (KeepsMore (expressions_of (entry_of entry.now ∷ []))
@@ -97,7 +97,7 @@ fn check_next(
     alloc: Global,
     cursor: &mut Cursor<'_>,
     has_default: bool,
-    expressions: &mut Vec<KeptExpression>,
+    expressions: &mut Vec<StoredExpression>,
 ) -> Result<Passed, Fault>
     ensures exact { MatchResult result
         (λ passed. Passes has_default passed.ended passed.default cursor.old cursor.new
@@ -120,7 +120,7 @@ fn check_next(
 /// returns false and changes nothing. Not inlined, since `keep_location` calls it only for the few
 /// expressions that aren't a single register.
 #[inline(never)]
-fn keep_any(alloc: Global, block: Block<'_>, expressions: &mut Vec<KeptExpression>) -> bool
+fn keep_any(alloc: Global, block: Block<'_>, expressions: &mut Vec<StoredExpression>) -> bool
     ensures { MatchBool result
         ((location_fault (Some (block_of block.entry)) ≡ None)
         × KeepsMore (location_of (block_of block.entry) ∷ [])
@@ -132,7 +132,7 @@ fn keep_any(alloc: Global, block: Block<'_>, expressions: &mut Vec<KeptExpressio
         return false;
     };
     if expressions
-        .push(KeptExpression::new(block, &checked))
+        .push(StoredExpression::new(block, &checked))
         .is_err()
     {
         return false;
@@ -144,7 +144,7 @@ fn keep_any(alloc: Global, block: Block<'_>, expressions: &mut Vec<KeptExpressio
 /// returns false and changes nothing. Nearly all expressions are a single register: these are
 /// handled here, inline, and all others by `keep_any`.
 #[inline(always)]
-fn keep_location(alloc: Global, block: Block<'_>, expressions: &mut Vec<KeptExpression>) -> bool
+fn keep_location(alloc: Global, block: Block<'_>, expressions: &mut Vec<StoredExpression>) -> bool
     ensures { MatchBool result
         ((location_fault (Some (block_of block.entry)) ≡ None)
         × KeepsMore (location_of (block_of block.entry) ∷ [])
@@ -156,7 +156,7 @@ fn keep_location(alloc: Global, block: Block<'_>, expressions: &mut Vec<KeptExpr
         return keep_any(alloc, block, expressions);
     };
     if expressions
-        .push(KeptExpression::new(block, &checked))
+        .push(StoredExpression::new(block, &checked))
         .is_err()
     {
         return false;
@@ -172,7 +172,7 @@ fn keep_location(alloc: Global, block: Block<'_>, expressions: &mut Vec<KeptExpr
 fn check_pair(
     alloc: Global,
     cursor: &mut Cursor<'_>,
-    expressions: &mut Vec<KeptExpression>,
+    expressions: &mut Vec<StoredExpression>,
 ) -> Option<bool>
     ensures exact { MatchOption result
         ((cursor.new ≡ cursor.old) × (expressions.new.items ≡ expressions.old.items))
@@ -228,7 +228,7 @@ fn is_usual_pair(cursor: &Cursor<'_>) -> bool {
 fn check_common(
     alloc: Global,
     cursor: &mut Cursor<'_>,
-    expressions: &mut Vec<KeptExpression>,
+    expressions: &mut Vec<StoredExpression>,
 ) -> Option<bool>
     ensures exact { MatchOption result
         ((cursor.new ≡ cursor.old) × (expressions.new.items ≡ expressions.old.items))
@@ -272,7 +272,7 @@ pub fn read_list(
     alloc: Global,
     cursor: &mut Cursor<'_>,
     end: u32,
-    expressions: &mut Vec<KeptExpression>,
+    expressions: &mut Vec<StoredExpression>,
 ) -> Result<(), Fault>
     requires { end ≡ cursor.old.position + length cursor.old.rest }
     ensures exact { MatchResult result

@@ -8,8 +8,8 @@ ghost use Rattle.dw_loclists.specs.Reading.{lists_fault, IsChecked, tables_in, l
 ghost use Rattle.dw_loclists.specs.Views.{start_of};
 
 use crate::contents::{Contents, LocationList};
+use crate::expressions::Expressions;
 use crate::find::find_list;
-use crate::lent::Expressions;
 use crate::locations::LocationsAt;
 use crate::table::read_table;
 use crate::walk::ListWalk;

@@ -4,7 +4,7 @@ ghost use Rattle.std.specs.Iterator.{YieldsFirstBy, item_count};
 ghost use Rattle.dw_stack.specs.Located.{located_of};
 
 use crate::find::find_expression;
-use crate::kept::KeptExpression;
+use crate::stored_lists::StoredExpression;
 use crate::walk::ListWalk;
 use dw_stack::CheckedExpression;
 use std::iter::FusedIterator;
@@ -18,7 +18,7 @@ use std::marker::Model;
 pub struct LocationsAt<'c, 'a> {
     walk: ListWalk<'a>,
     address: u64,
-    expressions: &'c [KeptExpression],
+    expressions: &'c [StoredExpression],
     /// Whether an entry whose range contains the address was found; if so, the default doesn't
     /// hold.
     found: bool,
@@ -44,7 +44,7 @@ impl<'c, 'a> LocationsAt<'c, 'a> {
 
     /// An iterator over the expressions that hold at `address`; `walk` is at the beginning of the
     /// list.
-    pub(crate) fn new(walk: ListWalk<'a>, address: u64, expressions: &'c [KeptExpression]) -> Self
+    pub(crate) fn new(walk: ListWalk<'a>, address: u64, expressions: &'c [StoredExpression]) -> Self
         requires { IsWalk false address walk expressions.now }
         ensures { result ≡ still_to_come false address walk.entry }
     {

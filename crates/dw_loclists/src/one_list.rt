@@ -6,9 +6,9 @@ ghost use Rattle.dw_bytes.specs.Reading.{section_from};
 ghost use Rattle.dw_loclists.specs.Locations.{locations_of};
 ghost use Rattle.dw_loclists.specs.Reading.{IsListAt, list_at};
 
-use crate::kept::KeptExpression;
 use crate::list::read_list;
 use crate::locations::LocationsAt;
+use crate::stored_lists::StoredExpression;
 use crate::walk::ListWalk;
 use dw_bytes::{Cursor, Fault, Target};
 use std::alloc::Global;
@@ -29,7 +29,7 @@ pub struct CheckedList<'a> {
     target: Target,
     section: &'a [u8],
     offset: u32,
-    expressions: Vec<KeptExpression>,
+    expressions: Vec<StoredExpression>,
 }
 
 impl<'a> Model for CheckedList<'a> {

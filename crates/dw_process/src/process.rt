@@ -231,6 +231,7 @@ impl Process {
     /// The row of an address as loaded (in the running process), from the module whose range
     /// contains the address; none if there is no such module, or if it has no row for the address.
     /// Allocates nothing.
+    #[inline(always)]
     pub fn row_for_address(&self, address: u64) -> Option<FoundRow<'_>>
         ensures row { result ≡ found_at self.now address }
         ensures found { IfSome result (IsFoundIn self.now address) }

@@ -17,10 +17,10 @@ use Rattle.dw_rows.proofs.AbiRules.{no-fault, second-here, second-later, twice}
 
 -- ---- distinct numbers, and one more number after them
 
-all-behind : (x n : ℕ) (xs : List ℕ) → AllByRecursion (λ y. nat_eq x y ≡ false) xs → nat_eq x n ≡ false
+all-past : (x n : ℕ) (xs : List ℕ) → AllByRecursion (λ y. nat_eq x y ≡ false) xs → nat_eq x n ≡ false
     → AllByRecursion (λ y. nat_eq x y ≡ false) (xs ++ n ∷ [])
-all-behind x n [] all other = (other, tt)
-all-behind x n (y ∷ xs) all other = (all.0, all-behind x n xs all.1 other)
+all-past x n [] all other = (other, tt)
+all-past x n (y ∷ xs) all other = (all.0, all-past x n xs all.1 other)
 
 one-of : (x n : ℕ) (xs ys : List ℕ) → AllByRecursion (λ y. nat_eq x y ≡ false) (xs ++ n ∷ ys) → nat_eq x n ≡ false
 one-of x n [] ys all = all.0
@@ -30,12 +30,12 @@ neither : (a b : Bool) → (a || b) ≡ false → (a ≡ false) × (b ≡ false)
 neither true b h = absurd (cc)
 neither false b h = (refl, h)
 
-distinct-behind : (xs : List ℕ) (n : ℕ) → IsDistinct nat_eq xs → is_among n xs ≡ false → IsDistinct nat_eq (xs ++ n ∷ [])
+distinct-past : (xs : List ℕ) (n : ℕ) → IsDistinct nat_eq xs → is_among n xs ≡ false → IsDistinct nat_eq (xs ++ n ∷ [])
 unfolding IsDistinct
-distinct-behind [] n d other = (tt, tt)
-distinct-behind (x ∷ xs) n d other =
+distinct-past [] n d other = (tt, tt)
+distinct-past (x ∷ xs) n d other =
     let both = neither (nat_eq x n) (is_among n xs) other in
-    (all-behind x n xs d.0 both.0, distinct-behind xs n d.1 both.1)
+    (all-past x n xs d.0 both.0, distinct-past xs n d.1 both.1)
 
 none-before : (before : List ℕ) (n : ℕ) (rest : List ℕ) → IsDistinct nat_eq (before ++ n ∷ rest) → is_among n before ≡ false
 unfolding IsDistinct
@@ -65,7 +65,7 @@ all-distinct before (n ∷ rest) d none = go (is_among n before) refl (all-disti
     go true is later = let no : Some (length before) ≡ None = sym (second-here before n rest is) ∙ none in absurd (cc)
     go false is later =
         subst (IsDistinct nat_eq) (regrouped before n rest)
-        (later (distinct-behind before n d is) (sym (second-later before n rest is) ∙ none))
+        (later (distinct-past before n d is) (sym (second-later before n rest is) ∙ none))
 
 stands-here : (before : List ℕ) (n : ℕ) (rest : List ℕ) → IsDistinct nat_eq before → is_among n before ≡ true
     → StandsAgain (before ++ n ∷ rest) (length before)
@@ -94,7 +94,7 @@ stands-again before (n ∷ rest) place d is = go (is_among n before) refl (stand
         subst (StandsAgain (before ++ n ∷ rest)) at (stands-here before n rest d here)
     go false other later =
         subst (λ l. StandsAgain l place) (regrouped before n rest)
-        (later (distinct-behind before n d other) (sym (second-later before n rest other) ∙ is))
+        (later (distinct-past before n d other) (sym (second-later before n rest other) ∙ is))
 
 -- ---- the first fault of an ABI
 

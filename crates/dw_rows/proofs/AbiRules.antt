@@ -122,49 +122,49 @@ no-fault registers pointer few is = rw (le-ltb MAX_KEPT (length registers) few, 
 
 -- ---- the loop over the callee-saved registers: what is known after some of them
 
-pub record KeepsUpTo (registers behind : List ℕ) (place : ℕ) (rules : List (ℕ × PlacedRule)) : Type 0 where
+pub record KeepsUpTo (registers past : List ℕ) (place : ℕ) (rules : List (ℕ × PlacedRule)) : Type 0 where
   pub are : rules ≡ rule_list (abi_rule (take place registers) None)
   pub few : length rules ≤ place
-  pub second : place_of_second [] (registers ++ behind) ≡ place_of_second (take place registers) (drop place registers ++ behind)
+  pub second : place_of_second [] (registers ++ past) ≡ place_of_second (take place registers) (drop place registers ++ past)
 
-next-of : (registers behind : List ℕ) (place : ℕ) → place < length registers
-    → place_of_second (take place registers) (drop place registers ++ behind)
-    ≡ place_of_second (take place registers) (get_or registers place 0 ∷ drop (place + 1) registers ++ behind)
-next-of registers behind place lt = ap (λ l. place_of_second (take place registers) (l ++ behind)) (drop_more registers place 0 lt)
+next-of : (registers past : List ℕ) (place : ℕ) → place < length registers
+    → place_of_second (take place registers) (drop place registers ++ past)
+    ≡ place_of_second (take place registers) (get_or registers place 0 ∷ drop (place + 1) registers ++ past)
+next-of registers past place lt = ap (λ l. place_of_second (take place registers) (l ++ past)) (drop_more registers place 0 lt)
 
-pub twice-among : (registers behind : List ℕ) (place : ℕ) (rules : List (ℕ × PlacedRule)) → KeepsUpTo registers behind place rules
+pub twice-among : (registers past : List ℕ) (place : ℕ) (rules : List (ℕ × PlacedRule)) → KeepsUpTo registers past place rules
     → place < length registers → get_or registers place 0 < 65536 → rule_in rules (get_or registers place 0) ≢ default
-    → place_of_second [] (registers ++ behind) ≡ Some place
-twice-among registers behind place rules k lt fits some =
-    k.second ∙ next-of registers behind place lt
-    ∙ second-here (take place registers) (get_or registers place 0) (drop (place + 1) registers ++ behind)
+    → place_of_second [] (registers ++ past) ≡ Some place
+twice-among registers past place rules k lt fits some =
+    k.second ∙ next-of registers past place lt
+    ∙ second-here (take place registers) (get_or registers place 0) (drop (place + 1) registers ++ past)
     (named-some (take place registers) rules (get_or registers place 0) k.are fits some)
     ∙ ap (λ n. Some n) (length-take-le place registers (omega (arith, lt)))
 
-pub keeps-next : (registers behind : List ℕ) (place : ℕ) (rules new : List (ℕ × PlacedRule)) → KeepsUpTo registers behind place rules
+pub keeps-next : (registers past : List ℕ) (place : ℕ) (rules new : List (ℕ × PlacedRule)) → KeepsUpTo registers past place rules
     → place < length registers → get_or registers place 0 < 65536 → rule_in rules (get_or registers place 0) ≡ default
     → new ≡ rule_list (changed_at (rule_in rules) (get_or registers place 0) same_value) → length new ≤ length rules + 1
-    → KeepsUpTo registers behind (place + 1) new
-keeps-next registers behind place rules new k lt fits none is few = record {
+    → KeepsUpTo registers past (place + 1) new
+keeps-next registers past place rules new k lt fits none is few = record {
   are = is ∙ keeps-more (take place registers) rules (get_or registers place 0) k.are
       ∙ ap (λ l. rule_list (abi_rule l None)) (sym (take_more registers place 0 lt));
   few = omega (arith, few, k.few);
-  second = k.second ∙ next-of registers behind place lt
-      ∙ second-later (take place registers) (get_or registers place 0) (drop (place + 1) registers ++ behind)
+  second = k.second ∙ next-of registers past place lt
+      ∙ second-later (take place registers) (get_or registers place 0) (drop (place + 1) registers ++ past)
       (named-none (take place registers) rules (get_or registers place 0) k.are fits none)
-      ∙ ap (λ l. place_of_second l (drop (place + 1) registers ++ behind)) (sym (take_more registers place 0 lt));
+      ∙ ap (λ l. place_of_second l (drop (place + 1) registers ++ past)) (sym (take_more registers place 0 lt));
 }
 
 -- after the loop the rules are those for all callee-saved registers, and none of these registers
 -- was named twice
-pub keeps-all : (registers behind : List ℕ) (place : ℕ) (rules : List (ℕ × PlacedRule)) → KeepsUpTo registers behind place rules
+pub keeps-all : (registers past : List ℕ) (place : ℕ) (rules : List (ℕ × PlacedRule)) → KeepsUpTo registers past place rules
     → length registers ≤ place → place ≤ length registers → (rules ≡ rule_list (abi_rule registers None))
-    × (place_of_second [] (registers ++ behind) ≡ place_of_second registers behind)
-keeps-all registers behind place rules k ge le =
+    × (place_of_second [] (registers ++ past) ≡ place_of_second registers past)
+keeps-all registers past place rules k ge le =
     let all : take place registers ≡ registers = take_all place registers ge in
     let none : drop place registers ≡ [] = drop_all place registers ge in (
       k.are ∙ ap (λ l. rule_list (abi_rule l None)) all,
-      k.second ∙ ap (λ l. place_of_second l (drop place registers ++ behind)) all ∙ ap (λ l. place_of_second registers (l ++ behind)) none,
+      k.second ∙ ap (λ l. place_of_second l (drop place registers ++ past)) all ∙ ap (λ l. place_of_second registers (l ++ past)) none,
     )
 
 -- ---- the result of `Abi::new`

@@ -9,10 +9,10 @@ use Rattle.dw_frame.specs.Sections.{entries_of, top_of}
 use Rattle.dw_frame.specs.Bounds.{Ascends, IsSoundCie, IsSoundFde}
 use Rattle.dw_stack.specs.Located.{LocatedExpression}
 use Rattle.dw_rows.specs.Expressions.{cie_expressions, frame_expressions}
-use Rattle.dw_rows.specs.Judgement.{cie_fault}
+use Rattle.dw_rows.specs.ProgramFault.{cie_fault}
 use Rattle.dw_rows.specs.Section.{FrameSection, CoversOnce, IsChecked, section_fault, frame_of, parts_fault, placed_rows, rows_in}
 use Rattle.dw_rows.specs.GivenRows.{given_row}
-use Rattle.dw_rows.specs.RuleSet.{KeptRules}
+use Rattle.dw_rows.specs.RuleSet.{StoredRules}
 use Rattle.dw_rows.specs.Initial.{AreLeftBy}
 use Rattle.dw_rows.specs.Overlap.{cie_offset, fde_offset, IsAddressIndex, IsKept}
 use Rattle.dw_rows.specs.declared.index.IndexEntry.{IndexEntry}
@@ -82,7 +82,7 @@ count-given s (f ∷ fdes) =
 
 -- if reading a section and checking its CIEs and FDEs finds no fault, what the code stores about
 -- the section meets `IsKept`
-pub kept : (target : Target) (section : List ℕ) (cies : List Cie) (left : List KeptRules) (fdes : List Fde) (index : List IndexEntry)
+pub kept : (target : Target) (section : List ℕ) (cies : List Cie) (left : List StoredRules) (fdes : List Fde) (index : List IndexEntry)
     → fault_in (entries_of target section) ≡ None → cies ≡ (frame_of target section).cies → fdes ≡ (frame_of target section).fdes
     → parts_fault cies fdes ≡ None → AreLeftBy cies left → IsAddressIndex fdes index → (expressions : List LocatedExpression)
     → expressions ≡ frame_expressions cies fdes → (count : ℕ) → count ≡ length (cie_expressions cies)

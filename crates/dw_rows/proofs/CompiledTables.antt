@@ -22,15 +22,15 @@ use Rattle.dw_rows.specs.ProgramState.{row_between}
 use Rattle.dw_rows.specs.UnwindRows.{has_address, rows_of}
 use Rattle.dw_rows.specs.UnwindTables.{RowTable, has, row_at, IsFoundAt, IsTableOf}
 use Rattle.dw_rows.specs.UnwindTables.{IsUnder, IsRuleUnder, IsCfaUnder, IsEntryUnder, IsRowUnder}
-use Rattle.dw_rows.specs.Section.{FrameSection, Covers, IsCoverOf, IsChecked, rows_behind, row_of, cie_in}
+use Rattle.dw_rows.specs.Section.{FrameSection, Covers, IsCoverOf, IsChecked, rows_past, row_of, cie_in}
 use Rattle.dw_rows.specs.Section.{IsReturnRegister}
-use Rattle.dw_rows.specs.CompiledTable.{KeptSet, no_set, set_numbered, row_if, row_from, next_start, entry_start, rows_to}
+use Rattle.dw_rows.specs.CompiledTable.{StoredSet, no_set, set_numbered, row_if, row_from, next_start, entry_start, rows_to}
 use Rattle.dw_rows.specs.CompiledTable.{LendsFound, given_found, IsPlacedAt}
 use Rattle.dw_rows.specs.CompiledTable.{IsEntryCount, ArePlacedRows}
 use Rattle.dw_rows.proofs.Covering.{found-by, cover-rows, here}
 use Rattle.dw_rows.proofs.Lookups.{row-found, row-none}
 use Rattle.dw_rows.proofs.GivenRows.{find-with}
-use Rattle.dw_rows.proofs.Parts.{pointed-in, good-behind}
+use Rattle.dw_rows.proofs.Parts.{pointed-in, good-past}
 use Rattle.dw_rows.proofs.CheckedSections.{checked-parts, checked-once, checked-fits}
 use Rattle.dw_rows.proofs.OneRow.{has-one-row}
 use Rattle.dw_rows.proofs.GoodRows.{found-good}
@@ -65,14 +65,14 @@ row-fits s a row checked found =
     let parts = checked-parts s checked in
     let pointed = pointed-in s.cies s.fdes parts f among in
     let c = pointed.0 in
-    let none = (good-behind s.cies s.fdes parts f among c pointed.1).1 in
-    let is : rows_behind (cie_in s f) f ≡ rows_of c f = ap (λ o. rows_behind o f) pointed.1 in
+    let none = (good-past s.cies s.fdes parts f among c pointed.1).1 in
+    let is : rows_past (cie_in s f) f ≡ rows_of c f = ap (λ o. rows_past o f) pointed.1 in
     let has_row = covered-has s checked f among a covered in
     let placed : PlacedRow = has_row.1 in
     let only : IsCoverOf s.fdes a (Some f) = (among, covered, λ g g_in g_covers. checked-once s checked a g f g_in among g_covers covered) in
     let same : Some row ≡ Some (given_row s.expressions placed) =
     sym found ∙ row-found s a f (given_row s.expressions placed) only
-    (find-with s.expressions a (rows_behind (cie_in s f) f) placed has_row.3) in
+    (find-with s.expressions a (rows_past (cie_in s f) f) placed has_row.3) in
     let start : row.start ≡ placed.start = cc in
     let end : row.end ≡ placed.end = cc in
     let by = found-by (has_address a) f.initial_location (f.initial_location + f.address_range) (rows_of c f) placed (cover-rows c f none)
@@ -139,8 +139,8 @@ start-of entries n x d lt is =
     ap (λ (o : Option TableEntry). option_map entry_start o) (sym (slice_get-get_or entries n d lt)) ∙ is in
     cc
 
-pub row-read : (entries : List TableEntry) (sets : List KeptSet) (rows : List (PlacedRow × ℕ)) (a after end : ℕ) (entry : TableEntry)
-    (k : KeptSet) (c : PlacedCfa) → rows_to sets entries 0 ≡ rows → IsEntryCount entries a after → 0 < after → after < length entries
+pub row-read : (entries : List TableEntry) (sets : List StoredSet) (rows : List (PlacedRow × ℕ)) (a after end : ℕ) (entry : TableEntry)
+    (k : StoredSet) (c : PlacedCfa) → rows_to sets entries 0 ≡ rows → IsEntryCount entries a after → 0 < after → after < length entries
     → slice_get entries (after - 1) ≡ Some entry → slice_get sets entry.set ≡ Some k
     → option_map entry_start (slice_get entries after) ≡ Some end → k.rules.cfa ≡ Some c
     → find (has a) rows ≡ Some (row_between entry.start end k.rules, k.register)
@@ -154,15 +154,15 @@ row-read entries sets rows a after end entry k c view count some lt at at_set at
     ap (λ (e : TableEntry). set_numbered sets e.set) is ∙ get_or_from_slice_get sets entry.set k no_set at_set in
     let is_end : (get_or entries (suc n) d).start ≡ end =
     ap (λ (m : ℕ). (get_or entries m d).start) (sym next) ∙ start-of entries after end d lt at_end in
-    let with : ℕ → ℕ → KeptSet → Option (PlacedRow × ℕ) = λ l m x. Some (row_between l m x.rules, x.register) in
+    let with : ℕ → ℕ → StoredSet → Option (PlacedRow × ℕ) = λ l m x. Some (row_between l m x.rules, x.register) in
     ap (λ (l : List (PlacedRow × ℕ)). find (has a) l) (sym view)
-    ∙ placed-row entries sets a n d c counted (omega (arith, lt)) (ap (λ (x : KeptSet). x.rules.cfa) is_set ∙ cfa)
-    ∙ ap (λ (x : KeptSet). with (get_or entries n d).start (get_or entries (suc n) d).start x) is_set
+    ∙ placed-row entries sets a n d c counted (omega (arith, lt)) (ap (λ (x : StoredSet). x.rules.cfa) is_set ∙ cfa)
+    ∙ ap (λ (x : StoredSet). with (get_or entries n d).start (get_or entries (suc n) d).start x) is_set
     ∙ ap (λ (e : TableEntry). with e.start (get_or entries (suc n) d).start k) is
     ∙ ap (λ (m : ℕ). with entry.start m k) is_end
 
-pub none-read : (entries : List TableEntry) (sets : List KeptSet) (rows : List (PlacedRow × ℕ)) (a after : ℕ) (entry : TableEntry)
-    (k : KeptSet) → rows_to sets entries 0 ≡ rows → IsEntryCount entries a after → 0 < after
+pub none-read : (entries : List TableEntry) (sets : List StoredSet) (rows : List (PlacedRow × ℕ)) (a after : ℕ) (entry : TableEntry)
+    (k : StoredSet) → rows_to sets entries 0 ≡ rows → IsEntryCount entries a after → 0 < after
     → slice_get entries (after - 1) ≡ Some entry → slice_get sets entry.set ≡ Some k → k.rules.cfa ≡ None
     → find (has a) rows ≡ None
 none-read entries sets rows a after entry k view count some at at_set cfa =
@@ -174,7 +174,7 @@ none-read entries sets rows a after entry k view count some at at_set cfa =
     let is_set : set_numbered sets (get_or entries n d).set ≡ k =
     ap (λ (e : TableEntry). set_numbered sets e.set) is ∙ get_or_from_slice_get sets entry.set k no_set at_set in
     ap (λ (l : List (PlacedRow × ℕ)). find (has a) l) (sym view)
-    ∙ placed-none entries sets a n d counted (ap (λ (x : KeptSet). x.rules.cfa) is_set ∙ cfa)
+    ∙ placed-none entries sets a n d counted (ap (λ (x : StoredSet). x.rules.cfa) is_set ∙ cfa)
 
 -- ---- the expressions that a found row names
 
@@ -301,11 +301,11 @@ tables-same s t u one other a = found-once s a (row_at t a) (row_at u a) (one.ro
 
 -- ---- there are no more rows than entries
 
-at-most-one : (o : Option PlacedCfa) (start to : ℕ) (k : KeptSet) → length (row_if o start to k) ≤ 1
+at-most-one : (o : Option PlacedCfa) (start to : ℕ) (k : StoredSet) → length (row_if o start to k) ≤ 1
 at-most-one None start to k = omega arith
 at-most-one (Some c) start to k = omega arith
 
-pub rows-few : (sets : List KeptSet) (entries : List TableEntry) (to : ℕ) → length (rows_to sets entries to) ≤ length entries
+pub rows-few : (sets : List StoredSet) (entries : List TableEntry) (to : ℕ) → length (rows_to sets entries to) ≤ length entries
 rows-few sets [] to = omega arith
 rows-few sets (e ∷ rest) to =
     let k = set_numbered sets e.set in

@@ -37,7 +37,7 @@ Rise target low high (e ∷ es) = (low < e.offset) × (e.target ≡ target) × R
 
 -- the expression has this target, begins after `low`, and doesn't end after `high`
 pub record IsInside (target : Target) (low high : ℕ) (e : LocatedExpression) : Type 0 where
-  pub behind : low < e.offset
+  pub past : low < e.offset
   pub ends : e.offset + length e.bytes ≤ high
   pub target_is : e.target ≡ target
 
@@ -88,10 +88,10 @@ pub rise-inside : (target : Target) (low high : ℕ) (es : List LocatedExpressio
 rise-inside target low high [] up e (k, lt, is) = absurd (omega arith)
 rise-inside target low high (g ∷ es) up e (zero, lt, is) =
     subst (IsInside target low high) is
-    (record { behind = up.0; ends = rise-bounds target (g.offset + length g.bytes) high es up.2; target_is = up.1 })
+    (record { past = up.0; ends = rise-bounds target (g.offset + length g.bytes) high es up.2; target_is = up.1 })
 rise-inside target low high (g ∷ es) up e (suc k, lt, is) =
     let h = rise-inside target (g.offset + length g.bytes) high es up.2 e (k, omega arith, is) in
-    record { behind = omega (arith, up.0, h.behind); ends = h.ends; target_is = h.target_is }
+    record { past = omega (arith, up.0, h.past); ends = h.ends; target_is = h.target_is }
 
 -- ---- programs
 
@@ -104,11 +104,11 @@ front-rises : (target : Target) (at end high : ℕ) (i : Instruction) (items : L
     → EndsWithItsBlock target at end i → Rise target end high (expressions_in items)
     → Rise target at high (expressions_in ((at, i) ∷ items))
 front-rises target at end high (Instruction.def_cfa_expression b) items lt own up =
-    (own.behind, own.target_is, subst (λ n. Rise target n high (expressions_in items)) (sym own.ends) up)
+    (own.past, own.target_is, subst (λ n. Rise target n high (expressions_in items)) (sym own.ends) up)
 front-rises target at end high (Instruction.expression r b) items lt own up =
-    (own.behind, own.target_is, subst (λ n. Rise target n high (expressions_in items)) (sym own.ends) up)
+    (own.past, own.target_is, subst (λ n. Rise target n high (expressions_in items)) (sym own.ends) up)
 front-rises target at end high (Instruction.val_expression r b) items lt own up =
-    (own.behind, own.target_is, subst (λ n. Rise target n high (expressions_in items)) (sym own.ends) up)
+    (own.past, own.target_is, subst (λ n. Rise target n high (expressions_in items)) (sym own.ends) up)
 front-rises target at end high _ items lt own up = rise-earlier target at end high (expressions_in items) (omega arith) up
 
 abbrev ProgramRises : ReadPosition → Type 0
@@ -116,7 +116,7 @@ ProgramRises r = Rise r.target r.position (end-of r) (expressions_of r)
 
 next-rises : (r : ReadPosition) → ((after : ReadPosition) → length after.rest < length r.rest → ProgramRises after) → 0 < length r.rest
     → (x : Result (Instruction × ReadPosition) Fault) → instruction_at r ≡ x → ProgramRises r
-next-rises r behind some (Ok x) is =
+next-rises r past some (Ok x) is =
     let after = x.1 in
     let next = (exact-instruction r).found x.0 after is in
     let long = length-append next.bytes after.rest in
@@ -124,11 +124,11 @@ next-rises r behind some (Ok x) is =
     let up =
     rise-same r.target after.target (r.position + length next.bytes) after.position (end-of r) (end-of after) (expressions_of after)
     next.target next.position (omega (arith, next.position, ap length next.parts, long))
-    (behind after (omega (arith, taken, ap length next.parts, long))) in
+    (past after (omega (arith, taken, ap length next.parts, long))) in
     subst (λ items. Rise r.target r.position (end-of r) (read-of items)) (sym (next-instruction r x.0 after is))
     (front-rises r.target r.position (r.position + length next.bytes) (end-of r) x.0 (values_in (instructions_of after))
     (omega (arith, taken)) (ends-with-block r.target r.position next.bytes x.0 next.encoded) up)
-next-rises r behind some (Err fault) is =
+next-rises r past some (Err fault) is =
     subst (λ items. Rise r.target r.position (end-of r) (read-of items)) (sym (next-fault r fault some is)) (omega arith)
 
 program-rises-by : (n : ℕ) (r : ReadPosition) → length r.rest ≤ n → ProgramRises r
@@ -203,9 +203,9 @@ apart target at bytes (cie_record c ∷ records) (first, rest, parts, here, othe
       | inl own ↦
           let sound = sound-inside target at first (cie_record c) here in
           let before = program-inside c.program e own in
-          let behind = rise-inside target (at + length first) (at + length first + length rest) (fde_expressions (fdes_among records))
+          let past = rise-inside target (at + length first) (at + length first + length rest) (fde_expressions (fdes_among records))
           (fdes-rise target (at + length first) rest records others) g g_in in
-          λ same. omega (arith, same, before.ends, sound.1.program.ends, behind.behind)
+          λ same. omega (arith, same, before.ends, sound.1.program.ends, past.past)
       | inr later ↦ apart target (at + length first) rest records others e g later g_in
     ]
 apart target at bytes (fde_record f ∷ records) (first, rest, parts, here, others) e g e_in g_in =
@@ -213,9 +213,9 @@ apart target at bytes (fde_record f ∷ records) (first, rest, parts, here, othe
       | inl own ↦
           let sound = sound-inside target at first (fde_record f) here in
           let before = program-inside f.program g own in
-          let behind = rise-inside target (at + length first) (at + length first + length rest) (cie_expressions (cies_among records))
+          let past = rise-inside target (at + length first) (at + length first + length rest) (cie_expressions (cies_among records))
           (cies-rise target (at + length first) rest records others) e e_in in
-          λ same. omega (arith, same, before.ends, sound.1.program.ends, behind.behind)
+          λ same. omega (arith, same, before.ends, sound.1.program.ends, past.past)
       | inr later ↦ apart target (at + length first) rest records others e g e_in later
     ]
 
@@ -267,8 +267,8 @@ in-rest : (e g : LocatedExpression) (es : List LocatedExpression) → Contains (
 in-rest e g es (zero, lt, is) other = absurd (other (ap at-offset is))
 in-rest e g es (suc k, lt, is) other = (k, omega arith, is)
 
-behind : (e g : LocatedExpression) (es : List LocatedExpression) → Contains es e → Contains (g ∷ es) e
-behind e g es (k, lt, is) = (suc k, omega arith, is)
+past : (e g : LocatedExpression) (es : List LocatedExpression) → Contains es e → Contains (g ∷ es) e
+past e g es (k, lt, is) = (suc k, omega arith, is)
 
 -- if e is the only expression in the list that begins at the offset `at`, looking up `at` finds e
 pub found-at : (es : List LocatedExpression) (e : LocatedExpression) (at : ℕ) → Contains es e → e.offset ≡ at
@@ -278,7 +278,7 @@ found-at (x ∷ es) e at among same only = elim (x.offset == at) as
     (λ b. (x.offset == at) ≡ b → (if b then Some x else find (λ y. y.offset == at) es) ≡ Some e) [
       | true ↦ λ yes. ap Some (only x (zero, omega arith, refl) (eqb-true _ _ yes))
       | false ↦ λ no. found-at es e at (in-rest e x es among (λ h. let is : (x.offset == at) ≡ true = grind (arith, nat_tests) in
-          let clash : true ≡ false = sym is ∙ no in cc)) same (λ g g_in. only g (behind g x es g_in))
+          let clash : true ≡ false = sym is ∙ no in cc)) same (λ g g_in. only g (past g x es g_in))
     ] refl
 
 -- if no expression in the list begins at the offset `at`, looking up `at` finds none
@@ -288,7 +288,7 @@ absent-at [] at none = refl
 absent-at (x ∷ es) at none = elim (x.offset == at) as
     (λ b. (x.offset == at) ≡ b → (if b then Some x else find (λ y. y.offset == at) es) ≡ None) [
       | true ↦ λ yes. absurd (none x (zero, omega arith, refl) (eqb-true _ _ yes))
-      | false ↦ λ no. absent-at es at (λ e among. none e (behind e x es among))
+      | false ↦ λ no. absent-at es at (λ e among. none e (past e x es among))
     ] refl
 
 -- if looking up an offset in `es` finds an expression, looking it up in `es` followed by `gs` finds

@@ -81,15 +81,15 @@ at-found (x ∷ xs) at c e = elim (x.offset == at) as
       | false ↦ λ not_here is. let rest = at-found xs at c is in ((suc rest.0.0, omega (arith, rest.0.1), rest.0.2), rest.1)
     ] refl e
 
-none-behind : {X : Type 0} (t : X → Option Fault) (y : X) (xs : List X) → t y ≡ None → (x : X) → (Contains xs x → t x ≡ None)
+none-past : {X : Type 0} (t : X → Option Fault) (y : X) (xs : List X) → t y ≡ None → (x : X) → (Contains xs x → t x ≡ None)
     → Contains (y ∷ xs) x → t x ≡ None
-none-behind t y xs here x rest (zero, lt, is) = ap t (sym is) ∙ here
-none-behind t y xs here x rest (suc k, lt, is) = rest (k, omega arith, is)
+none-past t y xs here x rest (zero, lt, is) = ap t (sym is) ∙ here
+none-past t y xs here x rest (suc k, lt, is) = rest (k, omega arith, is)
 
 -- if a list has no fault, none of its elements has one
 pub none-each : {X : Type 0} (t : X → Option Fault) (xs : List X) → first_fault t xs ≡ None → (x : X) → Contains xs x → t x ≡ None
 none-each t [] none x (k, lt, is) = absurd (omega arith)
 none-each t (y ∷ xs) none x among = elim (t y) as (λ o. t y ≡ o → option_or o (first_fault t xs) ≡ None → t x ≡ None) [
   | Some f ↦ λ here no. cc
-  | None ↦ λ here rest. none-behind t y xs here x (λ c. none-each t xs rest x c) among
+  | None ↦ λ here rest. none-past t y xs here x (λ c. none-each t xs rest x c) among
 ] refl none

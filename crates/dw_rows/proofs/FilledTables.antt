@@ -17,18 +17,18 @@ use Rattle.dw_rows.specs.RuleSet.{LendsRules}
 use Rattle.dw_rows.specs.GivenRows.{given_row}
 use Rattle.dw_rows.specs.UnwindRows.{has_address, rows_of}
 use Rattle.dw_rows.specs.UnwindTables.{has}
-use Rattle.dw_rows.specs.Section.{FrameSection, Covers, IsCoverOf, IsChecked, CoversOnce, rows_behind, covers, row_of, cie_in}
+use Rattle.dw_rows.specs.Section.{FrameSection, Covers, IsCoverOf, IsChecked, CoversOnce, rows_past, covers, row_of, cie_in}
 use Rattle.dw_rows.specs.Section.{IsReturnRegister}
 use Rattle.dw_rows.specs.Overlap.{IsIndexOf}
-use Rattle.dw_rows.specs.CompiledTable.{KeptSet, no_set, set_numbered, row_if, row_from, next_start, rows_to, placed_rows}
-use Rattle.dw_rows.specs.CompiledTable.{rows_of_each, with_register, returning, returning_behind, LendsSet, LendsFound, IsPlacedAt}
+use Rattle.dw_rows.specs.CompiledTable.{StoredSet, no_set, set_numbered, row_if, row_from, next_start, rows_to, placed_rows}
+use Rattle.dw_rows.specs.CompiledTable.{rows_of_each, with_register, returning, returning_past, LendsSet, LendsFound, IsPlacedAt}
 use Rattle.dw_rows.specs.CompiledTable.{IsTableUpTo, IsClosedAt, IsFilled, AreEntries, ArePlacedRows}
 use Rattle.dw_rows.proofs.Covering.{cover-rows, here, find-below, find-above, find-some}
 use Rattle.dw_rows.proofs.Lookups.{row-found, row-none}
 use Rattle.dw_rows.proofs.GivenRows.{find-with}
-use Rattle.dw_rows.proofs.Parts.{pointed-in, good-behind}
+use Rattle.dw_rows.proofs.Parts.{pointed-in, good-past}
 use Rattle.dw_rows.proofs.CheckedSections.{checked-parts, checked-once}
-use Rattle.dw_rows.proofs.TableRows.{filled, find-behind, find-first}
+use Rattle.dw_rows.proofs.TableRows.{filled, find-past, find-first}
 
 -- ---- the rows of all FDEs
 
@@ -52,16 +52,16 @@ find-returning a r (x ∷ rows) = go (has_address a x) (find-returning a r rows)
 
 -- an FDE of a checked section has a CIE, and a row for each address that the FDE covers
 pub covered-has : (s : FrameSection) → IsChecked s → (f : Fde) → Contains s.fdes f → (a : ℕ) → Covers f a
-    → (c : Cie) × (row : PlacedRow) × (cie_in s f ≡ Some c) × (find (has_address a) (rows_behind (cie_in s f) f) ≡ Some row)
+    → (c : Cie) × (row : PlacedRow) × (cie_in s f ≡ Some c) × (find (has_address a) (rows_past (cie_in s f) f) ≡ Some row)
     × (find (has a) (placed_rows s f) ≡ Some (row, c.return_address_register))
 covered-has s checked f among a covered =
     let parts = checked-parts s checked in
     let pointed = pointed-in s.cies s.fdes parts f among in
     let c = pointed.0 in
     let r = c.return_address_register in
-    let none = (good-behind s.cies s.fdes parts f among c pointed.1).1 in
-    let is : rows_behind (cie_in s f) f ≡ rows_of c f = ap (λ o. rows_behind o f) pointed.1 in
-    let is_returning : placed_rows s f ≡ returning r (rows_of c f) = ap (λ o. returning_behind o f) pointed.1 in
+    let none = (good-past s.cies s.fdes parts f among c pointed.1).1 in
+    let is : rows_past (cie_in s f) f ≡ rows_of c f = ap (λ o. rows_past o f) pointed.1 in
+    let is_returning : placed_rows s f ≡ returning r (rows_of c f) = ap (λ o. returning_past o f) pointed.1 in
     let found = some-is (find (has_address a) (rows_of c f))
     (find-some a f.initial_location (f.initial_location + f.address_range) (rows_of c f) (cover-rows c f none) covered.0 covered.1) in (
       c,
@@ -84,8 +84,8 @@ uncovered-none s checked f among a not_here =
     let pointed = pointed-in s.cies s.fdes parts f among in
     let c = pointed.0 in
     let r = c.return_address_register in
-    let none = (good-behind s.cies s.fdes parts f among c pointed.1).1 in
-    let is : placed_rows s f ≡ returning r (rows_of c f) = ap (λ o. returning_behind o f) pointed.1 in
+    let none = (good-past s.cies s.fdes parts f among c pointed.1).1 in
+    let is : placed_rows s f ≡ returning r (rows_of c f) = ap (λ o. returning_past o f) pointed.1 in
     let cover = cover-rows c f none in
     let end = f.initial_location + f.address_range in
     let no_row : find (has_address a) (rows_of c f) ≡ None = elim (cases_lt a f.initial_location) [
@@ -128,7 +128,7 @@ none-in-each : (s : FrameSection) → IsChecked s → (a : ℕ) (fdes : List Fde
 none-in-each s checked a [] from none = refl
 none-in-each s checked a (x ∷ fdes) from none =
     let x_in : Contains (x ∷ fdes) x = (0, omega arith, refl) in
-    find-behind (has a) (placed_rows s x) (rows_of_each s fdes)
+    find-past (has a) (placed_rows s x) (rows_of_each s fdes)
     (uncovered-none s checked x (from x x_in) a (none x x_in))
     ∙ none-in-each s checked a fdes (λ f among. from f (in-later x f fdes among)) (λ f among. none f (in-later x f fdes among))
 
@@ -152,7 +152,7 @@ one-in-each s checked a (x ∷ fdes) f row from among covered found = go (covers
     go false e (zero, few, here) next =
         let wrong : true ≡ false = sym (covers-so a f covered) ∙ ap (covers a) (sym here) ∙ e in cc
     go false e (suc k, few, here) next =
-        find-behind (has a) (placed_rows s x) (rows_of_each s fdes)
+        find-past (has a) (placed_rows s x) (rows_of_each s fdes)
         (uncovered-none s checked x (from x x_in) a
         (λ c. let wrong : true ≡ false = sym (covers-so a x c) ∙ e in cc))
         ∙ next (λ g at. from g (in-later x g fdes at)) (k, omega (arith, few), here) covered found
@@ -170,7 +170,7 @@ row-in-each s fdes checked index a = elim (first-cover a fdes) [
       let row = has_row.1 in
       let only : IsCoverOf s.fdes a (Some f) = (among, found.2, λ g g_in g_covers. checked-once s checked a g f g_in among g_covers found.2) in
       let is : row_of s a ≡ Some (given_row s.expressions row) =
-      row-found s a f (given_row s.expressions row) only (find-with s.expressions a (rows_behind (cie_in s f) f) row has_row.3) in
+      row-found s a f (given_row s.expressions row) only (find-with s.expressions a (rows_past (cie_in s f) f) row has_row.3) in
       let returns : IsReturnRegister s a c.return_address_register = (f, c, only, has_row.2, refl) in
       subst (IsPlacedAt s a)
       (sym (one-in-each s checked a fdes f (row, c.return_address_register) index.from found.1 found.2 has_row.4)) (is, returns)
@@ -185,12 +185,12 @@ each-append : {X : Type 0} (P : X → Type 0) (xs ys : List X) → AllByRecursio
 each-append P [] ys a b = b
 each-append P (x ∷ xs) ys a b = (a.0, each-append P xs ys a.1 b)
 
-one-lends : (es : List LocatedExpression) (o : Option PlacedCfa) (start to : ℕ) (k : KeptSet) → k.rules.cfa ≡ o → LendsRules es k.rules
+one-lends : (es : List LocatedExpression) (o : Option PlacedCfa) (start to : ℕ) (k : StoredSet) → k.rules.cfa ≡ o → LendsRules es k.rules
     → AllByRecursion (LendsFound es) (row_if o start to k)
 one-lends es None start to k is lends = tt
 one-lends es (Some c) start to k is lends = (record { cfa = lends.cfa; rules = lends.rules }, tt)
 
-pub rows-lend : (es : List LocatedExpression) (sets : List KeptSet) → All (LendsSet es) sets → (entries : List TableEntry)
+pub rows-lend : (es : List LocatedExpression) (sets : List StoredSet) → All (LendsSet es) sets → (entries : List TableEntry)
     → ((k : ℕ) (d : TableEntry) → k < length entries → (get_or entries k d).set < length sets) → (to : ℕ)
     → AllByRecursion (LendsFound es) (rows_to sets entries to)
 rows-lend es sets lends [] within to = tt
@@ -222,21 +222,21 @@ index-apart fdes index is once i j d f lt within at =
           let same : f ≡ g = once g.initial_location f g (is.from f f_in) (is.from g g_in) (low, inside) (omega arith, omega arith) in
           let offsets : (get_or index i d).offset ≡ (get_or index j d).offset = ap (λ (x : Fde). x.offset) (at ∙ same) in
           absurd (omega (arith, is.ordered.distinct i j d i_in within offsets))
-      | inr behind ↦ behind
+      | inr past ↦ past
     ]
 
 -- The table has the rows of the first k FDEs in order of address. The rows end at `last`, and all
 -- later FDEs begin at or after `last`.
-pub record IsFillingAll (s : FrameSection) (index : List Fde) (k last : ℕ) (entries : List TableEntry) (sets : List KeptSet) : Type 0 where
+pub record IsFillingAll (s : FrameSection) (index : List Fde) (k last : ℕ) (entries : List TableEntry) (sets : List StoredSet) : Type 0 where
   pub table : IsTableUpTo s.expressions last entries sets
   pub next : (j : ℕ) (d : Fde) → k ≤ j → j < length index → last ≤ (get_or index j d).initial_location
   pub rows : rows_to sets entries last ≡ rows_of_each s (take k index)
 
-pub all-begin : (s : FrameSection) (index : List Fde) (entries : List TableEntry) (sets : List KeptSet) → entries ≡ [] → sets ≡ []
+pub all-begin : (s : FrameSection) (index : List Fde) (entries : List TableEntry) (sets : List StoredSet) → entries ≡ [] → sets ≡ []
     → IsFillingAll s index 0 0 entries sets
 all-begin s index entries sets none no_sets =
     subst (λ (l : List TableEntry). IsFillingAll s index 0 0 l sets) (sym none)
-    (subst (λ (l : List KeptSet). IsFillingAll s index 0 0 [] l) (sym no_sets) (record {
+    (subst (λ (l : List StoredSet). IsFillingAll s index 0 0 [] l) (sym no_sets) (record {
       table = record {
         sorted = λ i j d le lt. absurd (omega arith);
         below = λ k d lt. absurd (omega arith);
@@ -247,7 +247,7 @@ all-begin s index entries sets none no_sets =
       rows = refl;
     }))
 
-pub all-on : (s : FrameSection) (index : List Fde) (k last : ℕ) (f : Fde) (old new : List TableEntry) (old_sets new_sets : List KeptSet)
+pub all-on : (s : FrameSection) (index : List Fde) (k last : ℕ) (f : Fde) (old new : List TableEntry) (old_sets new_sets : List StoredSet)
     → IsChecked s → IsIndexOf s.fdes index → k < length index → get_or index k f ≡ f → IsFillingAll s index k last old old_sets
     → IsFilled s f last old old_sets new new_sets
     → IsFillingAll s index (k + 1) (f.initial_location + f.address_range) new new_sets
@@ -259,7 +259,7 @@ all-on s index k last f old new old_sets new_sets checked is lt at h filled = re
       ∙ ap (λ (l : List Fde). rows_of_each s l) (sym (take_more index k f lt ∙ ap (λ x. take k index ++ x ∷ []) at));
 }
 
-pub all-done : (s : FrameSection) (index : List Fde) (k last : ℕ) (entries new : List TableEntry) (sets new_sets : List KeptSet)
+pub all-done : (s : FrameSection) (index : List Fde) (k last : ℕ) (entries new : List TableEntry) (sets new_sets : List StoredSet)
     → IsChecked s → IsIndexOf s.fdes index → length index ≤ k → IsFillingAll s index k last entries sets
     → IsClosedAt last entries sets new new_sets → AreEntries new new_sets × ArePlacedRows s (rows_to new_sets new 0)
 all-done s index k last entries new sets new_sets checked is all h closed =

@@ -11,7 +11,7 @@ use Rattle.dw_stack.specs.Located.{LocatedExpression}
 use Rattle.dw_rows.specs.Expressions.{expressions_in, expressions_of, cie_expressions, fde_expressions, frame_expressions}
 use Rattle.dw_rows.specs.Section.{FrameSection, IsChecked, frame_of}
 use Rattle.dw_rows.proofs.ExpressionOrder.{expression-inside}
-use Rattle.dw_rows.proofs.Parts.{pointed-in, good-behind}
+use Rattle.dw_rows.proofs.Parts.{pointed-in, good-past}
 use Rattle.dw_rows.proofs.Programs.{good-from-cie, good-from-fde, good-read, good-read-fde}
 use Rattle.dw_rows.proofs.CheckedSections.{checked-read, checked-parts, checked-cies-good, in-programs}
 
@@ -50,7 +50,7 @@ of-fdes s k e among =
     let it = from-fdes s.fdes e among in
     let parts = checked-parts s k in
     let pointed = pointed-in s.cies s.fdes parts it.0 it.1 in
-    let none = good-behind s.cies s.fdes parts it.0 it.1 pointed.0 pointed.1 in
+    let none = good-past s.cies s.fdes parts it.0 it.1 pointed.0 pointed.1 in
     let good = good-from-fde pointed.0 it.0 (good-from-cie pointed.0 none.0) none.1 in
     let items : values_in (instructions_of (it.0).program) ≡ good.items =
     ap values_in (good-read-fde pointed.0 it.0 good) ∙ values-ok good.items in

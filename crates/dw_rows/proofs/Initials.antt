@@ -6,14 +6,14 @@ use Rattle.std.proofs.lemmas.List.Sums.{sum_by-append}
 use Rattle.std.proofs.lemmas.Slice.{between_is, between_to_end}
 use Rattle.std.specs.List.{sum_by}
 use Rattle.dw_frame.specs.Records.{Cie}
-use Rattle.dw_rows.specs.declared.map.RuleEntry.{RuleEntry}
-use Rattle.dw_rows.specs.declared.map.TheConstants.{MAX_RULES}
+use Rattle.dw_rows.specs.declared.register_rules.RuleEntry.{RuleEntry}
+use Rattle.dw_rows.specs.declared.register_rules.TheConstants.{MAX_RULES}
 use Rattle.dw_rows.specs.declared.initial_rules.RuleSpan.{RuleSpan}
 use Rattle.dw_rows.specs.Rules.{IsTable}
-use Rattle.dw_rows.specs.RuleSet.{KeptRules}
+use Rattle.dw_rows.specs.RuleSet.{StoredRules}
 use Rattle.dw_rows.specs.Views.{entry_of, entries_of}
 use Rattle.dw_rows.specs.ProgramState.{IsLeftBy}
-use Rattle.dw_rows.specs.Initial.{AreLeftBy, kept_in_span, kept_in_spans, IsSpan, AreSpans, AreAllEntries}
+use Rattle.dw_rows.specs.Initial.{AreLeftBy, stored_in_span, stored_in_spans, IsSpan, AreSpans, AreAllEntries}
 
 -- ---- more entries at the end
 
@@ -36,11 +36,11 @@ spans-grown entries more [] all = tt
 spans-grown entries more (s ∷ spans) all = (span-grown entries more s all.0, spans-grown entries more spans all.1)
 
 kept-grown : (entries more : List RuleEntry) (spans : List RuleSpan) → AreSpans entries spans
-    → kept_in_spans (entries ++ more) spans ≡ kept_in_spans entries spans
+    → stored_in_spans (entries ++ more) spans ≡ stored_in_spans entries spans
 kept-grown entries more [] all = refl
 kept-grown entries more (s ∷ spans) all =
-    let here : kept_in_span (entries ++ more) s ≡ kept_in_span entries s =
-    ap (λ l. record { cfa = (kept_in_span entries s).cfa; rules = entries_of l })
+    let here : stored_in_span (entries ++ more) s ≡ stored_in_span entries s =
+    ap (λ l. record { cfa = (stored_in_span entries s).cfa; rules = entries_of l })
     (range-front entries more s.start s.end all.0.within) in
     let rest = kept-grown entries more spans all.1 in
     cc
@@ -56,8 +56,8 @@ spans-one entries (x ∷ spans) s all one = (all.0, spans-one entries spans s al
 -- still valid, they stand for one more rule set, and there are no other entries
 pub record Pushed (entries more : List RuleEntry) (spans : List RuleSpan) (s : RuleSpan) : Type 0 where
   pub are : AreAllEntries (entries ++ more) (spans ++ s ∷ [])
-  pub kept : kept_in_spans (entries ++ more) (spans ++ s ∷ []) ≡ kept_in_spans entries spans
-      ++ record { cfa = (kept_in_span entries s).cfa; rules = entries_of more } ∷ []
+  pub kept : stored_in_spans (entries ++ more) (spans ++ s ∷ []) ≡ stored_in_spans entries spans
+      ++ record { cfa = (stored_in_span entries s).cfa; rules = entries_of more } ∷ []
 
 pub pushed : (entries more : List RuleEntry) (spans : List RuleSpan) (s : RuleSpan) → AreAllEntries entries spans → s.start ≡ length entries
     → s.end ≡ length (entries ++ more) → length more ≤ MAX_RULES → IsTable 0 (entries_of more) → Pushed entries more spans s
@@ -70,13 +70,13 @@ pushed entries more spans s all here there few table =
       few = omega (arith, here, there, long);
       table = subst (λ l. IsTable 0 (entries_of l)) (sym rules) table;
     } in
-    let last : kept_in_span (entries ++ more) s ≡ record { cfa = (kept_in_span entries s).cfa; rules = entries_of more } =
-    ap (λ l. record { cfa = (kept_in_span entries s).cfa; rules = entries_of l }) rules in
-    let added : KeptRules = record { cfa = (kept_in_span entries s).cfa; rules = entries_of more } in
-    let kept : kept_in_spans (entries ++ more) (spans ++ s ∷ []) ≡ kept_in_spans entries spans ++ added ∷ [] =
-    map-append (kept_in_span (entries ++ more)) spans (s ∷ [])
-    ∙ (ap (λ l. l ++ kept_in_span (entries ++ more) s ∷ []) (kept-grown entries more spans all.lie)
-    ∙ ap (λ k. kept_in_spans entries spans ++ k ∷ []) last) in
+    let last : stored_in_span (entries ++ more) s ≡ record { cfa = (stored_in_span entries s).cfa; rules = entries_of more } =
+    ap (λ l. record { cfa = (stored_in_span entries s).cfa; rules = entries_of l }) rules in
+    let added : StoredRules = record { cfa = (stored_in_span entries s).cfa; rules = entries_of more } in
+    let kept : stored_in_spans (entries ++ more) (spans ++ s ∷ []) ≡ stored_in_spans entries spans ++ added ∷ [] =
+    map-append (stored_in_span (entries ++ more)) spans (s ∷ [])
+    ∙ (ap (λ l. l ++ stored_in_span (entries ++ more) s ∷ []) (kept-grown entries more spans all.lie)
+    ∙ ap (λ k. stored_in_spans entries spans ++ k ∷ []) last) in
     record {
       are = record {
         lie = spans-one (entries ++ more) spans s (spans-grown entries more spans all.lie) one;
@@ -84,8 +84,8 @@ pushed entries more spans s all here there few table =
           arith,
           all.together,
           long,
-          ap (λ (l : List KeptRules). sum_by (λ k. length k.rules) l) kept,
-          sum_by-append (λ (k : KeptRules). length k.rules) (kept_in_spans entries spans) (added ∷ []),
+          ap (λ (l : List StoredRules). sum_by (λ k. length k.rules) l) kept,
+          sum_by-append (λ (k : StoredRules). length k.rules) (stored_in_spans entries spans) (added ∷ []),
           length-map more entry_of,
         );
       };
@@ -94,20 +94,20 @@ pushed entries more spans s all here there few table =
 
 -- ---- the rules that the CIEs leave, in order
 
-pub left-one : (cies : List Cie) (left : List KeptRules) (c : Cie) (k : KeptRules) → AreLeftBy cies left → IsLeftBy c k
+pub left-one : (cies : List Cie) (left : List StoredRules) (c : Cie) (k : StoredRules) → AreLeftBy cies left → IsLeftBy c k
     → AreLeftBy (cies ++ c ∷ []) (left ++ k ∷ [])
 left-one [] [] c k all one = (one, tt)
 left-one [] (x ∷ left) c k all one = absurd all
 left-one (d ∷ cies) [] c k all one = absurd all
 left-one (d ∷ cies) (x ∷ left) c k all one = (all.0, left-one cies left c k all.1 one)
 
-pub left-count : (cies : List Cie) (left : List KeptRules) → AreLeftBy cies left → length left ≡ length cies
+pub left-count : (cies : List Cie) (left : List StoredRules) → AreLeftBy cies left → length left ≡ length cies
 left-count [] [] all = refl
 left-count [] (x ∷ left) all = absurd all
 left-count (d ∷ cies) [] all = absurd all
 left-count (d ∷ cies) (x ∷ left) all = ap suc (left-count cies left all.1)
 
-pub left-at : (cies : List Cie) (left : List KeptRules) (i : ℕ) (c : Cie) (k : KeptRules) → AreLeftBy cies left → slice_get cies i ≡ Some c
+pub left-at : (cies : List Cie) (left : List StoredRules) (i : ℕ) (c : Cie) (k : StoredRules) → AreLeftBy cies left → slice_get cies i ≡ Some c
     → slice_get left i ≡ Some k → IsLeftBy c k
 left-at [] left i c k all is there = let no : None ≡ Some c = is in cc
 left-at (d ∷ cies) [] i c k all is there = absurd all

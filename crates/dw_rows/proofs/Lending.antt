@@ -22,7 +22,7 @@ use Rattle.dw_rows.specs.GivenRows.{LendsRule, LendsCfa, LendsEach}
 use Rattle.dw_rows.specs.Good.{prefix, rule_after, IsGoodFdeProgram}
 use Rattle.dw_rows.specs.Clauses.{IsRowAt, start_in, program_in}
 use Rattle.dw_rows.specs.Section.{FrameSection, IsChecked, frame_of}
-use Rattle.dw_rows.specs.RowCursors.{RowCursor, StandsBehind, LendsTo, Lends}
+use Rattle.dw_rows.specs.RowCursors.{RowCursor, StandsAfter, LendsTo, Lends}
 use Rattle.dw_rows.proofs.NamedExpressions.{rules-have, cfa-has, listed-have}
 use Rattle.dw_rows.proofs.ExpressionsAmong.{of-instruction, of-effect, of-frame-cie, of-frame-fde}
 use Rattle.dw_rows.proofs.ExpressionOrder.{expression-found, cie-expressions-ascend, fde-expressions-ascend}
@@ -42,7 +42,7 @@ start-cfa es c f to = cfa-has (LendsCfa es) (λ r n. tt) cie_start tt (effects_o
 -- if the programs of the CIE and the FDE name only expressions among `es` (`Lends`), so do the
 -- rules in force at a cursor
 pub lends-kept : (es : List LocatedExpression) (c : Cie) (f : Fde) (before : List Effect) (w : RowCursor) → Lends es c f
-    → StandsBehind c f before w → LendsRules es w.context.current
+    → StandsAfter c f before w → LendsRules es w.context.current
 lends-kept es c f before w lends h =
     let s = fde_start c f in
     let sets_lent : (q : ℕ) (x : PlacedRule) → Contains before (sets q x) → LendsRule es x =

@@ -13,7 +13,7 @@ mod Parts
 mod SavedRules
 mod SectionOrder
 pub mod ExpressionOrder
-pub mod Judging
+pub mod Checking
 pub mod RowCursors
 pub mod Coming
 pub mod Covering
@@ -37,7 +37,7 @@ mod Lending
 pub mod GivenRows
 mod GoodExpressions
 mod GoodRows
-mod JudgedInPlace
+mod CheckedInPlace
 mod Under
 mod AbiRules
 mod AbiFaults

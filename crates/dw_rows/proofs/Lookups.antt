@@ -20,9 +20,9 @@ find_nothing : {X : Type 0} (p : X → Bool) (xs : List X) → ((x : X) → Cont
 find_nothing p [] none = refl
 find_nothing p (x ∷ xs) none = rw (none x (first x xs)) (find_nothing p xs (λ y at. none y (later x y xs at)))
 
-behind : {X : Type 0} (x f : X) (xs : List X) → (x ≡ f → ⊥) → Contains (x ∷ xs) f → Contains xs f
-behind x f xs other (zero, few, here) = absurd (other here)
-behind x f xs other (suc k, few, here) = (k, omega (arith, few), here)
+past : {X : Type 0} (x f : X) (xs : List X) → (x ≡ f → ⊥) → Contains (x ∷ xs) f → Contains xs f
+past x f xs other (zero, few, here) = absurd (other here)
+past x f xs other (suc k, few, here) = (k, omega (arith, few), here)
 
 find_only : {X : Type 0} (p : X → Bool) (xs : List X) (f : X) → Contains xs f → p f ≡ true → ((g : X) → Contains xs g → p g ≡ true → g ≡ f)
     → find p xs ≡ Some f
@@ -35,7 +35,7 @@ find_only p (x ∷ xs) f at passes only =
     go next true e = ap Some (only x (first x xs) e)
     go next false e =
         let other : x ≡ f → ⊥ = λ s. let wrong : true ≡ false = sym passes ∙ ap p (sym s) ∙ e in cc in
-        next (behind x f xs other at)
+        next (past x f xs other at)
 
 -- ---- the FDE that covers an address
 

@@ -10,8 +10,8 @@ use Rattle.dw_rows.specs.InForce.{Start, rule_at, with_register, with_offset, cf
 here : (x : Effect) (before : List Effect) → Contains (x ∷ before) x
 here x before = (0, omega arith, refl)
 
-behind : (x y : Effect) (before : List Effect) → Contains before x → Contains (y ∷ before) x
-behind x y before (k, lt, is) = (suc k, omega arith, is)
+past : (x y : Effect) (before : List Effect) → Contains before x → Contains (y ∷ before) x
+past x y before (k, lt, is) = (suc k, omega arith, is)
 
 chosen : {X : Type 0} (P : X → Type 0) (b : Bool) (x y : X) → P x → P y → P (cond b x y)
 chosen P true x y h k = h
@@ -25,11 +25,11 @@ EachSet P before = (q : ℕ) (x : PlacedRule) → Contains before (sets q x) →
 abbrev pub EachDefined : (PlacedCfa → Type 0) → List Effect → Type 0
 EachDefined P before = (c : PlacedCfa) → Contains before (defines_cfa c) → P c
 
-set-behind : (P : PlacedRule → Type 0) (y : Effect) (before : List Effect) → EachSet P (y ∷ before) → EachSet P before
-set-behind P y before each q x among = each q x (behind (sets q x) y before among)
+set-past : (P : PlacedRule → Type 0) (y : Effect) (before : List Effect) → EachSet P (y ∷ before) → EachSet P before
+set-past P y before each q x among = each q x (past (sets q x) y before among)
 
-define_cfa-behind : (P : PlacedCfa → Type 0) (y : Effect) (before : List Effect) → EachDefined P (y ∷ before) → EachDefined P before
-define_cfa-behind P y before each c among = each c (behind (defines_cfa c) y before among)
+define_cfa-past : (P : PlacedCfa → Type 0) (y : Effect) (before : List Effect) → EachDefined P (y ∷ before) → EachDefined P before
+define_cfa-past P y before each c among = each c (past (defines_cfa c) y before among)
 
 -- ---- the rules of registers
 
@@ -37,18 +37,18 @@ pub rules-have : (P : PlacedRule → Type 0) (s : Start) → ((r : ℕ) → P (s
     → (d r : ℕ) → P (rule_at s before d r)
 rules-have P s start [] each d r = start r
 rules-have P s start (restores_state ∷ before) each d r =
-    rules-have P s start before (set-behind P restores_state before each) (suc d) r
+    rules-have P s start before (set-past P restores_state before each) (suc d) r
 rules-have P s start (remembers_state ∷ before) each zero r =
-    rules-have P s start before (set-behind P remembers_state before each) zero r
+    rules-have P s start before (set-past P remembers_state before each) zero r
 rules-have P s start (remembers_state ∷ before) each (suc d) r =
-    rules-have P s start before (set-behind P remembers_state before each) d r
+    rules-have P s start before (set-past P remembers_state before each) d r
 rules-have P s start (sets q x ∷ before) each zero r =
     chosen P (q == r) x (rule_at s before zero r) (each q x (here (sets q x) before))
-    (rules-have P s start before (set-behind P (sets q x) before each) zero r)
+    (rules-have P s start before (set-past P (sets q x) before each) zero r)
 rules-have P s start (restores q ∷ before) each zero r =
     chosen P (q == r) (s.rules r) (rule_at s before zero r) (start r)
-    (rules-have P s start before (set-behind P (restores q) before each) zero r)
-rules-have P s start (y ∷ before) each d r = rules-have P s start before (set-behind P y before each) d r
+    (rules-have P s start before (set-past P (restores q) before each) zero r)
+rules-have P s start (y ∷ before) each d r = rules-have P s start before (set-past P y before each) d r
 
 -- ---- the rule of the CFA
 
@@ -67,18 +67,18 @@ pub cfa-has : (P : PlacedCfa → Type 0) → ((r : ℕ) (n : ℤ) → P (registe
     → EachDefined P before → (d : ℕ) → IfSome (cfa_at s before d) P
 cfa-has P sums s start [] each d = start
 cfa-has P sums s start (restores_state ∷ before) each d =
-    cfa-has P sums s start before (define_cfa-behind P restores_state before each) (suc d)
+    cfa-has P sums s start before (define_cfa-past P restores_state before each) (suc d)
 cfa-has P sums s start (remembers_state ∷ before) each zero =
-    cfa-has P sums s start before (define_cfa-behind P remembers_state before each) zero
+    cfa-has P sums s start before (define_cfa-past P remembers_state before each) zero
 cfa-has P sums s start (remembers_state ∷ before) each (suc d) =
-    cfa-has P sums s start before (define_cfa-behind P remembers_state before each) d
+    cfa-has P sums s start before (define_cfa-past P remembers_state before each) d
 cfa-has P sums s start (defines_cfa c ∷ before) each zero = each c (here (defines_cfa c) before)
 cfa-has P sums s start (changes_register q ∷ before) each zero =
     with-register P sums q (cfa_at s before zero) (cfa-has P sums s start before
-    (define_cfa-behind P (changes_register q) before each) zero)
+    (define_cfa-past P (changes_register q) before each) zero)
 cfa-has P sums s start (changes_offset n ∷ before) each zero =
-    with-offset P sums n (cfa_at s before zero) (cfa-has P sums s start before (define_cfa-behind P (changes_offset n) before each) zero)
-cfa-has P sums s start (y ∷ before) each d = cfa-has P sums s start before (define_cfa-behind P y before each) d
+    with-offset P sums n (cfa_at s before zero) (cfa-has P sums s start before (define_cfa-past P (changes_offset n) before each) zero)
+cfa-has P sums s start (y ∷ before) each d = cfa-has P sums s start before (define_cfa-past P y before each) d
 
 -- ---- lists of rules
 

@@ -11,10 +11,10 @@ use Rattle.dw_rows.specs.InForce.{Start}
 use Rattle.dw_rows.specs.GivenRows.{given_row}
 use Rattle.dw_rows.specs.UnwindRows.{rows_of, has_address}
 use Rattle.dw_rows.specs.Clauses.{IsRowAt, IsRow, AreRowsFrom, start_in, program_in}
-use Rattle.dw_rows.specs.Section.{FrameSection, Covers, IsCoverOf, IsChecked, rows_in, rows_behind}
+use Rattle.dw_rows.specs.Section.{FrameSection, Covers, IsCoverOf, IsChecked, rows_in, rows_past}
 use Rattle.dw_rows.specs.ExactRows.{HasOneRow}
 use Rattle.dw_rows.proofs.Tables.{rule_list-table, rule_list-same}
-use Rattle.dw_rows.proofs.Parts.{pointed-in, good-behind}
+use Rattle.dw_rows.proofs.Parts.{pointed-in, good-past}
 use Rattle.dw_rows.proofs.Faults.{at-found}
 use Rattle.dw_rows.proofs.Programs.{good-from-cie, good-from-fde}
 use Rattle.dw_rows.proofs.Covering.{cover-rows}
@@ -93,7 +93,7 @@ has-one-row s a checked f among covers =
     let pointed = pointed-in s.cies s.fdes parts f among in
     let c = pointed.0 in
     let cie_found = at-found s.cies f.cie_pointer c pointed.1 in
-    let none = good-behind s.cies s.fdes parts f among c pointed.1 in
+    let none = good-past s.cies s.fdes parts f among c pointed.1 in
     let good = good-from-fde c f (good-from-cie c none.0) none.1 in
     let one = one-row a f.initial_location (f.initial_location + f.address_range) (rows_of c f) (cover-rows c f none.1) covers.0 covers.1 in
     let row = one.0 in
@@ -101,7 +101,7 @@ has-one-row s a checked f among covers =
     (rows_of c f) row
     (rows-of-good c f good) one.1 in
     let es = s.expressions in
-    let rows : rows_in s f ≡ map (given_row es) (rows_of c f) = ap (λ o. map (given_row es) (rows_behind o f)) pointed.1 in
+    let rows : rows_in s f ≡ map (given_row es) (rows_of c f) = ap (λ o. map (given_row es) (rows_past o f)) pointed.1 in
     let lends = lends-in s checked c f cie_found.0 among in
     let lent = row-lends es c f good row is.0.0 is.0.1 lends in
     let only : IsCoverOf s.fdes a (Some f) = (among, covers, λ g g_in g_covers. checked-once s checked a g f g_in among g_covers covers) in

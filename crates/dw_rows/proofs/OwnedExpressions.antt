@@ -29,9 +29,9 @@ bytes-grown bytes more k inside =
     ap (λ (l : List ℕ). take k.length l) (drop-append-le k.start bytes more (omega (arith, inside)))
     ∙ take-append-le k.length (drop k.start bytes) more (omega (arith, inside, long))
 
-pub bytes-behind : (bytes more : List ℕ) (start many : ℕ) → start ≡ length bytes → many ≡ length more
+pub bytes-past : (bytes more : List ℕ) (start many : ℕ) → start ≡ length bytes → many ≡ length more
     → take many (drop start (bytes ++ more)) ≡ more
-bytes-behind bytes more start many at long =
+bytes-past bytes more start many at long =
     ap (λ (n : ℕ). take many (drop n (bytes ++ more))) at
     ∙ ap (λ (l : List ℕ). take many l) (drop-append_seam bytes more)
     ∙ ap (λ (n : ℕ). take n more) long ∙ take-length more

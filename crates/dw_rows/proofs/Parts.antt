@@ -5,8 +5,8 @@ use Rattle.std.specs.Prelude.{is_some}
 use Rattle.std.specs.Option.{option_or}
 use Rattle.dw_bytes.specs.declared.fault.Fault.{Fault}
 use Rattle.dw_frame.specs.Records.{Cie, Fde}
-use Rattle.dw_rows.specs.Judgement.{cie_fault, fde_fault}
-use Rattle.dw_rows.specs.Section.{first_fault, cie_at, pointer_fault, program_fault, fault_behind, overlap_fault, programs_fault}
+use Rattle.dw_rows.specs.ProgramFault.{cie_fault, fde_fault}
+use Rattle.dw_rows.specs.Section.{first_fault, cie_at, pointer_fault, program_fault, fault_past, overlap_fault, programs_fault}
 use Rattle.dw_rows.specs.Section.{parts_fault, CoversOnce}
 use Rattle.dw_rows.specs.Overlap.{fde_offset}
 use Rattle.dw_frame.specs.Bounds.{Ascends}
@@ -49,10 +49,10 @@ pub covers-once-in : (cies : List Cie) (fdes : List Fde) → Ascends fde_offset 
 covers-once-in cies fdes up none = once-covered fdes up (parts-pass cies fdes none).overlap
 
 -- in a section without a fault the programs of an FDE and of its CIE have none
-pub good-behind : (cies : List Cie) (fdes : List Fde) → parts_fault cies fdes ≡ None → (f : Fde) → Contains fdes f → (c : Cie)
+pub good-past : (cies : List Cie) (fdes : List Fde) → parts_fault cies fdes ≡ None → (f : Fde) → Contains fdes f → (c : Cie)
     → cie_at cies f.cie_pointer ≡ Some c → (cie_fault c ≡ None) × (fde_fault c f ≡ None)
-good-behind cies fdes none f among c is =
+good-past cies fdes none f among c is =
     let parts = parts-pass cies fdes none in
     let found = at-found cies f.cie_pointer c is in
-    let behind = none-each (program_fault cies) fdes parts.fde_programs f among in
-    (none-each cie_fault cies parts.cie_programs c found.0, ap (λ o. fault_behind o f) (sym is) ∙ behind)
+    let past = none-each (program_fault cies) fdes parts.fde_programs f among in
+    (none-each cie_fault cies parts.cie_programs c found.0, ap (λ o. fault_past o f) (sym is) ∙ past)

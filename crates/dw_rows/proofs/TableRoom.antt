@@ -16,9 +16,9 @@ use Rattle.dw_rows.specs.ProgramState.{row_between}
 use Rattle.dw_rows.specs.RowCursors.{RowCursor, GivesNextRow, rows_left}
 use Rattle.dw_rows.specs.UnwindRows.{rows_of}
 use Rattle.dw_rows.specs.UnwindTables.{row_bytes, fde_bytes}
-use Rattle.dw_rows.specs.Section.{FrameSection, cie_in, rows_behind}
+use Rattle.dw_rows.specs.Section.{FrameSection, cie_in, rows_past}
 use Rattle.dw_rows.specs.Overlap.{IsIndexOf}
-use Rattle.dw_rows.specs.CompiledTable.{KeptSet, returning, row_with, rows_to, entry_bytes, IsTableUpTo, IsPushed, IsFilling, LacksRoom}
+use Rattle.dw_rows.specs.CompiledTable.{StoredSet, returning, row_with, rows_to, entry_bytes, IsTableUpTo, IsPushed, IsFilling, LacksRoom}
 use Rattle.dw_rows.proofs.GivenRows.{length-with}
 use Rattle.dw_rows.proofs.Indexes.{AreDistinct}
 use Rattle.dw_rows.proofs.TableRows.{rows-pushed, with-cfa}
@@ -68,8 +68,8 @@ bytes-given es (row ∷ rows) =
 pub fde-cost : (s : FrameSection) (c : Cie) (f : Fde) → cie_in s f ≡ Some c
     → fde_bytes s f ≡ 80 + cost (returning c.return_address_register (rows_of c f))
 fde-cost s c f pointed =
-    ap (λ n. 80 + n) (bytes-given s.expressions (rows_behind (cie_in s f) f)
-    ∙ ap (λ o. sum_by row_bytes (rows_behind o f)) pointed
+    ap (λ n. 80 + n) (bytes-given s.expressions (rows_past (cie_in s f) f)
+    ∙ ap (λ o. sum_by row_bytes (rows_past o f)) pointed
     ∙ sym (cost-returning c.return_address_register (rows_of c f)))
 
 -- ---- the rows of an FDE
@@ -77,14 +77,14 @@ fde-cost s c f pointed =
 -- the next row, once added to the table, adds the cost of an entry with its rule set to the cost of
 -- the table's rows
 pub cost-on : (es : List LocatedExpression) (c : Cie) (f : Fde) (rows : List (PlacedRow × ℕ)) (w w' : RowCursor)
-    (entries new : List TableEntry) (sets new_sets : List KeptSet) (start end : ℕ) → IsFilling c f rows w entries sets
+    (entries new : List TableEntry) (sets new_sets : List StoredSet) (start end : ℕ) → IsFilling c f rows w entries sets
     → GivesNextRow w (Some (start, end)) w' → IsTableUpTo es w.context.location entries sets
     → IsPushed entries sets start (record { rules = w'.context.current; register = c.return_address_register }) new new_sets
     → cost (rows_to new_sets new w'.context.location) ≡ cost (rows_to sets entries w.context.location) + entry_bytes w'.context.current
 cost-on es c f rows w w' entries new sets new_sets start end h step t pushed =
     let p = step c f h.before h.is_at in
     let r = c.return_address_register in
-    let k : KeptSet = record { rules = w'.context.current; register = r } in
+    let k : StoredSet = record { rules = w'.context.current; register = r } in
     let row : PlacedRow × ℕ = (row_between start end k.rules, r) in
     let from : start ≡ w.context.location = p.from in
     let to : end ≡ w'.context.location = p.to in
@@ -98,7 +98,7 @@ cost-on es c f rows w w' entries new sets new_sets start end h step t pushed =
 
 -- the cost of the rows in the table and of the next row is at most that of `rows`, the rows in the
 -- table and all that are still to be added
-pub cost-next : (c : Cie) (f : Fde) (rows : List (PlacedRow × ℕ)) (w w' : RowCursor) (entries : List TableEntry) (sets : List KeptSet)
+pub cost-next : (c : Cie) (f : Fde) (rows : List (PlacedRow × ℕ)) (w w' : RowCursor) (entries : List TableEntry) (sets : List StoredSet)
     (start end : ℕ) → IsFilling c f rows w entries sets → GivesNextRow w (Some (start, end)) w'
     → cost (rows_to sets entries w.context.location) + entry_bytes w'.context.current ≤ cost rows
 cost-next c f rows w w' entries sets start end h step =
@@ -116,7 +116,7 @@ cost-next c f rows w w' entries sets start end h step =
     )
 
 -- if no row is left to add, the rows in the table cost what all rows cost
-pub cost-all : (c : Cie) (f : Fde) (rows : List (PlacedRow × ℕ)) (w w' : RowCursor) (entries : List TableEntry) (sets : List KeptSet)
+pub cost-all : (c : Cie) (f : Fde) (rows : List (PlacedRow × ℕ)) (w w' : RowCursor) (entries : List TableEntry) (sets : List StoredSet)
     → IsFilling c f rows w entries sets → GivesNextRow w None w' → cost (rows_to sets entries w.context.location) ≡ cost rows
 cost-all c f rows w w' entries sets h step =
     let none : rows_left c f h.before w ≡ [] = (step c f h.before h.is_at).0 in

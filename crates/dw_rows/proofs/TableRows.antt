@@ -12,15 +12,15 @@ use Rattle.dw_stack.specs.Located.{LocatedExpression}
 use Rattle.dw_rows.specs.declared.table_entries.TableEntry.{TableEntry}
 use Rattle.dw_rows.specs.Rules.{PlacedCfa, PlacedRow}
 use Rattle.dw_rows.specs.InForce.{fde_start, location_of}
-use Rattle.dw_rows.specs.Judgement.{lacks_cfa}
+use Rattle.dw_rows.specs.ProgramFault.{lacks_cfa}
 use Rattle.dw_rows.specs.RuleSet.{LendsRules}
 use Rattle.dw_rows.specs.ProgramState.{row_between}
 use Rattle.dw_rows.specs.RowCursors.{RowCursor, BeginsRows, GivesNextRow, Lends, rows_left}
 use Rattle.dw_rows.specs.UnwindRows.{rows_of, Cover}
 use Rattle.dw_rows.specs.UnwindTables.{has}
 use Rattle.dw_rows.specs.Section.{FrameSection, cie_in}
-use Rattle.dw_rows.specs.CompiledTable.{KeptSet, no_set, set_numbered, row_if, row_with, row_from, next_start, rows_to}
-use Rattle.dw_rows.specs.CompiledTable.{returning, returning_behind}
+use Rattle.dw_rows.specs.CompiledTable.{StoredSet, no_set, set_numbered, row_if, row_with, row_from, next_start, rows_to}
+use Rattle.dw_rows.specs.CompiledTable.{returning, returning_past}
 use Rattle.dw_rows.specs.CompiledTable.{IsTableUpTo, IsClosedAt, IsBegunAt, IsPushed, IsFilling, IsFilled, IsEntryCount}
 use Rattle.dw_rows.proofs.Covering.{cover-after, here, not-here-below, not-here-above}
 use Rattle.dw_rows.proofs.Lending.{lends-kept}
@@ -31,7 +31,7 @@ next-more : (rest : List TableEntry) (e : TableEntry) (to : ℕ) → next_start 
 next-more [] e to = refl
 next-more (x ∷ rest) e to = refl
 
-rows-more : (sets : List KeptSet) (es : List TableEntry) (e : TableEntry) (to : ℕ)
+rows-more : (sets : List StoredSet) (es : List TableEntry) (e : TableEntry) (to : ℕ)
     → rows_to sets (es ++ e ∷ []) to ≡ rows_to sets es e.start ++ row_from sets e to
 rows-more sets [] e to = append-nil (row_from sets e to)
 rows-more sets (x ∷ rest) e to =
@@ -39,7 +39,7 @@ rows-more sets (x ∷ rest) e to =
     ∙ ap (λ l. row_from sets x (next_start rest e.start) ++ l) (rows-more sets rest e to)
     ∙ sym (append_assoc (row_from sets x (next_start rest e.start)) (rows_to sets rest e.start) (row_from sets e to))
 
-rows-grown : (sets new : List KeptSet) → ((m : ℕ) → m < length sets → set_numbered new m ≡ set_numbered sets m)
+rows-grown : (sets new : List StoredSet) → ((m : ℕ) → m < length sets → set_numbered new m ≡ set_numbered sets m)
     → (es : List TableEntry) → ((k : ℕ) (d : TableEntry) → k < length es → (get_or es k d).set < length sets) → (to : ℕ)
     → rows_to new es to ≡ rows_to sets es to
 rows-grown sets new same [] within to = refl
@@ -52,13 +52,13 @@ at-more : (es : List TableEntry) (e : TableEntry) (m : ℕ) (d : TableEntry) →
     → ((m < length es) × (get_or (es ++ e ∷ []) m d ≡ get_or es m d)) ⊎ ((m ≡ length es) × (get_or (es ++ e ∷ []) m d ≡ e))
 at-more es e m d lt = elim (cases_lt m (length es)) [
   | inl before ↦ inl (before, get_or_append_left es (e ∷ []) d m before)
-  | inr behind ↦
+  | inr past ↦
       let long : length (es ++ e ∷ []) ≡ length es + 1 = length-append es (e ∷ []) in
       let last : m ≡ length es = omega arith in
       inr (last, ap (λ n. get_or (es ++ e ∷ []) n d) last ∙ get_or-append_seam es e [] d)
 ]
 
-pub table-further : (es : List LocatedExpression) (last to : ℕ) (entries : List TableEntry) (sets : List KeptSet)
+pub table-further : (es : List LocatedExpression) (last to : ℕ) (entries : List TableEntry) (sets : List StoredSet)
     → IsTableUpTo es last entries sets → last ≤ to → IsTableUpTo es to entries sets
 table-further es last to entries sets t le = record {
   sorted = t.sorted;
@@ -67,8 +67,8 @@ table-further es last to entries sets t le = record {
   lends = t.lends;
 }
 
-pub table-pushed : (es : List LocatedExpression) (last : ℕ) (entries new : List TableEntry) (sets new_sets : List KeptSet) (start : ℕ)
-    (k : KeptSet) → IsTableUpTo es last entries sets → IsPushed entries sets start k new new_sets → last ≤ start → LendsRules es k.rules
+pub table-pushed : (es : List LocatedExpression) (last : ℕ) (entries new : List TableEntry) (sets new_sets : List StoredSet) (start : ℕ)
+    (k : StoredSet) → IsTableUpTo es last entries sets → IsPushed entries sets start k new new_sets → last ≤ start → LendsRules es k.rules
     → IsTableUpTo es start new new_sets
 table-pushed es last entries new sets new_sets start k t p le lends =
     let e : TableEntry = record { start = start; set = p.number } in
@@ -102,8 +102,8 @@ table-pushed es last entries new sets new_sets start k t p le lends =
     within e same m d (inl a) = rw a.1 (omega (arith, t.within m d a.0, p.numbered.long))
     within e same m d (inr a) = rw a.1 (omega (arith, same, p.numbered.inside))
 
-pub rows-pushed : (es : List LocatedExpression) (last : ℕ) (entries new : List TableEntry) (sets new_sets : List KeptSet) (start : ℕ)
-    (k : KeptSet) → IsTableUpTo es last entries sets → IsPushed entries sets start k new new_sets → (to : ℕ)
+pub rows-pushed : (es : List LocatedExpression) (last : ℕ) (entries new : List TableEntry) (sets new_sets : List StoredSet) (start : ℕ)
+    (k : StoredSet) → IsTableUpTo es last entries sets → IsPushed entries sets start k new new_sets → (to : ℕ)
     → rows_to new_sets new to ≡ rows_to sets entries start ++ row_with start to k
 rows-pushed es last entries new sets new_sets start k t p to =
     let e : TableEntry = record { start = start; set = p.number } in
@@ -111,11 +111,11 @@ rows-pushed es last entries new sets new_sets start k t p to =
     ap (λ (l : List TableEntry). rows_to new_sets l to) p.entries
     ∙ rows-more new_sets entries e to
     ∙ ap (λ (l : List (PlacedRow × ℕ)). l ++ row_from new_sets e to) (rows-grown sets new_sets p.numbered.same entries t.within start)
-    ∙ ap (λ (x : KeptSet). rows_to sets entries start ++ row_with start to x) is
+    ∙ ap (λ (x : StoredSet). rows_to sets entries start ++ row_with start to x) is
 
 -- ---- an entry without rules, where a row ends and no other begins
 
-pub closed-pushed : (end : ℕ) (old new : List TableEntry) (old_sets new_sets : List KeptSet)
+pub closed-pushed : (end : ℕ) (old new : List TableEntry) (old_sets new_sets : List StoredSet)
     → IsPushed old old_sets end no_set new new_sets → IsClosedAt end old old_sets new new_sets
 closed-pushed end old new old_sets new_sets pushed = record {
   table = λ es t. table-pushed es end old new old_sets new_sets end no_set t pushed (omega arith)
@@ -123,16 +123,16 @@ closed-pushed end old new old_sets new_sets pushed = record {
   rows = λ es t to. rows-pushed es end old new old_sets new_sets end no_set t pushed to ∙ append-nil (rows_to old_sets old end);
 }
 
-pub begun-behind : (end start : ℕ) (old new : List TableEntry) (old_sets new_sets : List KeptSet)
+pub begun-past : (end start : ℕ) (old new : List TableEntry) (old_sets new_sets : List StoredSet)
     → IsClosedAt end old old_sets new new_sets → IsBegunAt end start old old_sets new new_sets
-begun-behind end start old new old_sets new_sets closed = record {
+begun-past end start old new old_sets new_sets closed = record {
   table = λ es t le. table-further es end start new new_sets (closed.table es t) le;
   rows = λ es t. closed.rows es t start;
 }
 
 -- ---- the rows of an FDE
 
-pub filling-begins : (c : Cie) (f : Fde) (rows : List (PlacedRow × ℕ)) (w : RowCursor) (entries : List TableEntry) (sets : List KeptSet)
+pub filling-begins : (c : Cie) (f : Fde) (rows : List (PlacedRow × ℕ)) (w : RowCursor) (entries : List TableEntry) (sets : List StoredSet)
     → BeginsRows c f w → rows_to sets entries f.initial_location ≡ rows
     → IsFilling c f (rows ++ returning c.return_address_register (rows_of c f)) w entries sets
 filling-begins c f rows w entries sets b is =
@@ -143,20 +143,20 @@ filling-begins c f rows w entries sets b is =
           ∙ ap (λ (l : List PlacedRow). rows ++ returning r l) b.rows;
     }
 
-pub with-cfa : (o : Option PlacedCfa) (start to : ℕ) (k : KeptSet) → lacks_cfa o ≡ false
+pub with-cfa : (o : Option PlacedCfa) (start to : ℕ) (k : StoredSet) → lacks_cfa o ≡ false
     → row_if o start to k ≡ (row_between start to k.rules, k.register) ∷ []
 with-cfa None start to k some = cc
 with-cfa (Some c) start to k some = refl
 
 pub filling-on : (es : List LocatedExpression) (c : Cie) (f : Fde) (rows : List (PlacedRow × ℕ)) (w w' : RowCursor)
-    (entries new : List TableEntry) (sets new_sets : List KeptSet) (start end : ℕ) → IsFilling c f rows w entries sets
+    (entries new : List TableEntry) (sets new_sets : List StoredSet) (start end : ℕ) → IsFilling c f rows w entries sets
     → GivesNextRow w (Some (start, end)) w' → IsTableUpTo es w.context.location entries sets
     → IsPushed entries sets start (record { rules = w'.context.current; register = c.return_address_register }) new new_sets
     → IsFilling c f rows w' new new_sets
 filling-on es c f rows w w' entries new sets new_sets start end h step t pushed =
     let p = step c f h.before h.is_at in
     let r = c.return_address_register in
-    let k : KeptSet = record { rules = w'.context.current; register = r } in
+    let k : StoredSet = record { rules = w'.context.current; register = r } in
     let rest = returning r (rows_left c f p.after w') in
     let row : PlacedRow × ℕ = (row_between start end k.rules, r) in
     let from : start ≡ w.context.location = p.from in
@@ -175,7 +175,7 @@ filling-on es c f rows w w' entries new sets new_sets start end h step t pushed 
     }
 
 pub filling-table : (es : List LocatedExpression) (c : Cie) (f : Fde) (rows : List (PlacedRow × ℕ)) (w w' : RowCursor)
-    (entries new : List TableEntry) (sets new_sets : List KeptSet) (start end : ℕ) → IsFilling c f rows w entries sets
+    (entries new : List TableEntry) (sets new_sets : List StoredSet) (start end : ℕ) → IsFilling c f rows w entries sets
     → GivesNextRow w (Some (start, end)) w' → IsTableUpTo es w.context.location entries sets
     → IsPushed entries sets start (record { rules = w'.context.current; register = c.return_address_register }) new new_sets
     → LendsRules es w'.context.current → IsTableUpTo es w'.context.location new new_sets
@@ -191,13 +191,13 @@ filling-table es c f rows w w' entries new sets new_sets start end h step t push
 -- if the programs of the CIE and the FDE name only expressions among `es`, the rules of the next
 -- row name only expressions among `es`
 pub filling-lends : (es : List LocatedExpression) (c : Cie) (f : Fde) (rows : List (PlacedRow × ℕ)) (w w' : RowCursor) (entries : List TableEntry)
-    (sets : List KeptSet) (start end : ℕ) → IsFilling c f rows w entries sets → GivesNextRow w (Some (start, end)) w' → Lends es c f
+    (sets : List StoredSet) (start end : ℕ) → IsFilling c f rows w entries sets → GivesNextRow w (Some (start, end)) w' → Lends es c f
     → LendsRules es w'.context.current
 filling-lends es c f rows w w' entries sets start end h step lends =
     let p = step c f h.before h.is_at in lends-kept es c f p.after w' lends p.is_at
 
 -- if there is no next row, the cursor's location is the end of the FDE's address range
-pub filling-end : (c : Cie) (f : Fde) (rows : List (PlacedRow × ℕ)) (w w' : RowCursor) (entries : List TableEntry) (sets : List KeptSet)
+pub filling-end : (c : Cie) (f : Fde) (rows : List (PlacedRow × ℕ)) (w w' : RowCursor) (entries : List TableEntry) (sets : List StoredSet)
     → IsFilling c f rows w entries sets → GivesNextRow w None w' → w.context.location ≡ f.initial_location + f.address_range
 filling-end c f rows w w' entries sets h step =
     let none : rows_left c f h.before w ≡ [] = (step c f h.before h.is_at).0 in
@@ -206,7 +206,7 @@ filling-end c f rows w w' entries sets h step =
     cover-after c f h.before w.instructions h.is_at.follows.within h.is_at.none in
     at ∙ subst (λ (l : List PlacedRow). Cover (location_of (fde_start c f) h.before) l (f.initial_location + f.address_range)) none covered
 
-pub filling-all : (c : Cie) (f : Fde) (rows : List (PlacedRow × ℕ)) (w w' : RowCursor) (entries : List TableEntry) (sets : List KeptSet)
+pub filling-all : (c : Cie) (f : Fde) (rows : List (PlacedRow × ℕ)) (w w' : RowCursor) (entries : List TableEntry) (sets : List StoredSet)
     → IsFilling c f rows w entries sets → GivesNextRow w None w' → rows_to sets entries (f.initial_location + f.address_range) ≡ rows
 filling-all c f rows w w' entries sets h step =
     let none : rows_left c f h.before w ≡ [] = (step c f h.before h.is_at).0 in
@@ -215,21 +215,21 @@ filling-all c f rows w w' entries sets h step =
     ∙ ap (λ (l : List PlacedRow). rows_to sets entries w.context.location ++ returning c.return_address_register l) (sym none)
     ∙ h.all
 
-pub filled : (s : FrameSection) (c : Cie) (f : Fde) (last : ℕ) (old new : List TableEntry) (old_sets new_sets : List KeptSet)
+pub filled : (s : FrameSection) (c : Cie) (f : Fde) (last : ℕ) (old new : List TableEntry) (old_sets new_sets : List StoredSet)
     → cie_in s f ≡ Some c
     → rows_to new_sets new (f.initial_location + f.address_range)
     ≡ rows_to old_sets old last ++ returning c.return_address_register (rows_of c f)
     → IsTableUpTo s.expressions (f.initial_location + f.address_range) new new_sets → IsFilled s f last old old_sets new new_sets
 filled s c f last old new old_sets new_sets pointed all t = record {
   table = t;
-  rows = all ∙ ap (λ o. rows_to old_sets old last ++ returning_behind o f) (sym pointed);
+  rows = all ∙ ap (λ o. rows_to old_sets old last ++ returning_past o f) (sym pointed);
 }
 
 -- ---- `find` in lists
 
-pub find-behind : {X : Type 0} (p : X → Bool) (xs ys : List X) → find p xs ≡ None → find p (xs ++ ys) ≡ find p ys
-find-behind p [] ys none = refl
-find-behind {X = X} p (x ∷ xs) ys none = go (p x) none (find-behind p xs ys)
+pub find-past : {X : Type 0} (p : X → Bool) (xs ys : List X) → find p xs ≡ None → find p (xs ++ ys) ≡ find p ys
+find-past p [] ys none = refl
+find-past {X = X} p (x ∷ xs) ys none = go (p x) none (find-past p xs ys)
   where
     go : (b : Bool) → cond b (Some x) (find p xs) ≡ None → (find p xs ≡ None → find p (xs ++ ys) ≡ find p ys)
         → cond b (Some x) (find p (xs ++ ys)) ≡ find p ys
@@ -251,20 +251,20 @@ find-first {X = X} p (y ∷ xs) ys x found = go (p y) found (find-first p xs ys 
 
 -- ---- the row of an address
 
-below-row : (o : Option PlacedCfa) (a start to : ℕ) (k : KeptSet) → a < start → find (has a) (row_if o start to k) ≡ None
+below-row : (o : Option PlacedCfa) (a start to : ℕ) (k : StoredSet) → a < start → find (has a) (row_if o start to k) ≡ None
 below-row None a start to k lt = refl
 below-row (Some c) a start to k lt = rw (not-here-below a (row_between start to k.rules) lt) refl
 
-above-row : (o : Option PlacedCfa) (a start to : ℕ) (k : KeptSet) → to ≤ a → find (has a) (row_if o start to k) ≡ None
+above-row : (o : Option PlacedCfa) (a start to : ℕ) (k : StoredSet) → to ≤ a → find (has a) (row_if o start to k) ≡ None
 above-row None a start to k le = refl
 above-row (Some c) a start to k le = rw (not-here-above a (row_between start to k.rules) le) refl
 
-none-above : (sets : List KeptSet) (es : List TableEntry) (a to : ℕ)
+none-above : (sets : List StoredSet) (es : List TableEntry) (a to : ℕ)
     → ((k : ℕ) (d : TableEntry) → k < length es → a < (get_or es k d).start) → find (has a) (rows_to sets es to) ≡ None
 none-above sets [] a to above = refl
 none-above sets (e ∷ es) a to above =
     let k = set_numbered sets e.set in
-    find-behind (has a) (row_from sets e (next_start es to)) (rows_to sets es to)
+    find-past (has a) (row_from sets e (next_start es to)) (rows_to sets es to)
     (below-row k.rules.cfa a e.start (next_start es to) k (above 0 e (omega arith)))
     ∙ none-above sets es a to (λ m d lt. above (suc m) d (omega arith))
 
@@ -290,7 +290,7 @@ next-low : (es : List TableEntry) (a to : ℕ) → 0 < length es → ((d : Table
 next-low [] a to some low = absurd (omega arith)
 next-low (e ∷ es) a to some low = low e
 
-pub row-at : (sets : List KeptSet) (es : List TableEntry) (n a to : ℕ) (d : TableEntry) → n < length es
+pub row-at : (sets : List StoredSet) (es : List TableEntry) (n a to : ℕ) (d : TableEntry) → n < length es
     → ((k : ℕ) (d : TableEntry) → k ≤ n → (get_or es k d).start ≤ a)
     → ((k : ℕ) (d : TableEntry) → n < k → k < length es → a < (get_or es k d).start)
     → find (has a) (rows_to sets es to) ≡ find (has a) (row_from sets (get_or es n d) (next_at es n to))
@@ -300,25 +300,25 @@ row-at sets (e ∷ es) zero a to d lt below above =
     (none-above sets es a to (λ m d lt. above (suc m) d (omega arith) (omega arith)))
 row-at sets (e ∷ es) (suc n) a to d lt below above =
     let k = set_numbered sets e.set in
-    find-behind (has a) (row_from sets e (next_start es to)) (rows_to sets es to)
+    find-past (has a) (row_from sets e (next_start es to)) (rows_to sets es to)
     (above-row k.rules.cfa a e.start (next_start es to) k (next-low es a to (omega arith) (λ d. below 1 d (omega arith))))
     ∙ row-at sets es n a to d (omega arith) (λ m d le. below (suc m) d (omega arith)) (λ m d lt there. above (suc m) d (omega arith) (omega arith))
 
 -- ---- the row of an address, by the number of entries that begin at or below it
 
 -- if no entry begins at or below the address, no row has the address
-pub placed-below : (entries : List TableEntry) (sets : List KeptSet) (a : ℕ) → IsEntryCount entries a 0
+pub placed-below : (entries : List TableEntry) (sets : List StoredSet) (a : ℕ) → IsEntryCount entries a 0
     → find (has a) (rows_to sets entries 0) ≡ None
 placed-below entries sets a count = none-above sets entries a 0 (λ k d lt. count.above k d (omega arith) lt)
 
 -- the row from `start` to `to` with the rule set number n, if that set has a CFA rule and the row
 -- has the address `a`; none otherwise
-abbrev row-of-entry : List KeptSet → ℕ → ℕ → ℕ → ℕ → Option (PlacedRow × ℕ)
+abbrev row-of-entry : List StoredSet → ℕ → ℕ → ℕ → ℕ → Option (PlacedRow × ℕ)
 row-of-entry sets a n start to = find (has a) (row_with start to (set_numbered sets n))
 
 -- looking up an address gives the row of the last entry that begins at or below the address; none
 -- if that entry has no row or its row doesn't have the address
-at-place : (entries : List TableEntry) (sets : List KeptSet) (a n : ℕ) (d : TableEntry) → IsEntryCount entries a (suc n)
+at-place : (entries : List TableEntry) (sets : List StoredSet) (a n : ℕ) (d : TableEntry) → IsEntryCount entries a (suc n)
     → find (has a) (rows_to sets entries 0)
     ≡ row-of-entry sets a (get_or entries n d).set (get_or entries n d).start (next_at entries n 0)
 at-place entries sets a n d count =
@@ -326,7 +326,7 @@ at-place entries sets a n d count =
     (λ k d lt there. count.above k d (omega arith) there)
 
 -- if all entries begin at or below the address, the last row ends at or below it, so no row has it
-pub placed-above : (entries : List TableEntry) (sets : List KeptSet) (a n : ℕ) → IsEntryCount entries a n → n ≡ length entries
+pub placed-above : (entries : List TableEntry) (sets : List StoredSet) (a n : ℕ) → IsEntryCount entries a n → n ≡ length entries
     → find (has a) (rows_to sets entries 0) ≡ None
 placed-above entries sets a zero count all = placed-below entries sets a count
 placed-above entries sets a (suc n) count all =
@@ -337,17 +337,17 @@ placed-above entries sets a (suc n) count all =
     ∙ ap (λ m. row-of-entry sets a e.set e.start m) (next-last entries n 0 all)
     ∙ above-row k.rules.cfa a e.start 0 k (omega arith)
 
-no-row : (o : Option PlacedCfa) (a start to : ℕ) (k : KeptSet) → o ≡ None → find (has a) (row_if o start to k) ≡ None
+no-row : (o : Option PlacedCfa) (a start to : ℕ) (k : StoredSet) → o ≡ None → find (has a) (row_if o start to k) ≡ None
 no-row None a start to k e = refl
 no-row (Some c) a start to k e = cc
 
-the-row : (o : Option PlacedCfa) (c : PlacedCfa) (a start to : ℕ) (k : KeptSet) → o ≡ Some c → start ≤ a → a < to
+the-row : (o : Option PlacedCfa) (c : PlacedCfa) (a start to : ℕ) (k : StoredSet) → o ≡ Some c → start ≤ a → a < to
     → find (has a) (row_if o start to k) ≡ Some (row_between start to k.rules, k.register)
 the-row None c a start to k e low high = cc
 the-row (Some d) c a start to k e low high = rw (here a (row_between start to k.rules) low high) refl
 
 -- if the last entry that begins at or below the address has no CFA rule, no row has the address
-pub placed-none : (entries : List TableEntry) (sets : List KeptSet) (a n : ℕ) (d : TableEntry) → IsEntryCount entries a (suc n)
+pub placed-none : (entries : List TableEntry) (sets : List StoredSet) (a n : ℕ) (d : TableEntry) → IsEntryCount entries a (suc n)
     → (set_numbered sets (get_or entries n d).set).rules.cfa ≡ None → find (has a) (rows_to sets entries 0) ≡ None
 placed-none entries sets a n d count none =
     let e = get_or entries n d in
@@ -355,12 +355,12 @@ placed-none entries sets a n d count none =
     at-place entries sets a n d count ∙ no-row k.rules.cfa a e.start (next_at entries n 0) k none
 
 -- the row of the entry at index n, which ends where the next entry begins
-abbrev pub row-at-place : List TableEntry → List KeptSet → ℕ → TableEntry → PlacedRow × ℕ
+abbrev pub row-at-place : List TableEntry → List StoredSet → ℕ → TableEntry → PlacedRow × ℕ
 row-at-place entries sets n d =
     let k = set_numbered sets (get_or entries n d).set in
     (row_between (get_or entries n d).start (get_or entries (suc n) d).start k.rules, k.register)
 
-pub placed-row : (entries : List TableEntry) (sets : List KeptSet) (a n : ℕ) (d : TableEntry) (c : PlacedCfa)
+pub placed-row : (entries : List TableEntry) (sets : List StoredSet) (a n : ℕ) (d : TableEntry) (c : PlacedCfa)
     → IsEntryCount entries a (suc n) → suc n < length entries → (set_numbered sets (get_or entries n d).set).rules.cfa ≡ Some c
     → find (has a) (rows_to sets entries 0) ≡ Some (row-at-place entries sets n d)
 placed-row entries sets a n d c count lt some =

@@ -13,7 +13,7 @@ use Rattle.dw_rows.specs.Rules.{val_expression}
 use Rattle.dw_rows.specs.Rules.{rule_in, IsTable, rule_list}
 use Rattle.dw_rows.specs.Abi.{Abi, Role, unnamed, kept, stack_pointer, or_rule, rule_of_role, rules_under}
 use Rattle.dw_rows.specs.FirstEntry.{rule_of_either, rules_of_either}
-use Rattle.dw_rows.specs.declared.map.RuleEntry.{RuleEntry}
+use Rattle.dw_rows.specs.declared.register_rules.RuleEntry.{RuleEntry}
 use Rattle.dw_rows.specs.FirstEntry.{IsLowest}
 use Rattle.dw_rows.specs.Views.{entry_of, entries_of}
 use Rattle.dw_rows.specs.GivenRows.{given_rule, given_rules, LendsRule, LendsEntry, LendsEach}
@@ -69,7 +69,7 @@ pub record IsFirst {E : Type 0} (f g : ℕ → RuleOver E) (n : ℕ) : Type 0 wh
   pub some : f n ≢ default
   pub before : (r : ℕ) → r < n → f r ≡ default
   pub none : (r : ℕ) → r ≤ n → g r ≡ default
-  pub behind : (r : ℕ) → n < r → f r ≡ g r
+  pub past : (r : ℕ) → n < r → f r ≡ g r
 
 pub first-list : {E : Type 0} → (f g : ℕ → RuleOver E) (n : ℕ) → IsFirst f g n → rule_list f ≡ (n, f n) ∷ rule_list g
 first-list {E} f g n is = sym (rule_list-same (rule_in all) f (λ r h. each r h)) ∙ rule_list-table all table
@@ -93,7 +93,7 @@ first-list {E} f g n is = sym (rule_list-same (rule_in all) f (λ r h. each r h)
           let no : eqb n r ≡ false = grind (arith, nat_tests) in
           let listed : rule_in (rule_list g) r ≡ g r = rule_in-rule_list g r h in
           rw no (listed ∙ elim (cases_lt n r) [
-            | inl above ↦ sym (is.behind r above)
+            | inl above ↦ sym (is.past r above)
             | inr le ↦ is.none r le ∙ sym (is.before r (omega arith))
           ])
     ]
@@ -103,8 +103,8 @@ first-list {E} f g n is = sym (rule_list-same (rule_in all) f (λ r h. each r h)
 in-first : {E : Type 0} → (e : ℕ × RuleOver E) (es : List (ℕ × RuleOver E)) → rule_in (e ∷ es) e.0 ≡ e.1
 in-first e es = let yes : eqb e.0 e.0 ≡ true = eq-eqb e.0 e.0 refl in rw yes refl
 
-in-behind : {E : Type 0} → (e : ℕ × RuleOver E) (es : List (ℕ × RuleOver E)) (r : ℕ) → e.0 < r → rule_in (e ∷ es) r ≡ rule_in es r
-in-behind e es r lt = let no : eqb e.0 r ≡ false = grind (arith, nat_tests) in rw no refl
+in-past : {E : Type 0} → (e : ℕ × RuleOver E) (es : List (ℕ × RuleOver E)) (r : ℕ) → e.0 < r → rule_in (e ∷ es) r ≡ rule_in es r
+in-past e es r lt = let no : eqb e.0 r ≡ false = grind (arith, nat_tests) in rw no refl
 
 -- all registers of a table are at least the first entry's register
 from-first : {E : Type 0} → (e : ℕ × RuleOver E) (es : List (ℕ × RuleOver E)) → IsTable 0 (e ∷ es) → IsTable e.0 (e ∷ es)
@@ -120,7 +120,7 @@ lowest-first e es others t none =
       some = λ is. t.2 (sym some ∙ is);
       before = λ r l. ap (λ x. or_rule x (rule_in others r)) (rule_in-below e.0 (e ∷ es) r (from-first e es t) l) ∙ none r (omega arith);
       none = λ r l. ap (λ x. or_rule x (rule_in others r)) (rule_in-below (e.0 + 1) es r t.3 (omega arith)) ∙ none r l;
-      behind = λ r l. ap (λ x. or_rule x (rule_in others r)) (in-behind e es r l);
+      past = λ r l. ap (λ x. or_rule x (rule_in others r)) (in-past e es r l);
     }) ∙ ap (λ x. (e.0, x) ∷ rules_of_either es others) some
 
 pub lowest-both : {E : Type 0} → (e o : ℕ × RuleOver E) (es os : List (ℕ × RuleOver E)) → IsTable 0 (e ∷ es) → IsTable 0 (o ∷ os)
@@ -135,8 +135,8 @@ lowest-both e o es os t u same =
           ∙ rule_in-below o.0 (o ∷ os) r (from-first o os u) (omega (arith, same));
       none = λ r l. ap (λ x. or_rule x (rule_in os r)) (rule_in-below (e.0 + 1) es r t.3 (omega arith))
           ∙ rule_in-below (o.0 + 1) os r u.3 (omega (arith, same));
-      behind = λ r l. ap (λ x. or_rule x (rule_in (o ∷ os) r)) (in-behind e es r l)
-          ∙ ap (λ x. or_rule (rule_in es r) x) (in-behind o os r (omega (arith, same)));
+      past = λ r l. ap (λ x. or_rule x (rule_in (o ∷ os) r)) (in-past e es r l)
+          ∙ ap (λ x. or_rule (rule_in es r) x) (in-past o os r (omega (arith, same)));
     }) ∙ ap (λ x. (e.0, x) ∷ rules_of_either es os) some
 
 pub lowest-other : {E : Type 0} → (o : ℕ × RuleOver E) (es os : List (ℕ × RuleOver E)) → IsTable 0 (o ∷ os)
@@ -150,7 +150,7 @@ lowest-other o es os t none =
       before = λ r l. ap (λ x. or_rule x (rule_in (o ∷ os) r)) (none r (omega arith))
           ∙ rule_in-below o.0 (o ∷ os) r (from-first o os t) l;
       none = λ r l. ap (λ x. or_rule x (rule_in os r)) (none r l) ∙ rule_in-below (o.0 + 1) os r t.3 (omega arith);
-      behind = λ r l. ap (λ x. or_rule (rule_in es r) x) (in-behind o os r l);
+      past = λ r l. ap (λ x. or_rule (rule_in es r) x) (in-past o os r l);
     }) ∙ ap (λ x. (o.0, x) ∷ rules_of_either es os) some
 
 pub none-of-either : {E : Type 0} → rules_of_either {E = E} [] [] ≡ []
@@ -161,9 +161,9 @@ pub either-alone : {E : Type 0} → (es : List (ℕ × RuleOver E)) → IsTable 
 either-alone es t = rule_list-same (rule_of_either es []) (rule_in es) (λ r h. or-default (rule_in es r)) ∙ rule_list-table es t
 
 -- a table without its first entry is a table
-pub behind-first : {E : Type 0} → (x : ℕ × RuleOver E) (xs : List (ℕ × RuleOver E)) → IsTable 0 (x ∷ xs) → IsTable 0 xs
-behind-first x [] t = tt
-behind-first x (y ∷ ys) t = (omega arith, t.3.1, t.3.2, t.3.3)
+pub past-first : {E : Type 0} → (x : ℕ × RuleOver E) (xs : List (ℕ × RuleOver E)) → IsTable 0 (x ∷ xs) → IsTable 0 xs
+past-first x [] t = tt
+past-first x (y ∷ ys) t = (omega arith, t.3.1, t.3.2, t.3.3)
 
 -- ---- there are at most as many rules as the two tables have entries
 
@@ -173,22 +173,22 @@ few-by {E} fuel [] [] t u f = omega (arith, ap length (none-of-either {E = E}))
 few-by zero (e ∷ es) os t u f = absurd (omega (arith, f))
 few-by zero [] (o ∷ os) t u f = absurd (omega (arith, f))
 few-by (suc fuel) [] (o ∷ os) t u f =
-    let later = few-by fuel [] os tt (behind-first o os u) (omega (arith, f)) in
+    let later = few-by fuel [] os tt (past-first o os u) (omega (arith, f)) in
     let is = ap length (lowest-other o [] os u (λ r l. refl)) in omega (arith, later, is)
 few-by (suc fuel) (e ∷ es) [] t u f =
-    let later = few-by fuel es [] (behind-first e es t) tt (omega (arith, f)) in
+    let later = few-by fuel es [] (past-first e es t) tt (omega (arith, f)) in
     let is = ap length (lowest-first e es [] t (λ r l. refl)) in omega (arith, later, is)
 few-by (suc fuel) (e ∷ es) (o ∷ os) t u f = elim (cases_lt e.0 o.0) [
   | inl lt ↦
-      let later = few-by fuel es (o ∷ os) (behind-first e es t) u (omega (arith, f)) in
+      let later = few-by fuel es (o ∷ os) (past-first e es t) u (omega (arith, f)) in
       let is = ap length (lowest-first e es (o ∷ os) t (λ r l. rule_in-below o.0 (o ∷ os) r (from-first o os u) (omega (arith, lt)))) in
       omega (arith, later, is)
   | inr le ↦ elim (cases_eq e.0 o.0) [
     | inl same ↦
-        let later = few-by fuel es os (behind-first e es t) (behind-first o os u) (omega (arith, f)) in
+        let later = few-by fuel es os (past-first e es t) (past-first o os u) (omega (arith, f)) in
         let is = ap length (lowest-both e o es os t u same) in omega (arith, later, is)
     | inr other ↦
-        let later = few-by fuel (e ∷ es) os t (behind-first o os u) (omega (arith, f)) in
+        let later = few-by fuel (e ∷ es) os t (past-first o os u) (omega (arith, f)) in
         let is = ap length (lowest-other o (e ∷ es) os u
         (λ r l. rule_in-below e.0 (e ∷ es) r (from-first e es t) (omega (arith, le, other)))) in
         omega (arith, later, is)
@@ -260,7 +260,7 @@ pub lowest-less : (e : ℕ × PlacedRule) (left os : List (ℕ × PlacedRule)) �
     → ((r : ℕ) → r ≤ e.0 → rule_in os r ≡ default) → IsLowest (e ∷ left) os e left os
 lowest-less e left os t u none = record {
   first = lowest-first e left os t none;
-  table = behind-first e left t;
+  table = past-first e left t;
   other_table = u;
   each = λ es h k. let both = recursion_from_All (LendsEntry es) (e ∷ left) h in
       (both.0, All-from_recursion (LendsEntry es) left both.1, k);
@@ -270,8 +270,8 @@ pub lowest-equal : (e o : ℕ × PlacedRule) (left right : List (ℕ × PlacedRu
     → e.0 ≡ o.0 → IsLowest (e ∷ left) (o ∷ right) e left right
 lowest-equal e o left right t u same = record {
   first = lowest-both e o left right t u same;
-  table = behind-first e left t;
-  other_table = behind-first o right u;
+  table = past-first e left t;
+  other_table = past-first o right u;
   each = λ es h k.
       let own = recursion_from_All (LendsEntry es) (e ∷ left) h in
       let other = recursion_from_All (LendsEntry es) (o ∷ right) k in
@@ -283,7 +283,7 @@ pub lowest-greater : (o : ℕ × PlacedRule) (es right : List (ℕ × PlacedRule
 lowest-greater o es right t u none = record {
   first = lowest-other o es right u none;
   table = t;
-  other_table = behind-first o right u;
+  other_table = past-first o right u;
   each = λ xs h k. let other = recursion_from_All (LendsEntry xs) (o ∷ right) k in
       (other.0, h, All-from_recursion (LendsEntry xs) right other.1);
 }
@@ -296,8 +296,8 @@ none-below o right n t lt r le = rule_in-below o.0 (o ∷ right) r (from-first o
 -- ---- the lemmas above, for entries as the code stores them (`RuleEntry`)
 
 -- taking all elements from index 1 on gives the list without its first element
-behind-is : (x : RuleEntry) (rest : List RuleEntry) → take (length (x ∷ rest) - 1) (drop 1 (x ∷ rest)) ≡ rest
-behind-is x rest = let count : length (x ∷ rest) - 1 ≡ length rest = omega arith in ap (λ n. take n rest) count ∙ take-length rest
+past-is : (x : RuleEntry) (rest : List RuleEntry) → take (length (x ∷ rest) - 1) (drop 1 (x ∷ rest)) ≡ rest
+past-is x rest = let count : length (x ∷ rest) - 1 ≡ length rest = omega arith in ap (λ n. take n rest) count ∙ take-length rest
 
 pub no-entries : (entries : List RuleEntry) → length entries < 1 → entries_of entries ≡ []
 no-entries [] few = refl
@@ -311,7 +311,7 @@ pub first-less : (entries others : List RuleEntry) (d : RuleEntry) → 1 ≤ len
 first-less [] others d some t u none = absurd (omega (arith, some))
 first-less (x ∷ rest) others d some t u none =
     subst (λ (l : List RuleEntry). IsLowest (entries_of (x ∷ rest)) (entries_of others) (entry_of x) (entries_of l) (entries_of others))
-    (sym (behind-is x rest)) (lowest-less (entry_of x) (entries_of rest) (entries_of others) t u none)
+    (sym (past-is x rest)) (lowest-less (entry_of x) (entries_of rest) (entries_of others) t u none)
 
 pub first-greater : (entries others : List RuleEntry) (d : RuleEntry) → 1 ≤ length others → IsTable 0 (entries_of entries)
     → IsTable 0 (entries_of others)
@@ -321,7 +321,7 @@ pub first-greater : (entries others : List RuleEntry) (d : RuleEntry) → 1 ≤ 
 first-greater entries [] d some t u none = absurd (omega (arith, some))
 first-greater entries (x ∷ rest) d some t u none =
     subst (λ (l : List RuleEntry). IsLowest (entries_of entries) (entries_of (x ∷ rest)) (entry_of x) (entries_of entries) (entries_of l))
-    (sym (behind-is x rest)) (lowest-greater (entry_of x) (entries_of entries) (entries_of rest) t u none)
+    (sym (past-is x rest)) (lowest-greater (entry_of x) (entries_of entries) (entries_of rest) t u none)
 
 pub first-equal : (entries others : List RuleEntry) (d : RuleEntry) → 1 ≤ length entries → 1 ≤ length others
     → IsTable 0 (entries_of entries) → IsTable 0 (entries_of others)
@@ -330,12 +330,12 @@ pub first-equal : (entries others : List RuleEntry) (d : RuleEntry) → 1 ≤ le
     (entries_of (take (length entries - 1) (drop 1 entries))) (entries_of (take (length others - 1) (drop 1 others)))
 first-equal [] others d some more t u same = absurd (omega (arith, some))
 first-equal (x ∷ rest) [] d some more t u same = absurd (omega (arith, more))
-first-equal (x ∷ rest) (y ∷ behind) d some more t u same =
-    subst (λ (l : List RuleEntry). IsLowest (entries_of (x ∷ rest)) (entries_of (y ∷ behind)) (entry_of x)
-    (entries_of (take (length (x ∷ rest) - 1) (drop 1 (x ∷ rest)))) (entries_of l)) (sym (behind-is y behind))
+first-equal (x ∷ rest) (y ∷ past) d some more t u same =
+    subst (λ (l : List RuleEntry). IsLowest (entries_of (x ∷ rest)) (entries_of (y ∷ past)) (entry_of x)
+    (entries_of (take (length (x ∷ rest) - 1) (drop 1 (x ∷ rest)))) (entries_of l)) (sym (past-is y past))
     (subst (λ (l : List RuleEntry).
-    IsLowest (entries_of (x ∷ rest)) (entries_of (y ∷ behind)) (entry_of x) (entries_of l) (entries_of behind))
-    (sym (behind-is x rest)) (lowest-equal (entry_of x) (entry_of y) (entries_of rest) (entries_of behind) t u same))
+    IsLowest (entries_of (x ∷ rest)) (entries_of (y ∷ past)) (entry_of x) (entries_of l) (entries_of past))
+    (sym (past-is x rest)) (lowest-equal (entry_of x) (entry_of y) (entries_of rest) (entries_of past) t u same))
 
 -- a register below the register of the first entry has no rule in the table
 pub none-below-first : (entries : List RuleEntry) (d : RuleEntry) (n : ℕ) → 1 ≤ length entries → IsTable 0 (entries_of entries)

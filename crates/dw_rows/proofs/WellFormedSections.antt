@@ -5,16 +5,16 @@ use Rattle.dw_bytes.specs.Answers.{values_in, fault_in}
 use Rattle.dw_frame.specs.Records.{Cie, Fde, Record}
 use Rattle.dw_frame.specs.Sections.{entries_of}
 use Rattle.dw_frame.proofs.EachRecord.{sections-are-records}
-use Rattle.dw_rows.specs.Judgement.{cie_fault, fde_fault}
+use Rattle.dw_rows.specs.ProgramFault.{cie_fault, fde_fault}
 use Rattle.dw_rows.specs.Good.{IsGoodCieProgram, IsGoodFdeProgram}
-use Rattle.dw_rows.specs.Section.{cie_at, pointer_fault, program_fault, fault_behind, parts_fault, section_fault, frame_of, CoversOnce}
+use Rattle.dw_rows.specs.Section.{cie_at, pointer_fault, program_fault, fault_past, parts_fault, section_fault, frame_of, CoversOnce}
 use Rattle.dw_rows.specs.Section.{cies_among, fdes_among}
 use Rattle.dw_rows.specs.WellFormed.{IsWellFormed}
 use Rattle.dw_rows.specs.Overlap.{cie_offset, fde_offset, AreApart}
 use Rattle.dw_frame.specs.Bounds.{Ascends}
 use Rattle.dw_rows.proofs.Faults.{option_or-none, found-at, at-found, none-each}
 use Rattle.dw_rows.proofs.Clashes.{each-none, none-overlap}
-use Rattle.dw_rows.proofs.Parts.{PartsPass, parts-pass, pass-parts, pointed-in, good-behind, covers-once-in}
+use Rattle.dw_rows.proofs.Parts.{PartsPass, parts-pass, pass-parts, pointed-in, good-past, covers-once-in}
 use Rattle.dw_rows.proofs.Programs.{good-from-cie, cie-from-good, good-from-fde, fde-from-good}
 use Rattle.dw_rows.proofs.SectionOrder.{are-records, cies-ascend, fdes-ascend}
 
@@ -39,7 +39,7 @@ well-formed laws target section none =
       pointers = λ f among. let pointed = pointed-in cies fdes split.1 f among in
           let found = at-found cies f.cie_pointer pointed.0 pointed.1 in (pointed.0, found.0, found.1);
       cie_programs = λ c among. (laws.cie c).0 (none-each cie_fault cies parts.cie_programs c among);
-      fde_programs = λ f c f_in c_in same. let good = good-behind cies fdes split.1 f f_in c (found-at cies up c f.cie_pointer c_in same) in
+      fde_programs = λ f c f_in c_in same. let good = good-past cies fdes split.1 f f_in c (found-at cies up c f.cie_pointer c_in same) in
           (laws.fde c f good.0).0 good.1;
       once = covers-once-in cies fdes (fdes-ascend target section split.0) split.1;
     }
@@ -72,7 +72,7 @@ passes laws cies fdes up pointers cie_programs fde_programs once = record {
       let c = pointers f among in
       let is = found-at cies up c.0 f.cie_pointer c.1 c.2 in
       let good = (laws.cie c.0).1 (cie_programs c.0 c.1) in
-      ap (λ o. fault_behind o f) is ∙ (laws.fde c.0 f good).1 (fde_programs f c.0 among c.1 c.2));
+      ap (λ o. fault_past o f) is ∙ (laws.fde c.0 f good).1 (fde_programs f c.0 among c.1 c.2));
   overlap = none-overlap fdes (apart-from-once fdes once);
 }
 

@@ -2,8 +2,8 @@
 -- expressions that the rules of a row can refer to.
 use Rattle.std.specs.Prelude.{List}
 use Rattle.dw_stack.specs.Located.{LocatedExpression}
-use Rattle.dw_rows.specs.declared.expressions.LentExpressions.{LentExpressions}
-use Rattle.dw_rows.specs.declared.expressions.LentExpressions.TheVariants.{Borrowed, Owned}
+use Rattle.dw_rows.specs.declared.lent_expressions.LentExpressions.{LentExpressions}
+use Rattle.dw_rows.specs.declared.lent_expressions.LentExpressions.TheVariants.{Borrowed, Owned}
 use Rattle.dw_rows.specs.BorrowedExpressions.{borrowed_by}
 
 -- the expressions borrowed from a checked section, or those that a compiled table owns

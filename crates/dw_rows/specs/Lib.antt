@@ -35,7 +35,7 @@ pub mod UnwindTables
 -- ---- The first fault, computed from the bytes. Laws tie it to the trusted definitions.
 
 -- the first fault of a CIE's or an FDE's program
-pub mod Judgement
+pub mod ProgramFault
 -- ---- What the values of the code's types mean, in terms of the definitions above.
 
 -- rules
@@ -53,7 +53,7 @@ pub mod RememberStack
 -- the state of a running program
 pub mod ProgramState
 -- programs that are checked while they are read
-pub mod Judging
+pub mod Checking
 -- the quick check of an FDE's program
 pub mod QuickCheck
 -- checked expressions in order of offset

@@ -8,7 +8,7 @@ use Rattle.dw_rows.specs.declared.index.IndexEntry.{IndexEntry}
 use Rattle.std.specs.List.Sorted.{IsNonDecreasingBy}
 use Rattle.dw_frame.specs.Records.{Cie, Fde}
 use Rattle.dw_rows.specs.Section.{FrameSection, SharesAddress, IsChecked, row_count}
-use Rattle.dw_rows.specs.RuleSet.{KeptRules}
+use Rattle.dw_rows.specs.RuleSet.{StoredRules}
 use Rattle.dw_rows.specs.Expressions.{cie_expressions}
 use Rattle.dw_rows.specs.Initial.{AreLeftBy}
 
@@ -114,7 +114,7 @@ pub record IsCountUpTo (entries : List IndexEntry) (a count : ℕ) : Type 0 wher
 -- What a checked section stores: its CIEs, FDEs and expressions (`s`), the rules that the CIEs'
 -- programs leave (`left`), an index of its FDEs in order of address, how many of its expressions
 -- belong to CIEs (`count`), and how many rows its FDEs have.
-pub record IsKept (s : FrameSection) (left : List KeptRules) (index : List IndexEntry) (count rows : ℕ) : Type 0 where
+pub record IsKept (s : FrameSection) (left : List StoredRules) (index : List IndexEntry) (count rows : ℕ) : Type 0 where
   pub checked : IsChecked s
   pub left_by : AreLeftBy s.cies left
   pub index_of : IsAddressIndex s.fdes index

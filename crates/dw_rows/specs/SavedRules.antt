@@ -2,7 +2,7 @@
 use Rattle.std.specs.Prelude.{◌≡◌, ◌<◌, ℕ, ℤ, List, All, map}
 use Rattle.dw_rows.specs.Rules.{RuleOver, offset}
 use Rattle.dw_rows.specs.Views.{entries_of}
-use Rattle.dw_rows.specs.declared.map.RuleEntry.{RuleEntry}
+use Rattle.dw_rows.specs.declared.register_rules.RuleEntry.{RuleEntry}
 
 -- a register that is saved in memory, and the offset from the CFA
 abbrev pub Saved : Type 0

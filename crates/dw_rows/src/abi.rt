@@ -5,10 +5,10 @@ ghost use Rattle.std.specs.Bool.{OnTrue, OnFalse};
 ghost use Rattle.dw_rows.specs.Abi.{abi_of, no_abi, abi_fault, rule_of_role};
 ghost use Rattle.dw_rows.specs.AbiViews.{roles_of};
 ghost use Rattle.dw_rows.specs.Rules.{RuleOver, IsTable, rule_in, rule_list, changed_at};
-ghost use Rattle.dw_rows.specs.Views.{kept_rule_of, entries_of};
+ghost use Rattle.dw_rows.specs.Views.{stored_rule_of, entries_of};
 
-use crate::kept_rule::KeptRule;
-use crate::map::{MAX_RULES, RegisterRuleMap, RuleEntry};
+use crate::register_rules::{MAX_RULES, RegisterRuleMap, RuleEntry};
+use crate::stored_rule::StoredRule;
 use dw_bytes::{Fault, FaultKind};
 use std::marker::Model;
 
@@ -43,17 +43,17 @@ impl Model for Abi {
 
 /// Gives a register the rule `rule` and returns `true`. If the register has a rule already, nothing
 /// changes, and the result is `false`.
-fn add_abi_rule(rules: &mut RegisterRuleMap, number: u16, rule: KeptRule) -> bool
+fn add_abi_rule(rules: &mut RegisterRuleMap, number: u16, rule: StoredRule) -> bool
     requires table { IsTable 0 rules.old }
     requires room { length rules.old < MAX_RULES }
-    requires rule { kept_rule_of rule ≢ RuleOver.default }
+    requires rule { stored_rule_of rule ≢ RuleOver.default }
     ensures added { OnTrue result ((rule_in rules.old number ≡ RuleOver.default)
-        × (rules.new ≡ rule_list (changed_at (rule_in rules.old) number (kept_rule_of rule)))
+        × (rules.new ≡ rule_list (changed_at (rule_in rules.old) number (stored_rule_of rule)))
         × (length rules.new ≤ length rules.old + 1)) }
     ensures twice { OnFalse result (rule_in rules.old number ≢ RuleOver.default) }
 {
     match rules.register(number) {
-        KeptRule::Default => match rules.set(number, rule) {
+        StoredRule::Default => match rules.set(number, rule) {
             Ok(()) => true,
             Err(_) => unreachable!(),
         },
@@ -90,22 +90,22 @@ impl Abi {
         }
         let mut rules = RegisterRuleMap::new();
         for (place, number) in kept.iter().enumerate() {
-            if !add_abi_rule(&mut rules, *number, KeptRule::SameValue) {
+            if !add_abi_rule(&mut rules, *number, StoredRule::SameValue) {
                 return Err(abi_twice_at(place));
             }
         }
         let Some(number) = stack_pointer else {
             return Ok(Abi { rules });
         };
-        if !add_abi_rule(&mut rules, number, KeptRule::ValOffset(0)) {
+        if !add_abi_rule(&mut rules, number, StoredRule::ValOffset(0)) {
             return Err(abi_twice_at(kept.len()));
         }
         Ok(Abi { rules })
     }
 
     /// The rule that the ABI gives a register, or `Default` if the ABI doesn't name the register.
-    pub(crate) fn register(&self, number: u16) -> KeptRule
-        ensures { kept_rule_of result ≡ rule_of_role (roles_of self.now number) }
+    pub(crate) fn register(&self, number: u16) -> StoredRule
+        ensures { stored_rule_of result ≡ rule_of_role (roles_of self.now number) }
     {
         self.rules.register(number)
     }

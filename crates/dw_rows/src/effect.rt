@@ -5,7 +5,7 @@ ghost use Rattle.dw_frame.specs.Views.{cie_of, instruction_of};
 ghost use Rattle.dw_rows.specs.Effects.{effect_of};
 ghost use Rattle.dw_rows.specs.EffectViews.{effect_by};
 
-use crate::kept_rule::KeptRule;
+use crate::stored_rule::StoredRule;
 use dw_frame::{CallFrameInstruction, CommonInformationEntry};
 
 /// What an instruction does to the location, the rules and the remembered rules. Offsets and deltas
@@ -20,7 +20,7 @@ pub enum InstructionEffect {
     DefinesCfaExpression(u32),
     ChangesRegister(u16),
     ChangesOffset(i128),
-    Sets { register: u16, rule: KeptRule },
+    Sets { register: u16, rule: StoredRule },
     SetsOffset { register: u16, offset: i128 },
     SetsValOffset { register: u16, offset: i128 },
     Restores(u16),
@@ -100,15 +100,15 @@ pub fn instruction_effect(
         }
         CallFrameInstruction::Undefined { register } => InstructionEffect::Sets {
             register,
-            rule: KeptRule::Undefined,
+            rule: StoredRule::Undefined,
         },
         CallFrameInstruction::SameValue { register } => InstructionEffect::Sets {
             register,
-            rule: KeptRule::SameValue,
+            rule: StoredRule::SameValue,
         },
         CallFrameInstruction::Register { register, source } => InstructionEffect::Sets {
             register,
-            rule: KeptRule::Register(source),
+            rule: StoredRule::Register(source),
         },
         CallFrameInstruction::Offset {
             register,
@@ -150,14 +150,14 @@ pub fn instruction_effect(
             expression,
         } => InstructionEffect::Sets {
             register,
-            rule: KeptRule::Expression(expression.offset),
+            rule: StoredRule::Expression(expression.offset),
         },
         CallFrameInstruction::ValExpression {
             register,
             expression,
         } => InstructionEffect::Sets {
             register,
-            rule: KeptRule::ValExpression(expression.offset),
+            rule: StoredRule::ValExpression(expression.offset),
         },
         CallFrameInstruction::Restore { register } => InstructionEffect::Restores(register),
         CallFrameInstruction::RestoreExtended { register } => InstructionEffect::Restores(register),

@@ -5,11 +5,11 @@ ghost use Rattle.std.specs.Prelude.{◌≡◌, ◌<◌, ◌≤◌, [], ◌∷◌
 ghost use Rattle.std.specs.Bool.{OnTrue};
 ghost use Rattle.std.specs.Option.{option_map};
 ghost use Rattle.dw_rows.specs.Rules.{IsTable};
-ghost use Rattle.dw_rows.specs.Views.{kept_cfa_of, entries_of};
+ghost use Rattle.dw_rows.specs.Views.{stored_cfa_of, entries_of};
 
-use crate::kept_rule::KeptCfa;
-use crate::map::{MAX_RULES, RuleEntry, RuleKind};
+use crate::register_rules::{MAX_RULES, RuleEntry, RuleKind};
 use crate::rule_set::RuleSet;
+use crate::stored_rule::StoredCfa;
 use std::alloc::{AllocError, Global};
 use std::marker::Model;
 
@@ -17,7 +17,7 @@ use std::marker::Model;
 /// from index `start` up to but not including `end`.
 #[derive(Clone, Copy)]
 pub struct RuleSpan {
-    pub cfa: Option<KeptCfa>,
+    pub cfa: Option<StoredCfa>,
     pub start: usize,
     pub end: usize,
 }
@@ -33,13 +33,13 @@ pub struct InitialRules {
 
 impl Model for InitialRules {
     ghost use Rattle.std.specs.Prelude.{List};
-    ghost use Rattle.dw_rows.specs.RuleSet.{KeptRules};
+    ghost use Rattle.dw_rows.specs.RuleSet.{StoredRules};
 
-    ghost Value = { List KeptRules };
+    ghost Value = { List StoredRules };
 
-    ghost use Rattle.dw_rows.specs.Initial.{kept_in_spans, AreAllEntries};
+    ghost use Rattle.dw_rows.specs.Initial.{stored_in_spans, AreAllEntries};
 
-    ghost view = { λ r. kept_in_spans r.entries.items r.spans.items };
+    ghost view = { λ r. stored_in_spans r.entries.items r.spans.items };
 
     ghost invariant = { λ r. AreAllEntries r.entries.items r.spans.items };
 }
@@ -107,10 +107,10 @@ impl InitialRules {
     /// Borrows the rule set at index `place`: the CFA's rule, and the entries of the register
     /// rules.
     #[inline(always)]
-    pub fn lend(&self, place: usize) -> (Option<KeptCfa>, &[RuleEntry])
+    pub fn lend(&self, place: usize) -> (Option<StoredCfa>, &[RuleEntry])
         requires { place < length self.now }
         ensures rules { slice_get self.now place ≡ Some (record {
-          cfa = option_map kept_cfa_of result.0;
+          cfa = option_map stored_cfa_of result.0;
           rules = entries_of (result.1).now;
         }) }
         ensures few { length (result.1).now ≤ MAX_RULES }
@@ -131,22 +131,22 @@ impl InitialRules {
 }
 
 /// Whether both CFA rules are the same, or both are missing.
-fn same_cfa(one: Option<KeptCfa>, other: Option<KeptCfa>) -> bool
+fn same_cfa(one: Option<StoredCfa>, other: Option<StoredCfa>) -> bool
     ensures { OnTrue result (one ≡ other) }
 {
     match one {
         None => other.is_none(),
-        Some(KeptCfa::RegisterAndOffset { register, offset }) => match other {
+        Some(StoredCfa::RegisterAndOffset { register, offset }) => match other {
             Some(
-                KeptCfa::RegisterAndOffset {
+                StoredCfa::RegisterAndOffset {
                     register: other_register,
                     offset: other_offset,
                 },
             ) => register == other_register && offset == other_offset,
             _ => false,
         },
-        Some(KeptCfa::Expression(at)) => match other {
-            Some(KeptCfa::Expression(other_at)) => at == other_at,
+        Some(StoredCfa::Expression(at)) => match other {
+            Some(StoredCfa::Expression(other_at)) => at == other_at,
             _ => false,
         },
     }

@@ -16,7 +16,7 @@ ghost use Rattle.dw_frame.specs.Instructions.{Instruction};
 ghost use Rattle.dw_rows.specs.Effects.{Effect, restores_state, effect_of, is_barred};
 ghost use Rattle.dw_rows.specs.Expressions.{expression_in};
 ghost use Rattle.dw_rows.specs.InForce.{Start, location_of};
-ghost use Rattle.dw_rows.specs.Judgement.{cie_fault, fde_fault, refusal_at};
+ghost use Rattle.dw_rows.specs.ProgramFault.{cie_fault, fde_fault, refusal_at};
 ghost use Rattle.dw_rows.specs.UnwindRows.{rows_of, has_address, Cover};
 ghost use Rattle.dw_rows.specs.Good.{rule_after, cfa_after, Match, IsGoodCieProgram, IsGoodFdeProgram};
 ghost use Rattle.dw_rows.specs.Clauses.{AreRules, AreRowsOf};
@@ -30,7 +30,7 @@ ghost use Rattle.dw_rows.specs.ExactRows.{HasOneRow};
 ghost use Rattle.dw_rows.specs.Section.{FrameSection, Covers, rows_in, row_of, IsChecked, section_fault};
 ghost use Rattle.dw_rows.specs.WellFormed.{IsWellFormed};
 ghost use Rattle.dw_rows.specs.declared.abi.TheConstants.{MAX_KEPT};
-ghost use Rattle.dw_rows.specs.declared.map.TheConstants.{MAX_RULES};
+ghost use Rattle.dw_rows.specs.declared.register_rules.TheConstants.{MAX_RULES};
 ghost use Rattle.dw_rows.specs.declared.remember_stack.TheConstants.{MAX_REMEMBERED};
 
 /// The rules after the first k + 1 instructions (`rule_after` and `cfa_after`, Good.antt) follow
@@ -62,8 +62,8 @@ pub fn good_programs_have_no_fault()
 /// the last test, `TooManyRules`, can refuse the instruction. A CIE may contain the instruction. So
 /// checking its expression before all tests finds the same fault as checking it just before the
 /// last test.
-pub fn expressions_are_judged_in_their_place()
-    ensures behind { (s : Start) (before : List Effect) (cie : Cie) (i : Instruction)
+pub fn expressions_are_checked_in_their_place()
+    ensures past { (s : Start) (before : List Effect) (cie : Cie) (i : Instruction)
         (e : LocatedExpression) → expression_in i ≡ Some e → location_of s before ≤ s.end
         → (refusal_at s before (effect_of cie i) ≡ None)
         ⊎ (refusal_at s before (effect_of cie i) ≡ Some FaultKind.TooManyRules) }

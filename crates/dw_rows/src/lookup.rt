@@ -3,15 +3,15 @@
 ghost use Rattle.std.specs.Prelude.{◌≡◌, ◌+◌, ◌<◌, ◌≤◌, List, ◌∷◌, Some, find, map};
 ghost use Rattle.std.specs.Bool.{OnTrue, OnFalse};
 ghost use Rattle.dw_frame.specs.Views.{cie_of, fde_of};
-ghost use Rattle.dw_rows.specs.Judgement.{fde_fault};
+ghost use Rattle.dw_rows.specs.ProgramFault.{fde_fault};
 ghost use Rattle.dw_rows.specs.UnwindRows.{rows_of, has_address};
 ghost use Rattle.dw_rows.specs.ProgramState.{IsLeftBy};
-ghost use Rattle.dw_rows.specs.RuleSet.{KeptRules};
-ghost use Rattle.dw_rows.specs.RowCursors.{cursor_at, above, Seeks, GoesBehind, Lends};
+ghost use Rattle.dw_rows.specs.RuleSet.{StoredRules};
+ghost use Rattle.dw_rows.specs.RowCursors.{cursor_at, above, Seeks, GoesPast, Lends};
 ghost use Rattle.dw_rows.specs.GivenRows.{given_row};
 ghost use Rattle.dw_rows.specs.LentExpressions.{lent_by};
 
-use crate::expressions::LentExpressions;
+use crate::lent_expressions::LentExpressions;
 use crate::row::UnwindTableRow;
 use crate::row_cursor::{Next, begin_rows_at, next_plain};
 use crate::unwind_state::UnwindState;
@@ -83,13 +83,13 @@ fn write_row_in_bracket<'f, 'a>(
     requires fde { fde_fault (cie_of cie.now) (fde_of fde.now) ≡ None }
     requires low { fde.now.initial_location ≤ address }
     requires high { address < fde.now.initial_location + fde.now.address_range }
-    requires seeks { (ks : List KeptRules) × Seeks (cie_of cie.now) (fde_of fde.now) address
+    requires seeks { (ks : List StoredRules) × Seeks (cie_of cie.now) (fde_of fde.now) address
         (above (state.old.current ∷ ks)
         (cursor_at (cie_of cie.now) (fde.now.initial_location + fde.now.address_range) state.old instructions.old)) }
     ensures found { OnTrue result (find (has_address address)
         (map (given_row (lent_by expressions.entry)) (rows_of (cie_of cie.now) (fde_of fde.now)))
         ≡ Some row.new) }
-    ensures behind { OnFalse result (GoesBehind (cie_of cie.now) (fde_of fde.now) address
+    ensures past { OnFalse result (GoesPast (cie_of cie.now) (fde_of fde.now) address
         (cursor_at (cie_of cie.now) (fde.now.initial_location + fde.now.address_range) state.old instructions.old)
         (cursor_at (cie_of cie.now) (fde.now.initial_location + fde.now.address_range) state.new instructions.new)) }
 {

@@ -9,8 +9,8 @@ ghost use Rattle.dw_rows.specs.UnwindTables.{has, fde_bytes, all_rows_bytes};
 ghost use Rattle.dw_rows.specs.CompiledTable.{IsPushed, IsTableUpTo, IsClosedAt, IsBegunAt, IsFilled, ArePlacedRows, AreEntries, rows_to};
 ghost use Rattle.dw_rows.specs.CompiledTable.{LendsFound, given_found, LacksRoom, entry_bytes, stored_bytes};
 
-use crate::expressions::LentExpressions;
-use crate::frame::CheckedFrame;
+use crate::checked_frame::CheckedFrame;
+use crate::lent_expressions::LentExpressions;
 use crate::room::{Unmade, less_room};
 use crate::row_cursor::{begin_rows, next_range};
 use crate::rule_numbers::RuleNumbers;

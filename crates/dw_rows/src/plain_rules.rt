@@ -5,7 +5,7 @@ ghost use Rattle.std.specs.Bool.{OnTrue};
 ghost use Rattle.dw_rows.specs.SavedRules.{ArePlain, as_saved};
 ghost use Rattle.dw_rows.specs.Views.{entries_of};
 
-use crate::map::{RuleEntry, RuleKind};
+use crate::register_rules::{RuleEntry, RuleKind};
 use std::marker::Model;
 
 /// The rules of a row that only says where registers are saved, as pairs of a register and the

@@ -20,9 +20,9 @@ pub struct RememberStack {
 
 impl Model for RememberStack {
     ghost use Rattle.std.specs.Prelude.{List};
-    ghost use Rattle.dw_rows.specs.RuleSet.{KeptRules};
+    ghost use Rattle.dw_rows.specs.RuleSet.{StoredRules};
 
-    ghost Value = { List KeptRules };
+    ghost Value = { List StoredRules };
 
     ghost use Rattle.dw_rows.specs.RememberStack.{kept_in, IsStack};
 

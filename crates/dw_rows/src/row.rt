@@ -5,7 +5,7 @@ ghost use Rattle.dw_rows.specs.Abi.{or_rule, rule_under, rules_under};
 ghost use Rattle.dw_rows.specs.AbiViews.{roles_of};
 ghost use Rattle.dw_rows.specs.FirstEntry.{rules_of_either, IsLowest};
 ghost use Rattle.dw_rows.specs.Rules.{CfaOver, IsTable, RuleOver, rule_in};
-ghost use Rattle.dw_rows.specs.Views.{rule_of, cfa_rule_of, entry_of, entries_of, kept_rule_of, kept_cfa_of};
+ghost use Rattle.dw_rows.specs.Views.{rule_of, cfa_rule_of, entry_of, entries_of, stored_rule_of, stored_cfa_of};
 ghost use Rattle.dw_rows.specs.Expressions.{expression_at};
 ghost use Rattle.dw_rows.specs.GivenRows.{given_row, given_rule, given_cfa, located_at, LendsRule, LendsCfa, LendsEach, IsRuleOfKind};
 ghost use Rattle.dw_rows.specs.GivenRows.{IsCfaOfKind, IsEntryOfKind};
@@ -13,9 +13,9 @@ ghost use Rattle.dw_rows.specs.LentExpressions.{lent_by};
 ghost use Rattle.dw_stack.specs.Located.{LocatedExpression, located_of};
 
 use crate::abi::Abi;
-use crate::expressions::LentExpressions;
-use crate::kept_rule::{KeptCfa, KeptRule};
-use crate::map::{MAX_RULES, RegisterRuleMap, RuleEntry, rule_of_entry};
+use crate::lent_expressions::LentExpressions;
+use crate::register_rules::{MAX_RULES, RegisterRuleMap, RuleEntry, rule_of_entry};
+use crate::stored_rule::{StoredCfa, StoredRule};
 use crate::unwind_row::UnwindRow;
 use dw_stack::CheckedExpression;
 use std::cmp::Ordering;
@@ -79,24 +79,24 @@ pub enum CfaRule<'a> {
 /// expression itself.
 #[inline(always)]
 pub(crate) fn given_rule<'a>(
-    rule: KeptRule,
+    rule: StoredRule,
     expressions: &LentExpressions<'_, 'a>,
 ) -> RegisterRule<'a>
-    requires { LendsRule (lent_by expressions.now) (kept_rule_of rule) }
-    ensures { rule_of result ≡ given_rule (lent_by expressions.now) (kept_rule_of rule) }
+    requires { LendsRule (lent_by expressions.now) (stored_rule_of rule) }
+    ensures { rule_of result ≡ given_rule (lent_by expressions.now) (stored_rule_of rule) }
 {
     match rule {
-        KeptRule::Default => RegisterRule::Default,
-        KeptRule::Undefined => RegisterRule::Undefined,
-        KeptRule::SameValue => RegisterRule::SameValue,
-        KeptRule::Offset(offset) => RegisterRule::Offset(offset),
-        KeptRule::ValOffset(offset) => RegisterRule::ValOffset(offset),
-        KeptRule::Register(register) => RegisterRule::Register(register),
-        KeptRule::Expression(offset) => RegisterRule::Expression {
+        StoredRule::Default => RegisterRule::Default,
+        StoredRule::Undefined => RegisterRule::Undefined,
+        StoredRule::SameValue => RegisterRule::SameValue,
+        StoredRule::Offset(offset) => RegisterRule::Offset(offset),
+        StoredRule::ValOffset(offset) => RegisterRule::ValOffset(offset),
+        StoredRule::Register(register) => RegisterRule::Register(register),
+        StoredRule::Expression(offset) => RegisterRule::Expression {
             offset,
             expression: given_expression(offset, *expressions),
         },
-        KeptRule::ValExpression(offset) => RegisterRule::ValExpression {
+        StoredRule::ValExpression(offset) => RegisterRule::ValExpression {
             offset,
             expression: given_expression(offset, *expressions),
         },
@@ -106,15 +106,15 @@ pub(crate) fn given_rule<'a>(
 /// Turns a stored CFA rule into a public one: an expression's offset is replaced by the expression
 /// itself.
 #[inline(always)]
-pub(crate) fn given_cfa<'a>(cfa: KeptCfa, expressions: &LentExpressions<'_, 'a>) -> CfaRule<'a>
-    requires { LendsCfa (lent_by expressions.now) (kept_cfa_of cfa) }
-    ensures { cfa_rule_of result ≡ given_cfa (lent_by expressions.now) (kept_cfa_of cfa) }
+pub(crate) fn given_cfa<'a>(cfa: StoredCfa, expressions: &LentExpressions<'_, 'a>) -> CfaRule<'a>
+    requires { LendsCfa (lent_by expressions.now) (stored_cfa_of cfa) }
+    ensures { cfa_rule_of result ≡ given_cfa (lent_by expressions.now) (stored_cfa_of cfa) }
 {
     match cfa {
-        KeptCfa::RegisterAndOffset { register, offset } => {
+        StoredCfa::RegisterAndOffset { register, offset } => {
             CfaRule::RegisterAndOffset { register, offset }
         }
-        KeptCfa::Expression(offset) => CfaRule::Expression {
+        StoredCfa::Expression(offset) => CfaRule::Expression {
             offset,
             expression: given_expression(offset, *expressions),
         },
@@ -142,7 +142,7 @@ fn given_expression<'a>(offset: u32, expressions: LentExpressions<'_, 'a>) -> Ch
 pub struct UnwindTableRow<'f, 'a> {
     start: u64,
     end: u64,
-    cfa: KeptCfa,
+    cfa: StoredCfa,
     rules: RegisterRuleMap,
     expressions: LentExpressions<'f, 'a>,
 }
@@ -153,18 +153,18 @@ impl<'f, 'a> Model for UnwindTableRow<'f, 'a> {
 
     ghost Value = { Row };
 
-    ghost use Rattle.dw_rows.specs.Views.{kept_cfa_of};
+    ghost use Rattle.dw_rows.specs.Views.{stored_cfa_of};
     ghost use Rattle.dw_rows.specs.GivenRows.{given_row, LendsCfa, LendsEach};
     ghost use Rattle.dw_rows.specs.LentExpressions.{lent_by};
 
     ghost view = { λ row. given_row (lent_by row.expressions) (record {
       start = row.start;
       end = row.end;
-      cfa = Some (kept_cfa_of row.cfa);
+      cfa = Some (stored_cfa_of row.cfa);
       rules = row.rules;
     }) };
 
-    ghost invariant = { λ row. LendsCfa (lent_by row.expressions) (kept_cfa_of row.cfa)
+    ghost invariant = { λ row. LendsCfa (lent_by row.expressions) (stored_cfa_of row.cfa)
         × LendsEach (lent_by row.expressions) row.rules };
 }
 
@@ -183,7 +183,7 @@ impl<'f, 'a> UnwindTableRow<'f, 'a> {
         UnwindTableRow {
             start: 0,
             end: 0,
-            cfa: KeptCfa::RegisterAndOffset {
+            cfa: StoredCfa::RegisterAndOffset {
                 register: 0,
                 offset: 0,
             },
@@ -198,16 +198,16 @@ impl<'f, 'a> UnwindTableRow<'f, 'a> {
         &mut self,
         start: u64,
         end: u64,
-        cfa: KeptCfa,
+        cfa: StoredCfa,
         rules: &RegisterRuleMap,
         expressions: LentExpressions<'f, 'a>,
     )
-        requires cfa { LendsCfa (lent_by expressions) (kept_cfa_of cfa) }
+        requires cfa { LendsCfa (lent_by expressions) (stored_cfa_of cfa) }
         requires rules { LendsEach (lent_by expressions) rules.now }
         ensures { self.new ≡ given_row (lent_by expressions.entry) (record {
           start = start;
           end = end;
-          cfa = Some (kept_cfa_of cfa);
+          cfa = Some (stored_cfa_of cfa);
           rules = rules.now;
         }) }
     {

@@ -2,11 +2,11 @@
 
 ghost use Rattle.std.specs.Prelude.{◌≡◌, None};
 ghost use Rattle.dw_frame.specs.Views.{cie_of, fde_of};
-ghost use Rattle.dw_rows.specs.Judgement.{cie_fault, fde_fault};
+ghost use Rattle.dw_rows.specs.ProgramFault.{cie_fault, fde_fault};
 ghost use Rattle.dw_rows.specs.UnwindRows.{rows_of};
 
-use crate::expressions::LentExpressions;
-use crate::frame::CheckedFrame;
+use crate::checked_frame::CheckedFrame;
+use crate::lent_expressions::LentExpressions;
 use crate::row::UnwindTableRow;
 use crate::row_cursor::{begin_rows, begin_rows_at, next_range};
 use crate::unwind_context::UnwindContext;
@@ -53,7 +53,7 @@ impl<'f, 'a> Rows<'f, 'a> {
     ghost use Rattle.std.specs.Prelude.{◌≡◌, None, Some, [], ◌∷◌, Contains};
     ghost use Rattle.std.specs.Bool.{OnTrue, OnFalse};
     ghost use Rattle.dw_frame.specs.Views.{cie_of, fde_of};
-    ghost use Rattle.dw_rows.specs.Judgement.{cie_fault, fde_fault};
+    ghost use Rattle.dw_rows.specs.ProgramFault.{cie_fault, fde_fault};
     ghost use Rattle.dw_rows.specs.UnwindRows.{rows_of};
     ghost use Rattle.dw_rows.specs.Section.{cie_in, rows_in};
 

@@ -1,33 +1,33 @@
 //! The rules of a row: the CFA's rule, and the rules of registers.
 
-use crate::kept_rule::{KeptCfa, KeptRule};
-use crate::map::{MAX_RULES, RegisterRuleMap, RuleEntry};
+use crate::register_rules::{MAX_RULES, RegisterRuleMap, RuleEntry};
+use crate::stored_rule::{StoredCfa, StoredRule};
 use dw_bytes::FaultKind;
 use std::marker::Model;
 
 /// The rules of a row: the CFA's rule, if there is one, and the rules of registers.
 #[derive(Drop)]
 pub struct RuleSet {
-    cfa: Option<KeptCfa>,
+    cfa: Option<StoredCfa>,
     rules: RegisterRuleMap,
 }
 
 impl Model for RuleSet {
-    ghost use Rattle.dw_rows.specs.RuleSet.{KeptRules};
+    ghost use Rattle.dw_rows.specs.RuleSet.{StoredRules};
 
-    ghost Value = { KeptRules };
+    ghost Value = { StoredRules };
 
     ghost use Rattle.std.specs.Option.{option_map};
-    ghost use Rattle.dw_rows.specs.Views.{kept_cfa_of};
+    ghost use Rattle.dw_rows.specs.Views.{stored_cfa_of};
 
-    ghost view = { λ r. record { cfa = option_map kept_cfa_of r.cfa; rules = r.rules } };
+    ghost view = { λ r. record { cfa = option_map stored_cfa_of r.cfa; rules = r.rules } };
 }
 
 impl RuleSet {
     ghost use Rattle.std.specs.Prelude.{◌≡◌, ◌≤◌, None, Some, [], length};
     ghost use Rattle.std.specs.Option.{option_map};
     ghost use Rattle.dw_rows.specs.Rules.{IsTable, rule_in};
-    ghost use Rattle.dw_rows.specs.Views.{kept_rule_of, kept_cfa_of, entries_of};
+    ghost use Rattle.dw_rows.specs.Views.{stored_rule_of, stored_cfa_of, entries_of};
     ghost use Rattle.dw_rows.specs.ProgramState.{Sets};
 
     /// No rules: the CFA has none, and each register has `Default`.
@@ -68,11 +68,11 @@ impl RuleSet {
     }
 
     /// Replaces the CFA's rule by `cfa`, and the register rules by the rules in `entries`.
-    pub fn assign(&mut self, cfa: Option<KeptCfa>, entries: &[RuleEntry])
+    pub fn assign(&mut self, cfa: Option<StoredCfa>, entries: &[RuleEntry])
         requires few { length entries.now ≤ MAX_RULES }
         requires table { IsTable 0 (entries_of entries.now) }
         ensures { self.new ≡ record {
-          cfa = option_map kept_cfa_of cfa;
+          cfa = option_map stored_cfa_of cfa;
           rules = entries_of entries.now;
         } }
     {
@@ -82,16 +82,16 @@ impl RuleSet {
 
     /// The CFA's rule, if it has one.
     #[inline(always)]
-    pub fn cfa(&self) -> Option<KeptCfa>
-        ensures { self.now.cfa ≡ option_map kept_cfa_of result }
+    pub fn cfa(&self) -> Option<StoredCfa>
+        ensures { self.now.cfa ≡ option_map stored_cfa_of result }
     {
         self.cfa
     }
 
     /// Gives the CFA a rule.
     #[inline(always)]
-    pub fn set_cfa(&mut self, cfa: KeptCfa)
-        ensures { self.new ≡ record { cfa = Some (kept_cfa_of cfa); rules = self.old.rules } }
+    pub fn set_cfa(&mut self, cfa: StoredCfa)
+        ensures { self.new ≡ record { cfa = Some (stored_cfa_of cfa); rules = self.old.rules } }
     {
         self.cfa = Some(cfa);
     }
@@ -106,8 +106,8 @@ impl RuleSet {
 
     /// The rule of a register, or `Default` if none is in force.
     #[inline(always)]
-    pub fn register(&self, number: u16) -> KeptRule
-        ensures { kept_rule_of result ≡ rule_in self.now.rules number }
+    pub fn register(&self, number: u16) -> StoredRule
+        ensures { stored_rule_of result ≡ rule_in self.now.rules number }
     {
         self.rules.register(number)
     }
@@ -115,8 +115,8 @@ impl RuleSet {
     /// Gives a register a rule. If more than `MAX_RULES` registers would then have a rule, this is
     /// refused with `TooManyRules`.
     #[inline(always)]
-    pub fn set(&mut self, register: u16, rule: KeptRule) -> Result<(), FaultKind>
-        ensures { Sets self.old register (kept_rule_of rule) result self.new }
+    pub fn set(&mut self, register: u16, rule: StoredRule) -> Result<(), FaultKind>
+        ensures { Sets self.old register (stored_rule_of rule) result self.new }
     {
         self.rules.set(register, rule)
     }

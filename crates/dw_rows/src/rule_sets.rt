@@ -4,12 +4,12 @@ ghost use Rattle.std.specs.Prelude.{◌≡◌, ◌<◌, ◌≤◌, [], ◌∷◌
 ghost use Rattle.std.specs.Bool.{OnTrue};
 ghost use Rattle.std.specs.Option.{option_map};
 ghost use Rattle.dw_rows.specs.Rules.{IsTable};
-ghost use Rattle.dw_rows.specs.Views.{kept_cfa_of, entries_of};
+ghost use Rattle.dw_rows.specs.Views.{stored_cfa_of, entries_of};
 
 use crate::initial_rules::InitialRules;
-use crate::kept_rule::KeptCfa;
-use crate::map::{MAX_RULES, RuleEntry};
+use crate::register_rules::{MAX_RULES, RuleEntry};
 use crate::rule_set::RuleSet;
+use crate::stored_rule::StoredCfa;
 use std::alloc::{AllocError, Global};
 use std::marker::Model;
 
@@ -23,9 +23,9 @@ pub struct RuleSets {
 
 impl Model for RuleSets {
     ghost use Rattle.std.specs.Prelude.{◌≡◌, List, length};
-    ghost use Rattle.dw_rows.specs.CompiledTable.{KeptSet, zipped};
+    ghost use Rattle.dw_rows.specs.CompiledTable.{StoredSet, zipped};
 
-    ghost Value = { List KeptSet };
+    ghost Value = { List StoredSet };
 
     ghost view = { λ s. zipped s.rules s.registers.items };
 
@@ -80,11 +80,11 @@ impl RuleSets {
     /// Borrows the rule set at index `place`: the CFA's rule, the entries of the register rules,
     /// and the return address register.
     #[inline(always)]
-    pub fn lend(&self, place: usize) -> (Option<KeptCfa>, &[RuleEntry], u16)
+    pub fn lend(&self, place: usize) -> (Option<StoredCfa>, &[RuleEntry], u16)
         requires { place < length self.now }
         ensures rules { slice_get self.now place ≡ Some (record {
           rules = record {
-            cfa = option_map kept_cfa_of result.0;
+            cfa = option_map stored_cfa_of result.0;
             rules = entries_of (result.1).now;
           };
           register = result.2;

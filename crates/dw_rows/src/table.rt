@@ -7,8 +7,8 @@ ghost use Rattle.std.specs.List.{sum_by};
 ghost use Rattle.dw_rows.specs.UnwindTables.{row_at, expression_bytes, table_bytes, IsTableOf, IsRowUnder};
 ghost use Rattle.dw_rows.specs.CompiledTable.{LacksRoom};
 
-use crate::expressions::LentExpressions;
-use crate::frame::CheckedFrame;
+use crate::checked_frame::CheckedFrame;
+use crate::lent_expressions::LentExpressions;
 use crate::owned_expressions::OwnedExpressions;
 use crate::placed_table::PlacedTable;
 use crate::room::Unmade;

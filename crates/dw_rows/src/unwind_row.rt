@@ -5,17 +5,17 @@ ghost use Rattle.dw_rows.specs.Abi.{or_rule, rule_under, rules_under};
 ghost use Rattle.dw_rows.specs.AbiViews.{roles_of};
 ghost use Rattle.dw_rows.specs.Rules.{IsTable, RuleOver, rule_in};
 ghost use Rattle.dw_rows.specs.SavedRules.{as_saved};
-ghost use Rattle.dw_rows.specs.Views.{rule_of, cfa_rule_of, entries_of, kept_cfa_of};
+ghost use Rattle.dw_rows.specs.Views.{rule_of, cfa_rule_of, entries_of, stored_cfa_of};
 ghost use Rattle.dw_rows.specs.GivenRows.{given_row, LendsCfa, LendsEach, IsRuleOfKind};
 ghost use Rattle.dw_rows.specs.GivenRows.{IsCfaOfKind, IsEntryOfKind};
 ghost use Rattle.dw_rows.specs.LentExpressions.{lent_by};
 
 use crate::abi::Abi;
-use crate::expressions::LentExpressions;
-use crate::kept_rule::{KeptCfa, KeptRule};
-use crate::map::{MAX_RULES, RuleEntry, rule_of_register};
+use crate::lent_expressions::LentExpressions;
 use crate::plain_rules::PlainRules;
+use crate::register_rules::{MAX_RULES, RuleEntry, rule_of_register};
 use crate::row::{CfaRule, RegisterRule, RegisterRules, given_cfa, given_rule};
+use crate::stored_rule::{StoredCfa, StoredRule};
 use std::marker::Model;
 
 /// A row of the unwind table (DWARF 5, section 6.4.1): the addresses from `start` up to but not
@@ -34,7 +34,7 @@ use std::marker::Model;
 pub struct UnwindRow<'t, 'a> {
     start: u64,
     end: u64,
-    cfa: KeptCfa,
+    cfa: StoredCfa,
     rules: &'t [RuleEntry],
     expressions: LentExpressions<'t, 'a>,
 }
@@ -45,19 +45,19 @@ impl<'t, 'a> Model for UnwindRow<'t, 'a> {
 
     ghost Value = { Row };
 
-    ghost use Rattle.dw_rows.specs.declared.map.TheConstants.{MAX_RULES};
-    ghost use Rattle.dw_rows.specs.Views.{kept_cfa_of, entries_of};
+    ghost use Rattle.dw_rows.specs.declared.register_rules.TheConstants.{MAX_RULES};
+    ghost use Rattle.dw_rows.specs.Views.{stored_cfa_of, entries_of};
     ghost use Rattle.dw_rows.specs.GivenRows.{given_row, LendsCfa, LendsEach};
     ghost use Rattle.dw_rows.specs.LentExpressions.{lent_by};
 
     ghost view = { λ row. given_row (lent_by row.expressions) (record {
       start = row.start;
       end = row.end;
-      cfa = Some (kept_cfa_of row.cfa);
+      cfa = Some (stored_cfa_of row.cfa);
       rules = entries_of row.rules.now;
     }) };
 
-    ghost invariant = { λ row. LendsCfa (lent_by row.expressions) (kept_cfa_of row.cfa)
+    ghost invariant = { λ row. LendsCfa (lent_by row.expressions) (stored_cfa_of row.cfa)
         × LendsEach (lent_by row.expressions) (entries_of row.rules.now)
         × IsTable 0 (entries_of row.rules.now)
         × (length row.rules.now ≤ MAX_RULES) };
@@ -69,18 +69,18 @@ impl<'t, 'a> UnwindRow<'t, 'a> {
     pub(crate) fn new(
         start: u64,
         end: u64,
-        cfa: KeptCfa,
+        cfa: StoredCfa,
         rules: &'t [RuleEntry],
         expressions: LentExpressions<'t, 'a>,
     ) -> Self
-        requires cfa { LendsCfa (lent_by expressions) (kept_cfa_of cfa) }
+        requires cfa { LendsCfa (lent_by expressions) (stored_cfa_of cfa) }
         requires rules { LendsEach (lent_by expressions) (entries_of rules.now) }
         requires table { IsTable 0 (entries_of rules.now) }
         requires few { length rules.now ≤ MAX_RULES }
         ensures { result ≡ given_row (lent_by expressions.entry) (record {
           start = start;
           end = end;
-          cfa = Some (kept_cfa_of cfa);
+          cfa = Some (stored_cfa_of cfa);
           rules = entries_of rules.now;
         }) }
     {
@@ -162,7 +162,7 @@ impl<'t, 'a> UnwindRow<'t, 'a> {
     {
         match self.register(number) {
             RegisterRule::Default => match abi.register(number) {
-                KeptRule::Default => RegisterRule::Undefined,
+                StoredRule::Default => RegisterRule::Undefined,
                 rule => given_rule(rule, &self.expressions),
             },
             rule => rule,

@@ -5,7 +5,7 @@ ghost use Rattle.dw_bytes.specs.declared.target.Target.{Target as OfTarget};
 ghost use Rattle.dw_rows.specs.Rules.{Row};
 ghost use Rattle.dw_rows.specs.UnwindTables.{IsFoundAt, IsRowUnder, row_at};
 
-use crate::frame::CheckedFrame;
+use crate::checked_frame::CheckedFrame;
 use crate::row::UnwindTableRow;
 use crate::table::UnwindTable;
 use crate::unwind_row::UnwindRow;

@@ -2,7 +2,7 @@
 //! that were checked together.
 
 ghost use Rattle.std.specs.Prelude.{◌≡◌, ◌<◌, ◌^◌, All, IfErr, IfOk, IfSome, IsOk, option_map};
-ghost use Rattle.dw_bytes.specs.Answers.{memory as want_of_memory};
+ghost use Rattle.dw_bytes.specs.Answers.{memory as out_of_memory};
 ghost use Rattle.dw_eval.specs.Numbers.{width_of};
 ghost use Rattle.dw_rows.specs.Abi.{no_abi};
 ghost use Rattle.dw_rows.specs.AbiViews.{roles_of};
@@ -82,7 +82,7 @@ pub fn backtrace<R: Registers, M: Memory>(
         Walks (over_section checked.now.frame (roles_of abi.now) (M.bytes memory.now))
         (first_place address (R.contents registers.now)) limit
         (frames_in walk.frames.items) walk.stop) }
-    ensures lacks { IfErr result (λ fault. fault ≡ want_of_memory) }
+    ensures lacks { IfErr result (λ fault. fault ≡ out_of_memory) }
     ensures none { limit ≡ 0 → IsOk result }
 
     // All numbers in the result are below 2^w, where w is the size of an address in bits, if the

@@ -23,7 +23,7 @@ stands_from : (target : Target) (bytes : List ℕ) (at : ℕ) (rest : List ℕ) 
 stands_from target bytes at rest [] are here k x is = absurd (cc)
 stands_from target bytes at rest (y ∷ ops) (first, others, parts, encoded, tail) here zero x is =
     let same : y ≡ x = same_Some y x is in
-    let behind : others ≡ drop (at + length first) bytes = sym (drop-append_seam first others)
+    let past : others ≡ drop (at + length first) bytes = sym (drop-append_seam first others)
     ∙ (ap (drop (length first)) (sym parts ∙ here) ∙ drop-drop (length first) at bytes) in
     let exact = (exact-operation (reading target at rest)).only y.1 (reading target (at + length first) others)
     (record { bytes = first; encoded = encoded.1; parts = parts; position = refl; target = refl }) in
@@ -33,13 +33,13 @@ stands_from target bytes at rest (y ∷ ops) (first, others, parts, encoded, tai
     let from : reading_at target bytes x.0 ≡ reading target at rest = ap (λ (p : Placed). reading_at target bytes p.0) (sym same)
     ∙ (ap (reading_at target bytes) encoded.0 ∙ ap (reading target at) (sym here)) in
     let to : reading target (at + length first) others ≡ reading_at target bytes (place ops (at + length rest) 0) =
-    ap (reading target (at + length first)) behind ∙ ap (reading_at target bytes) (sym next) in
+    ap (reading target (at + length first)) past ∙ ap (reading_at target bytes) (sym next) in
     ap operation_at from ∙ (exact ∙ (ap (λ (r : ReadPosition). Ok (y.1, r)) to
     ∙ ap (λ (p : Placed). Ok (p.1, reading_at target bytes (place ops (at + length rest) 0))) same))
 stands_from target bytes at rest (y ∷ ops) (first, others, parts, encoded, tail) here (suc k) x is =
-    let behind : others ≡ drop (at + length first) bytes = sym (drop-append_seam first others)
+    let past : others ≡ drop (at + length first) bytes = sym (drop-append_seam first others)
     ∙ (ap (drop (length first)) (sym parts ∙ here) ∙ drop-drop (length first) at bytes) in
-    let later = stands_from target bytes (at + length first) others ops tail behind k x is in
+    let later = stands_from target bytes (at + length first) others ops tail past k x is in
     let long : at + length first + length others ≡ at + length rest = omega (arith, ap length parts, length-append first others) in
     subst (λ (n : ℕ). operation_at (reading_at target bytes x.0) ≡ Ok (x.1, reading_at target bytes (place ops n (suc k)))) long later
 

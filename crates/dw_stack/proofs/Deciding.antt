@@ -15,7 +15,7 @@ use Rattle.dw_bytes.specs.declared.fault.Fault.{Fault}
 use Rattle.dw_bytes.specs.declared.fault.FaultKind.{FaultKind}
 use Rattle.dw_bytes.specs.declared.fault.FaultKind.TheVariants as fault
 use Rattle.dw_stack.specs.declared.effect.StackEffect.{StackEffect}
-use Rattle.dw_stack.specs.declared.judge.OutState.{OutState}
+use Rattle.dw_stack.specs.declared.operation_check.OutState.{OutState}
 use Rattle.dw_stack.specs.declared.state.State.{State}
 use Rattle.dw_stack.specs.declared.state.StackState.{StackState}
 use Rattle.dw_stack.specs.declared.state.Kind.{Kind}
@@ -25,8 +25,8 @@ use Rattle.dw_stack.specs.declared.in_state.InState.TheVariants.{Unreached, Know
 use Rattle.dw_stack.specs.Effects.{effect_of}
 use Rattle.dw_stack.specs.States.{start_of, height_after, next_mode, has_result, HasResult, at_offset}
 use Rattle.dw_stack.specs.Paths.{Placed, place, jump_target, IsLaidOut, is_piece, pieces_before, IsGood, AreStates, IsDepth}
-use Rattle.dw_stack.specs.Faults.{Given, judgements, is_ahead, is_start, passes, first_failed, IsFirstFault, KnowsOnly}
-use Rattle.dw_stack.specs.Judge.{IsEffectAt, TargetIs, Judged, Objects}
+use Rattle.dw_stack.specs.Faults.{Given, verdicts, is_ahead, is_start, passes, first_failed, IsFirstFault, KnowsOnly}
+use Rattle.dw_stack.specs.OperationCheck.{IsEffectAt, TargetIs, Checked, Objects}
 use Rattle.dw_stack.specs.InStates.{Merges, Receives, ReceivesIf, ReceivesAt, PassesOn, Stepped}
 use Rattle.dw_stack.specs.Expressions.{operations_in, reading_fault, IsGoodExpression, IsFaultOf}
 use Rattle.dw_stack.specs.FirstFault.{states_to, same_state, Question, else_fault, first_no, asked_at, asked_of, asked_last, asked_from}
@@ -34,7 +34,7 @@ use Rattle.dw_stack.specs.FirstFault.{first_fault, expression_fault}
 use Rattle.dw_stack.proofs.Places.{place_of_some, later_place}
 use Rattle.dw_stack.proofs.Routes.{Comes}
 use Rattle.dw_stack.proofs.Describes.{Describes}
-use Rattle.dw_stack.proofs.Judging.{all_passed, judged}
+use Rattle.dw_stack.proofs.Checking.{all_passed, checked}
 use Rattle.dw_stack.proofs.Walks.{Walked, walked_start, walked_step}
 use Rattle.dw_stack.proofs.Verdicts.{step_fault, objects_fault, end_not_nothing, end_mismatch, end_empty, end_good, end_given, end_states}
 use Rattle.dw_stack.proofs.Verdicts.{end_depth}
@@ -186,7 +186,7 @@ module _ (kind : Kind) (ops : List Placed) (len : ℕ) (laid : IsLaidOut ops len
 
   abbrev Asked : ℕ → Placed → StackState → Type 0
   Asked k x s = ((first_no (asked_at kind ops len k (effect_of x.1) s x.0) ≡ None) × (out : OutState)
-      × Judged kind ops len k (pieces_before ops k) s out)
+      × Checked kind ops len k (pieces_before ops k) s out)
       ⊎ ((f : FaultKind) × (first_no (asked_at kind ops len k (effect_of x.1) s x.0) ≡ Some (fault_of f x.0))
       × Objects kind ops len k (pieces_before ops k) s f)
 
@@ -200,16 +200,16 @@ module _ (kind : Kind) (ops : List Placed) (len : ℕ) (laid : IsLaidOut ops len
     at : IsEffectAt ops k (effect_of x.1)
     at = record { placed = x; stands = stands; is = refl }
 
-    abbrev judged_by : FaultKind → Bool
-    judged_by = passes kind ops len k n e s
+    abbrev checked_by : FaultKind → Bool
+    checked_by = passes kind ops len k n e s
 
-    questions : first_no (asked_at kind ops len k e s x.0) ≡ option_map (λ f. fault_of f x.0) (first_failed judged_by)
-    questions = first_no-map judged_by x.0 judgements
+    questions : first_no (asked_at kind ops len k e s x.0) ≡ option_map (λ f. fault_of f x.0) (first_failed checked_by)
+    questions = first_no-map checked_by x.0 verdicts
 
     asked : Asked k x s
-    asked = by (first_failed judged_by) refl
+    asked = by (first_failed checked_by) refl
       where
-        by : (o : Option FaultKind) → first_failed judged_by ≡ o → Asked k x s
+        by : (o : Option FaultKind) → first_failed checked_by ≡ o → Asked k x s
         by (Some f) is = inr (f, questions ∙ ap (option_map (λ g. fault_of g x.0)) is, record { placed = x; stands = stands; first = is })
         by None is =
             let all = all_passed kind ops len k n s e is in
@@ -225,7 +225,7 @@ module _ (kind : Kind) (ops : List Placed) (len : ℕ) (laid : IsLaidOut ops len
             inl (
               questions ∙ ap (option_map (λ g. fault_of g x.0)) is,
               out,
-              judged kind ops len k n s e at height all.0 target.0 out target.1 refl refl refl refl refl,
+              checked kind ops len k n s e at height all.0 target.0 out target.1 refl refl refl refl refl,
             )
 
   module _ (given : Option (List State)) where
@@ -389,7 +389,7 @@ module _ (kind : Kind) (ops : List Placed) (len : ℕ) (laid : IsLaidOut ops len
                             out = out;
                             one = one;
                             given_is = known;
-                            judged = subst (λ (n : ℕ). Judged kind ops len i n s out)
+                            checked = subst (λ (n : ℕ). Checked kind ops len i n s out)
                                 (sym w.counted) fine.2;
                             height = refl;
                             piece = refl;

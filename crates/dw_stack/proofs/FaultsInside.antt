@@ -83,7 +83,7 @@ fault-inside kind target bytes f is = elim (first_if_some kind target bytes f is
   | inl unread ↦ unread-inside target bytes f unread
   | inr rest ↦ elim rest [
     | inl count ↦ absurd (count.1)
-    | inr judged ↦ refused-inside kind (operations_in target bytes) (length bytes) (laid_if_read target bytes judged.0) None f.kind f.at
-        judged.2.refuses
+    | inr checked ↦ refused-inside kind (operations_in target bytes) (length bytes) (laid_if_read target bytes checked.0) None f.kind f.at
+        checked.2.refuses
   ]
 ]

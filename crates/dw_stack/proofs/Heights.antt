@@ -4,7 +4,7 @@ use Rattle.std.specs.Coded.{le_prop}
 use Rattle.std.proofs.Common.{ℕ, ◌≤◌, Bool, List, refl, sym, ap, inl, inr, arith}
 use Rattle.dw_stack.specs.declared.effect.Role.{Role}
 use Rattle.dw_stack.specs.declared.effect.Role.TheVariants as role
-use Rattle.dw_stack.specs.declared.judge.TheConstants.{MAX_HEIGHT}
+use Rattle.dw_stack.specs.declared.operation_check.TheConstants.{MAX_HEIGHT}
 use Rattle.dw_stack.specs.declared.state.StackState.{StackState}
 use Rattle.dw_stack.specs.declared.state.Kind.{Kind}
 use Rattle.dw_stack.specs.declared.state.Kind.TheVariants.{FrameCfa, FrameRegister, Location}

@@ -2,7 +2,7 @@ pub mod Places
 pub mod Lists
 pub mod Routes
 pub mod Describes
-pub mod Judging
+pub mod Checking
 pub mod Walks
 pub mod Verdicts
 pub mod Encoded

@@ -15,9 +15,9 @@ use Rattle.dw_ops.specs.Views.{bytes_of, target_of, reading_from}
 use Rattle.dw_stack.specs.declared.state.Kind.TheVariants.{Location}
 use Rattle.dw_stack.specs.Effects.{effect_of}
 use Rattle.dw_stack.specs.States.{start_of, state_after}
-use Rattle.dw_stack.specs.Judge.{Suits}
+use Rattle.dw_stack.specs.OperationCheck.{Suits}
 use Rattle.dw_stack.specs.Expressions.{Checked, IsChecked}
-use Rattle.dw_stack.proofs.Unbranched.{begun, further, judged}
+use Rattle.dw_stack.proofs.Unbranched.{begun, further, checked}
 
 one_byte : (o : Order) (n : ℕ) → n ≡ number o 1 (n ∷ [])
 one_byte Little n = omega arith
@@ -28,21 +28,21 @@ reg_line : (b : ℕ) → 0x50 ≤ b → b < 0x70 → line_of b ≡ Some (none (r
 reg_line b low high =
     rw (le-ltb b 0x12 (omega arith), le-ltb b 0x20 (omega arith), le-ltb b 0x30 (omega arith), le-ltb b 0x50 low, lt-ltb b 0x70 high) refl
 
-abbrev behind : Expression → ReadPosition
-behind e = record { target = target_of e; position = 0 + 1; rest = [] }
+abbrev past : Expression → ReadPosition
+past e = record { target = target_of e; position = 0 + 1; rest = [] }
 
 reg_read : (e : Expression) (b : ℕ) → bytes_of e ≡ b ∷ [] → 0x50 ≤ b → b < 0x70
     → operation_at (reading_from e 0) ≡ Ok (reg (b - 0x50), reading_from e 1)
 unfolding operation_at
 reg_read e b is low high =
-    let code : fixed_at 1 (reading_from e 0) ≡ Ok (b, behind e) = (fixed_exact 1 (reading_from e 0)).only b (behind e) (record {
+    let code : fixed_at 1 (reading_from e 0) ≡ Ok (b, past e) = (fixed_exact 1 (reading_from e 0)).only b (past e) (record {
       bytes = b ∷ [];
       encoded = record { count = refl; value = one_byte (target_of e).order b };
       parts = is;
       position = refl;
       target = refl;
     }) in
-    let end : behind e ≡ reading_from e 1 = ap (λ (bs : List ℕ). record { target = target_of e; position = 1; rest = bs })
+    let end : past e ≡ reading_from e 1 = ap (λ (bs : List ℕ). record { target = target_of e; position = 1; rest = bs })
     (sym (ap (drop 1) is)) in
     rw (code, reg_line b low high) (ap (λ (r : ReadPosition). Ok (reg (b - 0x50), r)) end)
 
@@ -70,7 +70,7 @@ checked_byte e b is low high =
     let first = begun Location e (start_of Location) refl in
     let all = further Location e 0 0 (start_of Location) 0 0 [] op 1 0 first (reg_read e b is low high) (omega arith) (omega (arith, long)) refl
     suits in
-    judged Location e 1 1 (state_after (effect_of op) (start_of Location)) 0 0 _ all (omega (arith, long)) (search rules)
+    checked Location e 1 1 (state_after (effect_of op) (start_of Location)) 0 0 _ all (omega (arith, long)) (search rules)
 
 pub register_checked : (e : Expression) → length (bytes_of e) ≡ 1 → 0x50 ≤ get_or (bytes_of e) 0 0 → get_or (bytes_of e) 0 0 < 0x70
     → IsChecked (alone e)

@@ -9,7 +9,7 @@ use Rattle.dw_ops.specs.Operations.{Operation, bra, skip, reg, regx, implicit_va
 use Rattle.dw_stack.specs.declared.effect.Role.{Role}
 use Rattle.dw_stack.specs.declared.effect.Role.TheVariants as role
 use Rattle.dw_stack.specs.declared.effect.StackEffect.{StackEffect}
-use Rattle.dw_stack.specs.declared.judge.TheConstants.{MAX_PIECES}
+use Rattle.dw_stack.specs.declared.operation_check.TheConstants.{MAX_PIECES}
 use Rattle.dw_stack.specs.declared.state.State.{State}
 use Rattle.dw_stack.specs.declared.state.StackState.{StackState}
 use Rattle.dw_stack.specs.declared.state.Kind.{Kind}
@@ -53,35 +53,35 @@ branches (skip z) s = (z, refl)
 branches _ s = refl
 
 -- for each role: after an operation, the run's stack height is as the next state says
-height_behind : (r : Role) (new rest : List ℕ) (b : Bool)
+height_past : (r : Role) (new rest : List ℕ) (b : Bool)
     → length (stack_after r new rest) ≡ (next_mode r (length rest + length new) b).height
-height_behind role.Piece new rest b = refl
-height_behind role.Plain new rest b = let e = length-append rest new in omega (arith, e)
-height_behind role.Register new rest b = let e = length-append rest new in omega (arith, e)
-height_behind role.Bytes new rest b = let e = length-append rest new in omega (arith, e)
-height_behind role.Top new rest b = let e = length-append rest new in omega (arith, e)
+height_past role.Piece new rest b = refl
+height_past role.Plain new rest b = let e = length-append rest new in omega (arith, e)
+height_past role.Register new rest b = let e = length-append rest new in omega (arith, e)
+height_past role.Bytes new rest b = let e = length-append rest new in omega (arith, e)
+height_past role.Top new rest b = let e = length-append rest new in omega (arith, e)
 
 parts_push : (parts : List Piece) (p : Piece) → has_pieces (parts ++ p ∷ []) ≡ true
 parts_push [] p = refl
 parts_push (q ∷ parts) p = refl
 
-pieced_behind : (r : Role) (h : ℕ) (b : Bool) (parts : List Piece) (p : Piece) → b ≡ has_pieces parts
+pieced_past : (r : Role) (h : ℕ) (b : Bool) (parts : List Piece) (p : Piece) → b ≡ has_pieces parts
     → (next_mode r h b).pieced ≡ has_pieces (pieces_after r parts p)
-pieced_behind role.Piece h b parts p e = sym (parts_push parts p)
-pieced_behind role.Plain h b parts p e = e
-pieced_behind role.Register h b parts p e = e
-pieced_behind role.Bytes h b parts p e = e
-pieced_behind role.Top h b parts p e = e
+pieced_past role.Piece h b parts p e = sym (parts_push parts p)
+pieced_past role.Plain h b parts p e = e
+pieced_past role.Register h b parts p e = e
+pieced_past role.Bytes h b parts p e = e
+pieced_past role.Top h b parts p e = e
 
 -- if a configuration agrees with a state, the configuration after one step agrees with the state
 -- after that step
 agrees_after : (m : Meaning) (ops : List Placed) (len : ℕ) (s : StackState) (c d : Configuration) (t : Step m ops len c d) → Agrees s c
     → Agrees (state_after (effect_of t.meets.placed.1) s) d
 agrees_after m ops len s c d t a = record {
-  height = ap length t.stack ∙ height_behind e.role t.new (take (length c.stack - e.takes) c.stack) s.pieced
+  height = ap length t.stack ∙ height_past e.role t.new (take (length c.stack - e.takes) c.stack) s.pieced
       ∙ ap (λ (n : ℕ). (next_mode e.role n s.pieced).height) counts;
   pending = pending_is op c.stack d.pending (s.height - e.takes + e.adds) s.pieced t.pending;
-  pieces = pieced_behind e.role (s.height - e.takes + e.adds) s.pieced c.pieces
+  pieces = pieced_past e.role (s.height - e.takes + e.adds) s.pieced c.pieces
       (record { location = location_of c.stack c.pending; size = extent_of op }) a.pieces ∙ ap has_pieces (sym t.pieces);
 }
   where
@@ -239,8 +239,8 @@ module _ (kind : Kind) (ops : List Placed) (len : ℕ) (laid : IsLaidOut ops len
       )
 
   -- the configuration after the operation x has pushed `new`, at offset `at`
-  behind : (x : Placed) (c : Configuration) (new : List ℕ) → ℕ → Configuration
-  behind x c new at = record {
+  past : (x : Placed) (c : Configuration) (new : List ℕ) → ℕ → Configuration
+  past x c new at = record {
     offset = at;
     stack = stack_after (effect_of x.1).role new (take (length c.stack - (effect_of x.1).takes) c.stack);
     pending = location_named x.1 c.stack;
@@ -251,14 +251,14 @@ module _ (kind : Kind) (ops : List Placed) (len : ℕ) (laid : IsLaidOut ops len
   go_to : (m : Meaning) (c : Configuration) (new : List ℕ) (t : Meets ops c) (j : Bool) → m.answer t.placed.1 c.stack ≡ Ok new
       → j ≡ jumps t.placed.1 c.stack → MatchBool j ((z : ℤ) × ((effect_of t.placed.1).jump ≡ Some z))
       (IsTrue (effect_of t.placed.1).falls_through) → (e : Configuration) × Step m ops len c e
-  unfolding behind
+  unfolding past
   go_to m c new t true answered is br =
       let next : ℕ = place ops len (t.number + 1) in
       let ahead = ahead_of t.number t.placed br.0 t.stands br.1 in
       let jump : (effect_of t.placed.1).jump ≡ Some (pos ahead.0) = br.1 ∙ ap (λ (z : ℤ). Some z) ahead.1 in
       let there : JumpsTo (effect_of t.placed.1).jump next (next + ahead.0) =
       subst (λ (o : Option ℤ). JumpsTo o next (next + ahead.0)) (sym jump) refl in (
-        behind t.placed c new (next + ahead.0),
+        past t.placed c new (next + ahead.0),
         record {
           meets = t;
           new = new;
@@ -272,7 +272,7 @@ module _ (kind : Kind) (ops : List Placed) (len : ℕ) (laid : IsLaidOut ops len
       )
   go_to m c new t false answered is br =
       let next : ℕ = place ops len (t.number + 1) in (
-        behind t.placed c new next,
+        past t.placed c new next,
         record {
           meets = t;
           new = new;

@@ -12,7 +12,7 @@ use Rattle.dw_ops.specs.Opcodes.{operation_at, operations_of}
 use Rattle.dw_ops.specs.Views.{bytes_of, target_of, reading_from}
 use Rattle.dw_ops.proofs.Lists.{next-operation, no-operation}
 use Rattle.dw_stack.specs.declared.effect.StackEffect.{StackEffect}
-use Rattle.dw_stack.specs.declared.judge.OutState.{OutState}
+use Rattle.dw_stack.specs.declared.operation_check.OutState.{OutState}
 use Rattle.dw_stack.specs.declared.state.State.{State}
 use Rattle.dw_stack.specs.declared.state.StackState.{StackState}
 use Rattle.dw_stack.specs.declared.state.Kind.{Kind}
@@ -22,7 +22,7 @@ use Rattle.dw_stack.specs.declared.in_state.InState.TheVariants.{Unreached, Know
 use Rattle.dw_stack.specs.Effects.{effect_of}
 use Rattle.dw_stack.specs.States.{start_of, state_after, HasResult, at_offset}
 use Rattle.dw_stack.specs.Paths.{Placed, IsLaidOut, is_piece}
-use Rattle.dw_stack.specs.Judge.{Suits, TargetIs, Judged}
+use Rattle.dw_stack.specs.OperationCheck.{Suits, TargetIs, Checked}
 use Rattle.dw_stack.specs.InStates.{Merges, Receives, Stepped}
 use Rattle.dw_stack.specs.Expressions.{operations_in, reading_fault, AreStatesOf, IsChecked}
 use Rattle.dw_stack.proofs.Places.{place_of_some}
@@ -94,8 +94,8 @@ module _ (kind : Kind) (ops : List Placed) (len : ℕ) (laid : IsLaidOut ops len
       done : Done
       done = record { state = state; height = height; piece = is_piece (effect_of x.1).role }
 
-      judged : Judged kind ops len i pieces state out
-      judged = record {
+      checked : Checked kind ops len i pieces state out
+      checked = record {
         placed = x;
         stands = stands;
         allowed = suits.allowed;
@@ -122,7 +122,7 @@ module _ (kind : Kind) (ops : List Placed) (len : ℕ) (laid : IsLaidOut ops len
         out = out;
         one = s.here;
         given_is = tt;
-        judged = judged;
+        checked = checked;
         height = refl;
         piece = refl;
         passes = record { mid = new; next = receives; target = refl };
@@ -130,7 +130,7 @@ module _ (kind : Kind) (ops : List Placed) (len : ℕ) (laid : IsLaidOut ops len
 
 -- The bytes of an expression before the offset `at` were read as `count` operations. If all
 -- operations of the expression are laid out in order, `Straight` holds for the first `count`.
-pub record JudgedSoFar (kind : Kind) (e : Expression) (at count : ℕ) (state : StackState) (depth pieces : ℕ)
+pub record CheckedSoFar (kind : Kind) (e : Expression) (at count : ℕ) (state : StackState) (depth pieces : ℕ)
     (states : List State) : Type 0 where
   pub within : at ≤ length (bytes_of e)
   pub before : List Placed
@@ -142,12 +142,12 @@ pub record JudgedSoFar (kind : Kind) (e : Expression) (at count : ℕ) (state : 
   pub straight : IsLaidOut (operations_in (target_of e) (bytes_of e)) (length (bytes_of e))
       → Straight kind (operations_in (target_of e) (bytes_of e)) (length (bytes_of e)) count state depth pieces states
 
--- `JudgedSoFar` for some list of states
-abbrev pub JudgedAlone : Kind → Expression → ℕ → ℕ → StackState → ℕ → ℕ → Type 0
-JudgedAlone kind e at count state depth pieces = (states : List State) × JudgedSoFar kind e at count state depth pieces states
+-- `CheckedSoFar` for some list of states
+abbrev pub CheckedAlone : Kind → Expression → ℕ → ℕ → StackState → ℕ → ℕ → Type 0
+CheckedAlone kind e at count state depth pieces = (states : List State) × CheckedSoFar kind e at count state depth pieces states
 
-pub begun : (kind : Kind) (e : Expression) (state : StackState) → state ≡ start_of kind → JudgedSoFar kind e 0 0 state state.height 0 []
-begun kind e state is = subst (λ (s : StackState). JudgedSoFar kind e 0 0 s s.height 0 []) (sym is) (record {
+pub begun : (kind : Kind) (e : Expression) (state : StackState) → state ≡ start_of kind → CheckedSoFar kind e 0 0 state state.height 0 []
+begun kind e state is = subst (λ (s : StackState). CheckedSoFar kind e 0 0 s s.height 0 []) (sym is) (record {
   within = omega arith;
   before = [];
   parts = refl;
@@ -165,10 +165,10 @@ one_more true pieces count le = omega (arith, le)
 one_more false pieces count le = omega (arith, le)
 
 pub further : (kind : Kind) (e : Expression) (at count : ℕ) (state : StackState) (depth pieces : ℕ) (states : List State) (op : Operation)
-    (next height : ℕ) → JudgedSoFar kind e at count state depth pieces states
+    (next height : ℕ) → CheckedSoFar kind e at count state depth pieces states
     → operation_at (reading_from e at) ≡ Ok (op, reading_from e next) → at < next
     → next ≤ length (bytes_of e) → (effect_of op).jump ≡ None → Suits kind (effect_of op) pieces state height
-    → JudgedSoFar kind e next (count + 1) (state_after (effect_of op) state) (max (max depth state.height) height)
+    → CheckedSoFar kind e next (count + 1) (state_after (effect_of op) state) (max (max depth state.height) height)
     (pieces + cond (is_piece (effect_of op).role) 1 0) (states ++ at_offset at state ∷ [])
 further kind e at count state depth pieces states op next height j read forward within none suits = record {
   within = within;
@@ -203,7 +203,7 @@ further kind e at count state depth pieces states op next height j read forward 
 
 -- what holds when all bytes were read
 module _ (kind : Kind) (e : Expression) (at count : ℕ) (state : StackState) (depth pieces : ℕ) (states : List State)
-    (j : JudgedSoFar kind e at count state depth pieces states) (past : length (bytes_of e) ≤ at) where
+    (j : CheckedSoFar kind e at count state depth pieces states) (past : length (bytes_of e) ≤ at) where
   no_more : operations_of (reading_from e at) ≡ []
   no_more = no-operation (reading_from e at) (omega (arith, past, length-drop at (bytes_of e)))
 
@@ -217,16 +217,16 @@ module _ (kind : Kind) (e : Expression) (at count : ℕ) (state : StackState) (d
   all = sym j.count_is ∙ ap length (sym (append-nil j.before) ∙ (ap (λ l. j.before ++ values_in l) (sym no_more) ∙ j.parts))
 
   -- `states` has the states with which paths reach the operations
-  pub states_judged : AreStatesOf kind (target_of e) (bytes_of e) states
-  states_judged =
+  pub states_checked : AreStatesOf kind (target_of e) (bytes_of e) states
+  states_checked =
       let s = j.straight laid_all in
       end_states kind (operations_in (target_of e) (bytes_of e)) (length (bytes_of e)) laid_all None count all states s.in_states depth
       pieces s.walked
 
   -- if there is a result at the end, the expression passed the check
-  pub judged : HasResult kind (count == 0) state
+  pub checked : HasResult kind (count == 0) state
       → IsChecked (record { kind = kind; target = target_of e; bytes = bytes_of e; depth = depth; count = count })
-  judged result = record {
+  checked result = record {
     good = record {
       encoded = encoded_of (target_of e) (bytes_of e) fine;
       good = end_good kind ops (length (bytes_of e)) laid_all None count all states s.in_states depth pieces s.walked state last

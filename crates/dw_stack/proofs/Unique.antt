@@ -87,7 +87,7 @@ one_fault kind target bytes given f g first second = elim first [
     | inl again ↦ same_Some f g (sym unread ∙ again)
     | inr rest ↦ elim rest [
       | inl count ↦ let both : Some f ≡ None = sym unread ∙ count.0 in absurd (cc)
-      | inr judged ↦ let both : Some f ≡ None = sym unread ∙ judged.0 in absurd (cc)
+      | inr checked ↦ let both : Some f ≡ None = sym unread ∙ checked.0 in absurd (cc)
     ]
   ]
   | inr rest ↦ elim rest [
@@ -95,14 +95,14 @@ one_fault kind target bytes given f g first second = elim first [
       | inl unread ↦ let both : Some g ≡ None = sym unread ∙ count.0 in absurd (cc)
       | inr other ↦ elim other [
         | inl again ↦ count.2 ∙ sym again.2
-        | inr judged ↦ absurd (judged.1 count.1)
+        | inr checked ↦ absurd (checked.1 count.1)
       ]
     ]
-    | inr judged ↦ elim second [
-      | inl unread ↦ let both : Some g ≡ None = sym unread ∙ judged.0 in absurd (cc)
+    | inr checked ↦ elim second [
+      | inl unread ↦ let both : Some g ≡ None = sym unread ∙ checked.0 in absurd (cc)
       | inr other ↦ elim other [
-        | inl count ↦ absurd (judged.1 count.1)
-        | inr again ↦ first_same kind _ _ given f g judged.2 again.2
+        | inl count ↦ absurd (checked.1 count.1)
+        | inr again ↦ first_same kind _ _ given f g checked.2 again.2
       ]
     ]
   ]

@@ -11,7 +11,7 @@ use Rattle.std.proofs.lemmas.Bool.{cases_lt, le-leb}
 use Rattle.std.proofs.lemmas.Option.{slice_get_within, same_Some, slice_get_cases}
 use Rattle.dw_stack.specs.Paths.{Placed}
 use Rattle.dw_ops.specs.Operations.{Operation, skip}
-use Rattle.dw_stack.specs.declared.judge.TheConstants.{MAX_HEIGHT, MAX_PIECES}
+use Rattle.dw_stack.specs.declared.operation_check.TheConstants.{MAX_HEIGHT, MAX_PIECES}
 use Rattle.dw_stack.specs.declared.in_state.InState.{InState}
 use Rattle.dw_stack.specs.declared.in_state.InState.TheVariants.{Unreached, Known, Conflict}
 use Rattle.dw_stack.specs.declared.state.StackState.{StackState}
@@ -23,14 +23,14 @@ use Rattle.dw_stack.specs.declared.state.State.{State}
 use Rattle.dw_stack.specs.States.{start_of, height_after, state_after, HasResult, at_offset}
 use Rattle.dw_stack.specs.Paths.{place, IsLaidOut, branch_target, jump_target, branch_target_of, IsTarget, Leads, Reaches, IsGood}
 use Rattle.dw_stack.specs.Paths.{AreStates, IsDepth, is_piece, pieces_before}
-use Rattle.dw_stack.specs.Faults.{Given, judgements, passes, first_failed, Objection, Refuses, rank, IsFirstFault}
-use Rattle.dw_stack.specs.Judge.{Objects}
+use Rattle.dw_stack.specs.Faults.{Given, verdicts, passes, first_failed, Objection, Refuses, rank, IsFirstFault}
+use Rattle.dw_stack.specs.OperationCheck.{Objects}
 use Rattle.dw_stack.specs.InStates.{StepObjects}
 use Rattle.dw_stack.proofs.Places.{place_of_some, place_past, place_inj, place_mono, place_lt}
 use Rattle.dw_stack.proofs.Routes.{reach_from, extend, at_start, Comes, reaches_from_comes, comes_from_reaches, reached_place}
 use Rattle.dw_stack.proofs.Describes.{Describes, describes_is}
 use Rattle.dw_stack.proofs.Pieces.{pieces_mono}
-use Rattle.dw_stack.proofs.Judging.{failed, before_first, few_passes, ahead_passes, start_passes}
+use Rattle.dw_stack.proofs.Checking.{failed, before_first, few_passes, ahead_passes, start_passes}
 use Rattle.dw_stack.proofs.Walks.{Fine, Accepted, Walked, one_state}
 
 -- if the operations don't have too many pieces, there is room for each one when it comes
@@ -213,7 +213,7 @@ module _ (kind : Kind) (ops : List Placed) (len : ℕ) (laid : IsLaidOut ops len
           let first : first_failed (passes kind ops len i (pieces_before ops i) (effect_of o.placed.1) s) ≡ Some f =
           subst (λ (n : ℕ). first_failed (passes kind ops len i n (effect_of o.placed.1) s) ≡ Some f) w.counted o.first in
           one_fault f s lt e (local_refuses f o.placed s o.stands
-          (failed (passes kind ops len i (pieces_before ops i) (effect_of o.placed.1) s) judgements f first))
+          (failed (passes kind ops len i (pieces_before ops i) (effect_of o.placed.1) s) verdicts f first))
           (λ g less u m. before_local f g o.placed s lt o.stands first less u m is)
 
       -- if a step of the pass reports the fault f, f is the first fault

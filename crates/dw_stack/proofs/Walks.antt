@@ -5,22 +5,22 @@ use Rattle.std.specs.Prelude.{slice_get, max}
 use Rattle.std.proofs.lemmas.Bool.{cases_lt}
 use Rattle.std.proofs.lemmas.Option.{slice_get_within, same_Some}
 use Rattle.dw_stack.specs.Paths.{Placed}
-use Rattle.dw_stack.specs.declared.judge.OutState.{OutState}
+use Rattle.dw_stack.specs.declared.operation_check.OutState.{OutState}
 use Rattle.dw_stack.specs.declared.effect.StackEffect.{StackEffect}
-use Rattle.dw_stack.specs.declared.judge.TheConstants.{MAX_HEIGHT}
+use Rattle.dw_stack.specs.declared.operation_check.TheConstants.{MAX_HEIGHT}
 use Rattle.dw_stack.specs.declared.in_state.InState.{InState}
 use Rattle.dw_stack.specs.declared.in_state.InState.TheVariants.{Unreached, Known}
 use Rattle.dw_stack.specs.declared.step.Done.{Done}
 use Rattle.dw_stack.specs.declared.state.StackState.{StackState}
 use Rattle.dw_stack.specs.declared.state.State.{State}
 use Rattle.dw_stack.specs.declared.state.Kind.{Kind}
-use Rattle.dw_stack.specs.declared.judge.TheConstants.{MAX_PIECES}
+use Rattle.dw_stack.specs.declared.operation_check.TheConstants.{MAX_PIECES}
 use Rattle.dw_stack.specs.Effects.{effect_of}
 use Rattle.dw_stack.specs.States.{start_of, StandsAlone, height_after, state_after, at_offset}
 use Rattle.dw_stack.specs.Paths.{place, IsLaidOut, branch_target, jump_target, branch_target_of, IsTarget, Leads, Edge, Reaches, IsAllowed}
 use Rattle.dw_stack.specs.Paths.{is_piece, pieces_before}
 use Rattle.dw_stack.specs.Faults.{Given}
-use Rattle.dw_stack.specs.Judge.{Judged, TargetIs}
+use Rattle.dw_stack.specs.OperationCheck.{Checked, TargetIs}
 use Rattle.dw_stack.specs.InStates.{PassesOn, Stepped}
 use Rattle.dw_stack.proofs.Places.{place_of_some, place_inj, place_mono}
 use Rattle.dw_stack.proofs.Routes.{reach_from, Comes, reaches_from_comes, comes_from_reaches}
@@ -81,7 +81,7 @@ get_push (x ∷ hs) h (suc k) g e =
     ]
 
 module _ (kind : Kind) (ops : List Placed) (len : ℕ) (laid : IsLaidOut ops len) (given : Option (List State)) (i pieces : ℕ)
-    (h : StackState) (out : OutState) (lt : i < length ops) (j : Judged kind ops len i pieces h out) where
+    (h : StackState) (out : OutState) (lt : i < length ops) (j : Checked kind ops len i pieces h out) where
   -- the operation numbered i leads to the operation numbered n, or to the end, with state g
   Goes : ℕ → StackState → Type 0
   Goes n g = Leads ops len i (effect_of j.placed.1) (place ops len n) × (g ≡ out.state)
@@ -189,7 +189,7 @@ length-passed old new i out p = length_target out.target p.mid new out.state p.t
     (i + 1) out.state p.next
 
 module _ (kind : Kind) (ops : List Placed) (len : ℕ) (laid : IsLaidOut ops len) (given : Option (List State)) (i pieces : ℕ)
-    (h : StackState) (out : OutState) (lt : i < length ops) (j : Judged kind ops len i pieces h out) where
+    (h : StackState) (out : OutState) (lt : i < length ops) (j : Checked kind ops len i pieces h out) where
   pub described_passed : (old new : List InState) (n : ℕ) → length old ≡ length ops + 1 → PassesOn old i out new → n ≤ length ops
       → Reaches kind ops len (place ops len i) h → ((g : StackState) → Reaches kind ops len (place ops len i) g → g ≡ h)
       → Describes (get_or old n Unreached) (Comes kind ops len i (place ops len n))
@@ -274,7 +274,7 @@ depth_more kind ops len i d h x s r one below = record { touched = touched; grea
         let same : g ≡ h = one g (subst (λ (z : Placed). Reaches kind ops len z.0 g) e reached) in
         elim is [
           | inl before ↦ let is_h : n ≡ h.height = before ∙ ap (λ (s : StackState). s.height) same in omega arith
-          | inr behind ↦ let b : n ≡ height_after (effect_of x.1) h = behind ∙ ap (λ (z : Placed). height_after (effect_of z.1) g) e
+          | inr past ↦ let b : n ≡ height_after (effect_of x.1) h = past ∙ ap (λ (z : Placed). height_after (effect_of z.1) g) e
               ∙ ap (height_after (effect_of x.1)) same in le_right n (max d h.height) (height_after (effect_of x.1) h) b
         ]
 
@@ -375,24 +375,24 @@ module _ (kind : Kind) (ops : List Placed) (len : ℕ) (laid : IsLaidOut ops len
     wide = length-passed old new i s.out s.passes ∙ w.wide;
     described = described;
     deepest = subst (λ (n : ℕ). DepthBelow kind ops len (i + 1) (max (max depth done.state.height) n))
-        (sym s.judged.height ∙ sym s.height) deepest;
-    counted = count_more ops i pieces s.judged.placed done.piece s.judged.stands (s.piece ∙ s.judged.piece) w.counted;
-    few = few_more pieces done.piece (is_piece (effect_of s.judged.placed.1).role) (s.piece ∙ s.judged.piece) s.judged.few w.few;
+        (sym s.checked.height ∙ sym s.height) deepest;
+    counted = count_more ops i pieces s.checked.placed done.piece s.checked.stands (s.piece ∙ s.checked.piece) w.counted;
+    few = few_more pieces done.piece (is_piece (effect_of s.checked.placed.1).role) (s.piece ∙ s.checked.piece) s.checked.few w.few;
   }
     where
       here : Reaches kind ops len (place ops len i) done.state
           × ((t : StackState) → Reaches kind ops len (place ops len i) t → t ≡ done.state)
       here = one_state i done.state (get_or old i Unreached) (omega arith) s.one (w.described i (omega arith) (omega arith))
 
-      fine : Fine kind ops len i s.judged.placed done.state
+      fine : Fine kind ops len i s.checked.placed done.state
       fine = record {
-        allowed = s.judged.allowed;
-        alone = s.judged.alone;
-        needs = s.judged.needs;
-        limit = subst (λ (n : ℕ). n ≤ MAX_HEIGHT) s.judged.height s.judged.limit;
-        few = λ is. subst (λ (n : ℕ). n < MAX_PIECES) w.counted (s.judged.few is);
-        ahead = λ z jump back. target_ahead ops len i z (effect_of s.judged.placed.1).jump s.out.target s.judged.target jump back;
-        target = λ t goes. target_is_target ops len i t (effect_of s.judged.placed.1).jump s.out.target s.judged.target goes;
+        allowed = s.checked.allowed;
+        alone = s.checked.alone;
+        needs = s.checked.needs;
+        limit = subst (λ (n : ℕ). n ≤ MAX_HEIGHT) s.checked.height s.checked.limit;
+        few = λ is. subst (λ (n : ℕ). n < MAX_PIECES) w.counted (s.checked.few is);
+        ahead = λ z jump back. target_ahead ops len i z (effect_of s.checked.placed.1).jump s.out.target s.checked.target jump back;
+        target = λ t goes. target_is_target ops len i t (effect_of s.checked.placed.1).jump s.out.target s.checked.target goes;
       }
 
       accept : Accepted kind ops len given i done.state
@@ -400,7 +400,7 @@ module _ (kind : Kind) (ops : List Placed) (len : ℕ) (laid : IsLaidOut ops len
         reached = here.0;
         one = here.1;
         given_is = s.given_is;
-        fine = λ x e. subst (λ (y : Placed). Fine kind ops len i y done.state) (same_Some s.judged.placed x (sym s.judged.stands ∙ e)) fine;
+        fine = λ x e. subst (λ (y : Placed). Fine kind ops len i y done.state) (same_Some s.checked.placed x (sym s.checked.stands ∙ e)) fine;
       }
 
       accepted : (k : ℕ) (t : State) → slice_get (states ++ at_offset (place ops len i) done.state ∷ []) k ≡ Some t
@@ -416,13 +416,13 @@ module _ (kind : Kind) (ops : List Placed) (len : ℕ) (laid : IsLaidOut ops len
 
       described : (n : ℕ) → i + 1 ≤ n → n ≤ length ops → Describes (get_or new n Unreached) (Comes kind ops len (i + 1) (place ops len n))
       described n low le =
-          described_passed kind ops len laid given i pieces done.state s.out lt s.judged old new n w.wide s.passes le here.0 here.1
+          described_passed kind ops len laid given i pieces done.state s.out lt s.checked old new n w.wide s.passes le here.0 here.1
           (w.described n (omega arith) le)
 
-      at : place ops len i ≡ s.judged.placed.0
-      at = place_of_some ops len i s.judged.placed s.judged.stands
+      at : place ops len i ≡ s.checked.placed.0
+      at = place_of_some ops len i s.checked.placed s.checked.stands
 
-      deepest : DepthBelow kind ops len (i + 1) (max (max depth done.state.height) (height_after (effect_of s.judged.placed.1) done.state))
-      deepest = depth_more kind ops len i depth done.state s.judged.placed s.judged.stands
-          (reach_from kind ops len (place ops len i) s.judged.placed.0 done.state done.state at refl here.0)
-          (λ g r. here.1 g (reach_from kind ops len s.judged.placed.0 (place ops len i) g g (sym at) refl r)) w.deepest
+      deepest : DepthBelow kind ops len (i + 1) (max (max depth done.state.height) (height_after (effect_of s.checked.placed.1) done.state))
+      deepest = depth_more kind ops len i depth done.state s.checked.placed s.checked.stands
+          (reach_from kind ops len (place ops len i) s.checked.placed.0 done.state done.state at refl here.0)
+          (λ g r. here.1 g (reach_from kind ops len s.checked.placed.0 (place ops len i) g g (sym at) refl r)) w.deepest

@@ -5,7 +5,7 @@ use Rattle.std.specs.Prelude.{length, find, Option, Some, None, slice_get}
 use Rattle.std.specs.List.{list_any}
 use Rattle.dw_bytes.specs.declared.fault.FaultKind.{FaultKind}
 use Rattle.dw_bytes.specs.declared.fault.FaultKind.TheVariants as fault
-use Rattle.dw_stack.specs.declared.judge.TheConstants.{MAX_HEIGHT, MAX_PIECES}
+use Rattle.dw_stack.specs.declared.operation_check.TheConstants.{MAX_HEIGHT, MAX_PIECES}
 use Rattle.dw_stack.specs.declared.effect.StackEffect.{StackEffect}
 use Rattle.dw_stack.specs.declared.state.State.{State}
 use Rattle.dw_stack.specs.declared.state.StackState.{StackState}
@@ -27,8 +27,8 @@ Given ops len given k s = Keeps given k (at_offset (place ops len k) s)
 -- ---- the checks of one operation
 
 -- the checks that are made of an operation, in this order, once all paths to it have the same state
-abbrev pub judgements : List FaultKind
-judgements = fault.NotInFrame ∷ fault.NotAlone ∷ fault.Underflow ∷ fault.TooDeep ∷ fault.TooManyPieces ∷ fault.Backward
+abbrev pub verdicts : List FaultKind
+verdicts = fault.NotInFrame ∷ fault.NotAlone ∷ fault.Underflow ∷ fault.TooDeep ∷ fault.TooManyPieces ∷ fault.Backward
     ∷ fault.TargetNotStart ∷ []
 
 -- the operation isn't a backward branch
@@ -60,7 +60,7 @@ passes kind ops len k pieces e s f = suits kind pieces e s f
 
 -- the first check that fails, or None if none fails
 abbrev pub first_failed : (FaultKind → Bool) → Option FaultKind
-first_failed passed = find (λ f. not (passed f)) judgements
+first_failed passed = find (λ f. not (passed f)) verdicts
 
 -- ---- the checks of all operations and of the end
 

@@ -19,7 +19,7 @@ use Rattle.dw_stack.specs.declared.state.Kind.{Kind}
 use Rattle.dw_stack.specs.Effects.{effect_of}
 use Rattle.dw_stack.specs.States.{start_of, state_after, has_result}
 use Rattle.dw_stack.specs.Paths.{Placed, place, branch_target_of, pieces_before}
-use Rattle.dw_stack.specs.Faults.{judgements, passes}
+use Rattle.dw_stack.specs.Faults.{verdicts, passes}
 use Rattle.dw_stack.specs.Expressions.{operations_in, reading_fault}
 
 -- ---- the states with which paths reach an offset
@@ -87,7 +87,7 @@ first_no ((false, f) ∷ asked) = Some f
 -- with state s
 abbrev pub asked_at : Kind → List Placed → ℕ → ℕ → StackEffect → StackState → ℕ → List Question
 asked_at kind ops len k e s at =
-    map (λ f. else_fault (passes kind ops len k (pieces_before ops k) e s f) f at) judgements
+    map (λ f. else_fault (passes kind ops len k (pieces_before ops k) e s f) f at) verdicts
 
 -- the questions about the operation x, numbered k, which paths reach with these states
 abbrev pub asked_of : Kind → List Placed → ℕ → ℕ → Placed → List StackState → List Question

@@ -5,7 +5,7 @@ use Rattle.std.specs.Prelude.{slice_index_or}
 use Rattle.std.specs.Borrow.{Bor}
 use Rattle.dw_bytes.specs.declared.fault.FaultKind.{FaultKind}
 use Rattle.dw_bytes.specs.declared.fault.FaultKind.TheVariants as fault
-use Rattle.dw_stack.specs.declared.judge.OutState.{OutState}
+use Rattle.dw_stack.specs.declared.operation_check.OutState.{OutState}
 use Rattle.dw_stack.specs.declared.in_state.InState.{InState}
 use Rattle.dw_stack.specs.declared.in_state.InState.TheVariants.{Unreached, Known, Conflict}
 use Rattle.dw_stack.specs.declared.step.Done.{Done}
@@ -14,7 +14,7 @@ use Rattle.dw_stack.specs.declared.state.StackState.{StackState}
 use Rattle.dw_stack.specs.declared.state.Kind.{Kind}
 use Rattle.dw_stack.specs.Paths.{Placed}
 use Rattle.dw_stack.specs.Faults.{Given}
-use Rattle.dw_stack.specs.Judge.{Judged, Objects}
+use Rattle.dw_stack.specs.OperationCheck.{Checked, Objects}
 
 -- the states that the caller passes to be checked, as a list; None if no states are passed
 abbrev pub given_of : Option (Bor (List State)) → Option (List State)
@@ -56,7 +56,7 @@ pub record Stepped (kind : Kind) (ops : List Placed) (len : ℕ) (given : Option
   pub out : OutState
   pub one : slice_index_or old i Unreached ≡ Known done.state
   pub given_is : Given ops len given i done.state
-  pub judged : Judged kind ops len i pieces done.state out
+  pub checked : Checked kind ops len i pieces done.state out
   pub height : done.height ≡ out.height
   pub piece : done.piece ≡ out.piece
   pub passes : PassesOn old i out new

@@ -30,6 +30,6 @@ pub mod Views
 -- ---- Used only inside this crate: no contract of a public call mentions these.
 
 -- the check of one operation in one state
-pub mod Judge
+pub mod OperationCheck
 -- the table with which one pass checks all paths: what is known of the state before each operation
 pub mod InStates

@@ -4,7 +4,7 @@ ghost use Rattle.std.specs.Prelude.{◌<◌, ◌^◌, length};
 ghost use Rattle.dw_ops.specs.Views.{bytes_of, target_of};
 ghost use Rattle.dw_stack.specs.Expressions.{IsChecked};
 
-use crate::judge::MAX_HEIGHT;
+use crate::operation_check::MAX_HEIGHT;
 use crate::state::Kind;
 use dw_bytes::Target;
 use dw_ops::Expression;

@@ -3,7 +3,7 @@
 ghost use Rattle.std.specs.Prelude.{◌≡◌, ◌+◌, ◌<◌, length, slice_index_or, IfSome};
 ghost use Rattle.dw_stack.specs.InStates.{Merges, Receives, PassesOn, known_state};
 
-use crate::judge::OutState;
+use crate::operation_check::OutState;
 use crate::state::StackState;
 use dw_bytes::FaultKind;
 

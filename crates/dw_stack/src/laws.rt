@@ -17,7 +17,7 @@ ghost use Rattle.dw_stack.specs.Expressions.{operations_in, reading_at, IsGoodEx
 ghost use Rattle.dw_stack.specs.Expressions.{Checked, IsChecked, IsFaultOf, Knows};
 ghost use Rattle.dw_stack.specs.FirstFault.{expression_fault};
 
-use crate::judge::{MAX_HEIGHT, MAX_PIECES};
+use crate::operation_check::{MAX_HEIGHT, MAX_PIECES};
 
 /// Every run of a good expression, whatever the registers, the memory and the context are, follows
 /// a path, agrees with the states on that path, only moves forward, never has more stack entries

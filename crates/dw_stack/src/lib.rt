@@ -6,8 +6,8 @@ mod certificate;
 mod checked;
 mod effect;
 mod in_state;
-mod judge;
 pub mod laws;
+mod operation_check;
 mod pass;
 mod register;
 mod state;
@@ -18,7 +18,7 @@ mod verify;
 
 pub use certificate::Certificate;
 pub use checked::CheckedExpression;
-pub use judge::{MAX_HEIGHT, MAX_PIECES};
+pub use operation_check::{MAX_HEIGHT, MAX_PIECES};
 pub use register::check_register;
 pub use state::{Kind, Mode, State};
 pub use verify::{CertFault, certify, check_expression, recheck};

@@ -7,7 +7,7 @@ ghost use Rattle.dw_stack.specs.InStates.{Stepped, StepObjects, given_of};
 ghost use Rattle.dw_stack.specs.Views.{placed_in};
 
 use crate::in_state::{InState, in_state_at, pass_on};
-use crate::judge::judge;
+use crate::operation_check::check_operation;
 use crate::state::{Kind, StackState, State};
 use crate::target::place_of_operation;
 use dw_bytes::FaultKind;
@@ -59,7 +59,7 @@ pub fn step_of_pass(
     if !is_given(given, i, state.at(place_of_operation(operations, end, i))) {
         return Err(FaultKind::CertState);
     }
-    let out = judge(kind, operations, end, i, pieces, state)?;
+    let out = check_operation(kind, operations, end, i, pieces, state)?;
     pass_on(in_states, i, &out);
     Ok(Done {
         state,

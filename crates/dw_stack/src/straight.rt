@@ -5,14 +5,14 @@ ghost use Rattle.dw_ops.specs.Views.{bytes_of, target_of, operation_of};
 ghost use Rattle.dw_stack.specs.Effects.{effect_of};
 ghost use Rattle.dw_stack.specs.States.{state_after};
 ghost use Rattle.dw_stack.specs.Paths.{is_piece};
-ghost use Rattle.dw_stack.specs.Judge.{Suits};
+ghost use Rattle.dw_stack.specs.OperationCheck.{Suits};
 ghost use Rattle.dw_stack.specs.Expressions.{AreStatesOf, IsChecked, IsOf};
 ghost use Rattle.dw_stack.specs.Certificates.{checked_of, checked_in, states_in};
 
 use crate::certificate::Certificate;
 use crate::checked::CheckedExpression;
 use crate::effect::{Role, effect};
-use crate::judge::suits;
+use crate::operation_check::suits;
 use crate::state::{Kind, StackState, has_result, next_state, start_state};
 use dw_ops::{Expression, Operation, decode_one};
 use smallvec::SmallVec;
@@ -32,7 +32,7 @@ struct Left {
 /// Checks an operation in state `state`, if `pieces` piece operations come before it. `None` if the
 /// operation is a branch or isn't allowed there.
 #[inline(always)]
-fn judge_straight(
+fn check_operation_straight(
     kind: Kind,
     operation: &Operation<'_>,
     pieces: usize,
@@ -75,7 +75,7 @@ pub fn check_straight<'a>(expression: Expression<'a>, kind: Kind) -> Option<Chec
         let Ok((operation, next)) = decode_one(&expression, at) else {
             return None;
         };
-        let left = judge_straight(kind, &operation, pieces, state)?;
+        let left = check_operation_straight(kind, &operation, pieces, state)?;
         depth = depth.max(state.height).max(left.height);
         pieces += if left.piece { 1 } else { 0 };
         state = left.state;
@@ -114,7 +114,7 @@ pub fn certify_straight<'a>(
         let Ok((operation, next)) = decode_one(&expression, at) else {
             return None;
         };
-        let left = judge_straight(kind, &operation, pieces, state)?;
+        let left = check_operation_straight(kind, &operation, pieces, state)?;
         let Ok(()) = states.push(state.at(at)) else {
             return None;
         };

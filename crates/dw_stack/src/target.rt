@@ -3,7 +3,7 @@
 ghost use Rattle.std.specs.Prelude.{◌≡◌, ◌≢◌, ◌+◌, ◌<◌, ◌≤◌, ℕ, length, IfOk, IfErr};
 ghost use Rattle.dw_bytes.specs.declared.fault.FaultKind.{FaultKind};
 ghost use Rattle.dw_stack.specs.Paths.{IsLaidOut, place, branch_target};
-ghost use Rattle.dw_stack.specs.Judge.{TargetPlace, TargetObjects};
+ghost use Rattle.dw_stack.specs.OperationCheck.{TargetPlace, TargetObjects};
 ghost use Rattle.dw_stack.specs.Views.{placed_in};
 
 use dw_bytes::FaultKind;

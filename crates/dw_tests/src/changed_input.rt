@@ -50,11 +50,11 @@ fn rows_cover(
     };
     let mut next = start;
     for row in frame.rows(&fde) {
-        let (first, behind) = (row.start_address(), row.end_address());
-        assert!(rt; first == next && first < behind && behind <= end);
+        let (first, past) = (row.start_address(), row.end_address());
+        assert!(rt; first == next && first < past && past <= end);
         is_found(rt, alloc, frame, &row, first)?;
-        is_found(rt, alloc, frame, &row, behind - 1)?;
-        next = behind;
+        is_found(rt, alloc, frame, &row, past - 1)?;
+        next = past;
     }
     assert_eq!(rt; next, end);
     Ok(())

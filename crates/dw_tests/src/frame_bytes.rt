@@ -203,7 +203,7 @@ fn reads_cies_of_older_versions(rt: HostRuntime) {
 /// at the field that is cut, or `None` if there is no such number. `low` is the index in the record
 /// of the length's least significant byte. `fields` has the offsets in the record at which the
 /// length and each field of the header end.
-fn misjudged(
+fn disagreeing(
     section: &[u8],
     target: Target,
     start: usize,
@@ -261,7 +261,7 @@ fn names_the_field_that_a_body_cuts_off(rt: HostRuntime) {
         (&LONG_BIG, BIG_SHORT, 27, 11, &[12, 20, 24, 28]),
     ];
     for (section, target, start, low, fields) in headers {
-        assert_eq!(rt; misjudged(section, target, start, low, fields), None);
+        assert_eq!(rt; disagreeing(section, target, start, low, fields), None);
     }
 }
 
@@ -278,7 +278,7 @@ fn names_the_field_that_an_older_body_cuts_off(rt: HostRuntime) {
             Order::Little => 4,
             Order::Big => fields[0].saturating_sub(1),
         };
-        assert_eq!(rt; misjudged(&section, *target, 0, low, &fields), None);
+        assert_eq!(rt; disagreeing(&section, *target, 0, low, &fields), None);
     }
 }
 

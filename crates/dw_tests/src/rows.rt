@@ -23,7 +23,7 @@ fn records(section: &[u8]) -> Option<(CommonInformationEntry<'_>, FrameDescripti
 }
 
 /// The results of checking the last CIE and the last FDE of a section.
-fn judged(alloc: Global, section: &[u8]) -> Option<(Result<(), Fault>, Result<(), Fault>)>
+fn checked(alloc: Global, section: &[u8]) -> Option<(Result<(), Fault>, Result<(), Fault>)>
     requires { length section.now < 2 ^ 32 }
 {
     let (cie, fde) = records(section)?;
@@ -32,7 +32,7 @@ fn judged(alloc: Global, section: &[u8]) -> Option<(Result<(), Fault>, Result<()
 
 #[test]
 fn checks_a_cie_and_its_fde(rt: HostRuntime) {
-    assert_eq!(rt; judged(rt.alloc(), &FUNCTION), Some((Ok(()), Ok(()))));
+    assert_eq!(rt; checked(rt.alloc(), &FUNCTION), Some((Ok(()), Ok(()))));
     let mut section = FUNCTION;
     // An advance_loc in the CIE's program.
     section[15] = 0x41;
@@ -40,7 +40,7 @@ fn checks_a_cie_and_its_fde(rt: HostRuntime) {
         kind: FaultKind::NotInCie,
         at: 15,
     });
-    assert_eq!(rt; judged(rt.alloc(), &section), Some((refused, refused)));
+    assert_eq!(rt; checked(rt.alloc(), &section), Some((refused, refused)));
 }
 
 /// Four addresses, each with where its row begins and ends, or `None` if the address has no row.

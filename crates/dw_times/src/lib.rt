@@ -270,8 +270,8 @@ pub extern "C" fn bench_check_expression(alloc: Global, bytes: &[u8], times: u32
     }
     let mut sum = 0u64;
     for _ in 0..times {
-        let judged = check_expression(alloc, Expression::new(bytes, TARGET), Kind::FrameRegister);
-        if let Ok(expression) = judged {
+        let checked = check_expression(alloc, Expression::new(bytes, TARGET), Kind::FrameRegister);
+        if let Ok(expression) = checked {
             sum = sum.wrapping_add(u64::from(expression.depth()));
         }
     }
@@ -287,8 +287,8 @@ pub extern "C" fn bench_certify(alloc: Global, bytes: &[u8], times: u32) -> u64 
     }
     let mut sum = 0u64;
     for _ in 0..times {
-        let judged = certify(alloc, Expression::new(bytes, TARGET), Kind::FrameRegister);
-        if let Ok(certificate) = judged {
+        let checked = certify(alloc, Expression::new(bytes, TARGET), Kind::FrameRegister);
+        if let Ok(certificate) = checked {
             sum = sum.wrapping_add(u64::from(certificate.into_checked().depth()));
         }
     }

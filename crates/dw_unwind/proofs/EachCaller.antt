@@ -39,12 +39,12 @@ looked a (f ∷ fs) = first_or a f fs (nat_le f.initial_location a) (nat_lt a (f
 
 first_cie_or : (p : ℕ) (c : Cie) (cs : List Cie) (b : Bool) → (c.offset == p) ≡ b → (d : Cie) → Contains (c ∷ cs) d → d.offset ≡ p
     → ((e : Cie) → Contains cs e → e.offset ≡ p → (x : Cie) × (cie_at cs p ≡ Some x)) → (x : Cie) × (cie_at (c ∷ cs) p ≡ Some x)
-first_cie_or p c cs true e d among is behind = (c, ap (λ (b : Bool). cond b (Some c) (cie_at cs p)) e)
-first_cie_or p c cs false e d (zero, lt, at) is behind =
+first_cie_or p c cs true e d among is past = (c, ap (λ (b : Bool). cond b (Some c) (cie_at cs p)) e)
+first_cie_or p c cs false e d (zero, lt, at) is past =
     let same : c.offset ≡ p = ap (λ (x : Cie). x.offset) at ∙ is in
     absurd (grind (arith, nat_tests, e, same))
-first_cie_or p c cs false e d (suc k, lt, at) is behind =
-    let found = behind d (k, omega (arith, lt), at) is in
+first_cie_or p c cs false e d (suc k, lt, at) is past =
+    let found = past d (k, omega (arith, lt), at) is in
     (found.0, ap (λ (b : Bool). cond b (Some c) (cie_at cs p)) e ∙ found.1)
 
 some_cie : (p : ℕ) (cs : List Cie) (d : Cie) → Contains cs d → d.offset ≡ p → (x : Cie) × (cie_at cs p ≡ Some x)
@@ -58,13 +58,13 @@ later x y xs at = (suc at.0, omega (arith, at.1), at.2)
 
 kept_or : {X : Type 0} (test : X → Bool) (y : X) (xs : List X) (x : X) (ys : List X) (b : Bool) → test y ≡ b
     → filter test (y ∷ xs) ≡ x ∷ ys → (filter test xs ≡ x ∷ ys → Contains xs x) → Contains (y ∷ xs) x
-kept_or test y xs x ys true t e behind =
+kept_or test y xs x ys true t e past =
     let both : y ∷ filter test xs ≡ x ∷ ys = sym (ap (λ (b : Bool). cond b (y ∷ filter test xs) (filter test xs)) t) ∙ e in
     let same : y ≡ x = cc in
     (zero, omega arith, same)
-kept_or test y xs x ys false t e behind =
+kept_or test y xs x ys false t e past =
     let rest : filter test xs ≡ x ∷ ys = sym (ap (λ (b : Bool). cond b (y ∷ filter test xs) (filter test xs)) t) ∙ e in
-    later y x xs (behind rest)
+    later y x xs (past rest)
 
 kept_among : {X : Type 0} (test : X → Bool) (xs : List X) (x : X) (ys : List X) → filter test xs ≡ x ∷ ys → Contains xs x
 kept_among test [] x ys e = absurd cc

@@ -102,9 +102,9 @@ module _ (u : CallerRelation)
       go later None g h = absurd g
       go later (Some p) g h =
           let same : x ≡ y = one_frame_at p x y g.0 h.0 in
-          let behind = subst (λ (f : WalkedFrame). AreFrames u (next_place f.caller) xs) same g.1 in
+          let past = subst (λ (f : WalkedFrame). AreFrames u (next_place f.caller) xs) same g.1 in
           let ended = subst (λ (f : WalkedFrame). Ended n f.caller xs) same e in
-          let rest : xs ≡ ys = later behind h.1 ended k in
+          let rest : xs ≡ ys = later past h.1 ended k in
           rw (same, rest) refl
 
   one_list : (first : Place) (limit : ℕ) (xs ys : List WalkedFrame) (a b : Stop) → Walks u first limit xs a → Walks u first limit ys b
@@ -116,10 +116,10 @@ module _ (u : CallerRelation)
   one_list first (suc n) (x ∷ xs) [] a b g h = absurd (none_ends n b h.ends)
   one_list first (suc n) (x ∷ xs) (y ∷ ys) a b g h =
       let same : x ≡ y = one_frame_at first x y g.are.0 h.are.0 in
-      let behind = subst (λ (f : WalkedFrame). AreFrames u (next_place f.caller) xs) same g.are.1 in
+      let past = subst (λ (f : WalkedFrame). AreFrames u (next_place f.caller) xs) same g.are.1 in
       let mine = ended_after n x xs a (omega (arith, g.few)) g.ends in
       let ended = subst (λ (f : WalkedFrame). Ended n f.caller xs) same mine in
-      let rest : xs ≡ ys = one_after n y.caller xs ys behind h.are.1 ended (ended_after n y ys b (omega (arith, h.few)) h.ends) in
+      let rest : xs ≡ ys = one_after n y.caller xs ys past h.are.1 ended (ended_after n y ys b (omega (arith, h.few)) h.ends) in
       rw (same, rest) refl
 
   pub one_walk : (first : Place) (limit : ℕ) (xs ys : List WalkedFrame) (a b : Stop) → Walks u first limit xs a → Walks u first limit ys b

@@ -1,7 +1,7 @@
 //! Functions that walk up the stack and return the frames as a list.
 
 ghost use Rattle.std.specs.Prelude.{◌≡◌, ◌<◌, ◌^◌, ℕ, All, IfErr, IfOk, IsOk};
-ghost use Rattle.dw_bytes.specs.Answers.{memory as want_of_memory};
+ghost use Rattle.dw_bytes.specs.Answers.{memory as out_of_memory};
 ghost use Rattle.dw_eval.specs.Numbers.{width_of};
 ghost use Rattle.dw_rows.specs.AbiViews.{roles_of};
 ghost use Rattle.dw_unwind.specs.CallerFits.{FrameFits};
@@ -33,7 +33,7 @@ fn backtrace_over<U: Unwinder + Drop, R: Registers, M: Memory>(
         Walks (U.unwinds unwinder (roles_of abi.now) (M.bytes memory.now))
         (first_place address (R.contents registers.now)) limit
         (frames_in walk.frames.items) walk.stop) }
-    ensures lacks { IfErr result (λ fault. fault ≡ want_of_memory) }
+    ensures lacks { IfErr result (λ fault. fault ≡ out_of_memory) }
     ensures none { limit ≡ 0 → IsOk result }
     ensures fits { IfOk result (λ walk. (bound : ℕ) → U.is_bound unwinder bound
         → address < bound → All (FrameFits bound) (frames_in walk.frames.items)) }
@@ -76,7 +76,7 @@ pub fn backtrace_in<T: UnwindRows, R: Registers, M: Memory>(
         Walks (over_modules_of_rows T.target_of T.finds (roles_of abi.now) (M.bytes memory.now)
         modules.now) (first_place address (R.contents registers.now)) limit
         (frames_in walk.frames.items) walk.stop) }
-    ensures lacks { IfErr result (λ fault. fault ≡ want_of_memory) }
+    ensures lacks { IfErr result (λ fault. fault ≡ out_of_memory) }
     ensures none { limit ≡ 0 → IsOk result }
 
     // All numbers are below 2^w, w being the greatest address size of a module in bits, if the
@@ -110,7 +110,7 @@ pub fn backtrace_by<T: UnwindRows, R: Registers, M: Memory>(
         (roles_of abi.now) (M.bytes memory.now))
         (first_place address (R.contents registers.now)) limit
         (frames_in walk.frames.items) walk.stop) }
-    ensures lacks { IfErr result (λ fault. fault ≡ want_of_memory) }
+    ensures lacks { IfErr result (λ fault. fault ≡ out_of_memory) }
     ensures none { limit ≡ 0 → IsOk result }
 
     // All numbers are below 2^w, w being the size of an address in bits, if the first frame's
@@ -138,7 +138,7 @@ pub fn backtrace_by_section<R: Registers, M: Memory>(
         Walks (over_section frame.now (roles_of abi.now) (M.bytes memory.now))
         (first_place address (R.contents registers.now)) limit
         (frames_in walk.frames.items) walk.stop) }
-    ensures lacks { IfErr result (λ fault. fault ≡ want_of_memory) }
+    ensures lacks { IfErr result (λ fault. fault ≡ out_of_memory) }
     ensures none { limit ≡ 0 → IsOk result }
 
     // All numbers are below 2^w, w being the size of an address in bits, if the first frame's

@@ -5,7 +5,7 @@ use Rattle.std.proofs.lemmas.List.{length-drop, take_rest}
 use Rattle.dw_bytes.specs.declared.fault.Fault.{Fault}
 use Rattle.dw_bytes.specs.declared.target.Target.{Target}
 use Rattle.dw_bytes.specs.Reading.{ReadPosition, section_from}
-use Rattle.dw_frame.specs.Bounds.{IsBehind, IsSound}
+use Rattle.dw_frame.specs.Bounds.{IsAfter, IsSound}
 use Rattle.dw_frame.specs.Records.{Record}
 use Rattle.dw_frame.specs.Sections.{entries_from, entries_of, record_at}
 
@@ -22,15 +22,15 @@ module _ (target : Target) (section : List ℕ)
     → entries_from target section 0 ≡ Ok x ∷ entries_from target section next)
     (fault : (why : Fault) → 0 < length section → record_at (section_from target section 0) ≡ Err why
     → entries_from target section 0 ≡ Err why ∷ [])
-    (behind : (x : Record) (after : ReadPosition) → 0 ≤ length section → record_at (section_from target section 0) ≡ Ok (x, after)
-    → IsBehind target section 0 after) where
+    (past : (x : Record) (after : ReadPosition) → 0 ≤ length section → record_at (section_from target section 0) ≡ Ok (x, after)
+    → IsAfter target section 0 after) where
   -- a section that isn't empty has an item
   pub some-item : 0 < length section → entries_of target section ≡ [] → ⊥
   some-item room none = by-read (record_at (section_from target section 0)) refl
     where
       by-read : (found : Result (Record × ReadPosition) Fault) → record_at (section_from target section 0) ≡ found → ⊥
       by-read (Ok x) is =
-          let b = behind x.0 x.1 (omega arith) is in
+          let b = past x.0 x.1 (omega arith) is in
           let here : record_at (section_from target section 0) ≡ Ok (x.0, section_from target section x.1.position) =
           is ∙ ap (λ (p : ReadPosition). Ok (x.0, p)) b.left in
           absurd (let never : Ok x.0 ∷ entries_from target section x.1.position ≡ [] = sym (entry x.1.position x.0 here) ∙ none in cc)

@@ -144,7 +144,7 @@ fn debug_frame_record(frame: &[u8], target: Target, at: u32) -> Result<CRecord, 
 {
     dw_frame::laws::records_are_sound();
     dw_frame::laws::records_come_in_order();
-    dw_frame::laws::records_lie_behind_each_other();
+    dw_frame::laws::records_follow_each_other();
     let left = &frame[at as usize..];
     match entries(left, target).next() {
         Some(Ok(Entry::Cie(cie))) => Ok(shown_cie(&cie, at)),

@@ -111,6 +111,7 @@ fn shown_rule(register: u16, rule: RegisterRule<'_>) -> CRule
 }
 
 /// Converts the CFA's rule to C's struct.
+#[inline(always)]
 fn shown_cfa(rule: CfaRule<'_>) -> CRule
     ensures { result ≡ cfa_coded (cfa_rule_of rule.entry) }
 {
@@ -161,6 +162,7 @@ fn write_saved(rules: PlainRules<'_>, slots: &mut [CRule]) -> u32
 }
 
 /// Writes the rules of a row to `slots`, as many as fit. Returns the number of rules.
+#[inline(always)]
 fn write_rules_of(row: &UnwindRow<'_, '_>, slots: &mut [CRule]) -> u32
     ensures written { slots.new ≡ put_into (map crule_of row.now.rules) slots.old }
     ensures count { result ≡ length row.now.rules }
@@ -174,6 +176,7 @@ fn write_rules_of(row: &UnwindRow<'_, '_>, slots: &mut [CRule]) -> u32
 }
 
 /// Writes a row to `row`, and its rules to `rules`, as many as fit.
+#[inline(always)]
 pub(crate) fn write_row(found: &FoundRow<'_>, row: &mut CRow, rules: &mut [CRule])
     ensures row { IsRowOf found.now row.new rules.old rules.new }
     ensures few { row.new.count ≤ MAX_RULES }

@@ -2,7 +2,7 @@ use Rattle.std.proofs.Common.{rules, refl, arith, ap, ◌≡◌, ◌∷◌, ◌+
 use Rattle.std.proofs.lemmas.List.Elements.{filter_map-append}
 use Rattle.dw_check.specs.Parts.{parts_of}
 use Rattle.dw_check.specs.StateFile.{fact_of_line, facts_of_lines}
-use Rattle.dw_check.proofs.StateLines.{Reading, few_parts, reads_line, reads_bad, goes_behind}
+use Rattle.dw_check.proofs.StateLines.{Reading, few_parts, reads_line, reads_bad, goes_past}
 use Rattle.dw_check.proofs.machine_state.read_state.Goals as goal
 
 pub loop-line-init : goal.loop-line-init
@@ -27,7 +27,7 @@ loop-line-preserved c =
     let long = ap length steps in
     let reads : Reading target text before n (line ∷ c.next.new.self) = subst (λ l. Reading target text before n l) steps was.2 in
     let gs = facts_of_lines target before in
-    let goes : goes_behind target before line ≡ true = sym (c.in_ok-add_line.ensures.taken gs was.1) ∙ c.if-not-branch.false in
+    let goes : goes_past target before line ≡ true = sym (c.in_ok-add_line.ensures.taken gs was.1) ∙ c.if-not-branch.false in
     let more : facts_of_lines target (before ++ line ∷ []) ≡ gs ++ facts_of_lines target (line ∷ []) =
     filter_map-append (fact_of_line target) before (line ∷ []) in
     let given = rw c.if-not-branch.false at c.in_ok-add_line.ensures.given in
@@ -46,6 +46,6 @@ returns-then-not-branch-clause-stop c =
     let line = c.in-Some.line.now in
     let steps : c.loop-line.line-iterator ≡ line ∷ c.next.new.self = c.in-Some.ensures.steps in
     let reads : Reading target text before n (line ∷ c.next.new.self) = subst (λ l. Reading target text before n l) steps was.2 in
-    let stays : goes_behind target before line ≡ false =
+    let stays : goes_past target before line ≡ false =
     sym (c.in_ok-add_line.ensures.taken (facts_of_lines target before) was.1) ∙ c.if-not-branch.true in
     reads_bad target text before n line c.next.new.self reads stays

@@ -16,7 +16,7 @@ loop-count-init c =
     record {
       written = pending-begins c.args.dialect c.args.target c.args.bytes.now c.args.out.now.items first r same c.new-cursor.ensures;
       follows = subst (λ (f : ReadPosition). Follows f r) (sym same) (follows-itself r);
-      behind = omega arith;
+      past = omega arith;
       start = omega (arith, ap (λ (p : ReadPosition). p.position) same, ap (λ (p : ReadPosition). length p.rest) same, at_start, as_long);
       whole = omega (arith, at_start, as_long);
     }
@@ -34,7 +34,7 @@ loop-count-preserved c =
     let same_end = c.skip_instruction.ensures.goes_on.same_end in
     let is : past_instruction a r ≡ Ok (c.in-Ok.is_foreign, after) =
     subst (λ (p : ReadPosition). past_instruction a p ≡ Ok (c.in-Ok.is_foreign, after)) c.copy-ahead.ensures c.in-Ok.ensures.exact in
-    let less : c.loop-count.count < size = omega (arith, moved, as_long, forward, same_end, way.behind, way.whole) in
+    let less : c.loop-count.count < size = omega (arith, moved, as_long, forward, same_end, way.past, way.whole) in
     let whole = c.args.out.now.items ++ silenced a (record { target = c.args.target; position = 0; rest = c.args.bytes.now }) in
     elim c.if-is_foreign.branch [
       | then-is_foreign+in_ok-push_next-2+in_ok-push_nops w ↦
@@ -54,7 +54,7 @@ loop-count-preserved c =
             written = subst (λ (f : ReadPosition). (w.push_nops.new.out.items ++ pending f after)
                 ++ silenced_up_to a (size - (c.loop-count.count + 1)) after ≡ whole) (sym same) step;
             follows = subst (λ (f : ReadPosition). Follows f after) (sym same) (follows-itself after);
-            behind = omega (arith, moved, forward, way.behind);
+            past = omega (arith, moved, forward, way.past);
             start = omega (
               arith,
               moved,
@@ -74,7 +74,7 @@ loop-count-preserved c =
           (record {
             written = step.0;
             follows = step.1;
-            behind = omega (arith, moved, forward, way.behind);
+            past = omega (arith, moved, forward, way.past);
             start = way.start;
             whole = omega (arith, moved, as_long, same_end, way.whole);
           })

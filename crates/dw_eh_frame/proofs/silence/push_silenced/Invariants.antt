@@ -8,7 +8,7 @@ invariant-loop-count l = record {
   written : (l.out.items ++ pending l.unwritten l.cursor) ++ silenced_up_to l.dialect (length l.bytes - l.count) l.cursor
       ≡ l.fn.out.items ++ silenced l.dialect (record { target = l.fn.target; position = 0; rest = l.bytes });
   follows : Follows l.unwritten l.cursor;
-  behind : l.count ≤ l.cursor.position;
+  past : l.count ≤ l.cursor.position;
   start : l.unwritten.position + length l.unwritten.rest ≡ length l.bytes;
   whole : l.cursor.position + length l.cursor.rest ≡ length l.bytes;
 }

@@ -9,7 +9,7 @@ use Rattle.dw_eval.specs.Results.{result_of}
 use Rattle.dw_eval.specs.Views.{outcome_of}
 use Rattle.dw_eval.specs.Steps.{configuration_of}
 use Rattle.dw_eval.proofs.Going.{one_more, few_steps, ends, finished, finished_fits, failed}
-use Rattle.dw_eval.proofs.Loop.{same_end, ahead_here, can_step_here, goes_to, goes_behind}
+use Rattle.dw_eval.proofs.Loop.{same_end, ahead_here, can_step_here, goes_to, goes_past}
 use Rattle.dw_eval.proofs.description.run_location.Goals as goal
 
 -- what the loop's test says about the length of `seen` holds for the length of the expression's
@@ -64,7 +64,7 @@ pub run_location_on-requires : goal.run_location_on-requires
 run_location_on-requires g c =
     let e = world_in g.R.Registers.contents g.M.Memory.bytes c.args.environment.now in
     let test = before c.loop-at.at (bytes_of c.args.expression.now) c.bytes.result.now c.bytes.ensures c.loop-at-test.true in
-    let way = (goes_behind e c.args.expression.now c.requires.can.depth c.requires.can.good c.requires.can.runs c.requires.can.target
+    let way = (goes_past e c.args.expression.now c.requires.can.depth c.requires.can.good c.requires.can.runs c.requires.can.target
     c.loop-at.steps c.loop-at.at c.loop-at.run [] c.loop-at.invariant test c.in-Ok.step c.step.new.self c.in-Ok.ensures c.in-Ends.piece
     c.in-Ends.to c.in-Ends.is).0 in
     let some : 0 < length (bytes_of c.args.expression.now) = omega (arith, test) in

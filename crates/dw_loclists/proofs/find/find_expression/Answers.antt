@@ -1,15 +1,15 @@
 use Rattle.std.proofs.Common.{rules, sym, subst, ◌∙◌, get_or}
 use Rattle.std.proofs.lemmas.List.Sorted.{answers_always}
 use Rattle.dw_bytes.specs.Operands.{block_of}
-use Rattle.dw_loclists.specs.declared.kept.KeptExpression.{KeptExpression}
+use Rattle.dw_loclists.specs.declared.stored_lists.StoredExpression.{StoredExpression}
 use Rattle.dw_loclists.specs.Locations.{location_of}
-use Rattle.dw_loclists.specs.Kept.{IsKeptOf}
+use Rattle.dw_loclists.specs.Kept.{IsStoredOf}
 use Rattle.dw_loclists.specs.Views.{offset_of}
 use Rattle.dw_loclists.proofs.Search.{searched-found, searched-none, ascending-same}
 use Rattle.dw_loclists.proofs.find.find_expression.Goals as goal
 
 -- the default value for reading a list at an index, which the proofs need but never reach
-abbrev none : KeptExpression
+abbrev none : StoredExpression
 none = record { offset = 0; length = 0; count = 0; depth = 0 }
 
 pub lend-requires : goal.lend-requires
@@ -22,7 +22,7 @@ lend-requires c =
     let same =
     ascending-same offset_of xs c.requires.order kept.0 (get_or xs c.in-Ok.place none) kept.1 found.0
     (kept.2.offset_is ∙ sym found.1) in
-    subst (IsKeptOf (location_of (block_of c.args.block))) same kept.2
+    subst (IsStoredOf (location_of (block_of c.args.block))) same kept.2
 
 pub unreachable-requires : goal.unreachable-requires
 unreachable-requires c =

@@ -1,7 +1,7 @@
 use Rattle.std.proofs.Common.{◌≡◌, ◌∷◌, ◌++◌, [], rules}
 use Rattle.dw_bytes.specs.Operands.{block_of}
 use Rattle.dw_loclists.specs.Locations.{location_of}
-use Rattle.dw_loclists.proofs.KeptLists.{keeps-one}
+use Rattle.dw_loclists.proofs.StoredLists.{keeps-one}
 use Rattle.dw_loclists.proofs.list.check_entry_expression.Goals as goal
 
 pub returns-in_ok-push-in-Ok-clause-kept : goal.returns-in_ok-push-in-Ok-clause-kept

@@ -6,7 +6,7 @@ use Rattle.dw_stack.specs.FirstFault.{expression_fault}
 use Rattle.dw_loclists.specs.Locations.{location_of}
 use Rattle.dw_loclists.specs.Reading.{location_fault}
 use Rattle.dw_loclists.proofs.EachEntry.{good-location}
-use Rattle.dw_loclists.proofs.KeptLists.{keeps-one}
+use Rattle.dw_loclists.proofs.StoredLists.{keeps-one}
 use Rattle.dw_stack.proofs.Named.{good_if_none}
 use Rattle.dw_loclists.proofs.list.keep_location.Goals as goal
 

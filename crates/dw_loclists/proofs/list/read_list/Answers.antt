@@ -5,7 +5,7 @@ use Rattle.dw_bytes.specs.declared.fault.Fault.{Fault}
 use Rattle.dw_bytes.specs.declared.fault.FaultKind.TheVariants.{NoEnd}
 use Rattle.dw_bytes.specs.Reading.{ReadPosition, MovesForward}
 use Rattle.dw_bytes.specs.Answers.{memory}
-use Rattle.dw_loclists.specs.declared.kept.KeptExpression.{KeptExpression}
+use Rattle.dw_loclists.specs.declared.stored_lists.StoredExpression.{StoredExpression}
 use Rattle.dw_loclists.specs.Entries.{Entry}
 use Rattle.dw_loclists.specs.Kept.{Passes}
 use Rattle.dw_loclists.specs.Reading.{checked_entry_at, entries_at, list_at}
@@ -76,7 +76,7 @@ returns-then-passed-clause-exact c =
     subst (λ (b : Bool). Passes d b last here after mid new) c.if-passed.true
     (subst (λ (r : ReadPosition). Passes d c.in_ok-passed.passed.ended last r after mid new)
     (c.copy-aside.ensures ∙ c.in-None.ensures.exact.0)
-    (subst (λ (ks : List KeptExpression). Passes d c.in_ok-passed.passed.ended last c.copy-aside.result after ks new)
+    (subst (λ (ks : List StoredExpression). Passes d c.in_ok-passed.passed.ended last c.copy-aside.result after ks new)
     c.in-None.ensures.exact.1 c.in_ok-passed.ensures.exact)) in
     last-one c.args.cursor.now here after c.args.expressions.now.items mid new d last c.entries.invariant.so_far passes
 
@@ -92,7 +92,7 @@ entries-preserved-then-has_default c =
     subst (λ (b : Bool). Passes d b last here after mid new) c.if-passed.false
     (subst (λ (r : ReadPosition). Passes d c.in_ok-passed.passed.ended last r after mid new)
     (c.copy-aside.ensures ∙ c.in-None.ensures.exact.0)
-    (subst (λ (ks : List KeptExpression). Passes d c.in_ok-passed.passed.ended last c.copy-aside.result after ks new)
+    (subst (λ (ks : List StoredExpression). Passes d c.in_ok-passed.passed.ended last c.copy-aside.result after ks new)
     c.in-None.ensures.exact.1 c.in_ok-passed.ensures.exact)) in
     let or : (d || last) ≡ d = ap (λ b. b || last) c.if-has_default.true ∙ sym c.if-has_default.true in
     record {
@@ -115,7 +115,7 @@ entries-preserved c =
     subst (λ (b : Bool). Passes d b last here after mid new) c.if-passed.false
     (subst (λ (r : ReadPosition). Passes d c.in_ok-passed.passed.ended last r after mid new)
     (c.copy-aside.ensures ∙ c.in-None.ensures.exact.0)
-    (subst (λ (ks : List KeptExpression). Passes d c.in_ok-passed.passed.ended last c.copy-aside.result after ks new)
+    (subst (λ (ks : List StoredExpression). Passes d c.in_ok-passed.passed.ended last c.copy-aside.result after ks new)
     c.in-None.ensures.exact.1 c.in_ok-passed.ensures.exact)) in
     let or : (d || last) ≡ last = ap (λ b. b || last) c.if-has_default.false in
     record {

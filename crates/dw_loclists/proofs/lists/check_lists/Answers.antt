@@ -5,9 +5,9 @@ use Rattle.dw_bytes.specs.Answers.{memory}
 use Rattle.dw_loclists.specs.Reading.{tables_from, lists_fault}
 use Rattle.dw_loclists.specs.Lists.{Table, lists_of}
 use Rattle.dw_loclists.specs.Locations.{expressions_in}
-use Rattle.dw_loclists.specs.Kept.{Kept, kept_from, with_table, AreKeptOf}
+use Rattle.dw_loclists.specs.Kept.{Kept, stored_from, with_table, AreStoredOf}
 use Rattle.dw_loclists.proofs.EachTable.{at-fault}
-use Rattle.dw_loclists.proofs.KeptLists.{table-kept, keeps-table}
+use Rattle.dw_loclists.proofs.StoredLists.{table-kept, keeps-table}
 use Rattle.dw_loclists.proofs.Checked.{all-tables, tables-checked, tables-are, tables-fault, one-more}
 use Rattle.dw_loclists.proofs.lists.check_lists.Goals as goal
 
@@ -51,8 +51,8 @@ invariant_of-result c =
     let same = sym (tables-are target section before.so_far.0 all) in
     record {
       checked = tables-checked target section before.so_far.0 all;
-      kept = before.so_far.2 ∙ ap kept_from same;
-      expressions = subst (λ (ts : List Table). AreKeptOf (expressions_in (lists_of ts)) c.tables.contents.expressions.items) same
+      kept = before.so_far.2 ∙ ap stored_from same;
+      expressions = subst (λ (ts : List Table). AreStoredOf (expressions_in (lists_of ts)) c.tables.contents.expressions.items) same
           before.so_far.3;
       short = c.requires;
     }

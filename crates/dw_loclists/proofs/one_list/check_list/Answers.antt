@@ -1,6 +1,6 @@
 use Rattle.std.proofs.Common.{◌≡◌, [], Ok, ap, subst, sym, ◌∙◌}
 use Rattle.dw_bytes.specs.Reading.{ReadPosition, section_from}
-use Rattle.dw_loclists.specs.Kept.{AreKeptOf, list_found}
+use Rattle.dw_loclists.specs.Kept.{AreStoredOf, list_found}
 use Rattle.dw_loclists.specs.Lists.{Loclist}
 use Rattle.dw_loclists.specs.Reading.{list_at}
 use Rattle.dw_loclists.proofs.one_list.check_list.Goals as goal
@@ -12,7 +12,7 @@ invariant_of-result c =
       list = read.0;
       after = c.read_list.new.cursor;
       read = ap list_at (sym c.at-cursor.ensures) ∙ read.1;
-      expressions = read.2 [] (subst (AreKeptOf []) (sym c.new-expressions.ensures.items) tt);
+      expressions = read.2 [] (subst (AreStoredOf []) (sym c.new-expressions.ensures.items) tt);
       inside = c.requires.inside;
       short = c.requires.short;
     }

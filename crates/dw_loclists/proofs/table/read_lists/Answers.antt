@@ -5,10 +5,10 @@ use Rattle.std.proofs.lemmas.List.{map-append}
 use Rattle.dw_bytes.specs.Answers.{memory}
 use Rattle.dw_loclists.specs.declared.contents.LocationList.{LocationList}
 use Rattle.dw_loclists.specs.Reading.{lists_at}
-use Rattle.dw_loclists.specs.Kept.{kept_of}
+use Rattle.dw_loclists.specs.Kept.{stored_of}
 use Rattle.dw_loclists.specs.Views.{start_of}
 use Rattle.dw_loclists.proofs.EachTable.{next-list, last-list, bad-list, list-begins}
-use Rattle.dw_loclists.proofs.KeptLists.{kept-as, list-kept, keeps-list}
+use Rattle.dw_loclists.proofs.StoredLists.{kept-as, list-kept, keeps-list}
 use Rattle.dw_loclists.proofs.table.read_lists.Goals as goal
 
 pub returns-in_err-read_list-clause-exact : goal.returns-in_err-read_list-clause-exact
@@ -43,7 +43,7 @@ lists-preserved c =
         ls ++ l ∷ [],
         next-list c.args.cursor.now here c.read_list.new.cursor ls l before.so_far.1 read,
         record {
-          kept = list-kept (kept_of c.args.contents.now) (kept_of old) (kept-as old.tables.items (map start_of c.push.new.self.items)) ls l
+          kept = list-kept (stored_of c.args.contents.now) (stored_of old) (kept-as old.tables.items (map start_of c.push.new.self.items)) ls l
               before.so_far.2.kept (ap (kept-as old.tables.items) starts);
           expressions = keeps-list ls l c.args.contents.now.expressions.items old.expressions.items c.read_list.new.expressions.items
               before.so_far.2.expressions c.in_ok-read_list.ensures.exact.2;

@@ -9,10 +9,10 @@ use Rattle.dw_loclists.specs.declared.contents.LocationList.{LocationList}
 use Rattle.dw_loclists.specs.Lists.{table_header, starts_of}
 use Rattle.dw_loclists.specs.Bounds.{Ascends}
 use Rattle.dw_loclists.specs.Reading.{list_offset_at, table_at}
-use Rattle.dw_loclists.specs.Kept.{Kept, kept_of}
+use Rattle.dw_loclists.specs.Kept.{Kept, stored_of}
 use Rattle.dw_loclists.specs.Views.{start_of}
 use Rattle.dw_loclists.proofs.EachTable.{table-made, table-unnamed, header-leaves, new-starts, table-of, lists-found}
-use Rattle.dw_loclists.proofs.KeptLists.{behind-lists}
+use Rattle.dw_loclists.proofs.StoredLists.{past-lists}
 use Rattle.dw_loclists.proofs.Order.{starts-rise}
 use Rattle.dw_loclists.proofs.Search.{rise-ascends, ascends-back}
 use Rattle.dw_loclists.proofs.table.read_table.Goals as goal
@@ -109,7 +109,7 @@ returns-clause-exact c =
       t,
       made,
       record {
-        kept = behind-lists (kept_of c.args.contents.now) (kept_of c.read_lists.new.contents) t c.push.new.self.items lists.2.kept tables;
+        kept = past-lists (stored_of c.args.contents.now) (stored_of c.read_lists.new.contents) t c.push.new.self.items lists.2.kept tables;
         expressions = lists.2.expressions;
       },
     )

@@ -2,7 +2,7 @@ use Rattle.std.proofs.Common.{◌≡◌, ◌+◌, ◌∷◌, Some, None, sym, ap
 use Rattle.std.specs.Prelude.{find}
 use Rattle.dw_frame.specs.Views.{cie_of, fde_of}
 use Rattle.dw_rows.specs.UnwindRows.{rows_of, has_address}
-use Rattle.dw_rows.specs.RuleSet.{KeptRules}
+use Rattle.dw_rows.specs.RuleSet.{StoredRules}
 use Rattle.dw_rows.specs.RowCursors.{cursor_at, RowCursor, above}
 use Rattle.dw_rows.specs.LentExpressions.{lent_by}
 use Rattle.dw_rows.proofs.GivenRows.{find-with}
@@ -23,7 +23,7 @@ write_row-requires-clause-cfa t c =
     let w : RowCursor = cursor_at cie (fde.initial_location + fde.address_range) c.loop-start.state c.loop-start.instructions in
     let new : RowCursor = cursor_at cie (fde.initial_location + fde.address_range) c.next_plain.new.state c.next_plain.new.instructions in
     let rules = c.copy-rules.result in
-    let ks : List KeptRules = rules ∷ c.requires.seeks.0 in
+    let ks : List StoredRules = rules ∷ c.requires.seeks.0 in
     let h = c.loop-start.invariant.seeks c.requires.seeks.0 c.requires.seeks.1 in
     let step = plain-row w new c.in-Row.start c.in-Row.end ks c.in-Row.ensures.next in
     seeks-cfa cie fde c.args.address (above ks w) (above ks new) c.in-Row.start c.in-Row.end h step
@@ -35,7 +35,7 @@ write_row-requires-clause-lent t c =
     let w : RowCursor = cursor_at cie (fde.initial_location + fde.address_range) c.loop-start.state c.loop-start.instructions in
     let new : RowCursor = cursor_at cie (fde.initial_location + fde.address_range) c.next_plain.new.state c.next_plain.new.instructions in
     let rules = c.copy-rules.result in
-    let ks : List KeptRules = rules ∷ c.requires.seeks.0 in
+    let ks : List StoredRules = rules ∷ c.requires.seeks.0 in
     let h = c.loop-start.invariant.seeks c.requires.seeks.0 c.requires.seeks.1 in
     let step = plain-row w new c.in-Row.start c.in-Row.end ks c.in-Row.ensures.next in
     seeks-lent cie fde c.args.address (above ks w) (above ks new) c.in-Row.start c.in-Row.end (lent_by c.args.expressions) h step
@@ -48,7 +48,7 @@ returns-then-address-end-clause-found t c =
     let w : RowCursor = cursor_at cie (fde.initial_location + fde.address_range) c.loop-start.state c.loop-start.instructions in
     let new : RowCursor = cursor_at cie (fde.initial_location + fde.address_range) c.next_plain.new.state c.next_plain.new.instructions in
     let rules = c.copy-rules.result in
-    let ks : List KeptRules = rules ∷ c.requires.seeks.0 in
+    let ks : List StoredRules = rules ∷ c.requires.seeks.0 in
     let h = c.loop-start.invariant.seeks c.requires.seeks.0 c.requires.seeks.1 in
     let step = plain-row w new c.in-Row.start c.in-Row.end ks c.in-Row.ensures.next in
     find-with (lent_by c.args.expressions) c.args.address (rows_of cie fde) _
@@ -62,7 +62,7 @@ loop-start-smaller-else-address-end t c =
     let w : RowCursor = cursor_at cie (fde.initial_location + fde.address_range) c.loop-start.state c.loop-start.instructions in
     let new : RowCursor = cursor_at cie (fde.initial_location + fde.address_range) c.next_plain.new.state c.next_plain.new.instructions in
     let rules = c.copy-rules.result in
-    let ks : List KeptRules = rules ∷ c.requires.seeks.0 in
+    let ks : List StoredRules = rules ∷ c.requires.seeks.0 in
     let h = c.loop-start.invariant.seeks c.requires.seeks.0 c.requires.seeks.1 in
     let step = plain-row w new c.in-Row.start c.in-Row.end ks c.in-Row.ensures.next in
     omega (
@@ -78,7 +78,7 @@ loop-start-preserved-else-address-end t c =
     let w : RowCursor = cursor_at cie (fde.initial_location + fde.address_range) c.loop-start.state c.loop-start.instructions in
     let new : RowCursor = cursor_at cie (fde.initial_location + fde.address_range) c.next_plain.new.state c.next_plain.new.instructions in
     let rules = c.copy-rules.result in
-    let ks : List KeptRules = rules ∷ c.requires.seeks.0 in
+    let ks : List StoredRules = rules ∷ c.requires.seeks.0 in
     let h = c.loop-start.invariant.seeks c.requires.seeks.0 c.requires.seeks.1 in
     let step = plain-row w new c.in-Row.start c.in-Row.end ks c.in-Row.ensures.next in
     let i = c.loop-start.invariant in
@@ -99,7 +99,7 @@ write_row_in_bracket-requires t c =
     let w : RowCursor = cursor_at cie (fde.initial_location + fde.address_range) c.loop-start.state c.loop-start.instructions in
     let new : RowCursor = cursor_at cie (fde.initial_location + fde.address_range) c.next_plain.new.state c.next_plain.new.instructions in
     let rules = c.copy-rules.result in
-    let ks : List KeptRules = rules ∷ c.requires.seeks.0 in
+    let ks : List StoredRules = rules ∷ c.requires.seeks.0 in
     let h = c.loop-start.invariant.seeks c.requires.seeks.0 c.requires.seeks.1 in
     let there = seeks-remembers cie fde c.args.address w new ks h c.in-Remembers.ensures.next in
     let i = c.loop-start.invariant in (
@@ -114,11 +114,11 @@ loop-start-smaller t c =
     let w : RowCursor = cursor_at cie (fde.initial_location + fde.address_range) c.loop-start.state c.loop-start.instructions in
     let new : RowCursor = cursor_at cie (fde.initial_location + fde.address_range) c.next_plain.new.state c.next_plain.new.instructions in
     let rules = c.copy-rules.result in
-    let ks : List KeptRules = rules ∷ c.requires.seeks.0 in
+    let ks : List StoredRules = rules ∷ c.requires.seeks.0 in
     let h = c.loop-start.invariant.seeks c.requires.seeks.0 c.requires.seeks.1 in
     let went = c.in-Remembers.ensures.next ks cie fde h.before h.is_at in
-    let behind = c.if-write_row_in_bracket.ensures.behind in
-    omega (arith, c.in-Remembers.ensures.on, went.here, behind.location, behind.shorter)
+    let past = c.if-write_row_in_bracket.ensures.past in
+    omega (arith, c.in-Remembers.ensures.on, went.here, past.location, past.shorter)
 
 pub loop-start-preserved : goal.loop-start-preserved
 loop-start-preserved t c =
@@ -127,26 +127,26 @@ loop-start-preserved t c =
     let w : RowCursor = cursor_at cie (fde.initial_location + fde.address_range) c.loop-start.state c.loop-start.instructions in
     let new : RowCursor = cursor_at cie (fde.initial_location + fde.address_range) c.next_plain.new.state c.next_plain.new.instructions in
     let rules = c.copy-rules.result in
-    let ks : List KeptRules = rules ∷ c.requires.seeks.0 in
+    let ks : List StoredRules = rules ∷ c.requires.seeks.0 in
     let h = c.loop-start.invariant.seeks c.requires.seeks.0 c.requires.seeks.1 in
     let i = c.loop-start.invariant in
     let went = c.in-Remembers.ensures.next ks cie fde h.before h.is_at in
-    let behind = c.if-write_row_in_bracket.ensures.behind in
+    let past = c.if-write_row_in_bracket.ensures.past in
     record {
-      seeks = λ others s. behind.seeks (rules ∷ others)
+      seeks = λ others s. past.seeks (rules ∷ others)
           (seeks-remembers cie fde c.args.address w new (rules ∷ others) (i.seeks others s) c.in-Remembers.ensures.next);
-      location = omega (arith, i.location, went.here, behind.location);
-      shorter = omega (arith, i.shorter, c.in-Remembers.ensures.on, behind.shorter);
+      location = omega (arith, i.location, went.here, past.location);
+      shorter = omega (arith, i.shorter, c.in-Remembers.ensures.on, past.shorter);
     }
 
-pub returns-in-Restores-clause-behind : goal.returns-in-Restores-clause-behind
-returns-in-Restores-clause-behind t c =
+pub returns-in-Restores-clause-past : goal.returns-in-Restores-clause-past
+returns-in-Restores-clause-past t c =
     let cie = cie_of c.args.cie.now in
     let fde = fde_of c.args.fde.now in
     let w : RowCursor = cursor_at cie (fde.initial_location + fde.address_range) c.loop-start.state c.loop-start.instructions in
     let new : RowCursor = cursor_at cie (fde.initial_location + fde.address_range) c.next_plain.new.state c.next_plain.new.instructions in
     let rules = c.copy-rules.result in
-    let ks : List KeptRules = rules ∷ c.requires.seeks.0 in
+    let ks : List StoredRules = rules ∷ c.requires.seeks.0 in
     let h = c.loop-start.invariant.seeks c.requires.seeks.0 c.requires.seeks.1 in
     let i = c.loop-start.invariant in
     let went = c.in-Restores.ensures.next ks cie fde h.before h.is_at in
@@ -164,7 +164,7 @@ unreachable-requires t c =
     let w : RowCursor = cursor_at cie (fde.initial_location + fde.address_range) c.loop-start.state c.loop-start.instructions in
     let new : RowCursor = cursor_at cie (fde.initial_location + fde.address_range) c.next_plain.new.state c.next_plain.new.instructions in
     let rules = c.copy-rules.result in
-    let ks : List KeptRules = rules ∷ c.requires.seeks.0 in
+    let ks : List StoredRules = rules ∷ c.requires.seeks.0 in
     let h = c.loop-start.invariant.seeks c.requires.seeks.0 c.requires.seeks.1 in
     let none : find (has_address c.args.address) (rows_of cie fde) ≡ None =
     seeks-end cie fde c.args.address w new ks h c.in-End.ensures.next in

@@ -1,6 +1,6 @@
 use Rattle.std.proofs.Common.{◌+◌, ◌-◌, ◌≤◌, List, ◌∷◌, length}
 use Rattle.dw_frame.specs.Views.{cie_of, fde_of}
-use Rattle.dw_rows.specs.RuleSet.{KeptRules}
+use Rattle.dw_rows.specs.RuleSet.{StoredRules}
 use Rattle.dw_rows.specs.RowCursors.{cursor_at, Seeks, above}
 use Rattle.dw_rows.proofs.lookup.+write_row_in_bracket.Given as goal
 
@@ -9,7 +9,7 @@ decreases-write_row_in_bracket l = length l.instructions.now
 
 abbrev pub invariant-loop-start : goal.invariant-loop-start
 invariant-loop-start l = record {
-  seeks : (ks : List KeptRules) → Seeks (cie_of l.cie) (fde_of l.fde) l.address
+  seeks : (ks : List StoredRules) → Seeks (cie_of l.cie) (fde_of l.fde) l.address
       (above (l.initial.state.current ∷ ks)
       (cursor_at (cie_of l.cie) l.limit l.initial.state l.initial.instructions))
       → Seeks (cie_of l.cie) (fde_of l.fde) l.address

@@ -77,8 +77,8 @@ loop-start-smaller c =
     let new : RowCursor = cursor_at cie (fde.initial_location + fde.address_range) c.next_plain.new.state c.next_plain.new.instructions in
     let h = c.loop-start.invariant in
     let went = c.in-Remembers.ensures.next [] cie fde h.before h.is_at in
-    let behind = c.if-write_row_in_bracket.ensures.behind in
-    omega (arith, c.in-Remembers.ensures.on, went.here, behind.location, behind.shorter)
+    let past = c.if-write_row_in_bracket.ensures.past in
+    omega (arith, c.in-Remembers.ensures.on, went.here, past.location, past.shorter)
 
 pub loop-start-preserved : goal.loop-start-preserved
 loop-start-preserved c =
@@ -86,7 +86,7 @@ loop-start-preserved c =
     let fde = fde_of c.args.fde.now in
     let w : RowCursor = cursor_at cie (fde.initial_location + fde.address_range) c.loop-start.state c.loop-start.instructions in
     let new : RowCursor = cursor_at cie (fde.initial_location + fde.address_range) c.next_plain.new.state c.next_plain.new.instructions in
-    c.if-write_row_in_bracket.ensures.behind.seeks []
+    c.if-write_row_in_bracket.ensures.past.seeks []
     (seeks-remembers cie fde c.args.address w new [] c.loop-start.invariant c.in-Remembers.ensures.next)
 
 pub unreachable-requires : goal.unreachable-requires

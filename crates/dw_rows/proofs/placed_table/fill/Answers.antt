@@ -2,7 +2,7 @@ use Rattle.std.proofs.Common.{◌≡◌, ◌+◌, ◌++◌, ap, subst, ◌∙◌
 use Rattle.dw_frame.specs.Views.{cie_of, fde_of}
 use Rattle.dw_rows.specs.UnwindRows.{rows_of}
 use Rattle.dw_rows.specs.ProgramState.{ProgramState}
-use Rattle.dw_rows.specs.RuleSet.{KeptRules}
+use Rattle.dw_rows.specs.RuleSet.{StoredRules}
 use Rattle.dw_rows.specs.RowCursors.{cursor_at, RowCursor, BeginsRows}
 use Rattle.dw_rows.specs.CompiledTable.{returning, rows_to, entry_bytes, IsPushed, LacksRoom}
 use Rattle.dw_rows.specs.UnwindTables.{fde_bytes}
@@ -55,7 +55,7 @@ loop-start-preserved c =
     c.rules.ensures ∙ ap (λ (m : ProgramState). m.current) c.context-in-loop-start.view_is in
     let r = cie.return_address_register in
     let pushed : IsPushed entries sets c.in-Some.start (record { rules = c.next_range.new.context.current; register = r }) more more_sets =
-    subst (λ (k : KeptRules). IsPushed entries sets c.in-Some.start (record { rules = k; register = r }) more more_sets) is
+    subst (λ (k : StoredRules). IsPushed entries sets c.in-Some.start (record { rules = k; register = r }) more more_sets) is
     c.in_ok-push.ensures.pushed in
     let lends = filling-lends es cie fde rows w new entries sets c.in-Some.start c.in-Some.field-0-1 h.filling c.in-Some.ensures
     c.begin_with_cie-cie.ensures.lends in

@@ -4,7 +4,7 @@ use Rattle.dw_frame.specs.Records.{Fde}
 use Rattle.dw_frame.specs.Views.{fde_of}
 use Rattle.dw_rows.specs.Overlap.{IsAddressIndex, IsIndexOf, fde_at}
 use Rattle.dw_rows.specs.declared.table_entries.TableEntry.{TableEntry}
-use Rattle.dw_rows.specs.CompiledTable.{KeptSet, AreEntries, ArePlacedRows, rows_to, sets_bytes}
+use Rattle.dw_rows.specs.CompiledTable.{StoredSet, AreEntries, ArePlacedRows, rows_to, sets_bytes}
 use Rattle.dw_rows.proofs.Indexes.{entry-placed}
 use Rattle.dw_rows.proofs.FilledTables.{IsFillingAll, all-begin, all-on, all-done}
 use Rattle.dw_rows.specs.UnwindTables.{fde_bytes, all_rows_bytes}
@@ -102,7 +102,7 @@ loop-entry-init c = record {
   stored = omega (
     arith,
     ap (λ (l : List TableEntry). length l) c.new.ensures,
-    ap (λ (l : List KeptSet). sets_bytes l) c.in_ok-new.ensures.sets,
+    ap (λ (l : List StoredSet). sets_bytes l) c.in_ok-new.ensures.sets,
     c.in_ok-new.ensures.room,
   );
 }

@@ -7,22 +7,22 @@ use Rattle.dw_stack.specs.declared.state.State.{State}
 use Rattle.dw_stack.specs.declared.state.StackState.{StackState}
 use Rattle.dw_stack.specs.States.{at_offset}
 use Rattle.dw_stack.specs.Expressions.{AreStatesOf, Checked, IsChecked}
-use Rattle.dw_stack.proofs.Unbranched.{JudgedSoFar, begun, further, judged, states_judged}
+use Rattle.dw_stack.proofs.Unbranched.{CheckedSoFar, begun, further, checked, states_checked}
 use Rattle.dw_stack.proofs.straight.certify_straight.Goals.{then-left, else-left}
 use Rattle.dw_stack.proofs.straight.certify_straight.Goals as goal
 
--- `JudgedSoFar` still holds if equal values replace its arguments
+-- `CheckedSoFar` still holds if equal values replace its arguments
 renamed : (kind : Kind) (e : Expression) (at count : ℕ) (s t : StackState) (d f p q : ℕ) (xs ys : List State) → t ≡ s → f ≡ d → q ≡ p
-    → ys ≡ xs → JudgedSoFar kind e at count s d p xs → JudgedSoFar kind e at count t f q ys
+    → ys ≡ xs → CheckedSoFar kind e at count s d p xs → CheckedSoFar kind e at count t f q ys
 renamed kind e at count s t d f p q xs ys state depth pieces states j =
-    subst (λ (x : StackState). JudgedSoFar kind e at count x f q ys) (sym state)
-    (subst (λ (n : ℕ). JudgedSoFar kind e at count s n q ys) (sym depth)
-    (subst (λ (n : ℕ). JudgedSoFar kind e at count s d n ys) (sym pieces)
-    (subst (λ (l : List State). JudgedSoFar kind e at count s d p l) (sym states) j)))
+    subst (λ (x : StackState). CheckedSoFar kind e at count x f q ys) (sym state)
+    (subst (λ (n : ℕ). CheckedSoFar kind e at count s n q ys) (sym depth)
+    (subst (λ (n : ℕ). CheckedSoFar kind e at count s d n ys) (sym pieces)
+    (subst (λ (l : List State). CheckedSoFar kind e at count s d p l) (sym states) j)))
 
 pub loop-at-init : goal.loop-at-init
 loop-at-init c =
-    subst (λ (l : List State). JudgedSoFar c.args.kind c.args.expression 0 0 c.start_state-state.result c.start_state-state.result.height 0 l)
+    subst (λ (l : List State). CheckedSoFar c.args.kind c.args.expression 0 0 c.start_state-state.result c.start_state-state.result.height 0 l)
     (sym c.new-states.ensures.items) (begun c.args.kind c.args.expression c.start_state-state.result c.start_state-state.ensures)
 
 pub loop-at-preserved : goal.loop-at-preserved
@@ -46,27 +46,27 @@ loop-at-preserved c =
 pub new-requires : goal.new-requires
 new-requires c =
     let end = ap length c.bytes.ensures in
-    judged c.args.kind c.args.expression c.loop-at.at c.loop-at.count c.loop-at.state c.loop-at.depth c.loop-at.pieces c.loop-at.states.items
+    checked c.args.kind c.args.expression c.loop-at.at c.loop-at.count c.loop-at.state c.loop-at.depth c.loop-at.pieces c.loop-at.states.items
     c.loop-at.invariant (omega (arith, end, c.loop-at-test.false)) (sym c.has_result.ensures ∙ c.if-not-has_result.false)
 
 pub returns-clause-checked : goal.returns-clause-checked
 returns-clause-checked c =
     let end = ap length c.bytes.ensures in
     subst (λ (x : Checked). IsChecked x) (sym c.new.ensures)
-    (judged c.args.kind c.args.expression c.loop-at.at c.loop-at.count c.loop-at.state c.loop-at.depth c.loop-at.pieces
+    (checked c.args.kind c.args.expression c.loop-at.at c.loop-at.count c.loop-at.state c.loop-at.depth c.loop-at.pieces
     c.loop-at.states.items c.loop-at.invariant (omega (arith, end, c.loop-at-test.false))
     (sym c.has_result.ensures ∙ c.if-not-has_result.false))
 
 pub returns-clause-states : goal.returns-clause-states
 returns-clause-states c =
     let end = ap length c.bytes.ensures in
-    states_judged c.args.kind c.args.expression c.loop-at.at c.loop-at.count c.loop-at.state c.loop-at.depth c.loop-at.pieces
+    states_checked c.args.kind c.args.expression c.loop-at.at c.loop-at.count c.loop-at.state c.loop-at.depth c.loop-at.pieces
     c.loop-at.states.items c.loop-at.invariant (omega (arith, end, c.loop-at-test.false))
 
 pub invariant_of-result : goal.invariant_of-result
 invariant_of-result c =
     let end = ap length c.bytes.ensures in
-    let are = states_judged c.args.kind c.args.expression c.loop-at.at c.loop-at.count c.loop-at.state c.loop-at.depth c.loop-at.pieces
+    let are = states_checked c.args.kind c.args.expression c.loop-at.at c.loop-at.count c.loop-at.state c.loop-at.depth c.loop-at.pieces
     c.loop-at.states.items c.loop-at.invariant (omega (arith, end, c.loop-at-test.false)) in
     record {
       certified = subst (λ (x : Checked). ∥ AreStatesOf x.kind x.target x.bytes c.loop-at.states.items ∥₁) (sym c.new.ensures) ∣ are ∣₁;

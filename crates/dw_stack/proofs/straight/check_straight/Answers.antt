@@ -5,17 +5,17 @@ use Rattle.dw_ops.specs.Views.{operation_of}
 use Rattle.dw_stack.specs.declared.state.Kind.{Kind}
 use Rattle.dw_stack.specs.declared.state.StackState.{StackState}
 use Rattle.dw_stack.specs.Expressions.{Checked, IsChecked}
-use Rattle.dw_stack.proofs.Unbranched.{JudgedAlone, begun, further, judged}
+use Rattle.dw_stack.proofs.Unbranched.{CheckedAlone, begun, further, checked}
 use Rattle.dw_stack.proofs.straight.check_straight.Goals.{then-left, else-left}
 use Rattle.dw_stack.proofs.straight.check_straight.Goals as goal
 
--- `JudgedAlone` still holds if equal values replace its arguments
+-- `CheckedAlone` still holds if equal values replace its arguments
 renamed : (kind : Kind) (e : Expression) (at count : ℕ) (s t : StackState) (d f p q : ℕ) → t ≡ s → f ≡ d → q ≡ p
-    → JudgedAlone kind e at count s d p → JudgedAlone kind e at count t f q
+    → CheckedAlone kind e at count s d p → CheckedAlone kind e at count t f q
 renamed kind e at count s t d f p q state depth pieces j =
-    subst (λ (x : StackState). JudgedAlone kind e at count x f q) (sym state)
-    (subst (λ (n : ℕ). JudgedAlone kind e at count s n q) (sym depth)
-    (subst (λ (n : ℕ). JudgedAlone kind e at count s d n) (sym pieces) j))
+    subst (λ (x : StackState). CheckedAlone kind e at count x f q) (sym state)
+    (subst (λ (n : ℕ). CheckedAlone kind e at count s n q) (sym depth)
+    (subst (λ (n : ℕ). CheckedAlone kind e at count s d n) (sym pieces) j))
 
 pub loop-at-init : goal.loop-at-init
 loop-at-init c = ([], begun c.args.kind c.args.expression c.start_state-state.result c.start_state-state.ensures)
@@ -40,12 +40,12 @@ loop-at-preserved c =
 pub new-requires : goal.new-requires
 new-requires c =
     let end = ap length c.bytes.ensures in
-    judged c.args.kind c.args.expression c.loop-at.at c.loop-at.count c.loop-at.state c.loop-at.depth c.loop-at.pieces c.loop-at.invariant.0
+    checked c.args.kind c.args.expression c.loop-at.at c.loop-at.count c.loop-at.state c.loop-at.depth c.loop-at.pieces c.loop-at.invariant.0
     c.loop-at.invariant.1 (omega (arith, end, c.loop-at-test.false)) (sym c.has_result.ensures ∙ c.if-not-has_result.false)
 
 pub returns-clause-checked : goal.returns-clause-checked
 returns-clause-checked c =
     let end = ap length c.bytes.ensures in
     subst (λ (x : Checked). IsChecked x) (sym c.new.ensures)
-    (judged c.args.kind c.args.expression c.loop-at.at c.loop-at.count c.loop-at.state c.loop-at.depth c.loop-at.pieces c.loop-at.invariant.0
+    (checked c.args.kind c.args.expression c.loop-at.at c.loop-at.count c.loop-at.state c.loop-at.depth c.loop-at.pieces c.loop-at.invariant.0
     c.loop-at.invariant.1 (omega (arith, end, c.loop-at-test.false)) (sym c.has_result.ensures ∙ c.if-not-has_result.false))

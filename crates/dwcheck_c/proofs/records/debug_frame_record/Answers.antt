@@ -23,7 +23,7 @@ unreachable-requires c =
     let left : List ℕ = drop c.args.at c.args.frame.now in
     some-item c.args.target left (λ next x. c.records_come_in_order.ensures.entry c.args.target left 0 next x)
     (λ why. c.records_come_in_order.ensures.fault c.args.target left 0 why)
-    (λ x after. c.records_lie_behind_each_other.ensures c.args.target left 0 x after)
+    (λ x after. c.records_follow_each_other.ensures c.args.target left 0 x after)
     (omega (arith, length-drop c.args.at c.args.frame.now, c.requires.inside))
     (left-of c.args.target c.args.frame.now c.args.at c.entries.result c.entries.ensures ∙ c.in-None.ensures.steps.0)
 

@@ -1,6 +1,6 @@
 use Rattle.std.proofs.Common.{rules, arith, ap, take, drop, length, ◌≡◌, ◌+◌, ◌∷◌}
 use Rattle.dw_check.specs.Parts.{parts_of}
-use Rattle.dw_check.proofs.Separated.{cut_at, uncut, all_behind}
+use Rattle.dw_check.proofs.Separated.{cut_at, uncut, all_past}
 use Rattle.dw_check.proofs.parts.PartsIterator.next.Goals as goal
 
 pub returns-in-Some-clause-steps : goal.returns-in-Some-clause-steps
@@ -8,7 +8,7 @@ returns-in-Some-clause-steps c =
     let rest = c.in_ok-rest.rest.now in
     let cut = cut_at c.self.inside.separator rest c.in-Some.at c.in-Some.ensures.0.high c.in-Some.ensures.1
     (λ i l. c.in-Some.ensures.0.before i (omega arith) l) in
-    rw (all_behind rest (c.in-Some.at + 1)) (search (rules, cut, c.in_ok-rest.was, c.self.view_is))
+    rw (all_past rest (c.in-Some.at + 1)) (search (rules, cut, c.in_ok-rest.was, c.self.view_is))
 
 pub returns-in-None-clause-steps : goal.returns-in-None-clause-steps
 returns-in-None-clause-steps c =
@@ -23,4 +23,4 @@ returns-in-Some-clause-goes c =
     let steps : c.args.self.now ≡ take c.in-Some.at rest ∷ parts_of c.self.inside.separator (drop (c.in-Some.at + 1) rest) =
     search (rules, cut, c.in_ok-rest.was, c.self.view_is) in
     let long = ap length steps in
-    rw (all_behind rest (c.in-Some.at + 1)) (search rules)
+    rw (all_past rest (c.in-Some.at + 1)) (search rules)

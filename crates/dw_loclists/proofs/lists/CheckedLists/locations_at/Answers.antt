@@ -6,7 +6,7 @@ use Rattle.dw_loclists.specs.Entries.{Entry}
 use Rattle.dw_loclists.specs.Lists.{Loclist, starts_of}
 use Rattle.dw_loclists.specs.Locations.{bounded_at, defaults_in, or_else_all}
 use Rattle.dw_loclists.specs.Reading.{entries_at, ListSection, lists_in, located_in}
-use Rattle.dw_loclists.specs.Kept.{AreKeptOf}
+use Rattle.dw_loclists.specs.Kept.{AreStoredOf}
 use Rattle.dw_loclists.specs.Views.{start_of}
 use Rattle.dw_loclists.specs.Walks.{entries_in}
 use Rattle.dw_loclists.proofs.Located.{list-read, inside-section, given-among, kept-among, kept-ascend}
@@ -35,8 +35,8 @@ new-requires c =
     let here : c.at.result ≡ section_from s.target s.section l.0.offset =
     c.at.ensures ∙ ap (λ n. section_from s.target s.section n) (c.offset.ensures ∙ sym l.2) in
     let ahead : entries_at false c.at.result ≡ Ok (l.0.entries, read.0) = ap (entries_at false) here ∙ read.1 in
-    let kept : AreKeptOf (located_in s) c.deref.result.now =
-    subst (AreKeptOf (located_in s)) (sym c.deref.ensures.value) c.self.invariant.expressions in
+    let kept : AreStoredOf (located_in s) c.deref.result.now =
+    subst (AreStoredOf (located_in s)) (sym c.deref.ensures.value) c.self.invariant.expressions in
     record {
       readable = λ going. subst (λ (r : Result (List Entry × ReadPosition) Fault). IsOk r) (sym ahead) refl;
       order = kept-ascend s c.deref.result.now checked kept;

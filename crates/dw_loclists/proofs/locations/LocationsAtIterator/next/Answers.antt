@@ -3,7 +3,7 @@ use Rattle.dw_bytes.specs.Operands.{block_of}
 use Rattle.dw_loclists.specs.Locations.{location_of}
 use Rattle.dw_stack.specs.Located.{LocatedExpression}
 use Rattle.dw_loclists.specs.Walks.{held_ahead, default_ahead}
-use Rattle.dw_loclists.proofs.Search.{contains-behind}
+use Rattle.dw_loclists.proofs.Search.{contains-past}
 use Rattle.dw_loclists.proofs.locations.LocationsAtIterator.next.Goals as goal
 
 pub invariant_of-self : goal.invariant_of-self
@@ -21,5 +21,5 @@ invariant_of-self c =
       order = c.self.invariant.order;
       among = λ going x among. c.self.invariant.among going x
           (subst (λ (xs : List LocatedExpression). Contains xs x) (sym ahead)
-          (contains-behind x (location_of (block_of c.in-Some.block)) (held_ahead it.address after ++ default_ahead after) among));
+          (contains-past x (location_of (block_of c.in-Some.block)) (held_ahead it.address after ++ default_ahead after) among));
     }

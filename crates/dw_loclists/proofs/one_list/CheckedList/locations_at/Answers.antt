@@ -6,7 +6,7 @@ use Rattle.dw_loclists.specs.Entries.{Entry}
 use Rattle.dw_loclists.specs.Lists.{Loclist}
 use Rattle.dw_loclists.specs.Locations.{bounded_at, defaults_in, expressions_of, locations_of, or_else_all}
 use Rattle.dw_loclists.specs.Reading.{entries_at}
-use Rattle.dw_loclists.specs.Kept.{AreKeptOf, list_found}
+use Rattle.dw_loclists.specs.Kept.{AreStoredOf, list_found}
 use Rattle.dw_loclists.specs.Walks.{entries_in}
 use Rattle.dw_loclists.proofs.EachList.{list-entries}
 use Rattle.dw_loclists.proofs.Located.{entries-among, kept-among, list-ascend}
@@ -18,8 +18,8 @@ new-requires c =
     let l : Loclist = c.self.invariant.list in
     let ahead : entries_at false c.at.result ≡ Ok (l.entries, c.self.invariant.after) =
     ap (entries_at false) c.at.ensures ∙ list-entries r l c.self.invariant.after c.self.invariant.read in
-    let kept : AreKeptOf (expressions_of l.entries) c.deref.result.now =
-    subst (AreKeptOf (expressions_of l.entries)) (sym c.deref.ensures.value) c.self.invariant.expressions in
+    let kept : AreStoredOf (expressions_of l.entries) c.deref.result.now =
+    subst (AreStoredOf (expressions_of l.entries)) (sym c.deref.ensures.value) c.self.invariant.expressions in
     record {
       readable = λ going. subst (λ (found : Result (List Entry × ReadPosition) Fault). IsOk found) (sym ahead) refl;
       order = list-ascend c.self.inside.target r l c.self.invariant.after c.deref.result.now refl c.self.invariant.read kept;

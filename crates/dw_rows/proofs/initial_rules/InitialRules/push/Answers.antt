@@ -1,10 +1,10 @@
 use Rattle.std.proofs.Common.{◌≡◌, ℕ, List, [], ◌∷◌, ◌++◌, length, take, arith, sym, ap, ◌∙◌}
 use Rattle.std.proofs.Math.Seq.{take-append_seam}
-use Rattle.dw_rows.specs.declared.map.RuleEntry.{RuleEntry}
+use Rattle.dw_rows.specs.declared.register_rules.RuleEntry.{RuleEntry}
 use Rattle.dw_rows.specs.declared.initial_rules.RuleSpan.{RuleSpan}
-use Rattle.dw_rows.specs.RuleSet.{KeptRules}
+use Rattle.dw_rows.specs.RuleSet.{StoredRules}
 use Rattle.std.specs.Option.{option_map}
-use Rattle.dw_rows.specs.Views.{kept_cfa_of, entries_of}
+use Rattle.dw_rows.specs.Views.{stored_cfa_of, entries_of}
 use Rattle.dw_rows.proofs.Initials.{Pushed, pushed}
 use Rattle.dw_rows.proofs.initial_rules.InitialRules.push.Goals as goal
 
@@ -56,9 +56,9 @@ returns c =
     let spans : c.push.new.self.items ≡ c.self.inside.spans.items ++ span c ∷ [] =
     rw c.if-is_err.ensures.negation at c.push.ensures.items in
     let rules : entries_of c.as_slice.result.now ≡ c.args.rules.now.rules = c.as_slice.ensures.entries ∙ c.register_rules.ensures in
-    let same : record { cfa = option_map kept_cfa_of c.cfa.result; rules = entries_of c.as_slice.result.now } ≡ c.args.rules.now =
+    let same : record { cfa = option_map stored_cfa_of c.cfa.result; rules = entries_of c.as_slice.result.now } ≡ c.args.rules.now =
     λ i. record { cfa = sym c.cfa.ensures i; rules = rules i } in
     rw (entries, spans)
     ((one_more c).kept
-    ∙ (ap (λ (l : List KeptRules). l ++ record { cfa = option_map kept_cfa_of c.cfa.result; rules = entries_of c.as_slice.result.now }
-    ∷ []) c.self.view_is ∙ ap (λ (k : KeptRules). c.args.self.now ++ k ∷ []) same))
+    ∙ (ap (λ (l : List StoredRules). l ++ record { cfa = option_map stored_cfa_of c.cfa.result; rules = entries_of c.as_slice.result.now }
+    ∷ []) c.self.view_is ∙ ap (λ (k : StoredRules). c.args.self.now ++ k ∷ []) same))

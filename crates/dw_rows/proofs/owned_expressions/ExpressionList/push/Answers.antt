@@ -8,7 +8,7 @@ use Rattle.dw_stack.specs.Certificates.{checked_of}
 use Rattle.dw_stack.specs.Located.{LocatedExpression, located_of}
 use Rattle.dw_rows.specs.declared.owned_expressions.OwnedExpression.{OwnedExpression}
 use Rattle.dw_rows.specs.OwnedExpressions.{owned_in, IsOwned}
-use Rattle.dw_rows.proofs.OwnedExpressions.{bytes-behind, one-more, all-bytes-more, owned-checked}
+use Rattle.dw_rows.proofs.OwnedExpressions.{bytes-past, one-more, all-bytes-more, owned-checked}
 use Rattle.dw_rows.proofs.owned_expressions.ExpressionList.push.Goals as goal
 
 pub invariant_of-self-then-is_err : goal.invariant_of-self-then-is_err
@@ -41,9 +41,9 @@ begins c = omega (arith, c.in-Ok.ensures, c.len.ensures, c.self.inside.bytes.ok.
 long : (c : goal.Else-is_err) → c.in-Ok-try_from.length ≡ length c.bytes-bytes.result.now
 long c = omega (arith, c.in-Ok-try_from.ensures)
 
-behind : (c : goal.Else-is_err) → take c.in-Ok-try_from.length (drop c.in-Ok.start (c.self.inside.bytes.items ++ c.bytes-bytes.result.now))
+past : (c : goal.Else-is_err) → take c.in-Ok-try_from.length (drop c.in-Ok.start (c.self.inside.bytes.items ++ c.bytes-bytes.result.now))
     ≡ c.bytes-bytes.result.now
-behind c = bytes-behind c.self.inside.bytes.items c.bytes-bytes.result.now c.in-Ok.start c.in-Ok-try_from.length (begins c) (long c)
+past c = bytes-past c.self.inside.bytes.items c.bytes-bytes.result.now c.in-Ok.start c.in-Ok-try_from.length (begins c) (long c)
 
 -- the bytes that are added are the expression's bytes
 same : (c : goal.Else-is_err) → c.bytes-bytes.result.now ≡ (checked_of c.args.checked.now).bytes
@@ -56,7 +56,7 @@ owned c =
     let k = one c in record {
       inside = omega (arith, begins c, long c, length-append c.self.inside.bytes.items c.bytes-bytes.result.now);
       checked = subst (λ (l : List ℕ). IsChecked (record { kind = k.kind; target = k.target; bytes = l; depth = k.depth; count = k.count }))
-          (sym (behind c ∙ same c))
+          (sym (past c ∙ same c))
           (owned-checked is.kind k.kind is.target _ k.target is.bytes _ k.depth k.count c.expression.ensures.good
           c.expression.ensures.target c.expression.ensures.bytes c.kind.ensures (c.target.ensures ∙ c.expression-2.ensures.target)
           c.depth.ensures.depth c.operation_count.ensures.count);
@@ -68,7 +68,7 @@ invariant_of-self-else-is_err c =
     c.in_ok-extend_from_slice.ensures.items in
     let kept : c.push.new.self.items ≡ c.self.inside.kept.items ++ one c ∷ [] = rw c.if-is_err.ensures.negation at c.push.ensures.items in
     rw (more, kept)
-    (all-bytes-more c.self.inside.bytes.items c.bytes-bytes.result.now c.self.inside.kept.items (one c) c.self.invariant (owned c) (behind c))
+    (all-bytes-more c.self.inside.bytes.items c.bytes-bytes.result.now c.self.inside.kept.items (one c) c.self.invariant (owned c) (past c))
 
 pub returns : goal.returns
 returns c =
@@ -80,7 +80,7 @@ returns c =
     let with : Kind → Target → List ℕ → LocatedExpression =
     λ k t l. record { offset = c.args.offset; kind = k; target = t; bytes = l } in
     let new : owned_in (bytes ++ its) (one c) ≡ located_of (c.args.offset, c.args.checked.now) =
-    ap (λ (l : List ℕ). with c.kind.result c.target.result l) (behind c ∙ same c)
+    ap (λ (l : List ℕ). with c.kind.result c.target.result l) (past c ∙ same c)
     ∙ ap (λ (k : Kind). with k c.target.result is.bytes) c.kind.ensures
     ∙ ap (λ (t : Target). with is.kind t is.bytes) (c.target.ensures ∙ c.expression-2.ensures.target) in
     rw (more, kept)

@@ -1,5 +1,5 @@
 use Rattle.std.proofs.Common.{subst}
-use Rattle.dw_rows.specs.RuleSet.{KeptRules}
+use Rattle.dw_rows.specs.RuleSet.{StoredRules}
 use Rattle.dw_rows.specs.CompiledTable.{no_set, IsPushed}
 use Rattle.dw_rows.proofs.TableRows.{closed-pushed}
 use Rattle.dw_rows.proofs.placed_table.GrowingTable.close.Goals as goal
@@ -12,6 +12,6 @@ returns-clause-closed c =
     let old_sets = c.args.self.now.numbers.sets in
     let new_sets = c.push.new.self.numbers.sets in
     let pushed : IsPushed old old_sets end no_set new new_sets =
-    subst (λ (k : KeptRules). IsPushed old old_sets end (record { rules = k; register = 0 }) new new_sets) c.new.ensures
+    subst (λ (k : StoredRules). IsPushed old old_sets end (record { rules = k; register = 0 }) new new_sets) c.new.ensures
     c.in_ok-push.ensures.pushed in
     closed-pushed end old new old_sets new_sets pushed

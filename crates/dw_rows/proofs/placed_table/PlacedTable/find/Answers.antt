@@ -3,14 +3,14 @@ use Rattle.std.specs.Prelude.{Option, find}
 use Rattle.std.specs.Option.{option_map}
 use Rattle.std.proofs.lemmas.Option.{get_or_from_slice_get}
 use Rattle.dw_rows.specs.declared.table_entries.TableEntry.{TableEntry}
-use Rattle.dw_rows.specs.declared.kept_rule.KeptCfa.{KeptCfa}
+use Rattle.dw_rows.specs.declared.stored_rule.StoredCfa.{StoredCfa}
 use Rattle.dw_rows.specs.Rules.{Row, PlacedCfa, PlacedRow}
 use Rattle.dw_rows.specs.LentExpressions.{lent_by}
 use Rattle.dw_rows.specs.GivenRows.{given_row}
 use Rattle.dw_rows.specs.ProgramState.{row_between}
 use Rattle.dw_rows.specs.UnwindTables.{has}
-use Rattle.dw_rows.specs.Views.{kept_cfa_of, entries_of}
-use Rattle.dw_rows.specs.CompiledTable.{KeptSet, PlacedRows, rows_to, given_found, IsEntryCount}
+use Rattle.dw_rows.specs.Views.{stored_cfa_of, entries_of}
+use Rattle.dw_rows.specs.CompiledTable.{StoredSet, PlacedRows, rows_to, given_found, IsEntryCount}
 use Rattle.dw_rows.proofs.TableRows.{placed-below, placed-above}
 use Rattle.dw_rows.proofs.CompiledTables.{row-read, none-read, cfa-lent, rules-lent}
 use Rattle.dw_rows.proofs.placed_table.PlacedTable.find.Goals.{then-after-eq0-via-then-after-eq0, then-after-eq0-via-else-after-eq0+then-after-count}
@@ -44,44 +44,44 @@ returns-then-after-eq0 c =
 
 pub new-requires-clause-cfa : goal.new-requires-clause-cfa
 new-requires-clause-cfa c =
-    let k : KeptSet = record {
-      rules = record { cfa = option_map kept_cfa_of c.lend-cfa.result.0; rules = entries_of c.lend-cfa.result.1.now };
+    let k : StoredSet = record {
+      rules = record { cfa = option_map stored_cfa_of c.lend-cfa.result.0; rules = entries_of c.lend-cfa.result.1.now };
       register = c.lend-cfa.result.2;
     } in
-    let cfa : k.rules.cfa ≡ Some (kept_cfa_of c.in-Some.cfa) = ap (λ (o : Option KeptCfa). option_map kept_cfa_of o) c.in-Some.is in
-    cfa-lent (lent_by c.args.expressions) c.args.self.now.rows c.args.address _ (kept_cfa_of c.in-Some.cfa) c.requires
+    let cfa : k.rules.cfa ≡ Some (stored_cfa_of c.in-Some.cfa) = ap (λ (o : Option StoredCfa). option_map stored_cfa_of o) c.in-Some.is in
+    cfa-lent (lent_by c.args.expressions) c.args.self.now.rows c.args.address _ (stored_cfa_of c.in-Some.cfa) c.requires
     (row-read c.self.inside.entries c.self.inside.sets c.args.self.now.rows c.args.address c.count_up_to-after.result c.start_at-end.result
-    c.at-entry.result k (kept_cfa_of c.in-Some.cfa) (rows-of c.self.view_is) c.count_up_to-after.ensures (omega arith)
+    c.at-entry.result k (stored_cfa_of c.in-Some.cfa) (rows-of c.self.view_is) c.count_up_to-after.ensures (omega arith)
     (omega (arith, c.count.ensures, c.count_up_to-after.ensures.bound)) c.at-entry.ensures c.lend-cfa.ensures.rules
     c.start_at-end.ensures cfa) cfa
 
 pub new-requires-clause-rules : goal.new-requires-clause-rules
 new-requires-clause-rules c =
-    let k : KeptSet = record {
-      rules = record { cfa = option_map kept_cfa_of c.lend-cfa.result.0; rules = entries_of c.lend-cfa.result.1.now };
+    let k : StoredSet = record {
+      rules = record { cfa = option_map stored_cfa_of c.lend-cfa.result.0; rules = entries_of c.lend-cfa.result.1.now };
       register = c.lend-cfa.result.2;
     } in
-    let cfa : k.rules.cfa ≡ Some (kept_cfa_of c.in-Some.cfa) = ap (λ (o : Option KeptCfa). option_map kept_cfa_of o) c.in-Some.is in
+    let cfa : k.rules.cfa ≡ Some (stored_cfa_of c.in-Some.cfa) = ap (λ (o : Option StoredCfa). option_map stored_cfa_of o) c.in-Some.is in
     rules-lent (lent_by c.args.expressions) c.args.self.now.rows c.args.address _ c.requires
     (row-read c.self.inside.entries c.self.inside.sets c.args.self.now.rows c.args.address c.count_up_to-after.result c.start_at-end.result
-    c.at-entry.result k (kept_cfa_of c.in-Some.cfa) (rows-of c.self.view_is) c.count_up_to-after.ensures (omega arith)
+    c.at-entry.result k (stored_cfa_of c.in-Some.cfa) (rows-of c.self.view_is) c.count_up_to-after.ensures (omega arith)
     (omega (arith, c.count.ensures, c.count_up_to-after.ensures.bound)) c.at-entry.ensures c.lend-cfa.ensures.rules
     c.start_at-end.ensures cfa)
 
 pub returns-in-Some : goal.returns-in-Some
 returns-in-Some c =
-    let k : KeptSet = record {
-      rules = record { cfa = option_map kept_cfa_of c.lend-cfa.result.0; rules = entries_of c.lend-cfa.result.1.now };
+    let k : StoredSet = record {
+      rules = record { cfa = option_map stored_cfa_of c.lend-cfa.result.0; rules = entries_of c.lend-cfa.result.1.now };
       register = c.lend-cfa.result.2;
     } in
     let es = lent_by c.args.expressions in
     let start = c.at-entry.result.start in
     let end = c.start_at-end.result in
-    let cfa : k.rules.cfa ≡ Some (kept_cfa_of c.in-Some.cfa) = ap (λ (o : Option KeptCfa). option_map kept_cfa_of o) c.in-Some.is in
+    let cfa : k.rules.cfa ≡ Some (stored_cfa_of c.in-Some.cfa) = ap (λ (o : Option StoredCfa). option_map stored_cfa_of o) c.in-Some.is in
     let with : Option PlacedCfa → PlacedRow = λ o. record { start = start; end = end; cfa = o; rules = k.rules.rules } in
     let found : find (has c.args.address) c.args.self.now.rows ≡ Some (row_between start end k.rules, k.register) =
     row-read c.self.inside.entries c.self.inside.sets c.args.self.now.rows c.args.address c.count_up_to-after.result end
-    c.at-entry.result k (kept_cfa_of c.in-Some.cfa) (rows-of c.self.view_is) c.count_up_to-after.ensures (omega arith)
+    c.at-entry.result k (stored_cfa_of c.in-Some.cfa) (rows-of c.self.view_is) c.count_up_to-after.ensures (omega arith)
     (omega (arith, c.count.ensures, c.count_up_to-after.ensures.bound)) c.at-entry.ensures c.lend-cfa.ensures.rules
     c.start_at-end.ensures cfa in
     let is : Row × ℕ → Option (Row × ℕ) = λ x. Some x in
@@ -90,11 +90,11 @@ returns-in-Some c =
 
 pub returns-in-None : goal.returns-in-None
 returns-in-None c =
-    let k : KeptSet = record {
-      rules = record { cfa = option_map kept_cfa_of c.lend-cfa.result.0; rules = entries_of c.lend-cfa.result.1.now };
+    let k : StoredSet = record {
+      rules = record { cfa = option_map stored_cfa_of c.lend-cfa.result.0; rules = entries_of c.lend-cfa.result.1.now };
       register = c.lend-cfa.result.2;
     } in
     let es = lent_by c.args.expressions in
     sym (ap (option_map (given_found es)) (none-read c.self.inside.entries c.self.inside.sets c.args.self.now.rows c.args.address
     c.count_up_to-after.result c.at-entry.result k (rows-of c.self.view_is) c.count_up_to-after.ensures (omega arith) c.at-entry.ensures
-    c.lend-cfa.ensures.rules (ap (λ (o : Option KeptCfa). option_map kept_cfa_of o) c.in-None.is)))
+    c.lend-cfa.ensures.rules (ap (λ (o : Option StoredCfa). option_map stored_cfa_of o) c.in-None.is)))

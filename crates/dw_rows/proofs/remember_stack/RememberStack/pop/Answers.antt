@@ -1,5 +1,5 @@
 use Rattle.std.proofs.Common.{arith, ◌-◌, sym, ap, ◌∙◌, ◌∷◌}
-use Rattle.dw_rows.specs.RuleSet.{KeptRules}
+use Rattle.dw_rows.specs.RuleSet.{StoredRules}
 use Rattle.dw_rows.specs.RememberStack.{kept_in}
 use Rattle.dw_rows.proofs.Stacks.{kept-popped, not-empty}
 use Rattle.dw_rows.proofs.remember_stack.RememberStack.pop.Goals as goal
@@ -15,4 +15,4 @@ pub returns-clause-some : goal.returns-clause-some
 returns-clause-some c =
     sym c.self.view_is
     ∙ kept-popped c.self.inside.depth c.self.inside.rows c.index-self-self.result c.in-Some.row c.if-self-eq0.false c.self.invariant
-    c.in-Some.is ∙ ap (λ (k : KeptRules). k ∷ kept_in (c.self.inside.depth - 1) c.self.inside.rows) (sym c.copy_from.ensures)
+    c.in-Some.is ∙ ap (λ (k : StoredRules). k ∷ kept_in (c.self.inside.depth - 1) c.self.inside.rows) (sym c.copy_from.ensures)

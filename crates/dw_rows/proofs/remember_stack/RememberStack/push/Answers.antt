@@ -1,6 +1,6 @@
 use Rattle.std.proofs.Common.{arith, ◌<◌, length, List, ap, ◌∙◌, ◌∷◌}
 use Rattle.dw_rows.specs.declared.remember_stack.TheConstants.{MAX_REMEMBERED}
-use Rattle.dw_rows.specs.RuleSet.{KeptRules}
+use Rattle.dw_rows.specs.RuleSet.{StoredRules}
 use Rattle.dw_rows.proofs.Stacks.{stack-length, stack-pushed, kept-pushed}
 use Rattle.dw_rows.proofs.remember_stack.RememberStack.push.Goals as goal
 
@@ -11,7 +11,7 @@ pub listed : goal.listed
 listed c = omega (
   arith,
   stack-length c.self.inside.depth c.self.inside.rows c.self.invariant,
-  ap (λ (l : List KeptRules). length l) c.self.view_is,
+  ap (λ (l : List StoredRules). length l) c.self.view_is,
   c.requires,
   c.self.invariant.full,
 )
@@ -20,7 +20,7 @@ pub bounds-self-inside-self-inside : goal.bounds-self-inside-self-inside
 bounds-self-inside-self-inside c = omega (
   arith,
   stack-length c.self.inside.depth c.self.inside.rows c.self.invariant,
-  ap (λ (l : List KeptRules). length l) c.self.view_is,
+  ap (λ (l : List StoredRules). length l) c.self.view_is,
   c.requires,
 )
 
@@ -30,7 +30,7 @@ invariant_of-self c =
     omega (
       arith,
       stack-length c.self.inside.depth c.self.inside.rows c.self.invariant,
-      ap (λ (l : List KeptRules). length l) c.self.view_is,
+      ap (λ (l : List StoredRules). length l) c.self.view_is,
       c.requires,
     ) in
     rw c.write_into.ensures (stack-pushed c.self.inside.depth c.self.inside.rows c.args.rules.now room c.self.invariant)
@@ -41,8 +41,8 @@ returns c =
     omega (
       arith,
       stack-length c.self.inside.depth c.self.inside.rows c.self.invariant,
-      ap (λ (l : List KeptRules). length l) c.self.view_is,
+      ap (λ (l : List StoredRules). length l) c.self.view_is,
       c.requires,
     ) in
     rw c.write_into.ensures (kept-pushed c.self.inside.depth c.self.inside.rows c.args.rules.now room c.self.invariant
-    ∙ ap (λ (l : List KeptRules). c.args.rules.now ∷ l) c.self.view_is)
+    ∙ ap (λ (l : List StoredRules). c.args.rules.now ∷ l) c.self.view_is)

@@ -3,7 +3,7 @@ use Rattle.std.specs.Prelude.{Bool, true, false, slice_get}
 use Rattle.std.specs.Bool.{OnTrue}
 use Rattle.std.proofs.lemmas.List.{get_or_default}
 use Rattle.std.proofs.lemmas.Option.{get_or_from_slice_get}
-use Rattle.dw_rows.specs.CompiledTable.{KeptSet}
+use Rattle.dw_rows.specs.CompiledTable.{StoredSet}
 use Rattle.dw_rows.proofs.RuleSets.{zipped-length, zipped-at}
 use Rattle.dw_rows.proofs.rule_sets.RuleSets.are_at.Goals as goal
 
@@ -14,7 +14,7 @@ index-requires c =
       c.requires,
       c.self.inside.registers.ok.0,
       zipped-length c.self.inside.rules c.self.inside.registers.items c.self.invariant,
-      ap (λ (l : List KeptSet). length l) c.self.view_is,
+      ap (λ (l : List StoredSet). length l) c.self.view_is,
     )
 
 pub are_at-requires : goal.are_at-requires
@@ -24,7 +24,7 @@ are_at-requires c =
       c.requires,
       c.self.invariant,
       zipped-length c.self.inside.rules c.self.inside.registers.items c.self.invariant,
-      ap (λ (l : List KeptSet). length l) c.self.view_is,
+      ap (λ (l : List StoredSet). length l) c.self.view_is,
     )
 
 so : (b : Bool) {X Y : Type 0} → OnTrue b X → (X → Y) → OnTrue b Y
@@ -35,19 +35,19 @@ pub returns-then-index-register : goal.returns-then-index-register
 returns-then-index-register c =
     let k = c.args.rules.now in
     so c.are_at.result c.are_at.ensures (λ found.
-    subst (λ (l : List KeptSet). slice_get l c.args.place ≡ Some (record { rules = k; register = c.args.register })) c.self.view_is
+    subst (λ (l : List StoredSet). slice_get l c.args.place ≡ Some (record { rules = k; register = c.args.register })) c.self.view_is
     (zipped-at c.self.inside.rules c.self.inside.registers.items c.args.place k c.args.register c.self.invariant
     (omega (
       arith,
       c.requires,
       c.self.invariant,
       zipped-length c.self.inside.rules c.self.inside.registers.items c.self.invariant,
-      ap (λ (l : List KeptSet). length l) c.self.view_is,
+      ap (λ (l : List StoredSet). length l) c.self.view_is,
     )) (sym (get_or_from_slice_get c.self.inside.rules c.args.place k k found))
     (sym c.if-index-register.true ∙ c.index.ensures ∙ get_or_default c.self.inside.registers.items c.args.place c.index.result.now c.args.register
     (omega (
       arith,
       c.requires,
       zipped-length c.self.inside.rules c.self.inside.registers.items c.self.invariant,
-      ap (λ (l : List KeptSet). length l) c.self.view_is,
+      ap (λ (l : List StoredSet). length l) c.self.view_is,
     )))))

@@ -1,5 +1,5 @@
 use Rattle.std.proofs.Common.{List, length, arith, ap}
-use Rattle.dw_rows.specs.CompiledTable.{KeptSet}
+use Rattle.dw_rows.specs.CompiledTable.{StoredSet}
 use Rattle.dw_rows.proofs.RuleSets.{zipped-length}
 use Rattle.dw_rows.proofs.rule_sets.RuleSets.count.Goals as goal
 
@@ -10,5 +10,5 @@ returns c =
       c.len.ensures,
       c.self.inside.registers.ok.0,
       zipped-length c.self.inside.rules c.self.inside.registers.items c.self.invariant,
-      ap (λ (l : List KeptSet). length l) c.self.view_is,
+      ap (λ (l : List StoredSet). length l) c.self.view_is,
     )

@@ -2,9 +2,9 @@ use Rattle.std.proofs.Common.{◌≡◌, List, length, Some, sym, subst, ap, ari
 use Rattle.std.specs.Prelude.{slice_get}
 use Rattle.std.specs.Option.{option_map}
 use Rattle.std.proofs.lemmas.Option.{get_or_from_slice_get}
-use Rattle.dw_rows.specs.RuleSet.{KeptRules}
-use Rattle.dw_rows.specs.Views.{kept_cfa_of, entries_of}
-use Rattle.dw_rows.specs.CompiledTable.{KeptSet}
+use Rattle.dw_rows.specs.RuleSet.{StoredRules}
+use Rattle.dw_rows.specs.Views.{stored_cfa_of, entries_of}
+use Rattle.dw_rows.specs.CompiledTable.{StoredSet}
 use Rattle.dw_rows.proofs.RuleSets.{zipped-length, zipped-at}
 use Rattle.dw_rows.proofs.rule_sets.RuleSets.lend.Goals as goal
 
@@ -15,7 +15,7 @@ lend-cfa-requires c =
       c.requires,
       c.self.invariant,
       zipped-length c.self.inside.rules c.self.inside.registers.items c.self.invariant,
-      ap (λ (l : List KeptSet). length l) c.self.view_is,
+      ap (λ (l : List StoredSet). length l) c.self.view_is,
     )
 
 pub index-requires : goal.index-requires
@@ -25,18 +25,18 @@ index-requires c =
       c.requires,
       c.self.inside.registers.ok.0,
       zipped-length c.self.inside.rules c.self.inside.registers.items c.self.invariant,
-      ap (λ (l : List KeptSet). length l) c.self.view_is,
+      ap (λ (l : List StoredSet). length l) c.self.view_is,
     )
 
 pub returns-clause-rules : goal.returns-clause-rules
 returns-clause-rules c =
-    let k : KeptRules = record { cfa = option_map kept_cfa_of c.lend-cfa.result.0; rules = entries_of c.lend-cfa.result.1.now } in
-    subst (λ (l : List KeptSet). slice_get l c.args.place ≡ Some (record { rules = k; register = c.index.result.now })) c.self.view_is
+    let k : StoredRules = record { cfa = option_map stored_cfa_of c.lend-cfa.result.0; rules = entries_of c.lend-cfa.result.1.now } in
+    subst (λ (l : List StoredSet). slice_get l c.args.place ≡ Some (record { rules = k; register = c.index.result.now })) c.self.view_is
     (zipped-at c.self.inside.rules c.self.inside.registers.items c.args.place k c.index.result.now c.self.invariant
     (omega (
       arith,
       c.requires,
       c.self.invariant,
       zipped-length c.self.inside.rules c.self.inside.registers.items c.self.invariant,
-      ap (λ (l : List KeptSet). length l) c.self.view_is,
+      ap (λ (l : List StoredSet). length l) c.self.view_is,
     )) (sym (get_or_from_slice_get c.self.inside.rules c.args.place k k c.lend-cfa.ensures.rules)) c.index.ensures)

@@ -1,6 +1,6 @@
 use Rattle.std.proofs.Common.{◌≡◌, ℕ, List, [], ◌∷◌, ◌++◌, ap, ◌∙◌}
-use Rattle.dw_rows.specs.RuleSet.{KeptRules}
-use Rattle.dw_rows.specs.CompiledTable.{KeptSet, zipped}
+use Rattle.dw_rows.specs.RuleSet.{StoredRules}
+use Rattle.dw_rows.specs.CompiledTable.{StoredSet, zipped}
 use Rattle.dw_rows.proofs.RuleSets.{zipped-more}
 use Rattle.dw_rows.proofs.rule_sets.RuleSets.push.Goals as goal
 
@@ -10,8 +10,8 @@ returns-in-Ok c =
     let registers = c.self.inside.registers.items in
     let more_registers : c.push.new.self.items ≡ registers ++ c.args.register ∷ [] = c.in_ok-push.ensures.items in
     let more_rules : c.push-2.new.self ≡ rules ++ c.args.rules.now ∷ [] = c.in-Ok.ensures in
-    let one : KeptSet = record { rules = c.args.rules.now; register = c.args.register } in
-    ap (λ (l : List KeptRules). zipped l c.push.new.self.items) more_rules
+    let one : StoredSet = record { rules = c.args.rules.now; register = c.args.register } in
+    ap (λ (l : List StoredRules). zipped l c.push.new.self.items) more_rules
     ∙ ap (λ (l : List ℕ). zipped (rules ++ c.args.rules.now ∷ []) l) more_registers
     ∙ zipped-more rules registers c.args.rules.now c.args.register c.self.invariant
-    ∙ ap (λ (l : List KeptSet). l ++ one ∷ []) c.self.view_is
+    ∙ ap (λ (l : List StoredSet). l ++ one ∷ []) c.self.view_is

@@ -1,0 +1,511 @@
+//! A checked `.debug_frame` section: the check of the section, and look-ups of its FDEs and rows.
+
+ghost use Rattle.std.specs.Prelude.{◌≡◌, ◌+◌, ◌*◌, ◌<◌, ◌≤◌, ◌^◌, None, Some, Contains, length, map, option_map, IfOk, IfErr, IfSome, IfNone};
+ghost use Rattle.std.specs.Prelude.{find};
+ghost use Rattle.dw_rows.specs.UnwindRows.{has_address};
+ghost use Rattle.dw_frame.specs.Records.{Cie, Fde};
+ghost use Rattle.dw_frame.specs.Sections.{entries_of, top_of};
+ghost use Rattle.dw_frame.specs.Views.{cie_of, fde_of};
+ghost use Rattle.dw_bytes.specs.Answers.{Checks, Answers, fault_in};
+ghost use Rattle.dw_rows.specs.ProgramFault.{cie_fault, fde_fault};
+ghost use Rattle.dw_rows.specs.Section.{IsCoverOf, first_fault, overlap_fault, programs_fault, parts_fault, section_fault, IsChecked};
+ghost use Rattle.dw_rows.specs.Section.{frame_of, cie_in, placed_rows, rows_in, row_count, row_of};
+ghost use Rattle.std.specs.List.{flat_map, sum_by};
+ghost use Rattle.dw_rows.specs.Overlap.{cie_offset, fde_offset, IsAddressIndex};
+ghost use Rattle.dw_frame.specs.Bounds.{Ascends};
+ghost use Rattle.dw_rows.specs.ProgramState.{IsLeftBy};
+ghost use Rattle.dw_rows.specs.Initial.{AreLeftBy};
+ghost use Rattle.dw_stack.specs.Located.{all_located};
+ghost use Rattle.dw_rows.specs.Expressions.{cie_expressions, frame_expressions};
+ghost use Rattle.dw_rows.specs.BorrowedExpressions.{borrowed_by};
+ghost use Rattle.dw_rows.specs.LentExpressions.{lent_by};
+ghost use Rattle.dw_rows.specs.UnwindTables.{IsTableOf, expression_bytes, table_bytes};
+ghost use Rattle.dw_rows.specs.RowCursors.{Lends};
+
+use crate::borrowed_expressions::BorrowedExpressions;
+use crate::checked_expressions::CheckedExpressions;
+use crate::index::{IndexEntry, covering, first_overlap, index_of};
+use crate::initial_rules::InitialRules;
+use crate::lent_expressions::LentExpressions;
+use crate::lookup::write_row_at;
+use crate::records::{begin_with_rules_of_cie, check_cies, check_fdes, check_pointers, find_cie};
+use crate::room::Unmade;
+use crate::row::UnwindTableRow;
+use crate::row_iter::Rows;
+use crate::table::UnwindTable;
+use crate::unwind_context::UnwindContext;
+use crate::unwind_state::UnwindState;
+use dw_bytes::{Fault, FaultKind, OUT_OF_MEMORY, Target};
+use dw_frame::{CommonInformationEntry, Entry, FrameDescriptionEntry, entries};
+use dw_stack::CheckedExpression;
+use std::alloc::Global;
+use std::marker::Model;
+
+/// A section that passed `check_frame`: each CIE_pointer is the offset of a CIE, each program
+/// passes its check, and no address is covered by two FDEs.
+///
+/// ```rust
+/// let frame = check_frame(alloc, section, target)?;
+/// for fde in frame.fdes() {
+///     for row in frame.rows(fde) {
+///         println!(rt; "{:#x}..{:#x}", row.start_address(), row.end_address())?;
+///     }
+/// }
+///
+/// // Where register 6 of the caller is saved, at one address.
+/// if let Some(row) = frame.row_for_address(0x1002) {
+///     if let RegisterRule::Offset(offset) = row.register(6) {
+///         println!(rt; "{offset} from the CFA")?;
+///     }
+/// }
+/// ```
+#[derive(Drop)]
+pub struct CheckedFrame<'a> {
+    target: Target,
+    section: &'a [u8],
+    cies: Vec<CommonInformationEntry<'a>>,
+    /// For each CIE, in the order of `cies`: the rules in force after its initial instructions.
+    initial: InitialRules,
+    fdes: Vec<FrameDescriptionEntry<'a>>,
+    /// An index entry for each FDE that covers at least one address, in order of address.
+    index: Vec<IndexEntry>,
+    /// The checked expressions of all programs, each with the offset of its first byte in the
+    /// section. Those of the CIEs come first.
+    expressions: Vec<(u32, CheckedExpression<'a>)>,
+    /// How many of the expressions belong to CIEs.
+    in_cies: usize,
+    /// How many rows all FDEs have.
+    rows: u128,
+}
+
+impl<'a> Model for CheckedFrame<'a> {
+    ghost use Rattle.std.specs.Prelude.{map};
+    ghost use Rattle.dw_frame.specs.Views.{cie_of, fde_of};
+    ghost use Rattle.dw_rows.specs.Section.{FrameSection};
+    ghost use Rattle.dw_rows.specs.Overlap.{IsKept};
+    ghost use Rattle.dw_stack.specs.Located.{all_located};
+
+    ghost Value = { FrameSection };
+
+    ghost view = { λ c. record {
+      target = c.target;
+      section = c.section.now;
+      cies = map cie_of c.cies.items;
+      fdes = map fde_of c.fdes.items;
+      expressions = all_located c.expressions.items;
+    } };
+
+    ghost invariant = { λ c. IsKept
+        (record {
+          target = c.target;
+          section = c.section.now;
+          cies = map cie_of c.cies.items;
+          fdes = map fde_of c.fdes.items;
+          expressions = all_located c.expressions.items;
+        }) c.initial c.index.items c.in_cies c.rows };
+}
+
+/// Compilers usually write FDEs of at least this many bytes. The list of FDEs is allocated with
+/// room for one FDE for each `USUAL_FDE` bytes of the section, so it rarely has to grow.
+const USUAL_FDE: usize = 48;
+
+/// Reads a section in one pass, and returns its CIEs and its FDEs.
+fn records_of<'a>(
+    alloc: Global,
+    section: &'a [u8],
+    target: Target,
+) -> Result<
+    (
+        Vec<CommonInformationEntry<'a>>,
+        Vec<FrameDescriptionEntry<'a>>,
+    ),
+    Fault,
+>
+    requires { length section.now < 2 ^ 32 }
+    ensures read { Answers (fault_in (entries_of target section.now)) result }
+    ensures cies { IfOk result (λ records. map cie_of records.0.items ≡
+        (frame_of target section.now).cies) }
+    ensures fdes { IfOk result (λ records. map fde_of records.1.items ≡
+        (frame_of target section.now).fdes) }
+{
+    let mut cies = Vec::new(alloc);
+    let mut fdes = Vec::with_capacity(alloc, section.len() / USUAL_FDE)?;
+    for entry in entries(section, target) {
+        match entry? {
+            Entry::Cie(cie) => cies.push(cie)?,
+            Entry::Fde(fde) => fdes.push(fde)?,
+        }
+    }
+    Ok((cies, fdes))
+}
+
+/// Checks that no address is covered by two FDEs. `index` has the FDEs in order of address.
+fn check_overlap(fdes: &[FrameDescriptionEntry<'_>], index: &[IndexEntry]) -> Result<(), Fault>
+    requires fdes { Ascends fde_offset (map fde_of fdes.now) }
+    requires index { IsAddressIndex (map fde_of fdes.now) index.now }
+    ensures { Checks (first_fault (overlap_fault (map fde_of fdes.now))
+        (map fde_of fdes.now)) result }
+{
+    match first_overlap(fdes, index) {
+        Some(fde) => Err(Fault {
+            kind: FaultKind::Overlap,
+            at: fde.offset,
+        }),
+        None => Ok(()),
+    }
+}
+
+/// What the check of a section's programs returns.
+#[derive(Drop)]
+struct CheckedPrograms<'a> {
+    /// For each CIE, in the order of the section: the rules in force after its initial
+    /// instructions.
+    initial: InitialRules,
+    /// The checked expressions, each with the offset of its first byte in the section. Those of the
+    /// CIEs come first.
+    expressions: Vec<(u32, CheckedExpression<'a>)>,
+    /// How many of the expressions belong to CIEs.
+    in_cies: usize,
+    /// How many rows all FDEs have.
+    rows: u128,
+}
+
+/// Checks the CIE_pointers first, then the programs of the CIEs, then the programs of the FDEs.
+fn check_programs<'a>(
+    alloc: Global,
+    cies: &[CommonInformationEntry<'a>],
+    fdes: &[FrameDescriptionEntry<'a>],
+) -> Result<CheckedPrograms<'a>, Fault>
+    requires { Ascends cie_offset (map cie_of cies.now) }
+    ensures answer { Answers (programs_fault (map cie_of cies.now) (map fde_of fdes.now)) result }
+    ensures left { IfOk result (λ programs. AreLeftBy (map cie_of cies.now) programs.initial) }
+    ensures expressions { IfOk result (λ programs. all_located programs.expressions.items
+        ≡ frame_expressions (map cie_of cies.now) (map fde_of fdes.now)) }
+    ensures in_cies { IfOk result (λ programs. programs.in_cies
+        ≡ length (cie_expressions (map cie_of cies.now))) }
+    ensures rows { IfOk result (λ programs. programs.rows
+        ≡ length (flat_map (placed_rows (map cie_of cies.now)) (map fde_of fdes.now))) }
+{
+    check_pointers(cies, fdes)?;
+    let mut context = UnwindContext::new();
+    let mut checked = CheckedExpressions::new(alloc);
+    let initial = check_cies(alloc, &mut context.state, &mut checked, cies)?;
+    let in_cies = checked.count();
+    let rows = check_fdes(&mut context, &mut checked, cies, &initial, fdes)?;
+    Ok(CheckedPrograms {
+        initial,
+        expressions: checked.into_kept(),
+        in_cies,
+        rows,
+    })
+}
+
+/// Checks the CIE_pointers, then the programs, then that no address is covered by two FDEs. Returns
+/// what `check_programs` returns, and the index of the FDEs in order of address.
+#[tactic(auto, unfolding(crate::specs::Section::parts_fault))]
+fn check_parts<'a>(
+    alloc: Global,
+    cies: &[CommonInformationEntry<'a>],
+    fdes: &[FrameDescriptionEntry<'a>],
+) -> Result<(CheckedPrograms<'a>, Vec<IndexEntry>), Fault>
+    requires cies { Ascends cie_offset (map cie_of cies.now) }
+    requires fdes { Ascends fde_offset (map fde_of fdes.now) }
+    ensures answer { Answers (parts_fault (map cie_of cies.now) (map fde_of fdes.now)) result }
+    ensures left { IfOk result (λ parts. AreLeftBy (map cie_of cies.now) (parts.0).initial) }
+    ensures expressions { IfOk result (λ parts. all_located (parts.0).expressions.items
+        ≡ frame_expressions (map cie_of cies.now) (map fde_of fdes.now)) }
+    ensures in_cies { IfOk result (λ parts. (parts.0).in_cies
+        ≡ length (cie_expressions (map cie_of cies.now))) }
+    ensures rows { IfOk result (λ parts. (parts.0).rows
+        ≡ length (flat_map (placed_rows (map cie_of cies.now)) (map fde_of fdes.now))) }
+    ensures index { IfOk result (λ parts. IsAddressIndex (map fde_of fdes.now) parts.1.items) }
+{
+    let programs = check_programs(alloc, cies, fdes)?;
+    let index = index_of(alloc, fdes)?;
+    check_overlap(fdes, &index)?;
+    Ok((programs, index))
+}
+
+/// Checks a section of fewer than 2^32 bytes: that its CIEs and FDEs can be read, then the
+/// CIE_pointer of each FDE, the programs of the CIEs, the programs of the FDEs, and that no address
+/// is covered by two FDEs.
+///
+/// The error is the first fault in that order: a fault of `entries`; `NoSuchCie` (9) at a
+/// CIE_pointer; a fault of `check_cie` or `check_fde`; `Overlap` (23) at the first FDE of the
+/// section that shares an address with an earlier FDE. `Memory` (60) has offset 0.
+#[tactic(auto, unfolding(crate::specs::Section::section_fault))]
+pub fn check_frame<'a>(
+    alloc: Global,
+    section: &'a [u8],
+    target: Target,
+) -> Result<CheckedFrame<'a>, Fault>
+    requires { length section.now < 2 ^ 32 }
+    ensures answer { Answers (section_fault target section.now) result }
+    ensures inside { IfErr result (λ fault. fault.at ≤ length section.now) }
+    ensures frame { IfOk result (λ frame. frame ≡ frame_of target section.now) }
+{
+    let (cies, fdes) = records_of(alloc, section, target)?;
+    let (programs, index) = check_parts(alloc, &cies, &fdes)?;
+    let CheckedPrograms {
+        initial,
+        expressions,
+        in_cies,
+        rows,
+    } = programs;
+    Ok(CheckedFrame {
+        target,
+        section,
+        cies,
+        initial,
+        fdes,
+        index,
+        expressions,
+        in_cies,
+        rows,
+    })
+}
+
+impl<'a> CheckedFrame<'a> {
+    /// The target that the section was read with.
+    pub fn target(&self) -> Target
+        ensures { result ≡ self.now.target }
+    {
+        self.target
+    }
+
+    /// The bytes of the section, which has passed its check.
+    pub fn section(&self) -> &'a [u8]
+        ensures section { result.now ≡ self.now.section }
+        ensures checked { IsChecked self.now }
+    {
+        self.section
+    }
+
+    /// All CIEs, in the order of the section. Each CIE's program has passed its check.
+    pub fn cies(&self) -> &[CommonInformationEntry<'a>]
+        ensures cies { map cie_of result.now ≡ self.now.cies }
+        ensures good { (c : Cie) → Contains self.now.cies c → cie_fault c ≡ None }
+    {
+        self.cies.as_slice()
+    }
+
+    /// All FDEs, in the order of the section. No FDE covers an address past the target's highest
+    /// one.
+    pub fn fdes(&self) -> &[FrameDescriptionEntry<'a>]
+        ensures fdes { map fde_of result.now ≡ self.now.fdes }
+        ensures fit { (f : Fde) → Contains self.now.fdes f
+            → f.initial_location + f.address_range ≤ top_of self.now.target }
+    {
+        self.fdes.as_slice()
+    }
+
+    /// The number of rows of all FDEs, added up. The check counted them, so this is O(1).
+    pub fn row_count(&self) -> u128
+        ensures { result ≡ row_count self.now }
+    {
+        self.rows
+    }
+
+    /// The checked expressions of all programs, each with the offset of its first byte in the
+    /// section. The expressions of the CIEs come first, then the expressions of the FDEs, each in
+    /// the order of the section.
+    pub fn expressions(&self) -> &[(u32, CheckedExpression<'a>)]
+        ensures { all_located result.now ≡ self.now.expressions }
+    {
+        self.expressions.as_slice()
+    }
+
+    /// The FDE that covers an address, or `None` if no FDE covers it. At most one FDE covers an
+    /// address. The FDE is found by binary search.
+    pub fn fde_for_address(&self, address: u64) -> Option<FrameDescriptionEntry<'a>>
+        ensures only { IsCoverOf self.now.fdes address (option_map fde_of result) }
+        ensures fit { IfSome result (λ fde. fde.initial_location + fde.address_range
+            ≤ top_of self.now.target) }
+    {
+        covering(&self.fdes, &self.index, address)
+    }
+
+    /// The CIE of one of this section's FDEs, found by binary search. The programs of both have
+    /// passed their checks.
+    pub fn cie_of(&self, fde: &FrameDescriptionEntry<'a>) -> CommonInformationEntry<'a>
+        requires { Contains self.now.fdes (fde_of fde.now) }
+        ensures cie { cie_in self.now (fde_of fde.now) ≡ Some (cie_of result) }
+        ensures cie_program { cie_fault (cie_of result) ≡ None }
+        ensures fde_program { fde_fault (cie_of result) (fde_of fde.now) ≡ None }
+    {
+        match find_cie(&self.cies, fde.cie_pointer) {
+            Some(cie) => cie,
+            None => unreachable!(),
+        }
+    }
+
+    /// Returns the CIE of one of this section's FDEs, and stores in `state`, as the initial rules,
+    /// the rules that the CIE's program leaves: the FDE's program begins with them. The search
+    /// first tries the CIEs at the indices `near` and `near + 1`, and sets `near` to the index of
+    /// the FDE's CIE.
+    pub(crate) fn begin_with_cie(
+        &self,
+        state: &mut UnwindState,
+        near: &mut usize,
+        fde: &FrameDescriptionEntry<'a>,
+    ) -> CommonInformationEntry<'a>
+        requires { Contains self.now.fdes (fde_of fde.now) }
+        ensures cie { cie_in self.now (fde_of fde.now) ≡ Some (cie_of result) }
+        ensures fde_program { fde_fault (cie_of result) (fde_of fde.now) ≡ None }
+        ensures left { IsLeftBy (cie_of result) state.new.initial_rules }
+        ensures lends { Lends self.now.expressions (cie_of result) (fde_of fde.now) }
+    {
+        match begin_with_rules_of_cie(state, &self.cies, &self.initial, near, fde.cie_pointer) {
+            Some(cie) => cie,
+            None => unreachable!(),
+        }
+    }
+
+    /// An index entry for each FDE that covers at least one address, in order of address.
+    pub(crate) fn index(&self) -> &[IndexEntry]
+        ensures index { IsAddressIndex self.now.fdes result.now }
+        ensures checked { IsChecked self.now }
+    {
+        self.index.as_slice()
+    }
+
+    /// Compiles the rows of all FDEs into a table, which makes millions of look-ups cheap. The
+    /// table borrows nothing, so the section may be dropped.
+    ///
+    /// `room` bounds what the table stores, counted as 16 bytes for each entry (each row has one,
+    /// and so has each gap after a row), 64 for each rule set and 16 for each of its register
+    /// rules, and 24 for each expression and its length (clause `stored`). Each row of the table and
+    /// each expression of the section is counted (clause `counted`). The arrays of the table hold
+    /// nothing else, except for 8 bytes: two counts of a look-up's search blocks. That they have no
+    /// spare capacity is tested, not proved. While the table is made, more memory is in use that
+    /// isn't counted: the spare capacity of arrays that grow, the copies that they are cut to, and
+    /// 16 KB by which equal rules are found again.
+    ///
+    /// `Ok(None)` means that the sum would be more than `room`, and that no table was made. The
+    /// rows of a section of N bytes may take 700 times N bytes. The result is never `Ok(None)` if
+    /// `room` is at least 80 bytes for each row, 16 for each register rule of each row, 80 for each
+    /// FDE, 24 for each expression and its length, and 80 more (clause `none`). That is enough even
+    /// if no rows share rules, so a body that never shares rules meets the contract. That rows
+    /// share rules is tested, not proved.
+    ///
+    /// The only fault is `Memory`, with offset 0. Each program is run once. Compiling n rows takes
+    /// O(n log n) time.
+    pub fn compile(&self, alloc: Global, room: usize) -> Result<Option<UnwindTable>, Fault>
+        ensures table { IfOk result (λ made. IfSome made (IsTableOf self.now)) }
+        ensures room { IfOk result
+            (λ made. IfSome made (λ table. 16 * length table.rows ≤ room)) }
+        ensures counted { IfOk result (λ made. IfSome made (λ table. 16 * length table.rows
+            + sum_by expression_bytes self.now.expressions ≤ table.bytes)) }
+        ensures stored { IfOk result (λ made. IfSome made (λ table. table.bytes ≤ room)) }
+        ensures none { IfOk result (λ made. IfNone made (room < table_bytes self.now)) }
+        ensures memory { IfErr result (λ fault. fault ≡ OUT_OF_MEMORY) }
+    {
+        match UnwindTable::of(self, alloc, room) {
+            Ok(table) => Ok(Some(table)),
+            Err(Unmade::Room) => Ok(None),
+            Err(Unmade::Memory) => Err(OUT_OF_MEMORY),
+        }
+    }
+
+    /// The section's checked expressions, borrowed.
+    pub(crate) fn borrowed(&self) -> BorrowedExpressions<'_, 'a>
+        ensures { borrowed_by result ≡ self.now.expressions }
+    {
+        let (cies, fdes) = self.expressions.split_at(self.in_cies);
+        BorrowedExpressions::new(cies, fdes)
+    }
+
+    /// The section's checked expressions, borrowed, in the type that a row stores. That type can
+    /// also refer to the expressions of a compiled table.
+    pub(crate) fn lent(&self) -> LentExpressions<'_, 'a>
+        ensures { lent_by result ≡ self.now.expressions }
+    {
+        LentExpressions::Borrowed(self.borrowed())
+    }
+
+    /// The rows of one of this section's FDEs, in order of address. The iterator runs the FDE's
+    /// program again, one row at a time, starting from the stored rules that the CIE's program
+    /// leaves. It allocates no memory.
+    #[inline(always)]
+    pub fn rows(&self, fde: &FrameDescriptionEntry<'a>) -> Rows<'_, 'a>
+        requires { Contains self.now.fdes (fde_of fde.now) }
+        ensures { result ≡ rows_in self.now (fde_of fde.now) }
+    {
+        Rows::of(self, fde)
+    }
+
+    /// Restarts `rows` at the first row of another of this section's FDEs. Then `rows` gives the
+    /// same rows as an iterator that the method `rows` returns for that FDE. Returns the FDE's CIE.
+    pub fn rows_into<'f>(
+        &'f self,
+        fde: &FrameDescriptionEntry<'a>,
+        rows: &mut Rows<'f, 'a>,
+    ) -> CommonInformationEntry<'a>
+        requires { Contains self.now.fdes (fde_of fde.now) }
+        ensures rows { rows.new ≡ rows_in self.now (fde_of fde.now) }
+        ensures cie { cie_in self.now (fde_of fde.now) ≡ Some (cie_of result) }
+        ensures fde_program { fde_fault (cie_of result) (fde_of fde.now) ≡ None }
+    {
+        rows.restart_in(self, fde)
+    }
+
+    /// The row of an address, or `None` if no FDE covers the address. Finding it allocates no
+    /// memory. The FDE is found by binary search. Its program is run up to that row, starting from
+    /// the stored rules that the CIE's program leaves.
+    pub fn row_for_address(&self, address: u64) -> Option<UnwindTableRow<'_, 'a>>
+        ensures row { result ≡ row_of self.now address }
+        ensures fit { IfSome result (λ row. (row.start ≤ top_of self.now.target)
+            × (row.end ≤ top_of self.now.target)) }
+    {
+        let mut row = UnwindTableRow::empty();
+        self.row_for_address_into(address, &mut row)?;
+        Some(row)
+    }
+
+    /// Overwrites `row` with the row of an address, and returns a pair: the CIE of the FDE that
+    /// covers the address, and that FDE. If no FDE covers the address, the result is `None`, and
+    /// `row` is unchanged. The FDE and the CIE are each found by one binary search.
+    pub fn row_for_address_into<'f>(
+        &'f self,
+        address: u64,
+        row: &mut UnwindTableRow<'f, 'a>,
+    ) -> Option<(CommonInformationEntry<'a>, FrameDescriptionEntry<'a>)>
+        ensures only { IsCoverOf self.now.fdes address
+            (option_map (λ found. fde_of found.1) result) }
+        ensures cie { IfSome result (λ found. cie_in self.now (fde_of found.1) ≡ Some
+            (cie_of found.0)) }
+        ensures row { IfSome result (λ _. row_of self.now address ≡ Some row.new) }
+        ensures fit { IfSome result (λ _. (row.new.start ≤ top_of self.now.target)
+            × (row.new.end ≤ top_of self.now.target)) }
+        ensures none { IfNone result ((row_of self.now address ≡ None) × (row.new ≡ row.old)) }
+    {
+        let fde = self.fde_for_address(address)?;
+        let cie = self.write_row_of(&fde, address, row);
+        Some((cie, fde))
+    }
+
+    /// Overwrites `row` with the row of `address`, which `fde` must cover, and returns the FDE's
+    /// CIE. This function isn't inlined, since an `UnwindState` is large: this way its stack memory
+    /// is taken only once an FDE is found.
+    #[inline(never)]
+    fn write_row_of<'f>(
+        &'f self,
+        fde: &FrameDescriptionEntry<'a>,
+        address: u64,
+        row: &mut UnwindTableRow<'f, 'a>,
+    ) -> CommonInformationEntry<'a>
+        requires among { Contains self.now.fdes (fde_of fde.now) }
+        requires low { fde.now.initial_location ≤ address }
+        requires high { address < fde.now.initial_location + fde.now.address_range }
+        ensures cie { cie_in self.now (fde_of fde.now) ≡ Some (cie_of result) }
+        ensures fde_program { fde_fault (cie_of result) (fde_of fde.now) ≡ None }
+        ensures row { find (has_address address) (rows_in self.now (fde_of fde.now))
+            ≡ Some row.new }
+    {
+        let mut state = UnwindState::new();
+        let mut near = usize::MAX;
+        let cie = self.begin_with_cie(&mut state, &mut near, fde);
+        write_row_at(&mut state, &cie, fde, address, self.lent(), row);
+        cie
+    }
+}
