@@ -7,8 +7,8 @@ use Rattle.std.proofs.lemmas.List.Sums.{sum_by-append, sum_by-take-le}
 use Rattle.std.specs.List.{sum_by}
 use Rattle.dw_frame.specs.Records.{Cie, Fde}
 use Rattle.dw_stack.specs.Located.{LocatedExpression}
-use Rattle.dw_rows.specs.declared.room.Unmade.{Unmade}
-use Rattle.dw_rows.specs.declared.room.Unmade.TheVariants.{Memory, Room}
+use Rattle.dw_rows.specs.declared.table_room.Unmade.{Unmade}
+use Rattle.dw_rows.specs.declared.table_room.Unmade.TheVariants.{Memory, Room}
 use Rattle.dw_rows.specs.declared.table_entries.TableEntry.{TableEntry}
 use Rattle.dw_rows.specs.Rules.{PlacedRow}
 use Rattle.dw_rows.specs.GivenRows.{given_row}

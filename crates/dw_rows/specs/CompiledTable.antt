@@ -5,8 +5,8 @@ use Rattle.std.specs.List.{sum_by}
 use Rattle.std.specs.List.Sorted.{IsNonDecreasingBy}
 use Rattle.dw_frame.specs.Records.{Cie, Fde}
 use Rattle.dw_stack.specs.Located.{LocatedExpression}
-use Rattle.dw_rows.specs.declared.room.Unmade.{Unmade}
-use Rattle.dw_rows.specs.declared.room.Unmade.TheVariants.{Memory, Room}
+use Rattle.dw_rows.specs.declared.table_room.Unmade.{Unmade}
+use Rattle.dw_rows.specs.declared.table_room.Unmade.TheVariants.{Memory, Room}
 use Rattle.dw_rows.specs.declared.table_entries.TableEntry.{TableEntry}
 use Rattle.dw_rows.specs.Rules.{PlacedCfa, PlacedRow, Row}
 use Rattle.dw_rows.specs.Effects.{Effect}

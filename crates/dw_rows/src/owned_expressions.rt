@@ -11,7 +11,7 @@ ghost use Rattle.dw_rows.specs.CompiledTable.{LacksRoom};
 ghost use Rattle.dw_rows.specs.UnwindTables.{expression_bytes};
 
 use crate::borrowed_expressions::BorrowedExpressions;
-use crate::room::{Unmade, less_room};
+use crate::table_room::{Unmade, less_room};
 use dw_bytes::Target;
 use dw_ops::Expression;
 use dw_stack::{CheckedExpression, Kind};

@@ -11,12 +11,12 @@ ghost use Rattle.dw_rows.specs.CompiledTable.{LendsFound, given_found, LacksRoom
 
 use crate::checked_frame::CheckedFrame;
 use crate::lent_expressions::LentExpressions;
-use crate::room::{Unmade, less_room};
 use crate::row_cursor::{begin_rows, next_range};
 use crate::rule_numbers::RuleNumbers;
 use crate::rule_set::RuleSet;
 use crate::rule_sets::RuleSets;
 use crate::table_entries::{TableEntries, TableEntry};
+use crate::table_room::{Unmade, less_room};
 use crate::unwind_context::UnwindContext;
 use crate::unwind_row::UnwindRow;
 use dw_frame::FrameDescriptionEntry;

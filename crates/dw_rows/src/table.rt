@@ -11,7 +11,7 @@ use crate::checked_frame::CheckedFrame;
 use crate::lent_expressions::LentExpressions;
 use crate::owned_expressions::OwnedExpressions;
 use crate::placed_table::PlacedTable;
-use crate::room::Unmade;
+use crate::table_room::Unmade;
 use crate::unwind_row::UnwindRow;
 use dw_bytes::Target;
 use std::alloc::Global;

@@ -6,8 +6,8 @@ ghost use Rattle.std.specs.Option.{option_map};
 ghost use Rattle.std.specs.List.Sorted.{IsNonDecreasingBy};
 ghost use Rattle.dw_rows.specs.CompiledTable.{IsEntryCount, IsStartCount, entry_start};
 
-use crate::set_numbers::SetNumbers;
-use crate::starts::Starts;
+use crate::entry_starts::Starts;
+use crate::rule_set_numbers::SetNumbers;
 use std::alloc::{AllocError, Global};
 use std::marker::Model;
 

@@ -1,7 +1,7 @@
 //! The limit on the bytes that a compiled table may take, and the reasons why no table is made.
 
 ghost use Rattle.std.specs.Prelude.{◌≡◌, ◌+◌, IfOk, IfErr};
-ghost use Rattle.dw_rows.specs.declared.room.Unmade.TheVariants.{Memory};
+ghost use Rattle.dw_rows.specs.declared.table_room.Unmade.TheVariants.{Memory};
 ghost use Rattle.dw_rows.specs.CompiledTable.{LacksRoom};
 
 use std::alloc::{AllocError, AllocFailed};
