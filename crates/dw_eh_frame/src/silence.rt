@@ -1,6 +1,6 @@
 //! Programs with nops in place of the instructions that `.debug_frame` doesn't have.
 
-ghost use Rattle.std.specs.Prelude.{◌≡◌, ◌+◌, ◌^◌, ◌<◌, ◌≤◌, ◌++◌, false, replicate, take, IfOk, OnOk, length};
+ghost use Rattle.std.specs.Prelude.{◌≡◌, ◌≢◌, ◌+◌, ◌^◌, ◌<◌, ◌≤◌, ◌++◌, false, replicate, take, IfOk, OnOk, length};
 ghost use Rattle.std.specs.List.{list_any};
 ghost use Rattle.dw_bytes.specs.Reading.{MovesForward};
 ghost use Rattle.dw_bytes.specs.Readers.{ParsesBy};
@@ -11,21 +11,15 @@ use crate::dialect::Dialect;
 use dw_bytes::{Cursor, Fault, FaultKind, Target, operands};
 use std::alloc::AllocError;
 
-/// Moves past the operands of an instruction with a code from 0x01 to 0x09.
+/// Moves past the operands of an instruction with a code from 0x03 to 0x09.
 fn skip_low(cursor: &mut Cursor<'_>, code: u8, at: u32) -> Result<bool, Fault>
-    requires from { 0x01 ≤ code }
+    requires from { 0x03 ≤ code }
     requires to { code ≤ 0x09 }
     requires past { at ≤ cursor.old.position }
     ensures exact { ParsesBy (λ v. v) (past_operands at (extended_line code)) cursor.old result cursor.new }
     ensures goes_on { MovesForward cursor.old cursor.new }
 {
     match code {
-        0x01 => {
-            cursor.address()?;
-        }
-        0x02 => {
-            cursor.u8()?;
-        }
         0x03 => {
             cursor.u16()?;
         }
@@ -45,10 +39,11 @@ fn skip_low(cursor: &mut Cursor<'_>, code: u8, at: u32) -> Result<bool, Fault>
     Ok(false)
 }
 
-/// Moves past the operands of an instruction with a code from 0x0c to 0x16.
+/// Moves past the operands of an instruction with a code from 0x0c to 0x16, other than 0x0e.
 fn skip_high(cursor: &mut Cursor<'_>, code: u8, at: u32) -> Result<bool, Fault>
     requires from { 0x0c ≤ code }
     requires to { code ≤ 0x16 }
+    requires other { code ≢ 0x0e }
     requires past { at ≤ cursor.old.position }
     ensures exact { ParsesBy (λ v. v) (past_operands at (extended_line code)) cursor.old result cursor.new }
     ensures goes_on { MovesForward cursor.old cursor.new }
@@ -59,9 +54,6 @@ fn skip_high(cursor: &mut Cursor<'_>, code: u8, at: u32) -> Result<bool, Fault>
         }
         0x0d => {
             operands::register(cursor, at)?;
-        }
-        0x0e => {
-            cursor.uleb()?;
         }
         0x0f => {
             operands::block(cursor, at)?;
@@ -79,7 +71,9 @@ fn skip_high(cursor: &mut Cursor<'_>, code: u8, at: u32) -> Result<bool, Fault>
     Ok(false)
 }
 
-/// Moves past the operands of an instruction of DWARF.
+/// Moves past the operands of an instruction of DWARF. The most common instructions are handled here,
+/// where they are inlined; the others are calls.
+#[inline(always)]
 fn skip_operands(cursor: &mut Cursor<'_>, code: u8, at: u32) -> Result<bool, Fault>
     requires { at ≤ cursor.old.position }
     ensures exact { ParsesBy (λ v. v) (past_operands at (line_of code)) cursor.old result cursor.new }
@@ -87,12 +81,20 @@ fn skip_operands(cursor: &mut Cursor<'_>, code: u8, at: u32) -> Result<bool, Fau
 {
     match code {
         0x00 | 0x0a | 0x0b | 0x40..=0x7f | 0xc0..=0xff => Ok(false),
-        0x01..=0x09 => skip_low(cursor, code, at),
-        0x0c..=0x16 => skip_high(cursor, code, at),
-        0x80..=0xbf => {
+        0x0e | 0x80..=0xbf => {
             cursor.uleb()?;
             Ok(false)
         }
+        0x02 => {
+            cursor.u8()?;
+            Ok(false)
+        }
+        0x01 => {
+            cursor.address()?;
+            Ok(false)
+        }
+        0x03..=0x09 => skip_low(cursor, code, at),
+        0x0c..=0x16 => skip_high(cursor, code, at),
         _ => Err(Fault {
             kind: FaultKind::UnknownInstruction,
             at,
@@ -102,6 +104,7 @@ fn skip_operands(cursor: &mut Cursor<'_>, code: u8, at: u32) -> Result<bool, Fau
 
 /// Moves past an instruction. Returns whether it is one that `.debug_frame` doesn't have.
 #[tactic(auto, unfolding(crate::specs::Silencing::past_instruction))]
+#[inline(always)]
 fn skip_instruction(cursor: &mut Cursor<'_>, dialect: Dialect) -> Result<bool, Fault>
     ensures exact { ParsesBy (λ v. v) (past_instruction dialect) cursor.old result cursor.new }
     ensures goes_on { MovesForward cursor.old cursor.new }
@@ -175,6 +178,7 @@ fn push_rest(
 }
 
 /// Whether an instruction with this code is written in another way.
+#[inline(always)]
 fn is_changed_code(code: u8, dialect: Dialect) -> bool
     ensures { result ≡ is_changed dialect code }
 {
@@ -184,16 +188,16 @@ fn is_changed_code(code: u8, dialect: Dialect) -> bool
 }
 
 /// Whether one of the bytes, if it were a code, would be written in another way. In most programs none
-/// would, so these needn't be read.
+/// would, so these needn't be read. All bytes are looked at, also after the first such byte: without
+/// an early exit the processor compares many bytes at once.
 fn has_changed_code(bytes: &[u8], dialect: Dialect) -> bool
     ensures { result ≡ list_any (is_changed dialect) bytes.now }
 {
+    let mut any = false;
     for code in bytes {
-        if is_changed_code(*code, dialect) {
-            return true;
-        }
+        any |= is_changed_code(*code, dialect);
     }
-    false
+    any
 }
 
 /// Appends the bytes of a program, with nops in place of the instructions that `.debug_frame` doesn't
