@@ -9,7 +9,7 @@ use Rattle.dw_stack.specs.Expressions.{IsGoodExpression}
 use Rattle.dw_stack.specs.FirstFault.{expression_fault}
 use Rattle.dw_stack.proofs.Named.{good_if_none}
 use Rattle.dw_sections.specs.Checked.{too_long}
-use Rattle.dw_check.specs.Requests.{Asked}
+use Rattle.dw_requests.specs.Requests.{Asked}
 use Rattle.dw_check.specs.StateFile.{StateFact}
 use Rattle.dw_check.specs.Runs.{Reply, text, refusal, not_hex, bad_line, frame_reply, IsOutcome, OfSection, OfState, OfChecked}
 use Rattle.dw_check.specs.Runs.{OfFrame, OfFurther, OfModules, OfModulesAndState, ShowsCaller, ShowsWalk, IsFound, IsCheckReply, IsLocsReply}
@@ -32,9 +32,9 @@ use Rattle.dw_check.specs.CallerText.{caller_text}
 use Rattle.dw_rows.specs.Section as rows
 use Rattle.std.specs.Prelude.{slice_get}
 use Rattle.dw_sections.specs.declared.section.Section.TheVariants.{Expression}
-use Rattle.dw_check.specs.declared.requests.ListLookup.{ListLookup}
-use Rattle.dw_check.specs.declared.requests.Task.{Task}
-use Rattle.dw_check.specs.declared.requests.Task.TheVariants.{Check, Rows, Row, Locs, Eval, Unwind, Backtrace}
+use Rattle.dw_requests.specs.declared.requests.ListLookup.{ListLookup}
+use Rattle.dw_requests.specs.declared.requests.Task.{Task}
+use Rattle.dw_requests.specs.declared.requests.Task.TheVariants.{Check, Rows, Row, Locs, Eval, Unwind, Backtrace}
 use Rattle.dw_check.proofs.Evaluated.{each_text, refused_short, refused_long}
 use Rattle.dw_check.proofs.Found.{each_found}
 use Rattle.dw_check.proofs.BothSections.{each_of_checked}

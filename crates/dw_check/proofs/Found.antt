@@ -17,7 +17,7 @@ use Rattle.dw_check.specs.StateFile.{StateFact}
 use Rattle.dw_check.specs.Text.{expression_offset_line}
 use Rattle.dw_check.specs.Lookups.{IsShowable, AreEvaluated, ShowsLocations, ShowsList, list_that_begins_at}
 use Rattle.dw_check.specs.Runs.{Reply, text, refusal, not_hex, bad_line, lists_refusal, IsFound}
-use Rattle.dw_check.specs.declared.requests.ListLookup.{ListLookup}
+use Rattle.dw_requests.specs.declared.requests.ListLookup.{ListLookup}
 use Rattle.dw_sections.specs.declared.section.Section.TheVariants.{Lists}
 use Rattle.dw_check.proofs.Evaluated.{each_text, same_text}
 use Rattle.dw_check.proofs.GoodLocations.{locations_show}

@@ -14,16 +14,12 @@ pub mod Lined
 pub mod Loading
 pub mod LongFiles
 pub mod OneReply
-pub mod Digits
-pub mod NamedTexts
 pub mod Replies
 pub mod Reported
 pub mod Sent
 pub mod Sections
 pub mod Separated
-pub mod Shown
 pub mod Showing
-pub mod Simple
 pub mod StateLines
 pub mod Within
 pub mod Writing

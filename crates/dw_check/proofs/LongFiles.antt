@@ -12,7 +12,7 @@ use Rattle.dw_stack.specs.declared.state.Kind.{Kind}
 use Rattle.dw_stack.specs.FirstFault.{expression_fault}
 use Rattle.dw_sections.specs.Checked.{check_fault, fault_within, length_fault, too_long}
 use Rattle.dw_check.specs.Files.{further_modules, loaded_at, module_before, section_bytes, state_facts}
-use Rattle.dw_check.specs.LongFiles.{is_state, needed_length, needed_parts, part_up_to}
+use Rattle.dw_requests.specs.LongFiles.{is_state, needed_length, needed_parts, part_up_to}
 use Rattle.dw_unwind.specs.Modules.{as_linked}
 use Rattle.dw_bytes.specs.declared.target.AddressSize.{AddressSize}
 use Rattle.dw_unwind.specs.declared.modules.Module.{Module}
@@ -23,9 +23,9 @@ use Rattle.dw_check.specs.Runs.{Reply, text, refusal, not_hex, bad_line, frame_r
 use Rattle.dw_check.specs.Runs.{ShowsCaller, ShowsWalk, OfFurther, OfModules, OfModulesAndState, IsOutcome, IsFound, OfChecked, OfSection, OfState}
 use Rattle.dw_check.specs.Runs.{IsReplyTo}
 use Rattle.dw_check.specs.Text.{frame_text, lookup_text}
-use Rattle.dw_check.specs.declared.requests.ListLookup.{ListLookup}
-use Rattle.dw_check.specs.declared.requests.Task.{Task}
-use Rattle.dw_check.specs.declared.requests.Task.TheVariants.{Check, Rows, Row, Locs, Eval, Unwind, Backtrace}
+use Rattle.dw_requests.specs.declared.requests.ListLookup.{ListLookup}
+use Rattle.dw_requests.specs.declared.requests.Task.{Task}
+use Rattle.dw_requests.specs.declared.requests.Task.TheVariants.{Check, Rows, Row, Locs, Eval, Unwind, Backtrace}
 use Rattle.dw_sections.specs.declared.section.Section.TheVariants as sections
 use Rattle.dw_sections.specs.declared.whole_check.CheckFault.{CheckFault}
 use Rattle.dw_sections.proofs.Lengths.{short_length, long_length, long_fault}

@@ -5,7 +5,7 @@ use Rattle.dw_bytes.specs.declared.fault.Fault.{Fault}
 use Rattle.dw_stack.specs.declared.state.Kind.{Kind}
 use Rattle.dw_stack.specs.FirstFault.{expression_fault}
 use Rattle.dw_stack.proofs.Named.{none_if_good}
-use Rattle.dw_check.specs.Requests.{Asked}
+use Rattle.dw_requests.specs.Requests.{Asked}
 use Rattle.dw_check.specs.StateFile.{StateFact}
 use Rattle.dw_check.specs.Evaluations.{Evaluates}
 use Rattle.dw_check.specs.Runs.{Reply, text, refusal, not_hex, bad_line, frame_reply, expression_refusal, IsOutcome, OfSection, OfState}
@@ -27,9 +27,9 @@ use Rattle.dw_unwind.specs.declared.frames.Stop.{Stop}
 use Rattle.dw_unwind.specs.Caller.{Caller}
 use Rattle.dw_check.specs.CallerText.{caller_text}
 use Rattle.std.specs.Prelude.{slice_get, Bool}
-use Rattle.dw_check.specs.declared.requests.ListLookup.{ListLookup}
-use Rattle.dw_check.specs.declared.requests.Task.{Task}
-use Rattle.dw_check.specs.declared.requests.Task.TheVariants.{Check, Rows, Row, Locs, Eval, Unwind, Backtrace}
+use Rattle.dw_requests.specs.declared.requests.ListLookup.{ListLookup}
+use Rattle.dw_requests.specs.declared.requests.Task.{Task}
+use Rattle.dw_requests.specs.declared.requests.Task.TheVariants.{Check, Rows, Row, Locs, Eval, Unwind, Backtrace}
 use Rattle.dw_check.proofs.Evaluated.{same_text}
 use Rattle.dw_sections.proofs.Lengths.{short_fault}
 use Rattle.dw_check.proofs.Found.{one_found}

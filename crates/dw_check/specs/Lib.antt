@@ -1,5 +1,5 @@
--- ---- Trusted: what docs/PROFILE.md and docs/OUTPUT.md say about texts, command lines, files and
--- statuses. The main promise (docs/HEADLINE.md) needs none of these.
+-- ---- Trusted: what docs/PROFILE.md and docs/OUTPUT.md say about texts and files. The main promise
+-- (docs/HEADLINE.md) needs none of these.
 
 -- the text of a report
 pub mod Report
@@ -11,36 +11,20 @@ pub mod Outcomes
 pub mod CallerText
 -- the text of a walk up the stack
 pub mod WalkText
--- parsing numbers and addresses
-pub mod Addresses
--- modules as the values of `--module` name them
-pub mod NamedModules
 -- splitting text into lines and words
 pub mod Parts
--- the meaning of a command's words, flags and options
-pub mod Arguments
--- the table of commands, and what clap is told of them
-pub mod Commands
--- the request of a command line
-pub mod Requests
 -- what the files of a request contain
 pub mod Files
--- how many bytes at the front of a file determine the reply to a request
-pub mod LongFiles
 -- what a state file gives
 pub mod StateFile
 -- the outcome of an expression, given a state file
 pub mod Evaluations
 -- the text of what a location list gives at an address
 pub mod Lookups
--- exit statuses
-pub mod Statuses
 -- what a run writes, and how it ends
 pub mod Runs
 -- ---- What the code's values mean, and what its calls return.
 
--- the code's table of commands
-pub mod CommandViews
 -- the report's line on one of the code's checked expressions
 pub mod ReportViews
 -- the modules that the code has read from files

@@ -11,7 +11,7 @@ use Rattle.dw_rows.specs.Section.{FrameSection, section_fault, frame_of}
 use Rattle.dw_loclists.specs.Reading.{ListSection, lists_fault}
 use Rattle.dw_stack.specs.declared.state.Kind.{Kind}
 use Rattle.dw_stack.specs.FirstFault.{expression_fault}
-use Rattle.dw_check.specs.Requests.{Asked}
+use Rattle.dw_requests.specs.Requests.{Asked}
 use Rattle.dw_sections.specs.Checked.{check_fault, length_fault}
 use Rattle.dw_check.specs.Report.{IsReport}
 use Rattle.dw_unwind.specs.Caller.{Caller}
@@ -31,11 +31,11 @@ use Rattle.dw_sections.specs.declared.section.Section.{Section}
 use Rattle.dw_sections.specs.declared.section.Section.TheVariants as sections
 use Rattle.dw_check.specs.declared.stop.RunFault.{RunFault}
 use Rattle.dw_check.specs.declared.stop.RunFault.TheVariants as stops
-use Rattle.dw_check.specs.declared.requests.ListLookup.{ListLookup}
-use Rattle.dw_check.specs.declared.requests.Task.{Task}
-use Rattle.dw_check.specs.declared.requests.Task.TheVariants.{Check, Rows, Row, Locs, Eval, Unwind, Backtrace}
-use Rattle.dw_check.specs.declared.requests.End.{End}
-use Rattle.dw_check.specs.declared.requests.End.TheVariants.{Done, Refused, BadHex, StateLine, Memory, Output}
+use Rattle.dw_requests.specs.declared.requests.ListLookup.{ListLookup}
+use Rattle.dw_requests.specs.declared.requests.Task.{Task}
+use Rattle.dw_requests.specs.declared.requests.Task.TheVariants.{Check, Rows, Row, Locs, Eval, Unwind, Backtrace}
+use Rattle.dw_requests.specs.declared.requests.End.{End}
+use Rattle.dw_requests.specs.declared.requests.End.TheVariants.{Done, Refused, BadHex, StateLine, Memory, Output}
 
 -- What a run replies: a text; the line of a refusal; `not_hex n`, if the file at index n must be
 -- hex text and isn't; or `bad_line n`, if line n of the state file is the first bad one

@@ -10,7 +10,7 @@ use Rattle.hex.specs.Hex.{decode_of}
 use Rattle.dw_bytes.specs.declared.target.Target.{Target}
 use Rattle.dw_frame.specs.Sections.{top_of}
 use Rattle.dw_rows.specs.Abi.{is_among, abi_fault}
-use Rattle.dw_check.specs.Addresses.{short_number, address_of}
+use Rattle.dw_requests.specs.Addresses.{short_number, address_of}
 use Rattle.dw_check.specs.Parts.{parts_of}
 
 -- what a line gives: a register's number and content, an address and the bytes from there on, the

@@ -6,8 +6,8 @@ ghost use Rattle.dw_check.specs.Report.{IsReport};
 ghost use Rattle.dw_loclists.specs.Reading.{IsChecked, ListSection};
 ghost use Rattle.dw_rows.specs.Section.{FrameSection};
 ghost use Rattle.dw_rows.specs.Section as rows;
-ghost use Rattle.dw_check.specs.LongFiles.{needed_parts};
-ghost use Rattle.dw_check.specs.Requests.{Asked};
+ghost use Rattle.dw_requests.specs.LongFiles.{needed_parts};
+ghost use Rattle.dw_requests.specs.Requests.{Asked};
 ghost use Rattle.dw_check.specs.Runs.{Reply, IsReply};
 
 /// A request has at most one reply (`IsReply` in specs/Runs.antt), whatever its files contain.

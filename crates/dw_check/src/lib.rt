@@ -2,25 +2,19 @@
 #![tactic(auto)]
 
 mod abi_registers;
-mod addresses;
-mod arguments;
 mod caller_text;
-mod command_line;
 mod evaluations;
 mod files;
-mod found_words;
 pub mod laws;
 mod lines;
 mod locations;
 mod machine_state;
-mod named_modules;
 mod numbers;
 mod outcomes;
 mod output;
 mod parts;
 mod process;
 mod reports;
-mod requests;
 mod runs;
 mod sink;
 mod source;
@@ -29,7 +23,7 @@ mod stop;
 mod walk_text;
 mod writer;
 
-pub use arguments::request;
+pub use dw_requests::{End, ListLookup, Request, Task, Usage, request};
 pub use dw_sections::{CheckFault, Checked, Section, backtrace, check, unwind, unwind_with};
 pub use dw_unwind::{
     Answer, Backtrace, BriefFrame, Caller, FoundRegisters, Frame, FrameRegisters, MAX_FOUND,
@@ -37,7 +31,6 @@ pub use dw_unwind::{
     unwind_by_section, unwind_in,
 };
 pub use reports::report;
-pub use requests::{End, ListLookup, Request, Task, Usage};
 pub use runs::run;
 pub use sink::{Sink, Stopped, Through};
 pub use source::{LoadFault, Reading, Reads, Source, load};

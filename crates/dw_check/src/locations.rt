@@ -16,11 +16,11 @@ ghost use Rattle.dw_check.specs.WriteResults.{IsSame, Writes, WritesWhole, is_wr
 use crate::evaluations::write_outcome;
 use crate::lines::push_expression_offset;
 use crate::machine_state::MachineState;
-use crate::requests::ListLookup;
 use crate::sink::Sink;
 use crate::stop::ReportFault;
 use crate::writer::{Writer, send_line};
 use dw_loclists::{CheckedLists, LocationsAt};
+use dw_requests::ListLookup;
 use dw_stack::CheckedExpression;
 
 /// Writes the line that gives an expression's offset in its section.

@@ -5,9 +5,9 @@ ghost use Rattle.dw_check.specs.StateFile.{FitsAddresses, bytes_fact, register_f
 ghost use Rattle.dw_check.specs.StateFile.{fact_of_three_words, fact_of_two_words, fact_of_line};
 ghost use Rattle.dw_check.specs.StateViews.{fact_of};
 
-use crate::addresses::{parse_address, parse_short};
 use crate::parts::Parts;
 use dw_bytes::Target;
+use dw_requests::{parse_address, parse_short};
 use hex::FromHexError;
 use std::alloc::{AllocError, Global};
 

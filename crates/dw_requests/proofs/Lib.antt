@@ -1,0 +1,4 @@
+pub mod Digits
+pub mod NamedTexts
+pub mod Shown
+pub mod Simple
