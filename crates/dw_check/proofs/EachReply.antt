@@ -10,7 +10,7 @@ use Rattle.dw_stack.specs.FirstFault.{expression_fault}
 use Rattle.dw_stack.proofs.Named.{good_if_none}
 use Rattle.dw_sections.specs.Checked.{too_long}
 use Rattle.dw_requests.specs.Requests.{Asked}
-use Rattle.dw_check.specs.StateFile.{StateFact}
+use Rattle.dw_state.specs.StateFile.{StateFact}
 use Rattle.dw_check.specs.Runs.{Reply, text, refusal, not_hex, bad_line, frame_reply, IsOutcome, OfSection, OfState, OfChecked}
 use Rattle.dw_check.specs.Runs.{OfFrame, OfFurther, OfModules, OfModulesAndState, ShowsCaller, ShowsWalk, IsFound, IsCheckReply, IsLocsReply}
 use Rattle.dw_check.specs.Runs.{abi_given, memory_given, registers_given}

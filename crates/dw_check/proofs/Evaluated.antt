@@ -20,7 +20,7 @@ use Rattle.dw_eval.proofs.Determined.{each_evaluation, one_evaluation}
 use Rattle.dw_check.specs.Text.{digits_of}
 use Rattle.dw_check.specs.Outcomes.{evaluation_text}
 use Rattle.dw_check.specs.Evaluations.{world_of, Evaluates}
-use Rattle.dw_check.specs.StateFile.{StateFact, KnownState, IsGivenBy, first_that, content_in, byte_in}
+use Rattle.dw_state.specs.StateFile.{StateFact, KnownState, IsGivenBy, first_that, content_in, byte_in}
 use Rattle.dw_check.specs.Runs.{refusal, IsOutcome}
 use Rattle.dw_sections.specs.declared.section.Section.TheVariants.{Expression}
 

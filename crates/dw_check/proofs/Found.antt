@@ -13,7 +13,7 @@ use Rattle.dw_stack.specs.Located.{LocatedExpression}
 use Rattle.dw_loclists.specs.Reading.{ListSection, IsChecked, lists_in, lists_fault}
 use Rattle.dw_loclists.proofs.Search.{contains-map}
 use Rattle.dw_sections.specs.Checked.{too_long}
-use Rattle.dw_check.specs.StateFile.{StateFact}
+use Rattle.dw_state.specs.StateFile.{StateFact}
 use Rattle.dw_check.specs.Text.{expression_offset_line}
 use Rattle.dw_check.specs.Lookups.{IsShowable, AreEvaluated, ShowsLocations, ShowsList, list_that_begins_at}
 use Rattle.dw_check.specs.Runs.{Reply, text, refusal, not_hex, bad_line, lists_refusal, IsFound}

@@ -11,7 +11,7 @@ use Rattle.dw_unwind.specs.Walks.{WalkedFrame, Walks, first_place}
 use Rattle.dw_unwind.specs.declared.frames.Stop.{Stop}
 use Rattle.dw_unwind.specs.declared.modules.Module.{Module}
 use Rattle.dw_check.specs.Runs.{abi_given, memory_given, registers_given}
-use Rattle.dw_check.specs.StateFile.{StateFact, KnownState, IsGivenBy}
+use Rattle.dw_state.specs.StateFile.{StateFact, KnownState, IsGivenBy}
 
 module _ (sections : List (Module FrameSection)) (abi : Abi) (k : KnownState) (facts : List StateFact) (is : IsGivenBy k facts)
     (of_abi : abi ≡ abi_of k.kept k.stack_pointer) where

@@ -1,4 +1,3 @@
-pub mod Assembled
 pub mod BothSections
 pub mod EachReply
 pub mod EachReport
@@ -7,9 +6,7 @@ pub mod Found
 pub mod GoodLocations
 pub mod Growth
 pub mod HexBytes
-pub mod KeptNumbers
 pub mod KnownMachine
-pub mod KnownState
 pub mod Lined
 pub mod Loading
 pub mod LongFiles
@@ -18,9 +15,7 @@ pub mod Replies
 pub mod Reported
 pub mod Sent
 pub mod Sections
-pub mod Separated
 pub mod Showing
-pub mod StateLines
 pub mod Within
 pub mod Writing
 pub mod FurtherModules

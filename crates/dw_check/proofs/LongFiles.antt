@@ -18,7 +18,7 @@ use Rattle.dw_bytes.specs.declared.target.AddressSize.{AddressSize}
 use Rattle.dw_unwind.specs.declared.modules.Module.{Module}
 use Rattle.dw_check.proofs.Processes.{neither}
 use Rattle.dw_check.specs.Report.{IsReport}
-use Rattle.dw_check.specs.StateFile.{StateFact}
+use Rattle.dw_state.specs.StateFile.{StateFact}
 use Rattle.dw_check.specs.Runs.{Reply, text, refusal, not_hex, bad_line, frame_reply, frame_refusal, modules_refusal, text_unless}
 use Rattle.dw_check.specs.Runs.{ShowsCaller, ShowsWalk, OfFurther, OfModules, OfModulesAndState, IsOutcome, IsFound, OfChecked, OfSection, OfState}
 use Rattle.dw_check.specs.Runs.{IsReplyTo}

@@ -6,7 +6,7 @@ use Rattle.dw_stack.specs.declared.state.Kind.{Kind}
 use Rattle.dw_stack.specs.FirstFault.{expression_fault}
 use Rattle.dw_stack.proofs.Named.{none_if_good}
 use Rattle.dw_requests.specs.Requests.{Asked}
-use Rattle.dw_check.specs.StateFile.{StateFact}
+use Rattle.dw_state.specs.StateFile.{StateFact}
 use Rattle.dw_check.specs.Evaluations.{Evaluates}
 use Rattle.dw_check.specs.Runs.{Reply, text, refusal, not_hex, bad_line, frame_reply, expression_refusal, IsOutcome, OfSection, OfState}
 use Rattle.dw_check.specs.Runs.{OfChecked, OfFrame, OfFurther, OfModules, OfModulesAndState, ShowsCaller, ShowsWalk, IsFound, IsCheckReply}

@@ -13,7 +13,7 @@ use Rattle.dw_rows.specs.Section.{FrameSection, frame_of}
 use Rattle.dw_check.specs.Files.{GivesProcess, section_bytes, state_facts, further_modules, loaded_at}
 use Rattle.dw_check.specs.Runs.{Reply, text, refusal, not_hex, bad_line, accepted_text, frame_refusal, modules_refusal, modules_of_sections}
 use Rattle.dw_check.specs.Runs.{OfSection, OfState, OfFurther, OfProcess, IsUnreadProcess, IsBadProcess, OfModules, OfModulesAndState, Goes}
-use Rattle.dw_check.specs.StateFile.{StateFact}
+use Rattle.dw_state.specs.StateFile.{StateFact}
 use Rattle.dw_check.specs.Stops.{AreBadModules, IsBadSection, IsBadState, IsRefusal, ended_by}
 use Rattle.dw_check.specs.WriteResults.{Writes}
 use Rattle.dw_unwind.specs.declared.modules.Module.{Module}

@@ -5,7 +5,7 @@ use Rattle.std.specs.Prelude.{Option, Some, Result, Ok, Err}
 use Rattle.std.specs.Result.{IsErr, IsErrAnd}
 use Rattle.std.specs.Io.KnownBytes.{Appends}
 use Rattle.dw_bytes.specs.declared.fault.Fault.{Fault}
-use Rattle.dw_check.specs.StateFile.{StateFact}
+use Rattle.dw_state.specs.StateFile.{StateFact}
 use Rattle.dw_check.specs.Stops.{ended_by, IsBadSection, IsBadState, RefusesBoth, IsRefusal}
 use Rattle.dw_check.specs.SinkBytes.{AppendsFront}
 use Rattle.dw_check.specs.WriteResults.{Writes, WritesWhole}

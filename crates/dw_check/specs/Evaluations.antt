@@ -5,7 +5,7 @@ use Rattle.dw_stack.specs.declared.state.Kind.{Kind}
 use Rattle.dw_stack.specs.Expressions.{operations_in, IsGoodExpression, IsDepthOf}
 use Rattle.dw_eval.specs.World.{World}
 use Rattle.dw_eval.specs.Results.{Outcome, IsRun}
-use Rattle.dw_check.specs.StateFile.{StateFact, first_that, content_in, byte_in, cfa_in, frame_base_in, object_in}
+use Rattle.dw_state.specs.StateFile.{StateFact, first_that, content_in, byte_in, cfa_in, frame_base_in, object_in}
 use Rattle.dw_check.specs.Outcomes.{evaluation_text}
 
 -- what an evaluation may read: the target, and what the facts of a state file give

@@ -4,7 +4,7 @@ use Rattle.std.specs.Prelude.{Result, Ok, Err, slice_get}
 use Rattle.std.specs.Result.{result_ok}
 use Rattle.hex.specs.Hex.{decode_of}
 use Rattle.dw_bytes.specs.declared.target.Target.{Target}
-use Rattle.dw_check.specs.StateFile.{StateFact, facts_of_file}
+use Rattle.dw_state.specs.StateFile.{StateFact, facts_of_file}
 use Rattle.dw_unwind.specs.declared.modules.Module.{Module}
 
 -- a tab, LF, CR or space

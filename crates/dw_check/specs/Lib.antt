@@ -11,12 +11,8 @@ pub mod Outcomes
 pub mod CallerText
 -- the text of a walk up the stack
 pub mod WalkText
--- splitting text into lines and words
-pub mod Parts
 -- what the files of a request contain
 pub mod Files
--- what a state file gives
-pub mod StateFile
 -- the outcome of an expression, given a state file
 pub mod Evaluations
 -- the text of what a location list gives at an address
@@ -37,5 +33,3 @@ pub mod SinkBytes
 pub mod SourceBytes
 -- what a call has written, by its result
 pub mod WriteResults
--- what the code's state lines and machine states mean
-pub mod StateViews

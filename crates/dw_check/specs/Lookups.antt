@@ -8,7 +8,7 @@ use Rattle.dw_loclists.specs.Lists.{Loclist}
 use Rattle.dw_loclists.specs.Locations.{locations_of}
 use Rattle.dw_stack.specs.Located.{LocatedExpression}
 use Rattle.dw_loclists.specs.Reading.{ListSection, lists_in}
-use Rattle.dw_check.specs.StateFile.{StateFact}
+use Rattle.dw_state.specs.StateFile.{StateFact}
 use Rattle.dw_check.specs.Text.{expression_offset_line}
 use Rattle.dw_check.specs.Evaluations.{Evaluates}
 

@@ -24,7 +24,7 @@ use Rattle.dw_unwind.specs.declared.frames.Stop.{Stop}
 use Rattle.dw_check.specs.Evaluations.{Evaluates}
 use Rattle.dw_check.specs.Files.{section_bytes, state_facts, loaded_at, further_modules}
 use Rattle.dw_check.specs.Lookups.{ShowsList, list_that_begins_at}
-use Rattle.dw_check.specs.StateFile.{StateFact, first_that, content_in, byte_in, kept_in, stack_pointer_in}
+use Rattle.dw_state.specs.StateFile.{StateFact, first_that, content_in, byte_in, kept_in, stack_pointer_in}
 use Rattle.dw_check.specs.SinkBytes.{AppendsFront}
 use Rattle.dw_check.specs.Text.{refused_line, frame_text, lookup_text}
 use Rattle.dw_sections.specs.declared.section.Section.{Section}

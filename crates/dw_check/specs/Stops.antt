@@ -1,7 +1,7 @@
 -- Why a run stops before all of its text is written.
 use Rattle.std.specs.Prelude.{◌≡◌, ℕ, ◌<◌, Bool, true, false, List, Option, Some, None, Result, Ok, Err}
 use Rattle.dw_bytes.specs.declared.fault.Fault.{Fault}
-use Rattle.dw_check.specs.StateFile.{StateFact}
+use Rattle.dw_state.specs.StateFile.{StateFact}
 use Rattle.dw_unwind.specs.declared.modules.Module.{Module}
 use Rattle.dw_sections.specs.declared.section.Section.{Section}
 use Rattle.dw_sections.specs.declared.whole_check.CheckFault.{CheckFault}

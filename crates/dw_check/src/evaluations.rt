@@ -8,17 +8,17 @@ ghost use Rattle.dw_eval.specs.Views.{outcome_of};
 ghost use Rattle.dw_check.specs.Text.{digits_of};
 ghost use Rattle.dw_check.specs.Outcomes.{evaluation_text};
 ghost use Rattle.dw_check.specs.Evaluations.{Evaluates};
-ghost use Rattle.dw_check.specs.StateFile.{StateFact, IsGivenBy};
-ghost use Rattle.dw_check.specs.StateViews.{known_state_of};
+ghost use Rattle.dw_state.specs.StateFile.{StateFact, IsGivenBy};
+ghost use Rattle.dw_state.specs.StateViews.{known_state_of};
 ghost use Rattle.dw_check.specs.WriteResults.{IsSame, WritesWhole, is_write};
 
-use crate::machine_state::MachineState;
 use crate::outcomes::push_evaluation;
 use crate::sink::Sink;
 use crate::stop::ReportFault;
 use crate::writer::{Writer, send_line};
 use dw_eval::{Context, Evaluation, evaluate};
 use dw_stack::CheckedExpression;
+use dw_state::MachineState;
 
 /// Writes the outcome of an evaluation, and then a line with the evaluation's number of steps and
 /// with `depth`, the greatest stack depth on any path through the expression.

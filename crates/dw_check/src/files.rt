@@ -4,12 +4,12 @@ ghost use Rattle.std.specs.Prelude.{◌≡◌, not, IfOk, IfErr, Ok, Some, map, 
 ghost use Rattle.std.specs.Cow.{cow_slice_items};
 ghost use Rattle.dw_check.specs.FileViews.{with_bytes};
 ghost use Rattle.dw_check.specs.Files.{is_blank, without_blanks, section_bytes, state_facts, further_modules};
-ghost use Rattle.dw_check.specs.StateViews.{IsStateOf};
+ghost use Rattle.dw_state.specs.StateViews.{IsStateOf};
 ghost use Rattle.dw_check.specs.Stops.{AreBadModules, IsBadSection, IsBadState};
 
-use crate::machine_state::{MachineState, read_state};
 use crate::stop::RunFault;
 use dw_bytes::Target;
+use dw_state::{MachineState, StateFault, read_state};
 use dw_unwind::Module;
 use hex::FromHexError;
 use std::alloc::{AllocError, Global};
@@ -76,10 +76,15 @@ impl<'a> Files<'a> {
             (slice_get (map (λ file. file.items) self.now.contents.now) index))) }
     {
         match self.contents.get(index) {
-            Some(file) => read_state(alloc, self.target, file.as_slice()),
+            Some(file) => match read_state(alloc, self.target, file.as_slice()) {
+                Ok(state) => Ok(state),
+                Err(StateFault::Line(number)) => Err(RunFault::StateLine(number)),
+                Err(StateFault::Memory) => Err(RunFault::Memory),
+            },
             None => Ok(MachineState::new(alloc)),
         }
     }
+
     /// The modules that `--module` gives, one for each load address in `loads`. The first module's
     /// frame section is in the third file, the next one's in the fourth, and so on.
     #[tactic(auto, using(crate::proofs::FurtherModules::one_more_read))]

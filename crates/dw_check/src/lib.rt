@@ -1,24 +1,20 @@
 //! Produces the output of each `dwcheck` command, from the words of its command line and its files.
 #![tactic(auto)]
 
-mod abi_registers;
 mod caller_text;
 mod evaluations;
 mod files;
 pub mod laws;
 mod lines;
 mod locations;
-mod machine_state;
 mod numbers;
 mod outcomes;
 mod output;
-mod parts;
 mod process;
 mod reports;
 mod runs;
 mod sink;
 mod source;
-mod state_line;
 mod stop;
 mod walk_text;
 mod writer;

@@ -9,19 +9,19 @@ ghost use Rattle.dw_stack.specs.Located.{located_of};
 ghost use Rattle.dw_check.specs.Text.{expression_offset_line};
 ghost use Rattle.dw_check.specs.Lookups.{IsShowable, AreEvaluated, ShowsLocations, ShowsList, list_that_begins_at};
 ghost use Rattle.dw_check.specs.Evaluations.{Evaluates};
-ghost use Rattle.dw_check.specs.StateFile.{StateFact, IsGivenBy};
-ghost use Rattle.dw_check.specs.StateViews.{known_state_of};
+ghost use Rattle.dw_state.specs.StateFile.{StateFact, IsGivenBy};
+ghost use Rattle.dw_state.specs.StateViews.{known_state_of};
 ghost use Rattle.dw_check.specs.WriteResults.{IsSame, Writes, WritesWhole, is_write};
 
 use crate::evaluations::write_outcome;
 use crate::lines::push_expression_offset;
-use crate::machine_state::MachineState;
 use crate::sink::Sink;
 use crate::stop::ReportFault;
 use crate::writer::{Writer, send_line};
 use dw_loclists::{CheckedLists, LocationsAt};
 use dw_requests::ListLookup;
 use dw_stack::CheckedExpression;
+use dw_state::MachineState;
 
 /// Writes the line that gives an expression's offset in its section.
 fn write_location_offset<S: Sink>(out: &mut Writer<'_, S>, offset: u32) -> Result<(), ReportFault>

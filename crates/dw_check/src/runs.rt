@@ -9,8 +9,8 @@ ghost use Rattle.dw_check.specs.Runs.{IsEvalReply, IsUnwindReply, IsBacktraceRep
 ghost use Rattle.dw_check.specs.Runs.{lists_refusal, expression_refusal};
 ghost use Rattle.dw_sections.specs.Checked.{check_fault};
 ghost use Rattle.dw_unwind.specs.Modules.{unborrowed};
-ghost use Rattle.dw_check.specs.StateFile.{StateFact, IsGivenBy};
-ghost use Rattle.dw_check.specs.StateViews.{known_state_of};
+ghost use Rattle.dw_state.specs.StateFile.{StateFact, IsGivenBy};
+ghost use Rattle.dw_state.specs.StateViews.{known_state_of};
 ghost use Rattle.dw_check.specs.Stops.{RefusesBoth, IsRefusal, ended_by, is_output};
 ghost use Rattle.dw_check.specs.WriteResults.{IsSame, Writes, WritesWhole, is_write};
 ghost use Rattle.dw_sections.specs.declared.section.Section.TheVariants as sections;
@@ -20,7 +20,6 @@ use crate::evaluations::write_outcome;
 use crate::files::Files;
 use crate::laws::one_report;
 use crate::locations::write_list_lookup;
-use crate::machine_state::MachineState;
 use crate::output::{write_frame_section, write_refused, write_row_lookup};
 use crate::process::{frame_or_refusal, lent_modules, modules_or_refusal, read_process};
 use crate::reports::write_report;
@@ -35,6 +34,7 @@ use dw_requests::{End, ListLookup, Request, Task};
 use dw_rows::CheckedFrame;
 use dw_sections::{Checked, SECTION_LIMIT, Section, TOO_LONG, check};
 use dw_stack::{CheckedExpression, Kind, check_expression};
+use dw_state::MachineState;
 use dw_unwind::laws::{
     one_caller_through_modules, one_walk_through_modules, sections_and_tables_always_unwind,
     unwindings_through_what_is_found, walks_through_what_is_found,

@@ -1,4 +1,3 @@
-pub mod Digits
 pub mod NamedTexts
 pub mod Shown
 pub mod Simple

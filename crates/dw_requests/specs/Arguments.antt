@@ -10,7 +10,7 @@ use Rattle.dw_bytes.specs.declared.target.Order.TheVariants.{Little, Big}
 use Rattle.dw_bytes.specs.declared.target.AddressSize.TheVariants.{Four, Eight}
 use Rattle.dw_stack.specs.declared.state.Kind.{Kind}
 use Rattle.dw_stack.specs.declared.state.Kind.TheVariants.{FrameCfa, FrameRegister, Location}
-use Rattle.dw_requests.specs.Addresses.{address_of, offset_of, short_number}
+use Rattle.dw_state.specs.Addresses.{address_of, offset_of, short_number}
 use Rattle.dw_requests.specs.NamedModules.{NamedModule, module_of, modules_of}
 
 -- whether a flag was given

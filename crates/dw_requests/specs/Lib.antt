@@ -1,8 +1,6 @@
 -- ---- Trusted: what docs/OUTPUT.md says about command lines and statuses. The main promise
 -- (docs/HEADLINE.md) needs none of these.
 
--- parsing numbers and addresses
-pub mod Addresses
 -- modules as the values of `--module` name them
 pub mod NamedModules
 -- the meaning of a command's words, flags and options

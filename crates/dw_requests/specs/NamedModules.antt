@@ -2,7 +2,7 @@
 use Rattle.std.specs.Prelude.{◌==◌, ℕ, Bool, List, [], ◌∷◌, Option, Some, None, option_map, option_and_then}
 use Rattle.std.specs.List.{before_first, after_first}
 use Rattle.dw_bytes.specs.declared.target.Target.{Target}
-use Rattle.dw_requests.specs.Addresses.{address_of}
+use Rattle.dw_state.specs.Addresses.{address_of}
 
 -- A module's load address, and the name of the file that has its frame section.
 pub record NamedModule : Type 0 where

@@ -6,13 +6,13 @@ ghost use Rattle.dw_requests.specs.Arguments.{flag_of, target_by_flags, kind_of,
 ghost use Rattle.dw_requests.specs.Arguments.{load_in, modules_in, IsBad, address, offset, limit, named_module};
 ghost use Rattle.dw_requests.specs.declared.requests.Usage.TheVariants.{Memory, BadArgument};
 
-use crate::addresses::{parse_address, parse_offset, parse_short};
 use crate::command_line::{ADDR4, BIG, LOAD, MODULE};
 use crate::named_modules::{NamedModule, parse_modules};
 use crate::requests::Usage;
 use clap::ArgMatches;
 use dw_bytes::{AddressSize, Order, Target};
 use dw_stack::Kind;
+use dw_state::{parse_address, parse_offset, parse_short};
 use std::alloc::Global;
 
 /// The first value of the argument `name`, or `None` if the argument isn't given.

@@ -1,13 +1,11 @@
 //! What the words of a command line of `dwcheck` ask for.
 #![tactic(auto)]
 
-mod addresses;
 mod arguments;
 mod command_line;
 mod found_words;
 mod named_modules;
 mod requests;
 
-pub use addresses::{parse_address, parse_short};
 pub use arguments::request;
 pub use requests::{End, ListLookup, Request, Task, Usage};

@@ -5,9 +5,9 @@ ghost use Rattle.std.specs.List.{Any};
 ghost use Rattle.dw_requests.specs.NamedModules.{module_of, modules_of};
 ghost use Rattle.dw_requests.specs.declared.requests.Usage.TheVariants.{Memory, BadArgument};
 
-use crate::addresses::parse_address;
 use crate::requests::Usage;
 use dw_bytes::Target;
+use dw_state::parse_address;
 use std::alloc::Global;
 use std::marker::Model;
 

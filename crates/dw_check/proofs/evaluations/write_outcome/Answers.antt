@@ -2,7 +2,7 @@ use Rattle.std.proofs.Common.{length, sym}
 use Rattle.dw_stack.specs.Certificates.{checked_of}
 use Rattle.dw_eval.specs.Views.{outcome_of}
 use Rattle.dw_check.specs.Outcomes.{evaluation_text}
-use Rattle.dw_check.specs.StateViews.{known_state_of}
+use Rattle.dw_state.specs.StateViews.{known_state_of}
 use Rattle.dw_check.proofs.Evaluated.{same_bound, evaluates}
 use Rattle.dw_check.proofs.evaluations.write_outcome.Goals as goal
 

@@ -1,8 +1,8 @@
 use Rattle.std.proofs.Common.{◌≡◌, List, false}
 use Rattle.std.specs.List.{All}
 use Rattle.dw_check.specs.Lookups.{IsShowable}
-use Rattle.dw_check.specs.StateFile.{StateFact, IsGivenBy}
-use Rattle.dw_check.specs.StateViews.{known_state_of}
+use Rattle.dw_state.specs.StateFile.{StateFact, IsGivenBy}
+use Rattle.dw_state.specs.StateViews.{known_state_of}
 use Rattle.dw_check.specs.WriteResults.{IsSame}
 use Rattle.dw_check.proofs.Showing.{Shown}
 use Rattle.dw_check.proofs.locations.write_other_locations.Given as goal

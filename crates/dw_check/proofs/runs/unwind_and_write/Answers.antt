@@ -4,7 +4,7 @@ use Rattle.dw_rows.specs.AbiViews.{roles_of}
 use Rattle.dw_check.specs.CallerText.{caller_text}
 use Rattle.dw_unwind.specs.CallerViews.{caller_in}
 use Rattle.dw_unwind.specs.Modules.{unborrowed}
-use Rattle.dw_check.specs.StateViews.{known_state_of}
+use Rattle.dw_state.specs.StateViews.{known_state_of}
 use Rattle.dw_check.specs.WriteResults.{WritesWhole}
 use Rattle.dw_check.proofs.KnownMachine.{same_caller}
 use Rattle.dw_check.proofs.Replies.{writes_if_whole}

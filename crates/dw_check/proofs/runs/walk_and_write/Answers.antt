@@ -1,7 +1,7 @@
 use Rattle.std.proofs.Common.{refl}
 use Rattle.dw_rows.specs.AbiViews.{roles_of}
 use Rattle.dw_unwind.specs.Modules.{unborrowed}
-use Rattle.dw_check.specs.StateViews.{known_state_of}
+use Rattle.dw_state.specs.StateViews.{known_state_of}
 use Rattle.dw_unwind.specs.Walks.{first_place}
 use Rattle.dw_check.specs.WalkText.{walk_text}
 use Rattle.dw_check.proofs.KnownMachine.{same_walk}
