@@ -138,8 +138,8 @@ fn write_steps<M: Memory>(
 {
     let mut count = 0;
     while count < slots.len() {
-        let mut frame = CFrame::none();
-        if step_by(process, kept, pointer, bits, cursor, memory, &mut frame) != DONE {
+        let slot = &mut slots[count];
+        if step_by(process, kept, pointer, bits, cursor, memory, slot) != DONE {
             let looked_up = cursor.looked_up();
             let (numbers, file) = (kept.numbers(), &cursor.registers);
             return write_more(
@@ -155,7 +155,6 @@ fn write_steps<M: Memory>(
                 count,
             );
         }
-        slots[count] = frame;
         count += 1;
         if count == slots.len() {
             return (count, Stop::Limit);
