@@ -368,7 +368,7 @@ typedef struct dwcheck_reader {
 } dwcheck_reader;
 
 /* Steps as dwcheck_cursor_step does, but asks `reader` for the words that the step needs: of another process, a core
-   file, a target behind a protocol. The blocks of `state` aren't used. This call is C over the proved ones, which see
+   file, a remote target. The blocks of `state` aren't used. This call is C over the proved ones, which see
    the bytes that were read (c/read.c). In a rule whose expression has branches or over 256 bytes, only what is read
    before the first branch, or nothing, is asked for. `read` may leave the call by longjmp, and then the cursor is as
    it was. The call allocates only as dwcheck_evaluate does. */

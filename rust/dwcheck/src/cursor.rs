@@ -216,7 +216,7 @@ impl Process {
 
     /// Steps as [`step`](Process::step) does, but asks for the memory that the step needs: `read` is
     /// called with an address and a slice, which it fills. It returns whether it could. So nothing
-    /// has to be copied first from another process, a core file, or a target behind a protocol. The
+    /// has to be copied first from another process, a core file, or a remote target. The
     /// memory of `state` isn't used.
     ///
     /// In a rule whose expression has branches, only what is read before the first branch is asked

@@ -11,7 +11,7 @@ macro_rules! fault_kinds {
     ($($(#[$doc:meta])+ $name:ident = $number:literal,)+) => {
         /// What is wrong. The last sentence of each kind says where the [`Fault`]'s offset points.
         ///
-        /// The rule behind each kind is in the project's `docs/PROFILE.md`.
+        /// The rule that each kind breaks is in the project's `docs/PROFILE.md`.
         #[derive(Clone, Copy, Debug, PartialEq, Eq, Hash)]
         #[non_exhaustive]
         pub enum FaultKind {
