@@ -13,7 +13,7 @@ use std::process::Abort;
 pub(crate) type Verdict = Result<(u8, u32), Fault>;
 
 /// The result of checking the expression `bytes`.
-pub(crate) fn verdict(rt: &impl Abort, alloc: Global, bytes: &[u8], kind: Kind) -> Verdict {
+pub(crate) fn verdict_of(rt: &impl Abort, alloc: Global, bytes: &[u8], kind: Kind) -> Verdict {
     assert!(rt; bytes.len() < 0x1_0000);
     let checked = check_expression(alloc, Expression::new(bytes, LITTLE), kind)?;
     Ok((checked.depth(), checked.operation_count()))
@@ -36,7 +36,7 @@ const ACCEPTED: [(&[u8], Kind, u8, u32); 5] = [
 #[test]
 fn gives_the_depth_and_count_of_what_is_good(rt: HostRuntime) {
     for &(bytes, kind, depth, count) in &ACCEPTED {
-        let found = verdict(&rt, rt.alloc(), bytes, kind);
+        let found = verdict_of(&rt, rt.alloc(), bytes, kind);
         assert_eq!(rt; found, Ok((depth, count)), "{bytes:?}");
     }
 }
@@ -52,7 +52,7 @@ const REFUSED: [(&[u8], Kind, FaultKind, u32); 3] = [
 #[test]
 fn names_the_first_fault_of_what_is_bad(rt: HostRuntime) {
     for &(bytes, kind, fault, at) in &REFUSED {
-        let found = verdict(&rt, rt.alloc(), bytes, kind);
+        let found = verdict_of(&rt, rt.alloc(), bytes, kind);
         assert_eq!(rt; found, refusal(fault, at), "{bytes:?}");
     }
 }

@@ -1,6 +1,6 @@
 //! Expressions designed to take long, or to come close to a limit.
 
-use crate::certificates::{checked, push_times, refusal};
+use crate::certificates::{push_times, refusal, verdict_of};
 use dw_bytes::FaultKind;
 use dw_stack::Kind;
 use std::alloc::{AllocError, Global};
@@ -14,7 +14,7 @@ fn checks_a_thousand_branches_to_one_target(rt: HostRuntime) -> Result<(), Alloc
     }
     bytes.push(0x30)?;
     assert_eq!(rt;
-        checked(&rt, rt.alloc(), &bytes, Kind::Location),
+        verdict_of(&rt, rt.alloc(), &bytes, Kind::Location),
         Ok((1, 2_001))
     );
     Ok(())
@@ -27,7 +27,7 @@ fn checks_ten_thousand_diamonds_in_a_row(rt: HostRuntime) -> Result<(), AllocErr
     push_times(&mut bytes, &[0x30, 0x28, 0x01, 0x00, 0x96], 10_000)?;
     bytes.push(0x30)?;
     assert_eq!(rt;
-        checked(&rt, rt.alloc(), &bytes, Kind::Location),
+        verdict_of(&rt, rt.alloc(), &bytes, Kind::Location),
         Ok((1, 30_001))
     );
     Ok(())
@@ -40,7 +40,7 @@ fn checks_65000_operations(rt: HostRuntime) -> Result<(), AllocError> {
     push_times(&mut bytes, &[0x12, 0x13], 32_499)?;
     bytes.push(0x96)?;
     assert_eq!(rt;
-        checked(&rt, rt.alloc(), &bytes, Kind::Location),
+        verdict_of(&rt, rt.alloc(), &bytes, Kind::Location),
         Ok((2, 65_000))
     );
     Ok(())
@@ -53,7 +53,7 @@ fn checks_the_farthest_branch(rt: HostRuntime) -> Result<(), AllocError> {
     push_times(&mut bytes, &[0x96], 32_767)?;
     bytes.push(0x30)?;
     assert_eq!(rt;
-        checked(&rt, rt.alloc(), &bytes, Kind::Location),
+        verdict_of(&rt, rt.alloc(), &bytes, Kind::Location),
         Ok((1, 32_770))
     );
     Ok(())
@@ -78,7 +78,10 @@ fn names_too_deep_on_the_one_path_that_is(rt: HostRuntime) -> Result<(), AllocEr
         (129, refusal(FaultKind::TooDeep, 132)),
     ] {
         let bytes = one_high_way(rt.alloc(), count)?;
-        assert_eq!(rt; checked(&rt, rt.alloc(), &bytes, Kind::Location), verdict);
+        assert_eq!(rt;
+            verdict_of(&rt, rt.alloc(), &bytes, Kind::Location),
+            verdict
+        );
     }
     Ok(())
 }

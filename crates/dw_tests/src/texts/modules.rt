@@ -107,7 +107,7 @@ fn shows_rows_callers_and_walks_through_modules(rt: HostRuntime) -> Result<(), A
 }
 
 #[test]
-fn judges_the_files_of_modules_in_their_order(rt: HostRuntime) -> Result<(), AllocError> {
+fn checks_the_files_of_modules_in_their_order(rt: HostRuntime) -> Result<(), AllocError> {
     lines_come_to(
         &rt,
         "dwcheck unwind --module 0x400000=m --hex f 0x401010 s",
