@@ -212,6 +212,7 @@ class Page:
         with open(path, encoding="utf-8") as file:
             self.lines = file.read().split("\n")
         self.sessions = list(sessions(self.lines))
+        self.blocks = list(c_blocks(self.lines))
         self.count, self.differing, self.left_out, self.refused = 0, [], [], []
 
     def run(self, environment, is_slow):
@@ -230,7 +231,7 @@ class Page:
                         self.differing.append((command, written))
             shell.close()
             slow_shell.close()
-        self.refused = [(line, said) for line, block in c_blocks(self.lines) for said in complaints(block)]
+        self.refused = [(line, said) for line, block in self.blocks for said in complaints(block)]
 
     def show(self):
         """Prints the differences, the number of commands, and what was left out."""
@@ -278,7 +279,7 @@ def main():
             os.symlink(os.path.realpath(words.elf), os.path.join(programs, ELF))
         os.environ["PATH"] = programs + os.pathsep + os.environ["PATH"]
         environment = os.environ | {"REPO": TOP, "LC_ALL": "C", "GO111MODULE": "off", "DEBUGINFOD_URLS": ""}
-        pages = [page for page in map(Page, words.pages or all_pages()) if page.sessions]
+        pages = [page for page in map(Page, words.pages or all_pages()) if page.sessions or page.blocks]
         for page in pages:
             page.run(environment, words.slow)
             page.show()
