@@ -1,5 +1,5 @@
 /* Times the look-ups of a process that has many modules: the module of an address, the row of an
-   address, and a frame of a walk. Each module has the same section of 64 functions with three rows
+   address, and a frame of a walk, also by a cursor. Each module has the same section of 64 functions with three rows
    each. Addresses are in the last module alone, so that its table is in the processor's caches, or in
    all modules in random order. Then it times walks of a few frames, their start included. Prints
    nanoseconds, the least of five passes.
@@ -69,18 +69,29 @@ static void find_rows(void) {
 static uint64_t words[2 * FRAMES];
 static size_t limit = FRAMES;
 
+static const uint8_t known[] = {0xff, 0xff, 1};
+static const uint16_t kept[] = {3, 6, 12, 13, 14, 15};
+static const uint64_t registers[17] = {[6] = STACK, [7] = STACK};
+static const dwcheck_block block = {STACK, (const uint8_t *)words, sizeof words};
+static const dwcheck_state state = {registers, 17, known, sizeof known, &block, 1, kept, 6, 7, 1, 0, 0};
+
 static void walk(void) {
-    static const uint8_t known[] = {0xff, 0xff, 1};
-    static const uint16_t kept[] = {3, 6, 12, 13, 14, 15};
-    uint64_t registers[17] = {[6] = STACK, [7] = STACK};
-    dwcheck_block block = {STACK, (const uint8_t *)words, sizeof words};
-    dwcheck_state state = {registers, 17, known, sizeof known, &block, 1, kept, 6, 7, 1, 0, 0};
     static dwcheck_frame frames[FRAMES];
     size_t count;
     uint32_t stop;
     dwcheck_fault fault;
     uint32_t status = dwcheck_backtrace(&process, addresses[0], &state, frames, limit, &count, &stop, &fault);
     if (status != DWCHECK_DONE || count != limit) exit(1);
+}
+
+/* The same walk by a cursor. */
+static void step(void) {
+    dwcheck_cursor cursor;
+    dwcheck_frame frame;
+    dwcheck_fault fault;
+    if (dwcheck_cursor_init(&cursor, addresses[0], &state, 1, &fault) != DWCHECK_DONE) exit(1);
+    for (size_t i = 0; i < limit; i++)
+        if (dwcheck_cursor_step(&process, &cursor, &state, &frame) != DWCHECK_DONE) exit(1);
 }
 
 static double least(void (*what)(void), int times, double each) {
@@ -126,8 +137,8 @@ int main(void) {
         for (int in_all = 0; in_all < 2; in_all++) {
             choose(in_all ? 0 : count - 1, in_all ? count : 1);
             double module = least(find_modules, TIMES, ADDRESSES), row = least(find_rows, TIMES, ADDRESSES);
-            double frame = least(walk, TIMES * 4, FRAMES);
-            printf("%s module_at %.1f, row_at %.1f, a frame %.1f", in_all ? "; in all" : " in the last", module, row, frame);
+            double frame = least(walk, TIMES * 4, FRAMES), stepped = least(step, TIMES * 4, FRAMES);
+            printf("%s module_at %.1f, row_at %.1f, a frame %.1f, by a cursor %.1f", in_all ? "; in all" : " in the last", module, row, frame, stepped);
         }
         printf("\n");
         dwcheck_process_close(&process);
