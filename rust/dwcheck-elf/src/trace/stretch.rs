@@ -70,6 +70,11 @@ impl Stretch {
         self.traps.is_some() && self.place_at(address).map_or(false, |place| place.is_end)
     }
 
+    /// Whether one of its instructions is at an address.
+    pub fn has(&self, address: u64) -> bool {
+        self.place_at(address).is_some()
+    }
+
     fn place_at(&self, address: u64) -> Option<&Place> {
         self.places.iter().find(|place| place.address == address)
     }
