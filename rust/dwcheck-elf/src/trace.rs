@@ -10,7 +10,7 @@
 //! - [`shadow`] is what is true of a thread's frames, [`follow`] keeps it step by step, and [`judge`]
 //!   compares it with the rows, but for what [`rules`] leaves out.
 //! - [`tracer`] handles what threads report, [`windows`] decides what is stepped, [`stretch`]
-//!   what is run at once, up to [`ends`], and [`release`] lets go.
+//!   what is run at once, up to [`ends`], by what is [`foreseen`], and [`release`] lets go.
 //! - [`sample`] steps a process that runs already, for which [`guard`] makes a process.
 //! - [`confirm`] says of each finding of the lint whether it is so.
 //! - [`report`] makes findings and counts of what was seen.
@@ -21,6 +21,7 @@ mod confirm;
 mod ends;
 mod files;
 mod follow;
+mod foreseen;
 mod guard;
 mod judge;
 mod ptrace;

@@ -13,12 +13,16 @@ pub(super) const MOST_ENDS: usize = 4;
 /// The debug register that says which breakpoints stop a thread.
 const CONTROL: usize = 7;
 
-/// Traps that are farther apart than this, in bytes, aren't set: all code between is read and written.
+/// Traps that are nearer to each other than this, in bytes, are set at once: all code between is read and written.
 const WIDEST: u64 = 4096;
 
 /// Traps that are in the code, for one stretch.
+#[derive(Clone, Debug, Default)]
+pub(super) struct Traps(Vec<Part>);
+
+/// Traps that are near each other.
 #[derive(Clone, Debug)]
-pub(super) struct Traps {
+struct Part {
     /// The address of the first one.
     begin: u64,
     /// The code from there up to the last one, as it was before.
@@ -34,23 +38,43 @@ pub(super) struct Hardware {
 
 impl Traps {
     /// Sets traps at these addresses. `None` if they can't be set.
-    pub fn set(space: &Space, ends: impl Iterator<Item = u64> + Clone) -> Option<Traps> {
-        let (begin, last) = (ends.clone().min()?, ends.clone().max()?);
-        let length = Some(last - begin).filter(|length| *length < WIDEST)? + 1;
-        let mut code = vec![0; length as usize];
-        if !space.read(begin, &mut code) {
-            return None;
+    pub fn set(space: &Space, ends: impl Iterator<Item = u64>) -> Option<Traps> {
+        let mut ends: Vec<u64> = ends.collect();
+        ends.sort_unstable();
+        let mut traps = Traps::default();
+        while let Some(first) = ends.first() {
+            let near = ends.partition_point(|end| end - first < WIDEST);
+            match Part::set(space, &ends[..near]) {
+                Some(part) => traps.0.push(part),
+                None => {
+                    traps.lift(space);
+                    return None;
+                }
+            }
+            ends.drain(..near);
         }
-        let mut trapped = code.clone();
-        ends.for_each(|end| trapped[(end - begin) as usize] = TRAP);
-        space.write(begin, &trapped).ok()?;
-        Some(Traps { begin, code })
+        Some(traps)
     }
 
     /// Takes them out.
     pub fn lift(&self, space: &Space) {
         // If the code isn't there anymore, there is nothing to take out.
-        let _ = space.write(self.begin, &self.code);
+        self.0.iter().for_each(|part| drop(space.write(part.begin, &part.code)));
+    }
+}
+
+impl Part {
+    /// Sets traps at these addresses, which ascend.
+    fn set(space: &Space, ends: &[u64]) -> Option<Part> {
+        let (begin, last) = (*ends.first()?, *ends.last()?);
+        let mut code = vec![0; (last - begin + 1) as usize];
+        if !space.read(begin, &mut code) {
+            return None;
+        }
+        let mut trapped = code.clone();
+        ends.iter().for_each(|end| trapped[(end - begin) as usize] = TRAP);
+        space.write(begin, &trapped).ok()?;
+        Some(Part { begin, code })
     }
 }
 

@@ -9,6 +9,7 @@ use super::thread::{Mode, Thread};
 use super::tracer::Tracer;
 use dwcheck::{Abi, Block, Cursor, Error, Process, State};
 use dwcheck_lint::judge::{Facts, Verdict, WrongCfa, WrongRule};
+use std::ops::Range;
 
 /// How many bytes below the CFA are read at once. Most functions save their registers there.
 const READ_AT_ONCE: usize = 128;
@@ -62,6 +63,30 @@ impl Below {
     /// Whether it is below this address.
     pub fn is_of(&self, cfa: u64) -> bool {
         self.cfa == cfa
+    }
+
+    /// Where the return address of a function that was called is.
+    pub fn slot(&self) -> u64 {
+        self.cfa.wrapping_sub(8)
+    }
+
+    /// The eight bytes at an address, as a number. `None` if they aren't in it.
+    pub fn word(&self, address: u64) -> Option<u64> {
+        let bytes = self.bytes.get(self.range(address))?;
+        Some(u64::from_le_bytes(bytes.try_into().ok()?))
+    }
+
+    /// Sets the eight bytes at an address. `None` if they aren't in it.
+    pub fn set_word(&mut self, address: u64, value: u64) -> Option<()> {
+        let range = self.range(address);
+        self.bytes.get_mut(range)?.copy_from_slice(&value.to_le_bytes());
+        Some(())
+    }
+
+    fn range(&self, address: u64) -> Range<usize> {
+        // An address that is farther away isn't in it either way.
+        let begin = address.wrapping_sub(self.begin()).min(READ_AT_ONCE as u64) as usize;
+        begin..begin + 8
     }
 
     fn begin(&self) -> u64 {
@@ -177,16 +202,26 @@ impl Tracer<'_, '_> {
         space: &Space,
         below: Option<&Below>,
     ) -> Verdict {
-        let quick = below.map(|below| {
-            let unwound = self.unwind(site, judged, registers, |process, address, known| {
-                Unwound::by(process, address, known, below.block())
-            });
-            verdict(judged, &unwound, frame)
-        });
+        let quick = below.map(|below| self.verdict_by(site, judged, registers, frame, below));
         quick.filter(|verdict| verdict.wrong.is_empty()).unwrap_or_else(|| {
             let unwound = self.unwind_in(site, judged, registers, space);
             verdict(judged, &unwound, frame)
         })
+    }
+
+    /// The same, as far as it follows from the memory below the CFA.
+    pub(super) fn verdict_by(
+        &mut self,
+        site: usize,
+        judged: Judged,
+        registers: &Registers,
+        frame: &Frame,
+        below: &Below,
+    ) -> Verdict {
+        let unwound = self.unwind(site, judged, registers, |process, address, known| {
+            Unwound::by(process, address, known, below.block())
+        });
+        verdict(judged, &unwound, frame)
     }
 
     /// What `dwcheck` computes by the row of an instruction, whose frame has these registers.

@@ -49,6 +49,13 @@ impl Registers {
         self
     }
 
+    /// The same registers, of which the one with this DWARF number has another value.
+    #[must_use]
+    pub fn with(mut self, number: u16, value: u64) -> Self {
+        self.0.iter_mut().skip(number.into()).take(1).for_each(|register| *register = value);
+        self
+    }
+
     /// The register with this DWARF number.
     pub fn get(&self, number: u16) -> Option<u64> {
         self.0.get(usize::from(number)).copied()

@@ -7,6 +7,7 @@ use dwcheck_lint::instruction::{Effect, Instruction};
 use dwcheck_lint::judge::Verdict;
 use dwcheck_lint::register::Registers;
 use rustc_hash::FxHashMap;
+use std::num::NonZeroU32;
 
 /// An instruction of a file, at one address, wherever the file is loaded.
 #[derive(Debug)]
@@ -97,14 +98,21 @@ pub struct Places {
     pub in_slots: [Vec<i64>; KEPT],
 }
 
+/// How many addresses a block has.
+const BLOCK: u64 = 64;
+
+/// The indices of instructions at addresses that follow each other, each plus 1.
+type Block = [Option<NonZeroU32>; BLOCK as usize];
+
 /// All instructions that were stepped.
 #[derive(Debug, Default)]
 pub struct Sites {
     all: Vec<Site>,
     /// The place of an instruction that isn't remembered.
     passing: Option<usize>,
-    /// The index of each one, by its file and its address there.
-    places: FxHashMap<(usize, u64), usize>,
+    /// The index of each one, for each block of addresses of a file. Instructions near each other are asked for one
+    /// after the other, so what is asked for is mostly in a nearby cache.
+    blocks: FxHashMap<(usize, u64), Block>,
 }
 
 impl Site {
@@ -144,14 +152,16 @@ impl Places {
 impl Sites {
     /// The index of an instruction of a file.
     pub fn find(&self, file: usize, address: u64) -> Option<usize> {
-        self.places.get(&(file, address)).copied()
+        let index = self.blocks.get(&(file, address / BLOCK))?[(address % BLOCK) as usize];
+        index.map(|index| index.get() as usize - 1)
     }
 
     /// Adds an instruction. Returns its index.
     pub fn add(&mut self, site: Site) -> usize {
         let index = self.all.len();
         if let Some(file) = site.file {
-            self.places.insert((file, site.address), index);
+            let block = self.blocks.entry((file, site.address / BLOCK)).or_insert([None; BLOCK as usize]);
+            block[(site.address % BLOCK) as usize] = u32::try_from(index + 1).ok().and_then(NonZeroU32::new);
         }
         self.all.push(site);
         index

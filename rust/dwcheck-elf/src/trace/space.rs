@@ -6,7 +6,6 @@ use super::ptrace::Tid;
 use super::site::{Site, Sites};
 use crate::live::{Map, Process};
 use dwcheck_lint::x86_64::X86_64;
-use rustc_hash::FxHashMap;
 use std::fs::{File, OpenOptions};
 use std::io;
 use std::ops::Range;
@@ -32,8 +31,6 @@ pub(super) struct Space {
     /// Memory that can be written to, which stacks are in.
     writable: Vec<Range<u64>>,
     pub breakpoints: Breakpoints,
-    /// The index of the instruction at each address that was stepped.
-    sites: FxHashMap<u64, usize>,
 }
 
 /// A part of executable memory.
@@ -50,8 +47,7 @@ impl Space {
     /// The memory of a process, of which nothing is known yet.
     pub fn of(pid: Tid) -> io::Result<Space> {
         let memory = OpenOptions::new().read(true).write(true).open(format!("/proc/{}/mem", pid))?;
-        let (code, writable, sites) = (Vec::new(), Vec::new(), FxHashMap::default());
-        Ok(Space { pid, memory, code, writable, breakpoints: Breakpoints::default(), sites })
+        Ok(Space { pid, memory, code: Vec::new(), writable: Vec::new(), breakpoints: Breakpoints::default() })
     }
 
     /// The memory of a process that was made by `fork`, which begins as a copy of this one.
@@ -60,7 +56,6 @@ impl Space {
         copy.code = self.code.clone();
         copy.writable = self.writable.clone();
         copy.breakpoints = self.breakpoints.clone();
-        copy.sites = self.sites.clone();
         Ok(copy)
     }
 
@@ -108,7 +103,6 @@ impl Space {
         let code: Vec<Code> = maps.iter().filter(|map| map.is_executable).map(|map| self.place(map, files)).collect();
         let is_there = |address: &u64, old: &[Code]| find(old, *address) == find(&code, *address);
         let old = std::mem::take(&mut self.code);
-        self.sites.retain(|address, _| is_there(address, &old));
         self.breakpoints.retain(|address| is_there(&address, &old));
         self.code = code;
     }
@@ -144,9 +138,6 @@ impl Space {
 
     /// The index of the instruction at an address.
     pub fn site(&mut self, address: u64, sites: &mut Sites, files: &mut Files<'_, '_>) -> usize {
-        if let Some(index) = self.sites.get(&address) {
-            return *index;
-        }
         if self.code_at(address).is_none() {
             self.refresh(files);
         }
@@ -156,9 +147,7 @@ impl Space {
             // Code that is in no file may change, so it isn't remembered.
             None => return sites.add_passing(self.nameless(address)),
         };
-        let index = sites.find(file, linked).unwrap_or_else(|| sites.add(files.at(file).site(file, linked)));
-        self.sites.insert(address, index);
-        index
+        sites.find(file, linked).unwrap_or_else(|| sites.add(files.at(file).site(file, linked)))
     }
 
     fn nameless(&self, address: u64) -> Site {

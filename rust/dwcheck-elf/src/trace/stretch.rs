@@ -1,14 +1,20 @@
 //! Stretches: instructions that a thread runs at once, up to a breakpoint.
 //!
-//! A stretch begins where a row was right. None of its instructions writes a register by which one of its rows
-//! finds anything, calls, returns or enters the kernel. So the values that its rows say are the same all along,
-//! and each row was compared with them before the stretch began; at its end, the row there is judged as after a
-//! step. Jumps may branch: each way ends at a breakpoint of its own, and no two ways share an instruction, so the
-//! one where the thread stops says which way it took.
+//! A stretch begins where a row was right. No row of it finds anything by a register that was written since in a way
+//! that isn't followed, and none of its instructions enters the kernel. What pushes, pops and sums of the stack
+//! pointer make of the registers and the stack is foreseen. So the values that its rows say are known all along, and
+//! each row was compared with them before the stretch began; at its end, the row there is judged as after a step.
+//! Jumps may branch: each way ends at a breakpoint of its own, and no two ways share an instruction, so the one where
+//! the thread stops says which way it took.
+//!
+//! A way that comes to a call or a return ends after that, in another function. These change nothing but the stack
+//! pointer, so the row there is judged by what the thread has when it has stopped, too.
 
 use super::ends::{Traps, MOST_ENDS};
+use super::foreseen::{Foreseen, STACK};
 use super::registers::Registers;
-use super::site::Judged;
+use super::shadow::Origin;
+use super::site::{Judged, Site};
 use super::space::Space;
 use super::thread::Thread;
 use super::tracer::Tracer;
@@ -17,20 +23,22 @@ use dwcheck_lint::register::Registers as Set;
 use std::collections::VecDeque;
 use std::rc::Rc;
 
-/// The stack pointer.
-const STACK: Set = Set::of(&[7]);
-
 /// How many instructions a stretch has at most.
 const MOST_PLACES: usize = 64;
 
 /// A stretch shorter than this, in instructions, takes as long as steps.
 const SHORTEST: usize = 2;
 
+/// A return that takes nothing but the return address off the stack isn't longer than this, in bytes.
+const PLAIN_RETURN: u8 = 2;
+
 /// Instructions that a thread runs at once.
 #[derive(Clone, Debug)]
 pub(super) struct Stretch {
     /// The first one is where it begins.
     places: Vec<Place>,
+    /// What a thread has at them. The first one is where it begins.
+    states: Vec<Foreseen>,
     /// The traps in the code that end it. `None` if breakpoints of the processor do.
     traps: Option<Traps>,
 }
@@ -45,8 +53,10 @@ struct Place {
     before: usize,
     /// How many instructions are before it.
     depth: usize,
-    /// The registers that are written up to here.
+    /// The registers that are written up to here in a way that isn't followed.
     written: Set,
+    /// What the thread has here, by its index in the stretch.
+    state: usize,
     /// Whether the stretch ends here.
     is_end: bool,
 }
@@ -68,6 +78,11 @@ impl Stretch {
     /// Whether one of its traps is at an address.
     pub fn has_trap_at(&self, address: u64) -> bool {
         self.traps.is_some() && self.place_at(address).map_or(false, |place| place.is_end)
+    }
+
+    /// Whether one of its instructions is at an address.
+    pub fn has(&self, address: u64) -> bool {
+        self.place_at(address).is_some()
     }
 
     fn place_at(&self, address: u64) -> Option<&Place> {
@@ -104,17 +119,22 @@ impl Tracer<'_, '_> {
 
     /// The stretch that begins where a thread is. `None` if it isn't worth it.
     fn stretch(&mut self, thread: &Thread, space: &mut Space) -> Option<Stretch> {
-        let address = thread.program_counter();
+        let (address, site) = (thread.program_counter(), thread.here.site);
         if !thread.is_right || space.breakpoints.at(address).is_some() {
             return None;
         }
-        let mut reads = self.sites.at(thread.here.site).row.ok()?.reads?.with(STACK);
-        let begin = Place { site: thread.here.site, address, before: 0, depth: 0, written: Set::NONE, is_end: false };
-        let mut stretch = Stretch { places: vec![begin], traps: None };
+        self.sites.at(site).row.ok()?.reads?;
+        let cfa = thread.shadow.frames.last()?.cfa;
+        let below = thread.below.filter(|below| below.is_of(cfa));
+        let begin = Place { site, address, before: 0, depth: 0, written: Set::NONE, state: 0, is_end: false };
+        let states = vec![Foreseen { registers: thread.registers, below }];
+        let mut stretch = Stretch { places: vec![begin], states, traps: None };
         let (mut open, mut ends) = (VecDeque::from([0]), 1);
         while let Some(index) = open.pop_front() {
-            let ways = self.ways(thread, &stretch.places[index], reads);
-            let next = self.next_places(thread, space, &stretch, index, ways, &mut reads);
+            let next = match self.crossing(thread, space, &stretch, index) {
+                Some(place) => vec![place],
+                None => self.next_places(thread, space, &mut stretch, index),
+            };
             let added = next.len().saturating_sub(1);
             if next.is_empty() || ends + added > MOST_ENDS || stretch.places.len() + next.len() > MOST_PLACES {
                 stretch.places[index].is_end = true;
@@ -131,47 +151,50 @@ impl Tracer<'_, '_> {
         Some(stretch).filter(Stretch::is_long)
     }
 
-    /// Where an instruction leads, if it may be in a stretch whose rows read these registers.
-    fn ways(&self, thread: &Thread, place: &Place, reads: Set) -> Ways {
+    /// Where a call of a function that is stepped, or a return, leads: a stretch ends there. `None` if that isn't known
+    /// before, or if it isn't code of a file.
+    fn crossing(&mut self, thread: &Thread, space: &mut Space, stretch: &Stretch, index: usize) -> Option<Place> {
+        let from = stretch.places[index];
+        let (site, state) = (self.sites.at(from.site), &stretch.states[from.state]);
+        let address = match site.effect {
+            Effect::Call { target: Target::Code(callee) } => {
+                let callee = callee.wrapping_add(from.address.wrapping_sub(site.address));
+                Some(callee).filter(|callee| self.options.all || !self.is_done_at(space, *callee))?
+            }
+            Effect::Return if site.length <= PLAIN_RETURN => returns_to(thread, state)?,
+            _ => return None,
+        };
+        let site = self.here(space, address).site;
+        let is_new = self.sites.at(site).file.is_some() && stretch.place_at(address).is_none();
+        is_new.then_some(Place { site, address, before: index, depth: from.depth + 1, is_end: true, ..from })
+    }
+
+    /// Where an instruction leads, if it may be in a stretch.
+    fn ways(&self, thread: &Thread, stretch: &Stretch, place: &Place) -> Ways {
         let site = self.sites.at(place.site);
         let next = site.address.wrapping_add(u64::from(site.length));
         match site.effect {
             Effect::Jump { target: Target::Code(target) } => [Some(target), None],
             Effect::JumpIf { target, .. } => [Some(next), Some(target)],
-            effect if !is_plain(&effect, site.length) => [None, None],
-            effect if !effect.written().both(reads).is_empty() => [None, None],
-            effect if self.may_overwrite(thread, place, &effect) => [None, None],
+            effect if !is_plain(&effect, site.length) || effect.written().contains(STACK) => [None, None],
+            _ if may_overwrite(thread, place, site, &stretch.states[place.state]) => [None, None],
             _ => [Some(next), None],
         }
     }
 
-    /// Whether an instruction stores where its row finds something, as far as its address is known.
-    fn may_overwrite(&self, thread: &Thread, place: &Place, effect: &Effect) -> bool {
-        let lowest = self.sites.at(place.site).row.map_or(0, |judged| judged.lowest);
-        let (frame, stored) = match (thread.shadow.frames.last(), stored(effect)) {
-            (Some(frame), Some(stored)) => (frame, stored),
-            _ => return false,
-        };
-        let (Location { base, offset }, bytes) = stored;
-        let base = thread.registers.get(base.0.into()).filter(|_| !place.written.contains(base));
-        let begin = base.map(|base| base.wrapping_add(i64::from(offset) as u64).wrapping_sub(frame.cfa) as i64);
-        begin.map_or(false, |begin| begin < 0 && begin.saturating_add(bytes as i64) > lowest)
-    }
-
     /// The instructions to which one leads, as places of a stretch. Empty if the stretch can't go on there.
-    fn next_places(
-        &mut self,
-        thread: &Thread,
-        space: &mut Space,
-        stretch: &Stretch,
-        index: usize,
-        ways: Ways,
-        reads: &mut Set,
-    ) -> Vec<Place> {
+    fn next_places(&mut self, thread: &Thread, space: &mut Space, stretch: &mut Stretch, index: usize) -> Vec<Place> {
         let from = stretch.places[index];
         let site = self.sites.at(from.site);
-        let written = from.written.with(site.effect.written());
-        let (bias, fde) = (from.address.wrapping_sub(site.address), site.fde);
+        let (bias, fde, effect) = (from.address.wrapping_sub(site.address), site.fde, site.effect);
+        let after = site.address.wrapping_add(u64::from(site.length));
+        let (ways, written, state) = match stretch.states[from.state].after(&effect, from.written) {
+            Some(foreseen) => {
+                stretch.states.push(foreseen);
+                ([Some(after), None], from.written.without(effect.written()), stretch.states.len() - 1)
+            }
+            None => (self.ways(thread, stretch, &from), from.written.with(effect.written()), from.state),
+        };
         let mut found = Vec::new();
         for linked in ways.into_iter().flatten() {
             let address = linked.wrapping_add(bias);
@@ -182,38 +205,48 @@ impl Tracer<'_, '_> {
                 return Vec::new();
             }
             let site = self.here(space, address).site;
-            let place = Place { site, address, before: index, depth: from.depth + 1, written, is_end: true };
-            let is_end = !self.goes_on_at(thread, space, from.site, &place, reads);
+            let place = Place { site, address, before: index, depth: from.depth + 1, written, state, is_end: true };
+            let is_end = !self.goes_on_at(thread, space, stretch, &place);
             found.push(Place { is_end, ..place });
         }
         found
     }
 
-    /// Whether a stretch may go on at an instruction, to which another one leads: nothing has to be done there,
-    /// and its row is right for what is known.
-    fn goes_on_at(&mut self, thread: &Thread, space: &mut Space, from: usize, place: &Place, reads: &mut Set) -> bool {
-        let (from, site) = (self.sites.at(from), self.sites.at(place.site));
-        let is_free = !site.is_entry && !site.is_load && site.fde == from.fde && site.wrong.is_none();
-        let (judged, before) = match (site.row, from.row) {
+    /// Whether a stretch may go on at an instruction: nothing has to be done there, and its row is right for what is
+    /// known.
+    fn goes_on_at(&mut self, thread: &Thread, space: &mut Space, stretch: &Stretch, place: &Place) -> bool {
+        let from = &stretch.places[place.before];
+        let (before, site) = (self.sites.at(from.site), self.sites.at(place.site));
+        let is_free = !site.is_entry && !site.is_load && site.fde == before.fde && site.wrong.is_none();
+        let (judged, before) = match (site.row, before.row) {
             (Ok(judged), Ok(before)) if is_free && space.breakpoints.at(place.address).is_none() => (judged, before),
             _ => return false,
         };
-        let is_known = judged.reads.map_or(false, |reads| reads.with(STACK).both(place.written).is_empty());
-        if !is_known || !judged.is_same_row(&before) && !self.is_right_at(thread, space, place.site, judged) {
-            return false;
-        }
-        *reads = reads.with(judged.reads.unwrap_or(Set::NONE));
-        true
+        let unknown = |reads: Set| reads.both(place.written);
+        let is_known = judged.reads.map_or(false, |reads| unknown(reads).is_empty());
+        let is_same = judged.is_same_row(&before) && place.state == from.state;
+        is_known && (is_same || self.is_right_at(thread, space, stretch, place, judged))
     }
 
-    /// Whether the row of an instruction is right for the registers that a thread has now.
-    fn is_right_at(&mut self, thread: &Thread, space: &Space, site: usize, judged: Judged) -> bool {
-        let frame = match thread.shadow.frames.last() {
-            Some(frame) => frame,
+    /// Whether the row of an instruction is right for what a thread will have there.
+    fn is_right_at(
+        &mut self,
+        thread: &Thread,
+        space: &Space,
+        stretch: &Stretch,
+        place: &Place,
+        judged: Judged,
+    ) -> bool {
+        let (frame, state) = match thread.shadow.frames.last() {
+            Some(frame) => (frame, &stretch.states[place.state]),
             None => return false,
         };
-        let below = thread.below.as_ref().filter(|below| below.is_of(frame.cfa));
-        self.verdict_on(site, judged, &thread.registers, frame, space, below).wrong.is_empty()
+        let verdict = match state.below.as_ref() {
+            // The memory as it is now isn't what it will be.
+            Some(below) if place.state > 0 => self.verdict_by(place.site, judged, &state.registers, frame, below),
+            below => self.verdict_on(place.site, judged, &state.registers, frame, space, below),
+        };
+        verdict.wrong.is_empty()
     }
 
     /// A thread that ran a stretch has stopped, and has these registers.
@@ -226,24 +259,74 @@ impl Tracer<'_, '_> {
             return;
         }
         // The instruction before this one was the last step.
-        let before = stretch.places[place.before].address;
-        thread.registers = thread.registers.at(before);
-        thread.here = self.here(space, before);
-        let passed: Vec<usize> = stretch.between(place).map(|place| place.site).collect();
+        let last = &stretch.places[place.before];
+        thread.registers = stretch.states[last.state].registers.at(last.address);
+        thread.here = self.here(space, last.address);
+        let pushed = match thread.here.effect {
+            Effect::Call { .. } => Some(8),
+            Effect::Return => Some(8_u64.wrapping_neg()),
+            _ => None,
+        };
+        let expected = stretch.states[place.state].registers.stack_pointer().wrapping_sub(pushed.unwrap_or(0));
+        let mut passed: Vec<usize> = stretch.between(place).map(|place| place.site).collect();
         let is_new = passed.iter().any(|site| self.sites.at(*site).visits == 0);
-        thread
-            .shadow
-            .frames
-            .iter_mut()
-            .next_back()
-            .into_iter()
-            .for_each(|frame| frame.add_idle(passed.len() as u64, is_new));
+        if let Some(frame) = thread.shadow.frames.last_mut() {
+            frame.add_idle(passed.len() as u64, is_new);
+        }
+        if expected != new.stack_pointer() {
+            passed.clear();
+        } else if let (Some(pushed), Some(_)) = (pushed, passed.first()) {
+            let old = new.with(STACK.0.into(), new.stack_pointer().wrapping_add(pushed));
+            self.judge_before(thread, space, stretch, last, &old);
+            passed.remove(0);
+            self.count_if_right(thread, &passed);
+            return self.stepped(thread, space, new);
+        }
         self.stepped(thread, space, new);
-        // What was right where the stretch began, and is right here, was right between.
+        self.count_if_right(thread, &passed);
+    }
+
+    /// Judges the row of the call or the return that a thread has just executed, before which it had these registers.
+    fn judge_before(
+        &mut self,
+        thread: &mut Thread,
+        space: &mut Space,
+        stretch: &Stretch,
+        last: &Place,
+        old: &Registers,
+    ) {
+        thread.before = self.here(space, stretch.places[last.before].address);
+        thread.registers = old.at(last.address);
+        self.judge(thread, space);
+    }
+
+    /// Counts instructions of a stretch: what was right where it began, and is right where it ended, was right between.
+    fn count_if_right(&mut self, thread: &Thread, passed: &[usize]) {
         if thread.is_right {
             passed.iter().for_each(|site| self.count_right(*site));
         }
     }
+}
+
+/// Where the function on top returns to, if a thread is before its return when it has this.
+fn returns_to(thread: &Thread, state: &Foreseen) -> Option<u64> {
+    let frame = thread.shadow.frames.last().filter(|frame| frame.origin != Origin::Signal)?;
+    let is_there = state.registers.stack_pointer() == frame.slot;
+    let return_address = state.below.as_ref()?.word(frame.slot).filter(|_| is_there);
+    return_address.filter(|address| *address == frame.return_address)
+}
+
+/// Whether an instruction stores where its row finds something, as far as its address is known.
+fn may_overwrite(thread: &Thread, place: &Place, site: &Site, state: &Foreseen) -> bool {
+    let lowest = site.row.map_or(0, |judged| judged.lowest);
+    let (frame, stored) = match (thread.shadow.frames.last(), stored(&site.effect)) {
+        (Some(frame), Some(stored)) => (frame, stored),
+        _ => return false,
+    };
+    let (Location { base, offset }, bytes) = stored;
+    let base = state.registers.get(base.0.into()).filter(|_| !place.written.contains(base));
+    let begin = base.map(|base| base.wrapping_add(i64::from(offset) as u64).wrapping_sub(frame.cfa) as i64);
+    begin.map_or(false, |begin| begin < 0 && begin.saturating_add(bytes as i64) > lowest)
 }
 
 /// Whether an instruction only goes on to the next one. `int3`, which has one byte, counts as padding.

@@ -211,11 +211,14 @@ impl Tracer<'_, '_> {
     /// A thread that ran a stretch got the signal of a trap. Returns the signal that it gets, 0 if none.
     fn ran(&mut self, thread: &mut Thread, space: &mut Space, stretch: &Stretch, registers: Registers) -> i32 {
         stretch.lift(space);
-        let code = ptrace::signal_code(thread.tid).unwrap_or(BY_KERNEL);
         let at_breakpoint = registers.program_counter().wrapping_sub(1);
+        let code = ptrace::signal_code(thread.tid).unwrap_or(BY_KERNEL);
+        // A thread comes to where no instruction of the stretch is only by a trap, also if the signal of the trap was
+        // dropped, because the same signal was sent to the thread just before.
+        let has_trapped = stretch.has_trap_at(at_breakpoint) && !stretch.has(registers.program_counter());
         // Another thread may have set a breakpoint in the code meanwhile.
         let is_trap = stretch.has_trap_at(at_breakpoint) || space.breakpoints.is_known(at_breakpoint);
-        let is_rewound = code == BY_KERNEL && is_trap;
+        let is_rewound = has_trapped || code == BY_KERNEL && is_trap;
         let registers = if is_rewound { registers.at(at_breakpoint) } else { registers };
         if is_rewound {
             ptrace::set_program_counter(thread.tid, at_breakpoint);

@@ -217,7 +217,7 @@ impl Tracer<'_, '_> {
     }
 
     /// Whether a function at an address isn't stepped, also if a stub that was stepped before jumps to it.
-    fn is_done_at(&mut self, space: &mut Space, address: u64) -> bool {
+    pub(super) fn is_done_at(&mut self, space: &mut Space, address: u64) -> bool {
         let here = self.here(space, address);
         let site = self.sites.at(here.site);
         let (effect, is_seen, linked) = (site.effect, site.visits > 0, site.address);
