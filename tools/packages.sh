@@ -8,7 +8,7 @@
 set -u
 
 rust="librust-object-dev librust-gimli-dev librust-addr2line-dev librust-flate2-dev librust-crc32fast-dev
-    librust-clap-dev librust-clap-complete-dev librust-rayon-dev librust-indicatif-dev librust-memmap2-dev librust-nix-dev librust-libc-dev
+    librust-clap-dev librust-clap-complete-dev librust-rayon-dev librust-indicatif-dev librust-memchr-dev librust-memmap2-dev librust-nix-dev librust-libc-dev
     librust-serde-json-dev librust-typed-arena-dev librust-rustc-demangle-dev librust-cpp-demangle-dev
     librust-glob-dev librust-xz2-dev librust-zstd-dev librust-smallvec-dev librust-rustc-hash-dev librust-once-cell-dev librust-cc-dev
     libzydis-dev gcc"

@@ -1,5 +1,5 @@
 //! Changes recordings of perf at random, reads each by the library, and writes its profile in one of the formats. All
-//! happens in memory, in one process.
+//! happens in one process. Every other recording is a file that is mapped, the others are in memory.
 //!
 //!     damaged_recordings COUNT SEED RECORDING..
 //!
@@ -10,8 +10,10 @@
 
 use dwcheck_elf::mapped::Bytes;
 use dwcheck_elf::profile::script::{self, ScriptOptions};
-use dwcheck_elf::profile::{firefox, folded, html, pprof, speedscope, top, Names, Options, Places, Profile, Recording};
+use dwcheck_elf::profile::{firefox, folded, html, pprof, speedscope, top, Damage};
+use dwcheck_elf::profile::{Names, Options, Places, Profile, Recording};
 use std::alloc::{GlobalAlloc, Layout, System};
+use std::fs::File;
 use std::io::{self, Write};
 use std::path::Path;
 use std::sync::atomic::{AtomicUsize, Ordering};
@@ -144,9 +146,22 @@ struct Result {
     samples: usize,
 }
 
+/// Opens a recording: a file with these bytes, or the bytes themselves.
+fn open(bytes: &[u8], is_file: bool) -> std::result::Result<Recording<'static>, Damage> {
+    if !is_file {
+        return Recording::of_bytes(Bytes::from(bytes.to_vec()));
+    }
+    let path = std::env::temp_dir().join(format!("damaged-{}.perf", std::process::id()));
+    std::fs::write(&path, bytes)?;
+    let recording = Recording::of_file(&File::open(&path)?);
+    std::fs::remove_file(&path)?;
+    recording
+}
+
 /// Reads a recording, and writes its profile in a format.
-fn profile(bytes: &[u8], root: &Path, format: usize) -> Result {
-    let mut recording = match Recording::of_bytes(Bytes::from(bytes.to_vec())) {
+fn profile(bytes: &[u8], root: &Path, number: usize) -> Result {
+    let format = number / 2;
+    let mut recording = match open(bytes, number % 2 == 0) {
         Ok(recording) => recording,
         Err(_) => return Result::default(),
     };

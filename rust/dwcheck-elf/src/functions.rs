@@ -7,8 +7,8 @@ use crate::target::Target;
 use object::elf;
 use object::read::{Object, ObjectSection, ObjectSymbol, SymbolSection};
 use object::{SectionFlags, SymbolFlags};
+use rustc_hash::FxHashMap;
 use std::borrow::Cow;
-use std::collections::HashMap;
 use std::fmt;
 
 /// The most names that [`NameError::Unknown`] has.
@@ -222,7 +222,7 @@ fn number(text: &str) -> Option<u64> {
 }
 
 /// Maps the index of each section that has code to the section's end address.
-fn code_sections(file: &object::File<'_>, layout: &Layout) -> HashMap<usize, u64> {
+fn code_sections(file: &object::File<'_>, layout: &Layout) -> FxHashMap<usize, u64> {
     let is_code = |flags| match flags {
         SectionFlags::Elf { sh_flags } => sh_flags & u64::from(elf::SHF_EXECINSTR) != 0,
         _ => false,
@@ -236,7 +236,7 @@ fn code_sections(file: &object::File<'_>, layout: &Layout) -> HashMap<usize, u64
 fn function<'data>(
     symbol: &object::Symbol<'data, '_>,
     layout: &Layout,
-    code: &HashMap<usize, u64>,
+    code: &FxHashMap<usize, u64>,
     machine: u16,
     target: Target,
 ) -> Option<Function<'data>> {

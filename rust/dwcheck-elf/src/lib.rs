@@ -31,6 +31,7 @@ pub mod fault;
 pub mod frames;
 pub mod functions;
 pub mod image;
+mod inlined;
 pub mod inspect;
 mod layout;
 pub mod lines;

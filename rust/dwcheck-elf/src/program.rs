@@ -9,6 +9,7 @@ use crate::image::Image;
 use crate::layout::{is_loaded, Layout};
 use crate::relocate::{self, RelocationError};
 use crate::target::{AddressSize, Order, Target};
+use flate2::{Decompress, FlushDecompress};
 use object::elf;
 use object::read::{CompressionFormat, Object, ObjectSection, ObjectSegment};
 use object::{SectionFlags, SegmentFlags};
@@ -238,6 +239,19 @@ impl<'data> Program<'data> {
         Ok(self.section(name)?.map(|section| section.bytes))
     }
 
+    /// The same, but what follows the first `end` bytes may be missing: it isn't decompressed.
+    pub(crate) fn debug_section_before(
+        &self,
+        name: &'static str,
+        end: usize,
+    ) -> Result<Option<Cow<'data, [u8]>>, ProgramError> {
+        let found = self.only(name)?.filter(|_| self.kind != Kind::Relocatable);
+        match found.and_then(|found| unzipped_before(&found, end)) {
+            Some(bytes) => Ok(Some(Cow::Owned(bytes))),
+            None => self.debug_section(name),
+        }
+    }
+
     /// Whether the file has a section with this name that has bytes in the file, compressed or not.
     pub fn has_bytes(&self, name: &'static str) -> bool {
         self.sections_named(name).next().is_some()
@@ -327,12 +341,19 @@ impl<'data> Program<'data> {
         sections.filter(move |section| section.name().map_or(false, is_named))
     }
 
-    fn section(&self, name: &'static str) -> Result<Option<Section<'data>>, ProgramError> {
+    /// The section with this name, if there is one.
+    fn only<'s>(&'s self, name: &'static str) -> Result<Option<object::Section<'data, 's>>, ProgramError> {
         let mut named = self.sections_named(name);
-        let found = match (named.next(), named.next()) {
-            (None, _) => return Ok(None),
-            (Some(found), None) => found,
-            (Some(_), Some(_)) => return Err(ProgramError::Repeated(name)),
+        match (named.next(), named.next()) {
+            (found, None) => Ok(found),
+            (_, Some(_)) => Err(ProgramError::Repeated(name)),
+        }
+    }
+
+    fn section(&self, name: &'static str) -> Result<Option<Section<'data>>, ProgramError> {
+        let found = match self.only(name)? {
+            Some(found) => found,
+            None => return Ok(None),
         };
         let mut section =
             Section { bytes: uncompressed(&found, name, self.target)?, address: 0, unresolved: Vec::new() };
@@ -374,6 +395,20 @@ fn uncompressed<'data>(
         return Err(ProgramError::Section(name, OTHER_SIZE.to_string()));
     }
     Ok(bytes)
+}
+
+/// The first `end` bytes of a section that is compressed by zlib. `None` if it isn't, or doesn't have as many.
+fn unzipped_before(section: &object::Section<'_, '_>, end: usize) -> Option<Vec<u8>> {
+    let data = section.compressed_data().ok().filter(|data| data.format == CompressionFormat::Zlib)?;
+    let possible = DECOMPRESSED_LIMIT.min((data.data.len() as u64).saturating_mul(DEFLATE_RATIO));
+    if end as u64 > data.uncompressed_size.min(possible) {
+        return None;
+    }
+    let mut bytes = Vec::with_capacity(end);
+    // There is no room for the rest, which counts as an error that isn't one.
+    let _ = Decompress::new(true).decompress_vec(data.data, &mut bytes, FlushDecompress::Finish);
+    bytes.truncate(end);
+    Some(bytes).filter(|bytes| bytes.len() == end)
 }
 
 /// For a section that is compressed by zstd, which `object` doesn't know: the compressed bytes, and

@@ -223,3 +223,34 @@ fn an_output_file_is_written_as_a_whole() {
     let names: Vec<_> = std::fs::read_dir(folder.path()).unwrap().map(|entry| entry.unwrap().file_name()).collect();
     assert_eq!(names, ["out"]);
 }
+
+/// The offset of its data, in the header.
+const DATA_OFFSET: usize = 40;
+
+#[test]
+fn a_recording_whose_data_begin_at_the_highest_offset_has_none() {
+    let folder = Folder::new("profile-highest-offset");
+    let mut bytes = std::fs::read(recordings().join("dwarf.perf")).unwrap();
+    bytes[DATA_OFFSET..DATA_OFFSET + 8].fill(0xff);
+    folder.write("made.perf", &bytes);
+    let ran = dwcheck_elf_words(&folder, &["profile", "made.perf"]);
+    assert_eq!((ran.out.as_str(), ran.status), ("", 3), "{}", ran.error);
+}
+
+/// Names without lines are found in another way than those with lines.
+#[test]
+fn names_with_and_without_lines_are_the_same() {
+    let folder = Folder::new("profile-lines");
+    let mut with_lines = 0;
+    for name in ["dwarf.perf", "two.perf", "threads.perf"] {
+        let functions = |words: &[&str]| {
+            let script = profile(&folder, name, &[&["--format", "script"], words].concat()).out;
+            let frames = script.lines().filter(|line| line.starts_with('\t')).map(str::to_string);
+            (frames.collect::<Vec<_>>(), script.lines().filter(|line| line.starts_with("  ")).count())
+        };
+        let ((plain, no_lines), (lined, lines)) = (functions(&[]), functions(&["--lines"]));
+        assert_eq!((plain, no_lines), (lined, 0));
+        with_lines += lines;
+    }
+    assert!(with_lines > 0);
+}

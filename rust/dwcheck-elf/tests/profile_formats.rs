@@ -136,3 +136,196 @@ fn go_tool_pprof_shows_the_stacks_and_weights_of_perf() {
         words.map(|line| line.trim().trim_end_matches(" (inline)").rsplit(' ').next().unwrap()).collect();
     assert!(functions.chunks(5).all(|stack| stack == ["leaf", "twice", "middle", "main", "_start"]), "{}", traces);
 }
+
+fn is_text_or_null(value: &Value) -> bool {
+    value.is_string() || value.is_null()
+}
+
+/// Checks that a table has these columns and no others, each with a cell for each row, and returns how many rows
+/// there are.
+fn check_table(table: &Value, columns: &[(&str, Is)], others: &[&str]) -> usize {
+    let length = table["length"].as_u64().unwrap() as usize;
+    for (name, is) in columns {
+        let cells = table[*name].as_array().unwrap_or_else(|| panic!("{} is missing", name));
+        assert_eq!(cells.len(), length, "{}", name);
+        cells.iter().for_each(|cell| assert!(is(cell), "{}: {}", name, cell));
+    }
+    let keys = table.as_object().unwrap().keys();
+    for key in keys.filter(|key| *key != "length" && !others.contains(&key.as_str())) {
+        assert!(columns.iter().any(|(name, _)| name == key), "{} isn't a column of the format", key);
+    }
+    length
+}
+
+/// Checks that the cells of a column are numbers below a limit. Some may be `null` if `may_be_null`.
+fn check_indices(table: &Value, column: &str, limit: usize, may_be_null: bool) {
+    for cell in table[column].as_array().unwrap() {
+        let is_index = cell.as_u64().map_or(may_be_null && cell.is_null(), |index| index < limit as u64);
+        assert!(is_index, "{}: {}", column, cell);
+    }
+}
+
+const IS_INDEX: Is = Value::is_u64;
+const IS_INDEX_OR_NULL: Is = |value| value.is_u64() || value.is_null();
+
+/// As the profiler's src/types/profile.js describes `meta`.
+fn check_firefox_meta(meta: &Value) -> usize {
+    let required: [(&str, Is); 10] = [
+        ("interval", Value::is_number),
+        ("startTime", Value::is_number),
+        ("product", Value::is_string),
+        ("stackwalk", |value| value == 0 || value == 1),
+        ("version", |value| value == 24),
+        ("preprocessedProfileVersion", |value| value == 46),
+        ("processType", Value::is_u64),
+        ("markerSchema", Value::is_array),
+        ("categories", Value::is_array),
+        ("extensions", Value::is_object),
+    ];
+    let optional: [(&str, Is); 7] = [
+        ("debug", Value::is_boolean),
+        ("importedFrom", Value::is_string),
+        ("sampleUnits", |value| {
+            value["time"] == "ms" && value["eventDelay"] == "ms" && value["threadCPUDelta"] == "ns"
+        }),
+        ("symbolicated", Value::is_boolean),
+        ("doesNotUseFrameImplementation", Value::is_boolean),
+        ("sourceCodeIsNotOnSearchfox", Value::is_boolean),
+        ("usesOnlyOneStackType", Value::is_boolean),
+    ];
+    check(meta, &required, &optional);
+    check_table(&meta["extensions"], &["baseURL", "id", "name"].map(|name| (name, Value::is_string as Is)), &[]);
+    const COLORS: [&str; 5] = ["grey", "yellow", "lightblue", "orange", "green"];
+    let category: [(&str, Is); 3] = [
+        ("name", Value::is_string),
+        ("color", |color| COLORS.iter().any(|known| color == known)),
+        ("subcategories", |all| all[0] == "Other"),
+    ];
+    let categories = meta["categories"].as_array().unwrap();
+    for one in categories {
+        check(one, &category, &[]);
+    }
+    // The profiler gives the grey one to frames without a category.
+    assert!(categories.iter().any(|one| one["color"] == "grey"));
+    categories.len()
+}
+
+/// As it describes a library.
+fn check_firefox_library(library: &Value) {
+    let texts =
+        ["arch", "name", "path", "debugName", "debugPath", "breakpadId"].map(|name| (name, Value::is_string as Is));
+    let required = [&texts[..], &[("codeId", is_text_or_null as Is)]].concat();
+    check(library, &required, &[]);
+    let id = library["breakpadId"].as_str().unwrap();
+    assert!(id.len() >= 33 && id.bytes().all(|digit| matches!(digit, b'0'..=b'9' | b'A'..=b'F')), "{}", id);
+}
+
+/// As it describes the functions of a thread, and the libraries that they are in. Returns how many functions there are.
+fn check_firefox_functions(thread: &Value, libraries: usize) -> usize {
+    let texts = thread["stringArray"].as_array().unwrap();
+    assert!(texts.iter().all(Value::is_string));
+    let resources: [(&str, Is); 4] =
+        [("lib", IS_INDEX_OR_NULL), ("name", IS_INDEX), ("host", IS_INDEX_OR_NULL), ("type", |value| value == 1)];
+    let functions: [(&str, Is); 7] = [
+        ("name", IS_INDEX),
+        ("isJS", Value::is_boolean),
+        ("relevantForJS", Value::is_boolean),
+        ("resource", IS_INDEX),
+        ("fileName", IS_INDEX_OR_NULL),
+        ("lineNumber", IS_INDEX_OR_NULL),
+        ("columnNumber", IS_INDEX_OR_NULL),
+    ];
+    let resource_count = check_table(&thread["resourceTable"], &resources, &[]);
+    check_indices(&thread["resourceTable"], "name", texts.len(), false);
+    check_indices(&thread["resourceTable"], "lib", libraries, true);
+    let table = &thread["funcTable"];
+    let function_count = check_table(table, &functions, &[]);
+    check_indices(table, "name", texts.len(), false);
+    check_indices(table, "resource", resource_count, false);
+    check_indices(table, "fileName", texts.len(), true);
+    function_count
+}
+
+/// As it describes the frames and the stacks of a thread with so many functions.
+fn check_firefox_stacks(thread: &Value, functions: usize, categories: usize) {
+    let columns: [(&str, Is); 9] = [
+        ("address", |value| value.is_u64() || value == -1),
+        ("inlineDepth", IS_INDEX),
+        ("category", IS_INDEX_OR_NULL),
+        ("subcategory", IS_INDEX_OR_NULL),
+        ("func", IS_INDEX),
+        ("nativeSymbol", Value::is_null),
+        ("innerWindowID", Value::is_null),
+        ("line", IS_INDEX_OR_NULL),
+        ("column", IS_INDEX_OR_NULL),
+    ];
+    let [frames, stacks] = ["frameTable", "stackTable"].map(|name| &thread[name]);
+    let frame_count = check_table(frames, &columns, &["implementation", "optimizations"]);
+    check_indices(frames, "func", functions, false);
+    check_indices(frames, "category", categories, true);
+    let columns = ["frame", "category", "subcategory"].map(|name| (name, IS_INDEX));
+    check_table(stacks, &[&columns[..], &[("prefix", IS_INDEX_OR_NULL)]].concat(), &[]);
+    check_indices(stacks, "frame", frame_count, false);
+    check_indices(stacks, "category", categories, false);
+    // A caller comes before what it calls.
+    for (place, prefix) in stacks["prefix"].as_array().unwrap().iter().enumerate() {
+        assert!(prefix.as_u64().map_or(true, |prefix| prefix < place as u64));
+    }
+}
+
+/// As it describes a thread.
+fn check_firefox_thread(thread: &Value, categories: usize, libraries: usize) {
+    let required: [(&str, Is); 20] = [
+        ("name", Value::is_string),
+        ("isMainThread", Value::is_boolean),
+        ("processType", |value| value == "default"),
+        ("processStartupTime", Value::is_number),
+        ("processShutdownTime", Value::is_null),
+        ("registerTime", Value::is_number),
+        ("unregisterTime", Value::is_null),
+        ("pausedRanges", |value| value.as_array().map_or(false, Vec::is_empty)),
+        ("pid", |value| value.as_str().map_or(false, |pid| pid.parse::<u32>().is_ok())),
+        ("tid", |value| value.is_u64() || value.is_string()),
+        ("samples", Value::is_object),
+        ("markers", Value::is_object),
+        ("stackTable", Value::is_object),
+        ("frameTable", Value::is_object),
+        ("funcTable", Value::is_object),
+        ("resourceTable", Value::is_object),
+        ("nativeSymbols", Value::is_object),
+        ("stringArray", Value::is_array),
+        ("processName", Value::is_string),
+        ("showMarkersInTimeline", Value::is_boolean),
+    ];
+    check(thread, &required, &[]);
+    let samples: [(&str, Is); 3] =
+        [("stack", IS_INDEX_OR_NULL), ("time", Value::is_number), ("weight", Value::is_number)];
+    check_table(&thread["samples"], &samples, &["weightType"]);
+    assert!(["samples", "tracing-ms"].iter().any(|kind| thread["samples"]["weightType"] == *kind));
+    check_indices(&thread["samples"], "stack", thread["stackTable"]["length"].as_u64().unwrap() as usize, true);
+    let times: Vec<f64> =
+        thread["samples"]["time"].as_array().unwrap().iter().map(|time| time.as_f64().unwrap()).collect();
+    assert!(times.windows(2).all(|pair| pair[0] <= pair[1]));
+    let markers = ["category", "data", "endTime", "name", "phase", "startTime"].map(|name| (name, IS_INDEX));
+    assert_eq!(check_table(&thread["markers"], &markers, &[]), 0);
+    let symbols = ["address", "functionSize", "libIndex", "name"].map(|name| (name, IS_INDEX));
+    assert_eq!(check_table(&thread["nativeSymbols"], &symbols, &[]), 0);
+    check_firefox_stacks(thread, check_firefox_functions(thread, libraries), categories);
+}
+
+#[test]
+fn the_firefox_profiler_gets_what_its_format_says() {
+    let folder = Folder::new("profile-firefox-format");
+    for name in ["dwarf.perf", "two.perf", "group.perf", "chain.perf", "threads.perf"] {
+        write(&folder, name, "firefox");
+        let file: Value = serde_json::from_slice(&folder.bytes("out")).unwrap();
+        let lists =
+            ["libs", "pages", "counters", "profilerOverhead", "threads"].map(|name| (name, Value::is_array as Is));
+        check(&file, &[&lists[..], &[("meta", Value::is_object as Is)]].concat(), &[]);
+        let (categories, libraries) = (check_firefox_meta(&file["meta"]), file["libs"].as_array().unwrap());
+        libraries.iter().for_each(check_firefox_library);
+        let threads = file["threads"].as_array().unwrap();
+        assert!(!threads.is_empty());
+        threads.iter().for_each(|thread| check_firefox_thread(thread, categories, libraries.len()));
+    }
+}

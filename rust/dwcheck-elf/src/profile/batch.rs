@@ -3,12 +3,13 @@
 //! Which samples a processor walks doesn't depend on how many there are, and what was found is put together in the
 //! order of the samples. So profiles are the same for any number of processors.
 
-use super::frames::{End, FrameId, Frames};
+use super::frames::{End, Frame, FrameId, Frames};
 use super::recording::{Features, Sample};
 use super::space::{NameId, Space};
 use super::tree::{NodeId, Tree};
 use super::walk::{Missing, Shared, Walker};
 use rayon::prelude::*;
+use std::borrow::Cow;
 use std::sync::Arc;
 
 /// How many samples are walked one after another.
@@ -34,12 +35,21 @@ pub(super) struct Stack {
     pub by_frame_pointer: u64,
 }
 
+/// What came of a sample's walk.
+enum Outcome {
+    /// A stack in the chunk's tree.
+    Stack(Stack),
+    /// A stack that needed something new, which isn't in the chunk's tree, and its frames, the innermost first.
+    New(Stack, Vec<Frame>),
+    /// Something has to be added first.
+    Missing(Missing),
+}
+
 /// The stacks of a chunk of samples, by frames and a tree of their own.
 struct Walked {
     frames: Frames,
     tree: Tree,
-    /// A stack that lacks something has none of its nodes in the tree.
-    stacks: Vec<Result<Stack, Missing>>,
+    outcomes: Vec<Outcome>,
 }
 
 impl Walked {
@@ -47,12 +57,21 @@ impl Walked {
         let mut walker = Walker::new(shared, features);
         let mut tree = Tree::default();
         let walk = |job: &Job<'_>| {
-            let end = walker.walk(&job.sample, &job.space)?;
-            let (frames, by_frame_pointer) = (walker.stack.len() as u64, walker.by_frame_pointer);
-            Ok(Stack { node: tree.add(&walker.stack), end, frames, by_frame_pointer })
+            let end = match walker.walk(&job.sample, &job.space) {
+                Ok(end) => end,
+                Err(missing) => return Outcome::Missing(missing),
+            };
+            let (frames, by_frame_pointer) = (walker.count() as u64, walker.by_frame_pointer);
+            let stack = Stack { node: Tree::ROOT, end, frames, by_frame_pointer };
+            let ids = walker.stack.iter().copied();
+            if walker.new.is_empty() {
+                return Outcome::Stack(Stack { node: tree.add(ids), ..stack });
+            }
+            let known = ids.map(|id| walker.frames.all()[id as usize]);
+            Outcome::New(stack, known.chain(walker.new.iter().copied()).collect())
         };
-        let stacks = jobs.iter().map(walk).collect();
-        Walked { frames: walker.frames, tree, stacks }
+        let outcomes = jobs.iter().map(walk).collect();
+        Walked { frames: walker.frames, tree, outcomes }
     }
 
     /// Adds the frames and the tree to those of all stacks. Returns for each node the one that it is there.
@@ -70,33 +89,44 @@ pub(super) fn walk(
     jobs: &[Job<'_>],
     mut done: impl FnMut(&Job<'_>, Stack),
 ) {
+    shared.round = shared.round.saturating_add(1);
     let walked: Vec<Walked> = match jobs.len() > CHUNK {
         true => jobs.par_chunks(CHUNK).map(|jobs| Walked::of(shared, features, jobs)).collect(),
         false => vec![Walked::of(shared, features, jobs)],
     };
     for (jobs, walked) in jobs.chunks(CHUNK).zip(walked) {
         let nodes = walked.add_to(shared, tree);
-        for (job, stack) in jobs.iter().zip(walked.stacks) {
-            let stack = match stack {
-                Ok(stack) => Stack { node: nodes[stack.node as usize], ..stack },
-                Err(missing) => walk_again(shared, tree, features, job, missing),
-            };
+        for (job, outcome) in jobs.iter().zip(walked.outcomes) {
+            let stack = add(shared, tree, features, job, outcome, &nodes);
             done(job, stack);
         }
     }
 }
 
-/// Walks a stack that lacked something. It may lack something else then.
-fn walk_again(shared: &mut Shared, tree: &mut Tree, features: &Features, job: &Job<'_>, mut missing: Missing) -> Stack {
+/// Adds a stack to the tree. One that lacks something is walked again; it may lack something else then.
+fn add(
+    shared: &mut Shared,
+    tree: &mut Tree,
+    features: &Features,
+    job: &Job<'_>,
+    mut outcome: Outcome,
+    nodes: &[NodeId],
+) -> Stack {
+    let mut nodes = Cow::Borrowed(nodes);
     loop {
-        shared.add(missing);
-        let walked = Walked::of(shared, features, std::slice::from_ref(job));
-        match walked.stacks[0] {
-            Ok(stack) => {
-                let nodes = walked.add_to(shared, tree);
-                return Stack { node: nodes[stack.node as usize], ..stack };
+        match outcome {
+            Outcome::Stack(stack) => return Stack { node: nodes[stack.node as usize], ..stack },
+            Outcome::New(stack, frames) => {
+                // Frames are numbered from the innermost one on, nodes of the tree from the outermost one on.
+                let ids: Vec<FrameId> = frames.into_iter().map(|frame| shared.known.add(frame)).collect();
+                return Stack { node: tree.add(ids.iter().copied()), ..stack };
             }
-            Err(next) => missing = next,
+            Outcome::Missing(missing) => shared.add(missing),
+        }
+        let mut walked = Walked::of(shared, features, std::slice::from_ref(job));
+        outcome = walked.outcomes.remove(0);
+        if let Outcome::Stack(_) = outcome {
+            nodes = Cow::Owned(walked.add_to(shared, tree));
         }
     }
 }

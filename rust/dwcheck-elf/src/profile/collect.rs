@@ -166,15 +166,16 @@ impl<'o> Collector<'o> {
     }
 
     /// The profile of what was read.
-    pub fn finish(mut self, recording: &Recording<'_>) -> Profile {
+    pub fn finish(self, recording: &Recording<'_>) -> Profile {
         let objects = self.shared.objects;
         let mut problems = Vec::new();
         for object in objects.all() {
             let found = object.opened().map_or(&[][..], |loaded| &loaded.problems);
             problems.extend(found.iter().map(|problem| (object.name.clone(), problem.clone())));
         }
-        let of = |id: u32| objects.get(id).map_or_else(String::new, |object| object.name.clone());
-        problems.extend(self.shared.tables.problems.drain(..).map(|(id, problem)| (of(id), problem)));
+        for (object, loaded) in objects.all().iter().filter_map(|object| Some((object, object.opened()?))) {
+            problems.extend(loaded.tables.problems().map(|problem| (object.name.clone(), problem)));
+        }
         Profile {
             events: recording.about().events().to_vec(),
             samples: self.samples,

@@ -94,7 +94,8 @@ impl Libraries {
             let next = libraries.all.len();
             if *libraries.ids.entry(called.object).or_insert(next) == next {
                 let path = names.text(called.object);
-                libraries.all.push(library(path, build_ids.get(path).map_or(&[], |id| id.bytes())));
+                let architecture = profile.features.architecture.as_deref().unwrap_or("");
+                libraries.all.push(library(path, architecture, build_ids.get(path).map_or(&[], |id| id.bytes())));
             }
         }
         libraries
@@ -102,7 +103,7 @@ impl Libraries {
 }
 
 /// A library. Its code's id is the build id; the other id has the same bytes as a GUID, and 0 as its age.
-fn library(path: &str, build_id: &[u8]) -> Value {
+fn library(path: &str, architecture: &str, build_id: &[u8]) -> Value {
     let hex = |bytes: &[u8]| bytes.iter().map(|byte| format!("{:02x}", byte)).collect::<String>();
     let name = path.rsplit('/').next().unwrap_or(path);
     let mut guid = build_id.to_vec();
@@ -111,7 +112,7 @@ fn library(path: &str, build_id: &[u8]) -> Value {
     [0..4, 4..6, 6..8].into_iter().for_each(|number| guid[number].reverse());
     let code_id = if build_id.is_empty() { Value::Null } else { json!(hex(build_id)) };
     json!({
-        "arch": null,
+        "arch": architecture,
         "breakpadId": format!("{}0", hex(&guid).to_uppercase()),
         "codeId": code_id,
         "debugName": name,

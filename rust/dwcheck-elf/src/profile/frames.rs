@@ -1,6 +1,7 @@
 //! The frames of stacks, and why stacks end.
 
 use super::objects::ObjectId;
+use super::tables::TableId;
 use rustc_hash::FxHashMap;
 use std::fmt;
 
@@ -54,8 +55,8 @@ pub struct Frame {
     pub shown: u64,
     /// Whether that is the return address, which is after the call, as perf shows frames of the kernel.
     pub is_return: bool,
-    /// Whether a table covers it.
-    pub(super) is_covered: bool,
+    /// The table that covers it, if one does.
+    pub(super) table: Option<TableId>,
     pub(super) is_signal_frame: bool,
 }
 
@@ -63,7 +64,7 @@ impl Frame {
     /// A frame at a place without a row: in no file, or in a file that has no table for it.
     pub(super) fn plain(object: ObjectId, address: u64, shown: u64) -> Frame {
         let place = Place { object, address };
-        Frame { place, shown, is_return: shown != address, is_covered: false, is_signal_frame: false }
+        Frame { place, shown, is_return: shown != address, table: None, is_signal_frame: false }
     }
 }
 

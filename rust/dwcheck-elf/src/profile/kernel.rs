@@ -45,7 +45,8 @@ impl Kernel {
         let mut functions = Vec::new();
         let mut listed_start = None;
         let mut at = 0;
-        for line in text.split(|byte| *byte == b'\n') {
+        for end in memchr::memchr_iter(b'\n', &text).chain([text.len()]) {
+            let line = text.get(at..end).unwrap_or(&[]);
             if let Some((address, kind, name)) = entry(line) {
                 if line.get(name..) == Some(START) {
                     listed_start = Some(address);
@@ -54,7 +55,7 @@ impl Kernel {
                     functions.push((address, (at + name).try_into().unwrap_or(u32::MAX)));
                 }
             }
-            at += line.len() + 1;
+            at = end + 1;
         }
         functions.sort_by_key(|function| function.0);
         let moved = start.zip(listed_start).map_or(0, |(start, listed)| start.wrapping_sub(listed));
@@ -74,10 +75,18 @@ impl Kernel {
 
 /// A line of a list: the address, the kind, and where the name begins.
 fn entry(line: &[u8]) -> Option<(u64, u8, usize)> {
-    let space = line.iter().take(17).position(|byte| *byte == b' ')?;
-    let digit = |byte: &u8| char::from(*byte).to_digit(16).map(u64::from);
-    let digits = line.get(..space)?.iter();
-    let address = digits.map(digit).try_fold(0u64, |number, digit| Some(number << 4 | digit?))?;
+    let (mut address, mut space) = (0u64, 0);
+    loop {
+        let digit = match *line.get(space)? {
+            byte @ b'0'..=b'9' => byte - b'0',
+            byte @ b'a'..=b'f' => byte - b'a' + 10,
+            byte @ b'A'..=b'F' => byte - b'A' + 10,
+            b' ' => break,
+            _ => return None,
+        };
+        address = address.checked_mul(16)? | u64::from(digit);
+        space += 1;
+    }
     Some((address, *line.get(space + 1)?, space + 3)).filter(|_| line.get(space + 2) == Some(&b' '))
 }
 

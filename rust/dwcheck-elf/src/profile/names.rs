@@ -10,7 +10,6 @@ use crate::stack;
 use crate::text::Plain;
 use rayon::prelude::*;
 use rustc_hash::FxHashMap;
-use std::collections::HashMap;
 use std::path::{Path, PathBuf};
 
 /// Which names are read.
@@ -65,7 +64,7 @@ pub struct Names {
 #[derive(Debug, Default)]
 struct Texts {
     all: Vec<String>,
-    ids: HashMap<String, TextId>,
+    ids: FxHashMap<String, TextId>,
 }
 
 impl Texts {
@@ -224,9 +223,16 @@ fn of_file(
     };
     let debug_files = DebugFiles::new(&profile.places.root);
     let wanted = stack::NameOptions { inlined: options.inlined, source: options.lines, raw: true };
-    let names = stack::Names::read(Path::new(&object.name), bytes, &debug_files, wanted);
     let address = |frame: u32| profile.frames[frame as usize].place.address;
     frames.sort_unstable_by_key(|frame| address(*frame));
+    let path = Path::new(&object.name);
+    let names = match options.inlined && !options.lines {
+        true => {
+            let addresses: Vec<u64> = frames.iter().map(|frame| address(*frame)).collect();
+            stack::Names::read_for(path, bytes, &debug_files, &addresses)
+        }
+        false => stack::Names::read(path, bytes, &debug_files, wanted),
+    };
     let mut shown = Shown::default();
     let named =
         frames.into_iter().map(|frame| (frame, shown.functions(names.place(address(frame), address(frame), wanted))));
@@ -237,7 +243,7 @@ fn of_file(
 
 /// Names as they are shown, each demangled once.
 #[derive(Default)]
-struct Shown(HashMap<String, String>);
+struct Shown(FxHashMap<String, String>);
 
 impl Shown {
     fn name(&mut self, raw: String) -> String {

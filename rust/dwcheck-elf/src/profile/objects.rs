@@ -3,6 +3,7 @@
 
 use super::jitdump::is_dump;
 use super::recording::{BuildId, Features, Mapped};
+use super::tables::Tables;
 use crate::abi::{abi, Abi};
 use crate::mapped::Bytes;
 use crate::program::{Program, Segment};
@@ -51,8 +52,8 @@ pub(super) struct Loaded {
     pub machine: Option<(Target, &'static Abi)>,
     /// The segments that may be executed.
     code: Vec<Segment>,
-    /// The frame sections, `.debug_frame` first.
-    pub sections: Vec<SectionTable<'static>>,
+    /// The tables of the frame sections, `.debug_frame` first. None if the machine isn't known.
+    pub tables: Tables,
     /// The addresses of signal frames, as linked.
     signals: Vec<Range<u64>>,
     /// What isn't used of the file, and why.
@@ -81,10 +82,12 @@ impl Loaded {
                 loaded.code = program.segments().into_iter().filter(|segment| segment.is_executable).collect();
                 let (sections, problems) = SectionTable::all(&program);
                 loaded.signals = sections.iter().flat_map(|section| section.signal_frames()).collect();
-                loaded.sections = sections.into_iter().map(SectionTable::into_owned).collect();
                 loaded.problems = problems;
-                if loaded.sections.is_empty() && loaded.problems.is_empty() {
+                if sections.is_empty() && loaded.problems.is_empty() {
                     loaded.problems.push("has no unwind table".into());
+                }
+                if loaded.machine.is_some() {
+                    loaded.tables = Tables::of(sections.into_iter().map(SectionTable::into_owned).collect());
                 }
             }
             Err(error) => loaded.problems.push(error.to_string()),

@@ -293,12 +293,14 @@ impl<'r> Recording<'r> {
         }
         part.before = part.latest;
         let end = part.source.position().saturating_add(most);
-        while self.parts[place].source.position() < end {
-            if let Some(pause) = self.read_record(place) {
-                return pause;
+        // At least one, so that a damaged recording which begins at the highest offset has an end.
+        loop {
+            match self.read_record(place) {
+                Some(pause) => return pause,
+                None if self.parts[place].source.position() < end => {}
+                None => return Pause::Enough,
             }
         }
-        Pause::Enough
     }
 
     /// Reads a record of a part, and puts it into the queue, or uses it at once if it is about the recording

@@ -1,98 +1,94 @@
 //! The unwind tables of files.
 //!
-//! There is one table for each file, at the addresses as linked, wherever and however often processes
-//! mapped the file. An FDE is checked and compiled when a frame first needs it. Walks only read the tables,
-//! in any number of threads: one that needs an FDE which isn't compiled yet ends, and is done again after
-//! [`Tables::prepare`].
+//! There is one table for each FDE, at the addresses as linked, wherever and however often processes mapped the
+//! file. An FDE is checked and compiled when a frame first needs it, by whichever thread walks there first.
 
-use super::frames::Place;
-use super::objects::{Loaded, ObjectId};
-use crate::stack::add_fde;
+use crate::stack::{add_fde, SectionTable};
 use crate::target::Target;
 use dwcheck::Process;
-use rustc_hash::FxHashSet;
-use std::collections::HashSet;
+use once_cell::sync::OnceCell;
 
-/// The tables of a file, at the addresses as linked.
-struct Table {
-    process: Process,
-    /// The FDEs that were compiled or refused: their sections, and their indices there.
-    seen: HashSet<(usize, usize)>,
+/// Where a table is among those of a file.
+#[derive(Clone, Copy, Debug, PartialEq, Eq)]
+pub(super) struct TableId {
+    section: u32,
+    fde: u32,
 }
 
-impl Table {
-    fn new(target: Target) -> Table {
-        Table { process: Process::new(target.into()), seen: HashSet::new() }
-    }
-
-    /// Compiles the FDE that covers an address, if there is one that can be used. Returns whether a module
-    /// covers the address now, and adds to `problems` what is refused.
-    fn prepare(&mut self, loaded: &Loaded, address: u64, problems: &mut Vec<String>) -> bool {
-        if self.process.module_at(address).is_some() {
-            return true;
-        }
-        for (place, section) in loaded.sections.iter().enumerate() {
-            let piece = match section.find(address) {
-                Some(piece) => piece,
-                None => continue,
-            };
-            let range = piece.range.start..=piece.range.end - 1;
-            let added = section.one(piece.fde).map_err(str::to_string).and_then(|one| {
-                let module = one.format.module(&one.bytes, 0).range(range);
-                add_fde(&mut self.process, &one, &module, address).map_err(|error| error.to_string())
-            });
-            match added {
-                // What was added may be for other addresses, if the section says something odd.
-                Ok(()) if self.process.module_at(address).is_some() => return true,
-                Ok(()) => {}
-                Err(why) if self.seen.insert((place, piece.fde)) => problems.push(section.problem(piece.fde, &why)),
-                Err(_) => {}
-            }
-        }
-        false
-    }
+/// An FDE that was needed.
+#[derive(Debug)]
+struct Compiled {
+    /// Its table, or why it is refused.
+    table: Result<Process, String>,
+    /// The number of the round of walks that needed it first.
+    round: u32,
 }
 
-/// The tables of all files.
-#[derive(Default)]
-pub(super) struct Tables {
-    by_object: Vec<Option<Table>>,
-    /// The places in code that no row covers.
-    uncovered: FxHashSet<Place>,
-    /// What is refused of the tables of files.
-    pub problems: Vec<(ObjectId, String)>,
+/// A frame section, with those tables of it that were needed.
+#[derive(Debug)]
+struct Section {
+    table: SectionTable<'static>,
+    /// For each record its table.
+    compiled: Vec<OnceCell<Box<Compiled>>>,
 }
+
+/// The tables of a file.
+#[derive(Debug, Default)]
+pub(super) struct Tables(Vec<Section>);
 
 impl Tables {
-    /// The table of a file, whose rows are for tasks of this kind.
-    pub fn of(&self, object: ObjectId, target: Target) -> Option<&Process> {
-        let table = self.by_object.get(object as usize)?.as_ref()?;
-        Some(&table.process).filter(|process| process.target() == target.into())
+    /// The tables of frame sections, of which the first one that covers an address counts there.
+    pub fn of(sections: Vec<SectionTable<'static>>) -> Tables {
+        let section = |table: SectionTable<'static>| {
+            let compiled = std::iter::repeat_with(OnceCell::new).take(table.count()).collect();
+            Section { table, compiled }
+        };
+        Tables(sections.into_iter().map(section).collect())
     }
 
-    /// Whether a row covers a place. `None` if the place has to be prepared first.
-    pub fn covers(&self, place: Place) -> Option<bool> {
-        let table = self.by_object.get(place.object as usize).and_then(Option::as_ref);
-        match table.map_or(false, |table| table.process.module_at(place.address).is_some()) {
-            true => Some(true),
-            false => self.uncovered.contains(&place).then_some(false),
-        }
+    /// The table with rows for an address, which is compiled if nobody has asked for it before, and whether an
+    /// earlier round of walks needed it too.
+    pub fn find(&self, address: u64, round: u32) -> Option<(TableId, bool)> {
+        self.0.iter().enumerate().find_map(|(place, section)| {
+            let (fde, since) = section.fde(address, round)?;
+            Some((TableId { section: place.try_into().ok()?, fde: fde.try_into().ok()? }, since < round))
+        })
     }
 
-    /// Compiles the FDE that covers a place of a file, if there is one.
-    pub fn prepare(&mut self, loaded: &Loaded, place: Place) {
-        let index = place.object as usize;
-        if self.by_object.len() <= index {
-            self.by_object.resize_with(index + 1, || None);
-        }
-        let mut problems = Vec::new();
-        let is_covered = loaded.machine.map_or(false, |(target, _)| {
-            let table = self.by_object[index].get_or_insert_with(|| Table::new(target));
-            table.prepare(loaded, place.address, &mut problems)
-        });
-        if !is_covered {
-            self.uncovered.insert(place);
-        }
-        self.problems.extend(problems.into_iter().map(|problem| (place.object, problem)));
+    /// A table that was found, if its rows are for tasks of this kind.
+    pub fn get(&self, id: TableId, target: Target) -> Option<&Process> {
+        let compiled = self.0.get(id.section as usize)?.compiled.get(id.fde as usize)?.get()?;
+        compiled.table.as_ref().ok().filter(|process| process.target() == target.into())
+    }
+
+    /// What is refused of those FDEs that frames needed.
+    pub fn problems(&self) -> impl Iterator<Item = String> + '_ {
+        self.0.iter().flat_map(|section| {
+            let refused = section.compiled.iter().enumerate();
+            refused.filter_map(move |(fde, compiled)| {
+                let why = compiled.get()?.table.as_ref().err()?;
+                Some(section.table.problem(fde, why))
+            })
+        })
+    }
+}
+
+impl Section {
+    /// The FDE that covers an address, if it can be used, and the round that needed it first.
+    fn fde(&self, address: u64, round: u32) -> Option<(usize, u32)> {
+        let fde = self.table.find(address)?.fde;
+        let compile = || Box::new(Compiled { table: self.compile(fde), round });
+        let compiled = self.compiled.get(fde)?.get_or_init(compile);
+        compiled.table.is_ok().then_some((fde, compiled.round))
+    }
+
+    /// Checks and compiles an FDE.
+    fn compile(&self, fde: usize) -> Result<Process, String> {
+        let one = self.table.one(fde)?;
+        let mut process = Process::new(one.format.target.into());
+        let addresses = self.table.addresses(fde);
+        let module = one.format.module(&one.bytes, 0).range(addresses.start..=addresses.end.saturating_sub(1));
+        add_fde(&mut process, &one, &module, addresses.start).map_err(|error| error.to_string())?;
+        Ok(process)
     }
 }

@@ -38,8 +38,8 @@ impl Tree {
     }
 
     /// Adds a stack whose frames are these, the innermost first. Returns the node of the innermost one.
-    pub(super) fn add(&mut self, frames: &[FrameId]) -> NodeId {
-        frames.iter().rev().fold(Tree::ROOT, |caller, frame| self.node(Node { caller, frame: *frame }))
+    pub(super) fn add(&mut self, frames: impl DoubleEndedIterator<Item = FrameId>) -> NodeId {
+        frames.rev().fold(Tree::ROOT, |caller, frame| self.node(Node { caller, frame }))
     }
 
     /// Adds the stacks of another tree, whose frames have these indices here. Returns for each of its nodes the

@@ -7,7 +7,7 @@ use super::frames::{End, Frame, FrameId, Frames, Place};
 use super::objects::{Kind, ObjectId, Objects};
 use super::recording::{Features, Mode, Sample};
 use super::space::{Mapping, Space};
-use super::tables::Tables;
+use super::tables::TableId;
 use super::task::Task;
 use crate::target::Order;
 use dwcheck::{Answer, Block, Cursor, Registers, State, Stop};
@@ -30,9 +30,10 @@ enum Of {
 /// What walks share, and only read.
 pub(super) struct Shared {
     pub objects: Objects,
-    pub tables: Tables,
     /// The frames of earlier stacks.
     pub known: Frames,
+    /// How often stacks were walked together before.
+    pub round: u32,
     /// The most frames of a task.
     limit: usize,
     order: Order,
@@ -41,8 +42,6 @@ pub(super) struct Shared {
 /// What a walk needs and hasn't found.
 #[derive(Clone, Copy, Debug)]
 pub(super) enum Missing {
-    /// Whether a row covers a place of a file.
-    Row(Place),
     /// The object for code that this process has made.
     Memory(u32),
     /// The object for the kernel.
@@ -52,17 +51,12 @@ pub(super) enum Missing {
 impl Shared {
     /// What walks share that find at most `limit` frames of a task.
     pub fn new(objects: Objects, limit: usize, order: Order) -> Shared {
-        Shared { objects, tables: Tables::default(), known: Frames::default(), limit, order }
+        Shared { objects, known: Frames::default(), round: 0, limit, order }
     }
 
     /// Adds what a walk needs.
     pub fn add(&mut self, missing: Missing) {
         match missing {
-            Missing::Row(place) => {
-                if let Some(loaded) = self.objects.loaded(place.object) {
-                    self.tables.prepare(loaded, place);
-                }
-            }
             Missing::Memory(pid) => {
                 self.objects.memory(pid);
             }
@@ -77,19 +71,24 @@ impl Shared {
 pub(super) struct Walker<'w> {
     shared: &'w Shared,
     features: &'w Features,
-    /// The frames of all stacks.
+    /// The frames of all stacks that need nothing new.
     pub frames: Frames,
-    /// The stack that was walked last, the innermost frame first.
+    /// The stack that was walked last, the innermost frame first, up to one whose table no earlier round needed.
     pub stack: Vec<FrameId>,
+    /// The other frames of that stack. They have no index yet: frames and stacks are numbered in an order that
+    /// doesn't depend on which thread compiles a table.
+    pub new: Vec<Frame>,
+    /// Whether there are such frames.
+    is_new: bool,
     /// How many of its frames were found by frame pointers.
     pub by_frame_pointer: u64,
     registers: Registers,
 }
 
-/// A frame of a walk, with its index.
+/// A frame of a walk, with its index, if it has one.
 #[derive(Clone, Copy)]
 struct At {
-    id: FrameId,
+    id: Option<FrameId>,
     frame: Frame,
 }
 
@@ -107,6 +106,8 @@ impl<'w> Walker<'w> {
             features,
             frames: Frames::default(),
             stack: Vec::new(),
+            new: Vec::new(),
+            is_new: false,
             by_frame_pointer: 0,
             registers: Registers::new(),
         }
@@ -115,6 +116,8 @@ impl<'w> Walker<'w> {
     /// Walks the stack of a sample of a process that has mapped this. Returns why there are no more frames.
     pub fn walk(&mut self, sample: &Sample<'_>, space: &Space) -> Result<End, Missing> {
         self.stack.clear();
+        self.new.clear();
+        self.is_new = false;
         self.by_frame_pointer = 0;
         self.chained_kernel(sample)?;
         let mut registers = std::mem::take(&mut self.registers);
@@ -126,8 +129,22 @@ impl<'w> Walker<'w> {
         end
     }
 
-    fn plain(&mut self, object: ObjectId, address: u64, shown: u64) -> FrameId {
-        self.frames.add(Frame::plain(object, address, shown))
+    /// The number of frames of the stack.
+    pub fn count(&self) -> usize {
+        self.stack.len() + self.new.len()
+    }
+
+    fn push(&mut self, at: At) {
+        match at.id {
+            Some(id) => self.stack.push(id),
+            None => self.new.push(at.frame),
+        }
+    }
+
+    /// A frame, which is added unless its stack needs something new.
+    fn add(&mut self, frame: Frame) -> At {
+        let id = (!self.is_new).then(|| self.frames.add(frame));
+        At { id, frame }
     }
 
     /// The object for code that a process has made.
@@ -147,8 +164,8 @@ impl<'w> Walker<'w> {
         let kernel = self.shared.objects.of_kernel().ok_or(Missing::Kernel)?;
         for (place, address) in addresses.into_iter().enumerate() {
             let inside = address.wrapping_sub(u64::from(place > 0));
-            let frame = self.plain(kernel, inside, address);
-            self.stack.push(frame);
+            let frame = self.add(Frame::plain(kernel, inside, address));
+            self.push(frame);
         }
         Ok(())
     }
@@ -170,19 +187,19 @@ impl<'w> Walker<'w> {
             let is_return = place > 0 && calls.is_empty();
             let inside = address.wrapping_sub(u64::from(is_return));
             let frame = match space.find(inside) {
-                Some(mapping) => self.at(mapping, inside, is_return)?.id,
+                Some(mapping) => self.at(mapping, inside, is_return),
                 None => {
                     let object = self.memory(sample.pid)?;
-                    self.plain(object, inside, *address)
+                    self.add(Frame::plain(object, inside, *address))
                 }
             };
-            self.stack.push(frame);
+            self.push(frame);
         }
         Ok(if addresses.is_empty() { End::None } else { End::Chain })
     }
 
     /// The frame of a mapping that is looked up at an address, or if `is_return`, that continues after it.
-    fn at(&mut self, mapping: &Mapping, address: u64, is_return: bool) -> Result<At, Missing> {
+    fn at(&mut self, mapping: &Mapping, address: u64, is_return: bool) -> At {
         let offset = mapping.file_offset(address);
         let objects = &self.shared.objects;
         let loaded = objects.loaded(mapping.object);
@@ -191,22 +208,21 @@ impl<'w> Walker<'w> {
         let shown = if is_memory { address } else { offset };
         let place = Place { object: mapping.object, address: linked.unwrap_or(shown) };
         if let Some((id, frame)) = self.frames.at(place) {
-            return Ok(At { id, frame });
+            return At { id: Some(id).filter(|_| !self.is_new), frame };
         }
+        let plain =
+            Frame { is_return, ..Frame::plain(place.object, place.address, shown.wrapping_add(u64::from(is_return))) };
         let frame = match (self.shared.known.at(place), loaded, linked) {
             (Some((_, known)), _, _) => known,
-            (None, Some(loaded), Some(linked)) => Frame {
-                is_covered: self.shared.tables.covers(place).ok_or(Missing::Row(place))?,
-                is_signal_frame: loaded.is_signal_frame(linked),
-                is_return,
-                ..Frame::plain(place.object, place.address, shown.wrapping_add(u64::from(is_return)))
-            },
-            _ => Frame {
-                is_return,
-                ..Frame::plain(place.object, place.address, shown.wrapping_add(u64::from(is_return)))
-            },
+            (None, Some(loaded), Some(linked)) => {
+                let table = loaded.tables.find(linked, self.shared.round);
+                self.is_new |= !table.map_or(false, |(_, was_needed)| was_needed);
+                let table = table.map(|(table, _)| table);
+                Frame { table, is_signal_frame: loaded.is_signal_frame(linked), ..plain }
+            }
+            _ => plain,
         };
-        Ok(At { id: self.frames.add(frame), frame })
+        self.add(frame)
     }
 
     /// The frames of a task of which there is a copy of the stack.
@@ -217,31 +233,31 @@ impl<'w> Walker<'w> {
             Ok(cursor) => cursor,
             Err(_) => return Ok(End::None),
         };
-        let start = self.stack.len();
+        let start = self.count();
         let mut floor = None;
         let mut mapping: Option<&Mapping> = None;
         loop {
             let address = cursor.address();
             let inside = address.wrapping_sub(u64::from(!cursor.is_exact()));
-            match self.stack.len() - start {
+            match self.count() - start {
                 count if count >= self.shared.limit => return Ok(End::Limit),
                 count if count > 0 && address == 0 => return Ok(End::Complete),
                 _ => mapping = mapping.filter(|mapping| mapping.has(inside)).or_else(|| space.find(inside)),
             }
             let at = match mapping.filter(|mapping| mapping.is_executable) {
-                Some(mapping) => self.at(mapping, inside, false)?,
-                None if self.stack.len() == start => {
+                Some(mapping) => self.at(mapping, inside, false),
+                None if self.count() == start => {
                     let frame = Frame::plain(self.memory(pid)?, inside, inside);
-                    let frame = self.frames.add(frame);
-                    self.stack.push(frame);
+                    let frame = self.add(frame);
+                    self.push(frame);
                     return Ok(End::NotCode);
                 }
                 None => return Ok(End::NotCode),
             };
-            self.stack.push(at.id);
-            let step = match at.frame.is_covered {
-                true => self.step(at.frame, &mut cursor, &state, task, &mut floor),
-                false => self.by_frame_pointer(&mut cursor, task, space),
+            self.push(at);
+            let step = match at.frame.table {
+                Some(table) => self.step(at.frame, table, &mut cursor, &state, task, &mut floor),
+                None => self.by_frame_pointer(&mut cursor, task, space),
             };
             if let Step::End(end) = step {
                 return Ok(end);
@@ -253,12 +269,14 @@ impl<'w> Walker<'w> {
     fn step(
         &self,
         frame: Frame,
+        table: TableId,
         cursor: &mut Cursor,
         state: &State<'_>,
         task: &Task<'_>,
         floor: &mut Option<u64>,
     ) -> Step {
-        let process = match self.shared.tables.of(frame.place.object, task.target) {
+        let loaded = self.shared.objects.loaded(frame.place.object);
+        let process = match loaded.and_then(|loaded| loaded.tables.get(table, task.target)) {
             Some(process) => process,
             None => return Step::End(End::NoTable),
         };

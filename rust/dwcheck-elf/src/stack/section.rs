@@ -65,6 +65,16 @@ impl<'a> SectionTable<'a> {
         self.pieces.find(address).cloned()
     }
 
+    /// The number of records. The indices of FDEs are below it.
+    pub fn count(&self) -> usize {
+        self.records.len()
+    }
+
+    /// The addresses that an FDE covers.
+    pub fn addresses(&self, fde: usize) -> Range<u64> {
+        self.records.get(fde).and_then(Record::addresses).unwrap_or(0..0)
+    }
+
     /// An FDE with its CIE, or why it can't be used.
     pub fn one(&self, fde: usize) -> Result<OneFde, &'static str> {
         let FrameSection { format, source } = &self.section;

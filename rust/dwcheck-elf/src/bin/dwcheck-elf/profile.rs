@@ -32,7 +32,10 @@ pub fn profile(words: &ProfileWords, out: &mut impl Write) -> Result<Done, Failu
     }
     out.flush()?;
     summary::write(words, &profile, &names);
-    Ok(if profile.damage.is_some() { Done::Unread } else { Done::Accepted })
+    let done = if profile.damage.is_some() { Done::Unread } else { Done::Accepted };
+    // The program ends now. To free each table and each text before that would only take time.
+    std::mem::forget((profile, names));
+    Ok(done)
 }
 
 /// Starts as many threads as are asked for.
