@@ -240,7 +240,7 @@ fn a_recording_whose_data_begin_at_the_highest_offset_has_none() {
 /// Names without lines are found in another way than those with lines.
 #[test]
 fn names_with_and_without_lines_are_the_same() {
-    let folder = Folder::new("profile-lines");
+    let folder = Folder::new("profile-names-and-lines");
     let mut with_lines = 0;
     for name in ["dwarf.perf", "two.perf", "threads.perf"] {
         let functions = |words: &[&str]| {
