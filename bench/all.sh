@@ -5,7 +5,7 @@
 # documentation shows. If DWCHECK_ELF is given, the rows that it prints are compared with readelf's,
 # and it reads damaged files. For each comparison, a line says whether it passed and how long it
 # took. If one fails, the line names the file that has its output.
-#     bench/all.sh DWCHECK [DWCHECK_ELF]        eight minutes on a busy machine
+#     bench/all.sh DWCHECK [DWCHECK_ELF]        some ten minutes on a busy machine
 # This needs the packages that pages.py and walk/targets.py name. These variables may be set:
 #     LIBRARY  crates/dw_times/out/libdw_times.a, which `rt lib` in crates/dw_times makes: then
 #              walks are compared with libunwind's too

@@ -150,7 +150,7 @@ fn each(work: impl Fn(u32) -> u64) -> f64 {
 fn expression(name: &str, bytes: &[u8]) {
     let theirs = least(15, || (0..10_000).fold(0u64, |sum, _| sum.wrapping_add(theirs::evaluate(bytes)))) / 10_000.0;
     line(&format!("evaluate {name}; gimli with fixed places"), each(|times| ours::evaluate(bytes, times)), Some(theirs));
-    line(&format!("judge {name} without states"), each(|times| ours::check_expression(bytes, times)), None);
+    line(&format!("check {name} without states"), each(|times| ours::check_expression(bytes, times)), None);
     line(&format!("certify {name}"), each(|times| ours::certify(bytes, times)), None);
 }
 

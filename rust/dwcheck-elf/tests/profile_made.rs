@@ -78,6 +78,15 @@ call outer
 ends _start
 ";
 
+/// `fails` is inlined in a part of `work` that rarely runs: compilers name it last, and linkers put it first.
+const COLD_CODE: &str = "
+#include <stdlib.h>
+volatile int sink;
+static inline __attribute__((always_inline)) int warm(int x) { sink = x; return sink * 3 + x; }
+static inline __attribute__((always_inline)) void fails(int x) { sink = x; sink += 7; abort(); }
+int work(int x) { int y = warm(x); if (y == 77) fails(y); return warm(y) + sink; }
+";
+
 /// Where the tests map the library that has the functions.
 const LOAD: u64 = 0x7f12_3400_0000;
 
@@ -339,4 +348,31 @@ fn what_is_whole_of_a_damaged_recording_is_used() {
     let mut no_event = whole;
     no_event[32..40].fill(0);
     check(&no_event, "describes no event", "");
+}
+
+#[test]
+fn names_in_a_part_that_rarely_runs_are_those_that_lines_have() {
+    let folder = Folder::new("profile-cold");
+    folder.write("a.c", COLD_CODE);
+    folder.run("gcc -O2 -g -shared -fPIC -Wl,--build-id=none a.c -o a.so");
+    let (_, offset, size) = text(&folder, "readelf");
+    let page = offset & !0xfff;
+    let mut recording = Recording::new(false);
+    recording.map(5, 0, (LOAD + page, 0x1000, page), b"/a.so");
+    recording.comm(5, 0, false, b"cold");
+    let mut registers = vec![0; X86.count_ones() as usize];
+    for code in LOAD + offset..LOAD + offset + size {
+        registers[8] = code;
+        recording.sample(5, code, code, &registers, &[]);
+    }
+    let functions = |words: &[&str]| {
+        let words = [&["--format", "script"], words].concat();
+        let script = profile(&folder, &recording.file(X86, "x86_64"), &words).out;
+        script.lines().filter(|line| line.starts_with('\t')).map(str::to_string).collect::<Vec<_>>()
+    };
+    let plain = functions(&[]);
+    assert_eq!(plain, functions(&["--lines"]));
+    for name in ["fails", "warm"] {
+        assert!(plain.iter().any(|line| line.contains(name)), "{}", plain.join("\n"));
+    }
 }

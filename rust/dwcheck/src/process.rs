@@ -31,7 +31,7 @@ const EXPRESSION_BYTES: usize = 64;
 /// at once, by `&self`, and no lock is taken. To change modules while others read, change another
 /// process, which [`share`](Process::share) makes without copying the tables.
 ///
-/// As measured on x86-64, [`add`](Process::add) takes 84 KB of stack. The walks take 3 KB, or 41 KB
+/// As measured on x86-64, [`add`](Process::add) takes 84 KB of stack. The walks take 3 KB, or 19 KB
 /// if a register with a number of 96 or more has a known content, and [`unwind`](Process::unwind)
 /// takes 7 KB; each takes 2 KB more if a rule is an expression. If a thread's stack is too small, the
 /// program ends, as with any stack overflow.

@@ -84,7 +84,7 @@ impl<'s> Said<'s> {
         Ok(said)
     }
 
-    /// The addresses of the function.
+    /// The addresses of the function, by ranges that ascend and share no address.
     fn addresses(&self, dwarf: &Dwarf<Slice<'s>>, unit: &Unit<Slice<'s>>) -> Result<Vec<Range<u64>>, Error> {
         if let Some(ranges) = self.ranges {
             let mut ranges = match dwarf.attr_ranges(unit, ranges)? {
@@ -92,7 +92,7 @@ impl<'s> Said<'s> {
                 None => return Ok(Vec::new()),
             };
             let next = || ranges.next().map(|range| range.map(|range| range.begin..range.end)).transpose();
-            return std::iter::from_fn(next).collect();
+            return std::iter::from_fn(next).collect::<Result<_, _>>().map(ascending);
         }
         let low = self.low.map(|low| dwarf.attr_address(unit, low)).transpose()?.flatten();
         let (low, high) = match low.zip(self.high) {
@@ -106,6 +106,21 @@ impl<'s> Said<'s> {
         };
         Ok(if low < end { vec![low..end] } else { Vec::new() })
     }
+}
+
+/// The same addresses, by ranges that ascend and share none. Compilers name the hot part of a function first, though
+/// linkers put the cold ones below it.
+fn ascending(mut ranges: Vec<Range<u64>>) -> Vec<Range<u64>> {
+    ranges.retain(|range| range.start < range.end);
+    ranges.sort_unstable_by_key(|range| range.start);
+    let mut found: Vec<Range<u64>> = Vec::with_capacity(ranges.len());
+    for range in ranges {
+        match found.last_mut() {
+            Some(last) if range.start <= last.end => last.end = last.end.max(range.end),
+            _ => found.push(range),
+        }
+    }
+    found
 }
 
 /// An entry, in one of the two files.
@@ -133,7 +148,6 @@ impl<'r, 's> Reader<'r, 's> {
         let unit = self.unit(false, unit)?;
         let mut found: Vec<Option<Functions>> = vec![None; addresses.len()];
         for (offset, places) in self.around(&unit, addresses)? {
-            let places: Vec<usize> = places.into_iter().filter(|place| found[*place].is_none()).collect();
             let inside: Vec<u64> = places.iter().map(|place| addresses[*place]).collect();
             let functions = self.inlined(&unit, offset, &inside)?;
             places.into_iter().zip(functions).for_each(|(place, functions)| found[place] = Some(functions));
@@ -141,9 +155,10 @@ impl<'r, 's> Reader<'r, 's> {
         Ok(found)
     }
 
-    /// The entries of functions that cover addresses, each with the places of these.
+    /// The entries of functions that cover addresses, each with the places of those that no earlier one covers,
+    /// ascending.
     fn around(&self, unit: &Unit<Slice<'s>>, addresses: &[u64]) -> Result<Vec<(UnitOffset, Vec<usize>)>, Error> {
-        let mut found = Vec::new();
+        let (mut found, mut is_covered) = (Vec::new(), vec![false; addresses.len()]);
         let mut entries = unit.entries_raw(None)?;
         while !entries.is_empty() {
             let offset = entries.next_offset();
@@ -156,7 +171,9 @@ impl<'r, 's> Reader<'r, 's> {
                 continue;
             }
             let ranges = Said::read(&mut entries, abbreviation)?.addresses(&self.search.info.dwarf, unit)?;
-            let places: Vec<usize> = ranges.iter().flat_map(|range| inside(addresses, range)).collect();
+            let places = ranges.iter().flat_map(|range| inside(addresses, range));
+            let places: Vec<usize> = places.filter(|place| !is_covered[*place]).collect();
+            places.iter().for_each(|place| is_covered[*place] = true);
             if !places.is_empty() {
                 found.push((offset, places));
             }

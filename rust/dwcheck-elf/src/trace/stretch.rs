@@ -70,7 +70,7 @@ impl Stretch {
         self.places.iter().filter(|place| place.is_end).map(|place| place.address)
     }
 
-    /// Takes its traps out of the code, after which it has no ends.
+    /// Takes its traps out of the code. It still knows where they were.
     pub fn lift(&self, space: &Space) {
         self.traps.iter().for_each(|traps| traps.lift(space));
     }
