@@ -28,16 +28,6 @@ pub struct CFrame {
     pub cfa: CAnswer,
 }
 
-impl CFrame {
-    /// An empty frame, to be overwritten.
-    pub(crate) fn none() -> Self {
-        CFrame {
-            address: 0,
-            cfa: of_kind(0, 0),
-        }
-    }
-}
-
 fn of_kind(kind: u32, value: u64) -> CAnswer
     ensures { result ≡ record { value = value; kind = kind; reserved = 0 } }
 {

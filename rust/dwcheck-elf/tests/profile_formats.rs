@@ -246,7 +246,7 @@ fn check_firefox_functions(thread: &Value, libraries: usize) -> usize {
     function_count
 }
 
-/// As it describes the frames and the stacks of a thread with so many functions.
+/// As it describes the frames and the stacks of a thread that has this number of functions.
 fn check_firefox_stacks(thread: &Value, functions: usize, categories: usize) {
     let columns: [(&str, Is); 9] = [
         ("address", |value| value.is_u64() || value == -1),

@@ -1,8 +1,7 @@
-use Rattle.std.proofs.Common.{◌≡◌, ◌∙◌, ◌∷◌, [], List, ℤ, ap, length, map, rules, subst, sym, w64}
+use Rattle.std.proofs.Common.{◌≡◌, ◌∙◌, ◌∷◌, [], ℤ, ap, length, map, rules, subst, sym, w64}
 use Rattle.std.specs.Prelude.{slice_set}
 use Rattle.std.proofs.lemmas.List.{length-map, map-append}
 use mir.Val.{to_z, of_z}
-use Rattle.dw_rows.specs.Rules.{Rule}
 use Rattle.dw_rows.specs.SavedRules.{Saved, as_saved}
 use Rattle.dwcheck_c.specs.Rows.{crule_of}
 use Rattle.dwcheck_c.specs.Slots.{put_into}
