@@ -7,7 +7,7 @@ use Rattle.std.specs.Io.KnownBytes.{Appends}
 use Rattle.dw_bytes.specs.declared.target.AddressSize.{AddressSize}
 use Rattle.dw_frame.specs.Records.{Cie, Fde}
 use Rattle.dw_rows.specs.Rules.{Row}
-use Rattle.dw_rows.specs.Section.{FrameSection, cie_in, rows_in, rows_past, row_of}
+use Rattle.dw_rows.specs.Section.{FrameSection, cie_in, rows_in, rows_by_cie, row_of}
 use Rattle.dw_rows.specs.GivenRows.{given_row}
 use Rattle.dw_rows.specs.UnwindRows.{rows_of}
 use Rattle.dw_check.specs.SinkBytes.{AppendsFront}
@@ -46,7 +46,7 @@ unfolding fde_text
 fde_then frame size cie fde rows a b c r z e d h k =
     let both : Writes a c r (lines_of size (Some cie) fde rows) =
     writes_then a b c r (fde_line size cie fde) (flat_map (row_line size) rows) h k in
-    let its : rows ≡ rows_in frame fde = d ∙ ap (λ o. map (given_row frame.expressions) (rows_past o fde)) (sym e) in
+    let its : rows ≡ rows_in frame fde = d ∙ ap (λ o. map (given_row frame.expressions) (rows_by_cie o fde)) (sym e) in
     subst (λ s. Writes a c r (lines_of s (cie_in frame fde) fde (rows_in frame fde))) z
     (subst (λ o. Writes a c r (lines_of size o fde (rows_in frame fde))) (sym e)
     (subst (λ l. Writes a c r (lines_of size (Some cie) fde l)) its both))

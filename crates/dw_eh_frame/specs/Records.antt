@@ -80,8 +80,8 @@ unfoldable pub eh_cie_head_at : ReadPosition → Result (EhCieHead × ReadPositi
 eh_cie_head_at r = do
   version ← field_at (fixed 1) (λ number. unless (is_version number) Version) r
   letters ← string_at version.1
-  past ← eh_data_at letters.0 letters.1
-  numbers ← fields_at (past_augmentation r.target version.0) past
+  after_data ← eh_data_at letters.0 letters.1
+  numbers ← fields_at (past_augmentation r.target version.0) after_data
   augmentation ← augmentation_at version.1.position letters.0 numbers.1
   Ok (record { version = version.0; numbers = numbers.0; augmentation = augmentation.0 }, augmentation.1)
 

@@ -140,14 +140,14 @@ pub(crate) fn read_head<'a>(cursor: &mut Cursor<'a>, end: u32) -> Result<EhCieHe
     let at = cursor.position();
     let letters = read_letters(cursor, end)?;
     skip_eh_data(cursor, letters)?;
-    let mut past = cursor.copy();
-    let factors = read_numbers(&mut past, target, version)?;
-    let size = past.position() - cursor.position();
+    let mut ahead = cursor.copy();
+    let factors = read_numbers(&mut ahead, target, version)?;
+    let size = ahead.position() - cursor.position();
     let Ok(numbers) = cursor.take(u64::from(size)) else {
         unreachable!()
     };
-    let augmentation = read_augmentation(&mut past, at, letters)?;
-    *cursor = past;
+    let augmentation = read_augmentation(&mut ahead, at, letters)?;
+    *cursor = ahead;
     Ok(EhCieHead {
         factors,
         numbers,

@@ -131,8 +131,8 @@ fn padding(bases: Bases, target: Target, base: PointerBase, at: u32) -> u64
     match base {
         PointerBase::Aligned => {
             let size = u64::from(target.address_size.bytes());
-            let past = (bases.section % size + u64::from(at) % size) % size;
-            (size - past) % size
+            let remainder = (bases.section % size + u64::from(at) % size) % size;
+            (size - remainder) % size
         }
         _ => 0,
     }

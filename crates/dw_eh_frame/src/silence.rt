@@ -15,7 +15,7 @@ use std::alloc::AllocError;
 fn skip_low(cursor: &mut Cursor<'_>, code: u8, at: u32) -> Result<bool, Fault>
     requires from { 0x03 ≤ code }
     requires to { code ≤ 0x09 }
-    requires past { at ≤ cursor.old.position }
+    requires not_before { at ≤ cursor.old.position }
     ensures exact { ParsesBy (λ v. v) (past_operands at (extended_line code)) cursor.old result cursor.new }
     ensures goes_on { MovesForward cursor.old cursor.new }
 {
@@ -44,7 +44,7 @@ fn skip_high(cursor: &mut Cursor<'_>, code: u8, at: u32) -> Result<bool, Fault>
     requires from { 0x0c ≤ code }
     requires to { code ≤ 0x16 }
     requires other { code ≢ 0x0e }
-    requires past { at ≤ cursor.old.position }
+    requires not_before { at ≤ cursor.old.position }
     ensures exact { ParsesBy (λ v. v) (past_operands at (extended_line code)) cursor.old result cursor.new }
     ensures goes_on { MovesForward cursor.old cursor.new }
 {

@@ -10,7 +10,7 @@ use Rattle.dw_rows.specs.Rules.{PlacedRule, PlacedCfa, PlacedRow, Rule, Cfa, Row
 use Rattle.dw_rows.specs.Rules.{expression, val_expression, register_and_offset, cfa_expression, with_rule, rules_below, rule_list}
 use Rattle.dw_rows.specs.Effects.{Effect, stays, advances_loc, sets_loc, defines_cfa, changes_register, changes_offset, sets, restores}
 use Rattle.dw_rows.specs.Effects.{remembers_state, restores_state}
-use Rattle.dw_rows.specs.InForce.{Start, location_of, rule_at, cfa_at, with_register, with_offset, cie_start, start_past}
+use Rattle.dw_rows.specs.InForce.{Start, location_of, rule_at, cfa_at, with_register, with_offset, cie_start, start_after_cie}
 use Rattle.dw_rows.specs.UnwindRows.{row_up_to, rows_up_to, rows_after}
 use Rattle.dw_eh_rows.specs.Named.{rule_with, cfa_with, entry_with, row_with, rows_with}
 
@@ -299,7 +299,7 @@ pub cie-alike : (u v : Naming) → Alike u v cie_start cie_start [] []
 cie-alike u v = record { end = refl; initial = λ r. refl; location = refl; rule = λ d r. refl; cfa = λ d. refl }
 
 pub start-alike : (u v : Naming) (f : Fde) (steps : List Step) → AllFit u v steps
-    → Alike u v (start_past (reverse (lefts steps)) f) (start_past (reverse (rights steps)) f) [] []
+    → Alike u v (start_after_cie (reverse (lefts steps)) f) (start_after_cie (reverse (rights steps)) f) [] []
 start-alike u v f steps fit =
     let run : Alike u v cie_start cie_start (reverse (lefts steps)) (reverse (rights steps)) =
     subst (λ (l : List Effect). Alike u v cie_start cie_start l (reverse (rights steps))) (append-nil (reverse (lefts steps)))
@@ -309,8 +309,8 @@ start-alike u v f steps fit =
 
 -- the rows of an FDE's programs that agree with others
 pub rows-alike : (u v : Naming) (f : Fde) (first steps : List Step) → AllFit u v first → AllFit u v steps
-    → rows_with u (rows_after (start_past (reverse (lefts first)) f) [] (lefts steps))
-    ≡ rows_with v (rows_after (start_past (reverse (rights first)) f) [] (rights steps))
+    → rows_with u (rows_after (start_after_cie (reverse (lefts first)) f) [] (lefts steps))
+    ≡ rows_with v (rows_after (start_after_cie (reverse (rights first)) f) [] (rights steps))
 rows-alike u v f first steps fit_first fit =
-    rows-agree u v (start_past (reverse (lefts first)) f) (start_past (reverse (rights first)) f) [] [] steps
+    rows-agree u v (start_after_cie (reverse (lefts first)) f) (start_after_cie (reverse (rights first)) f) [] [] steps
     (start-alike u v f first fit_first) fit

@@ -14,7 +14,7 @@ use Rattle.dw_rows.specs.GivenRows.{given_row, located_at}
 use Rattle.dw_rows.specs.UnwindRows.{rows_of, has_address}
 use Rattle.dw_rows.specs.Good.{IsGoodFdeProgram}
 use Rattle.dw_rows.specs.ExactRows.{HasOneRow}
-use Rattle.dw_rows.specs.Section.{FrameSection, Covers, IsCoverOf, IsChecked, cies_among, fdes_among, cie_at, rows_in, rows_past, row_of}
+use Rattle.dw_rows.specs.Section.{FrameSection, Covers, IsCoverOf, IsChecked, cies_among, fdes_among, cie_at, rows_in, rows_by_cie, row_of}
 use Rattle.dw_rows.proofs.CheckedSections.{checked-cies-ascend}
 use Rattle.dw_rows.proofs.Covering.{cover-rows}
 use Rattle.dw_rows.proofs.Programs.{fde-from-good}
@@ -186,7 +186,7 @@ has-one-kept-row rows_law apart a bases section s w checked e among x covers =
     let same : rows_with u has.rows ≡ rows_with v (rows_of c f) = has.same (located_at s.expressions)
     (names-of-cie s checked (apart s checked) c good.first c_among) (names-of-fde s checked (apart s checked) c f good f_among) in
     let own = row-again u v x has.rows (rows_of c f) one.0 same one.1 in
-    let rows : rows_in s f ≡ map (given_row s.expressions) (rows_of c f) = ap (λ o. map (given_row s.expressions) (rows_past o f)) cie_found in
+    let rows : rows_in s f ≡ map (given_row s.expressions) (rows_of c f) = ap (λ o. map (given_row s.expressions) (rows_by_cie o f)) cie_found in
     let alone : filter (has_address x) (rows_in s f) ≡ given_row s.expressions one.0 ∷ [] =
     ap (filter (has_address x)) rows ∙ (filter-given s.expressions x (rows_of c f) ∙ ap (map (given_row s.expressions)) one.1) in
     let again : filter (has_address x) (rows_in s f) ≡ law.row ∷ [] = ap (λ (g : Fde). filter (has_address x) (rows_in s g)) fde_is ∙ law.one in

@@ -8,7 +8,7 @@ use Rattle.dw_frame.specs.Records.{Cie}
 use Rattle.dw_frame.specs.Sections.{Header, cie_header, fde_header}
 use Rattle.dw_rows.specs.Rules.{PlacedRow}
 use Rattle.dw_rows.specs.Effects.{Effect, effect_of}
-use Rattle.dw_rows.specs.InForce.{start_past}
+use Rattle.dw_rows.specs.InForce.{start_after_cie}
 use Rattle.dw_rows.specs.UnwindRows.{rows_after}
 use Rattle.dw_eh_frame.specs.Instructions.{EhInstruction, plain, args_size, negate_ra_state}
 use Rattle.dw_eh_frame.specs.Records.{EhFde}
@@ -92,8 +92,8 @@ one-list-of-rows a e rows others x y =
     let items : x.items ≡ y.items =
     one-program (dialect_in a e) e.program.target e.program.position e.program.rest x.items y.items x.items_are y.items_are in
     let rows_same : eh_rows_by x.cie e x.first x.items ≡ eh_rows_by y.cie e x.first x.items =
-    ap (λ (l : List Effect). rows_after (start_past (reverse l) (as_fde e)) [] (eh_effects_from x.cie (length x.first) x.items)) (effects-same p x.cie y.cie 0 x.first code number)
-    ∙ ap (rows_after (start_past (reverse (eh_effects_from y.cie 0 x.first)) (as_fde e)) []) (effects-same p x.cie y.cie (length x.first) x.items code number) in
+    ap (λ (l : List Effect). rows_after (start_after_cie (reverse l) (as_fde e)) [] (eh_effects_from x.cie (length x.first) x.items)) (effects-same p x.cie y.cie 0 x.first code number)
+    ∙ ap (rows_after (start_after_cie (reverse (eh_effects_from y.cie 0 x.first)) (as_fde e)) []) (effects-same p x.cie y.cie (length x.first) x.items code number) in
     x.rows_are
     ∙ (rows_same
     ∙ (ap (λ (l : List (ℕ × EhInstruction)). eh_rows_by y.cie e l x.items) first

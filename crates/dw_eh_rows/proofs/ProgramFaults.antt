@@ -10,7 +10,7 @@ use Rattle.dw_frame.specs.Records.{Cie, Fde}
 use Rattle.dw_frame.specs.Sections.{Header, cie_header, fde_header}
 use Rattle.dw_rows.specs.Effects.{Effect, stays, effect_of, effects_by, effects_of}
 use Rattle.dw_rows.specs.Expressions.{expression_in}
-use Rattle.dw_rows.specs.InForce.{Start, start_past, fde_start, cie_start}
+use Rattle.dw_rows.specs.InForce.{Start, start_after_cie, fde_start, cie_start}
 use Rattle.dw_rows.specs.ProgramFault.{standing_at, refusal_at, refusal_at_end, cie_refusal_at, fault_from, end_of, cie_fault, fde_fault}
 use Rattle.dw_eh_frame.specs.Records.{EhCie, EhFde}
 use Rattle.dw_eh_frame.specs.Instructions.{EhInstruction, plain, args_size, negate_ra_state, dialect_of}
@@ -146,12 +146,12 @@ fde-starts a e f c same of_cie =
     let own : eh_effects_from d 0 (first-of a e) ≡ lefts agree.steps =
     ap (λ (l : EhItems). eh_effects_from d 0 (values_in l)) alike.own_is ∙ agree.left_is in
     let made : effects_of c (instructions_of c.program) ≡ rights agree.steps = ap (effects_of c) alike.made_is ∙ agree.right_is in
-    let s : start_after e (first-of a e) ≡ start_past (reverse (lefts agree.steps)) f =
-    ap (λ (l : List Effect). start_past (reverse l) (as_fde e)) own
+    let s : start_after e (first-of a e) ≡ start_after_cie (reverse (lefts agree.steps)) f =
+    ap (λ (l : List Effect). start_after_cie (reverse l) (as_fde e)) own
     ∙ start-of e f (reverse (lefts agree.steps)) same.initial_location same.address_range in
-    let t : fde_start c f ≡ start_past (reverse (rights agree.steps)) f = ap (λ (l : List Effect). start_past (reverse l) f) made in
+    let t : fde_start c f ≡ start_after_cie (reverse (rights agree.steps)) f = ap (λ (l : List Effect). start_after_cie (reverse l) f) made in
     subst (λ (x : Start). Alike unnamed unnamed x (fde_start c f) [] []) (sym s)
-    (subst (λ (y : Start). Alike unnamed unnamed (start_past (reverse (lefts agree.steps)) f) y [] []) (sym t)
+    (subst (λ (y : Start). Alike unnamed unnamed (start_after_cie (reverse (lefts agree.steps)) f) y [] []) (sym t)
     (start-alike unnamed unnamed f agree.steps agree.fit))
 
 ends-matched : (e : EhFde) (f : Fde) (s t : Start) → length f.program.rest ≡ length e.program.rest → (b c : List Effect) → SameState s t b c

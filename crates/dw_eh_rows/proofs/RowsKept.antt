@@ -8,7 +8,7 @@ use Rattle.dw_bytes.specs.Reading.{ReadPosition}
 use Rattle.dw_frame.specs.Instructions.{Instruction}
 use Rattle.dw_frame.specs.Codes.{AreInstructions, instructions_of}
 use Rattle.dw_rows.specs.Effects.{Effect, effects_by, effects_of}
-use Rattle.dw_rows.specs.InForce.{Start, start_past, rule_at, cfa_at, cie_start}
+use Rattle.dw_rows.specs.InForce.{Start, start_after_cie, rule_at, cfa_at, cie_start}
 use Rattle.dw_rows.specs.Good.{IsGoodFdeProgram}
 use Rattle.dw_rows.specs.UnwindRows.{rows_after, rows_of}
 use Rattle.dw_frame.proofs.EachInstruction.{programs-are-instructions}
@@ -32,12 +32,12 @@ effects-read : (c : Cie) (p : ReadPosition) (items : List (ℕ × Instruction)) 
 effects-read c p items are = ap (effects_of c) ((programs-are-instructions p items).1 are) ∙ ap (effects_by c) (values-read items)
 
 good-rows : (c : Cie) (f : Fde) (g : IsGoodFdeProgram c f)
-    → rows_of c f ≡ rows_after (start_past (reverse (effects_by c g.first.items)) f) [] (effects_by c g.items)
+    → rows_of c f ≡ rows_after (start_after_cie (reverse (effects_by c g.first.items)) f) [] (effects_by c g.items)
 unfolding rows_of
 good-rows c f g =
-    ap (λ (l : List Effect). rows_after (start_past (reverse l) f) [] (effects_of c (instructions_of f.program)))
+    ap (λ (l : List Effect). rows_after (start_after_cie (reverse l) f) [] (effects_of c (instructions_of f.program)))
     (effects-read c c.program g.first.items g.first.encoded)
-    ∙ ap (rows_after (start_past (reverse (effects_by c g.first.items)) f) []) (effects-read c f.program g.items g.encoded)
+    ∙ ap (rows_after (start_after_cie (reverse (effects_by c g.first.items)) f) []) (effects-read c f.program g.items g.encoded)
 
 abbrev pub start-at : List Effect → ℕ → ℕ → Start
 start-at left initial range = record {
@@ -48,7 +48,7 @@ start-at left initial range = record {
 }
 
 pub start-of : (e : EhFde) (f : Fde) (left : List Effect) → f.initial_location ≡ e.initial_location → f.address_range ≡ e.address_range
-    → start_past left (as_fde e) ≡ start_past left f
+    → start_after_cie left (as_fde e) ≡ start_after_cie left f
 start-of e f left initial range =
     ap (λ n. start-at left n e.address_range) (sym initial) ∙ ap (start-at left f.initial_location) (sym range)
 
@@ -62,11 +62,11 @@ same-rows u v c e f first items g initial range a b =
     let own : List Effect = eh_effects_from c 0 first in
     let rest : List Effect = eh_effects_from c (length first) items in
     ap (λ (s : Start). rows_with u (rows_after s [] rest)) (start-of e f (reverse own) initial range)
-    ∙ (ap (λ (l : List Effect). rows_with u (rows_after (start_past (reverse l) f) [] rest)) a.left_is
-    ∙ (ap (λ (l : List Effect). rows_with u (rows_after (start_past (reverse (lefts a.steps)) f) [] l)) b.left_is
+    ∙ (ap (λ (l : List Effect). rows_with u (rows_after (start_after_cie (reverse l) f) [] rest)) a.left_is
+    ∙ (ap (λ (l : List Effect). rows_with u (rows_after (start_after_cie (reverse (lefts a.steps)) f) [] l)) b.left_is
     ∙ (rows-alike u v f a.steps b.steps a.fit b.fit
-    ∙ (ap (λ (l : List Effect). rows_with v (rows_after (start_past (reverse (rights a.steps)) f) [] l)) (sym b.right_is)
-    ∙ (ap (λ (l : List Effect). rows_with v (rows_after (start_past (reverse l) f) [] (effects_by c g.items))) (sym a.right_is)
+    ∙ (ap (λ (l : List Effect). rows_with v (rows_after (start_after_cie (reverse (rights a.steps)) f) [] l)) (sym b.right_is)
+    ∙ (ap (λ (l : List Effect). rows_with v (rows_after (start_after_cie (reverse l) f) [] (effects_by c g.items))) (sym a.right_is)
     ∙ ap (rows_with v) (sym (good-rows c f g)))))))
 
 pub rows-kept : (a : Bool) (target : Target) (records : List EhRecord) (made : List ℕ) (rewriting : IsRewriting a target records made)

@@ -14,7 +14,7 @@ use Rattle.dw_frame.specs.Sections.{AreRecords, entries_of}
 use Rattle.dw_frame.proofs.EachRecord.{sections-are-records}
 use Rattle.dw_frame.proofs.RecordBounds.{records-ascend}
 use Rattle.dw_rows.specs.ProgramFault.{cie_fault, fde_fault}
-use Rattle.dw_rows.specs.Section.{cies_among, fdes_among, first_fault, cie_at, pointer_fault, fault_past, program_fault, shares, overlap_fault, programs_fault, parts_fault, frame_of, section_fault}
+use Rattle.dw_rows.specs.Section.{cies_among, fdes_among, first_fault, cie_at, pointer_fault, fault_by_cie, program_fault, shares, overlap_fault, programs_fault, parts_fault, frame_of, section_fault}
 use Rattle.dw_rows.specs.Overlap.{cie_offset}
 use Rattle.dw_rows.proofs.Standing.{cie-stands, fde-stands}
 use Rattle.dw_eh_frame.specs.declared.pointer.Bases.{Bases}
@@ -163,7 +163,7 @@ fdes-kept a target made pairs places parts [] within = tt
 fdes-kept a target made pairs places parts ((eh_fde e, fde_record f) ∷ ps) within =
     let among = within (eh_fde e, fde_record f) (zero, omega arith, refl) in
     let point = pointed a target made pairs places parts e f among in
-    let here : program_fault (cies_among (made-records pairs)) f ≡ fde_fault point.cie f = ap (λ o. fault_past o f) point.found in
+    let here : program_fault (cies_among (made-records pairs)) f ≡ fde_fault point.cie f = ap (λ o. fault_by_cie o f) point.found in
     let one = program-kept a target made pairs places parts (eh_fde e, fde_record f) among (eh_fde_fault a e) (fde_fault point.cie f)
     (fde-matched a e f point.cie point.same point.of_cie) (fde-never point.cie f) (λ g is. fde-stands point.cie f g is) in
     either-kept pairs places (eh_fde_fault a e) (program_fault (cies_among (made-records pairs)) f) _ _

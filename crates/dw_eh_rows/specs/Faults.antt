@@ -12,7 +12,7 @@ use Rattle.dw_frame.specs.Records.{Cie}
 use Rattle.dw_frame.specs.Sections.{Header, cie_header, fde_header}
 use Rattle.dw_stack.specs.Located.{located_fault}
 use Rattle.dw_rows.specs.Effects.{Effect}
-use Rattle.dw_rows.specs.InForce.{Start, start_past}
+use Rattle.dw_rows.specs.InForce.{Start, start_after_cie}
 use Rattle.dw_rows.specs.ProgramFault.{standing_at, refusal_at, refusal_at_end, cie_refusal_at, end_of}
 use Rattle.dw_rows.specs.Section.{first_fault, overlap_fault}
 use Rattle.dw_eh_frame.specs.declared.pointer.Bases.{Bases}
@@ -76,7 +76,7 @@ eh_cie_fault is_aarch64 e = eh_fault_from cie_refusal_at (λ _. None) (as_cie e)
 
 -- what the program of an FDE begins with: its first address, and the rules that its CIE's program leaves
 abbrev pub start_after : EhFde → List (ℕ × EhInstruction) → Start
-start_after e first = start_past (reverse (eh_effects_from (as_cie e.cie) 0 first)) (as_fde e)
+start_after e first = start_after_cie (reverse (eh_effects_from (as_cie e.cie) 0 first)) (as_fde e)
 
 abbrev pub fde_fault_after : EhFde → List (ℕ × EhInstruction) → List (Result (ℕ × EhInstruction) Fault) → Option Fault
 fde_fault_after e first items =

@@ -11,7 +11,7 @@ use Rattle.dw_rows.specs.Expressions.{expression_in}
 use Rattle.dw_rows.specs.GivenRows.{nowhere, or_nowhere}
 use Rattle.dw_rows.specs.Rules.{PlacedRow}
 use Rattle.dw_rows.specs.Effects.{Effect, stays, effect_of}
-use Rattle.dw_rows.specs.InForce.{start_past}
+use Rattle.dw_rows.specs.InForce.{start_after_cie}
 use Rattle.dw_rows.specs.UnwindRows.{rows_after}
 use Rattle.dw_eh_frame.specs.Records.{EhFde, EhRecord, eh_cie, eh_fde, eh_nothing}
 use Rattle.dw_eh_frame.specs.declared.dialect.Dialect.{Dialect}
@@ -64,7 +64,7 @@ eh_effects_from cie n (item ∷ items) = eh_effect_of cie n item.1 ∷ eh_effect
 -- the FDE's instructions follow those of the CIE's.
 abbrev pub eh_rows_by : Cie → EhFde → List (ℕ × EhInstruction) → List (ℕ × EhInstruction) → List PlacedRow
 eh_rows_by cie e first items =
-    rows_after (start_past (reverse (eh_effects_from cie 0 first)) (as_fde e)) [] (eh_effects_from cie (length first) items)
+    rows_after (start_after_cie (reverse (eh_effects_from cie 0 first)) (as_fde e)) [] (eh_effects_from cie (length first) items)
 
 -- the expression of instruction number n
 abbrev pub eh_expression_in : EhInstruction → Option LocatedExpression

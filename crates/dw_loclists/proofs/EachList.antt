@@ -20,7 +20,7 @@ use Rattle.dw_stack.specs.Located.{LocatedExpression}
 use Rattle.dw_loclists.specs.Reading.{checked_entry_at, no_end, at_most_entries, entries_at, list_at}
 use Rattle.dw_loclists.proofs.EachEntry.{IsFine, entry-some, checked-found, checked-only}
 use Rattle.dw_loclists.specs.declared.stored_lists.StoredExpression.{StoredExpression}
-use Rattle.dw_loclists.specs.Kept.{KeepsMore}
+use Rattle.dw_loclists.specs.Stored.{KeepsMore}
 use Rattle.dw_loclists.proofs.StoredLists.{nothing, keeps-then}
 
 -- the bytes encode entries without faults and then an end_of_list; `has_default` tells whether a

@@ -18,7 +18,7 @@ use Rattle.dw_loclists.specs.Entries.{IsEntry, expression_in}
 use Rattle.dw_loclists.specs.Lists.{Loclist, IsList, Table, IsTable, AreTables, lists_of}
 use Rattle.dw_loclists.specs.Locations.{location_of, expressions_of, expressions_in}
 use Rattle.dw_loclists.specs.Reading.{ListSection, IsChecked, tables_in, located_in}
-use Rattle.dw_loclists.specs.Kept.{IsStoredOf, AreStoredOf, lent_from, all_lent_from, IsLendable}
+use Rattle.dw_loclists.specs.Stored.{IsStoredOf, AreStoredOf, lent_from, all_lent_from, IsLendable}
 use Rattle.dw_loclists.proofs.Checked.{checked-tables}
 use Rattle.dw_loclists.proofs.StoredLists.{nothing}
 use Rattle.dw_loclists.proofs.Order.{entries-front, located-of}

@@ -18,7 +18,7 @@ use Rattle.dw_loclists.specs.Reading.{entries_at, list_at, IsListAt, ListSection
 use Rattle.dw_loclists.proofs.EachList.{entries-read, list-found, list-only}
 use Rattle.dw_loclists.specs.declared.stored_lists.StoredExpression.{StoredExpression}
 use Rattle.dw_loclists.specs.Bounds.{Ascends, StandsIn}
-use Rattle.dw_loclists.specs.Kept.{IsStoredOf, AreStoredOf, IsAmong}
+use Rattle.dw_loclists.specs.Stored.{IsStoredOf, AreStoredOf, IsAmong}
 use Rattle.dw_loclists.specs.Views.{offset_of}
 use Rattle.dw_loclists.proofs.Order.{entries-front, list-rises, offsets-of}
 use Rattle.dw_loclists.proofs.Checked.{checked-tables, lists-ascend, expressions-ascend}

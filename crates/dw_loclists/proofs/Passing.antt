@@ -8,7 +8,7 @@ use Rattle.dw_loclists.specs.declared.stored_lists.StoredExpression.{StoredExpre
 use Rattle.dw_loclists.specs.Entries.{Entry, end_of_list, offset_pair, base_address, start_length}
 use Rattle.dw_loclists.specs.Lists.{Loclist}
 use Rattle.dw_loclists.specs.Locations.{location_of, expressions_of}
-use Rattle.dw_loclists.specs.Kept.{AreStoredOf, KeepsMore, Passes}
+use Rattle.dw_loclists.specs.Stored.{AreStoredOf, KeepsMore, Passes}
 use Rattle.dw_stack.specs.Located.{LocatedExpression}
 use Rattle.dw_loclists.specs.Reading.{entry_at, location_fault, checked_entry_at, entries_at, list_at}
 use Rattle.dw_loclists.proofs.EachEntry.{checked-none, location-good, none-if-fine}

@@ -6,7 +6,7 @@ use Rattle.dw_loclists.specs.declared.stored_lists.StoredExpression.{StoredExpre
 use Rattle.dw_loclists.specs.Lists.{Loclist, Table, lists_of, starts_of}
 use Rattle.dw_loclists.specs.Locations.{expressions_of, expressions_in}
 use Rattle.dw_stack.specs.Located.{LocatedExpression}
-use Rattle.dw_loclists.specs.Kept.{Kept, with_lists, with_table, stored_from, IsStoredOf, AreStoredOf, KeepsMore}
+use Rattle.dw_loclists.specs.Stored.{Kept, with_lists, with_table, stored_from, IsStoredOf, AreStoredOf, KeepsMore}
 
 pub nothing : {X : Type 0} (xs : List X) → xs ++ [] ≡ xs
 nothing [] = refl

@@ -21,6 +21,6 @@ pub mod Views
 -- ---- Internal: no contract of a public call uses these modules.
 
 -- what the code stores about a section
-pub mod Kept
+pub mod Stored
 -- how the code goes through a list to find the expressions that hold at an address
 pub mod Walks

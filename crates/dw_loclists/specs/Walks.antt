@@ -11,7 +11,7 @@ use Rattle.dw_loclists.specs.declared.stored_lists.StoredExpression.{StoredExpre
 use Rattle.dw_loclists.specs.Bounds.{Ascends}
 use Rattle.dw_loclists.specs.Entries.{Entry}
 use Rattle.dw_loclists.specs.Locations.{location_of, bounded_at, defaults_in, or_else_all}
-use Rattle.dw_loclists.specs.Kept.{IsAmong}
+use Rattle.dw_loclists.specs.Stored.{IsAmong}
 use Rattle.dw_stack.specs.Located.{LocatedExpression}
 use Rattle.dw_loclists.specs.Reading.{entries_at}
 use Rattle.dw_loclists.specs.Views.{offset_of}

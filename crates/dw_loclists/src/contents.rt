@@ -44,7 +44,7 @@ pub struct Contents {
 
 impl Contents {
     ghost use Rattle.std.specs.Prelude.{◌≡◌, []};
-    ghost use Rattle.dw_loclists.specs.Kept.{stored_of, nothing_stored};
+    ghost use Rattle.dw_loclists.specs.Stored.{stored_of, nothing_stored};
 
     /// The contents before anything is read.
     pub fn new(alloc: Global) -> Self

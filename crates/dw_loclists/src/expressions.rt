@@ -25,7 +25,7 @@ impl<'c, 'a> Model for Expressions<'c, 'a> {
 
     ghost Value = { List LocatedExpression };
 
-    ghost use Rattle.dw_loclists.specs.Kept.{all_lent_from, AreLendable};
+    ghost use Rattle.dw_loclists.specs.Stored.{all_lent_from, AreLendable};
 
     ghost view = { λ it. all_lent_from it.target it.section.now it.rest.now };
 
@@ -34,7 +34,7 @@ impl<'c, 'a> Model for Expressions<'c, 'a> {
 
 impl<'c, 'a> Expressions<'c, 'a> {
     ghost use Rattle.std.specs.Prelude.{◌≡◌};
-    ghost use Rattle.dw_loclists.specs.Kept.{all_lent_from, AreLendable};
+    ghost use Rattle.dw_loclists.specs.Stored.{all_lent_from, AreLendable};
 
     /// An iterator over the stored expressions of a section.
     pub(crate) fn new(section: &'a [u8], target: Target, kept: &'c [StoredExpression]) -> Self

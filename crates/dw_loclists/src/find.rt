@@ -5,7 +5,7 @@ ghost use Rattle.dw_loclists.specs.Bounds.{Ascends};
 ghost use Rattle.dw_bytes.specs.Operands.{block_of};
 ghost use Rattle.dw_loclists.specs.Locations.{location_of};
 ghost use Rattle.dw_loclists.specs.Views.{start_of, offset_of};
-ghost use Rattle.dw_loclists.specs.Kept.{IsAmong};
+ghost use Rattle.dw_loclists.specs.Stored.{IsAmong};
 ghost use Rattle.dw_stack.specs.Located.{located_of};
 
 use crate::contents::LocationList;

@@ -7,7 +7,7 @@ ghost use Rattle.dw_bytes.specs.Readers.{IsRefusedWithin};
 ghost use Rattle.dw_bytes.specs.Answers.{memory, Answers};
 ghost use Rattle.dw_bytes.specs.Operands.{block_of};
 ghost use Rattle.dw_loclists.specs.Bounds.{IsBefore};
-ghost use Rattle.dw_loclists.specs.Kept.{KeepsMore, Passes};
+ghost use Rattle.dw_loclists.specs.Stored.{KeepsMore, Passes};
 ghost use Rattle.dw_loclists.specs.Lists.{Loclist};
 ghost use Rattle.dw_loclists.specs.Locations.{location_of, expressions_of};
 ghost use Rattle.dw_loclists.specs.Reading.{entry_fault, location_fault, checked_entry_at, list_at};

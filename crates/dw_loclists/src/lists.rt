@@ -40,7 +40,7 @@ pub struct CheckedLists<'a> {
 
 impl<'a> Model for CheckedLists<'a> {
     ghost use Rattle.dw_loclists.specs.Reading.{ListSection};
-    ghost use Rattle.dw_loclists.specs.Kept.{IsKept};
+    ghost use Rattle.dw_loclists.specs.Stored.{IsKept};
 
     ghost Value = { ListSection };
 

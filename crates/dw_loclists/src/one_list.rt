@@ -35,7 +35,7 @@ pub struct CheckedList<'a> {
 impl<'a> Model for CheckedList<'a> {
     ghost use Rattle.std.specs.Prelude.{length};
     ghost use Rattle.dw_bytes.specs.Reading.{section_from};
-    ghost use Rattle.dw_loclists.specs.Kept.{IsKeptList, list_from};
+    ghost use Rattle.dw_loclists.specs.Stored.{IsKeptList, list_from};
     ghost use Rattle.dw_loclists.specs.Lists.{Loclist};
 
     ghost Value = { Loclist };

@@ -2,7 +2,7 @@
 
 ghost use Rattle.std.specs.Prelude.{◌≡◌, ◌<◌, ◌≤◌, ◌+◌, ◌^◌, length};
 ghost use Rattle.dw_bytes.specs.Operands.{block_of};
-ghost use Rattle.dw_loclists.specs.Kept.{IsStoredOf, lent_from};
+ghost use Rattle.dw_loclists.specs.Stored.{IsStoredOf, lent_from};
 ghost use Rattle.dw_loclists.specs.Locations.{location_of};
 ghost use Rattle.dw_stack.specs.Certificates.{checked_of};
 ghost use Rattle.dw_stack.specs.declared.state.Kind.TheVariants.{Location};

@@ -9,7 +9,7 @@ ghost use Rattle.dw_bytes.specs.Sequence.{exactly_of};
 ghost use Rattle.dw_loclists.specs.Bounds.{Ascends};
 ghost use Rattle.dw_loclists.specs.Lists.{Loclist, Table, table_header};
 ghost use Rattle.dw_loclists.specs.Reading.{lists_at, list_offset_at, table_at};
-ghost use Rattle.dw_loclists.specs.Kept.{KeepsLists, KeepsTable};
+ghost use Rattle.dw_loclists.specs.Stored.{KeepsLists, KeepsTable};
 ghost use Rattle.dw_loclists.specs.Views.{start_of};
 
 use crate::contents::{Contents, LocationList};

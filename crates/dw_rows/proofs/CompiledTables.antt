@@ -22,7 +22,7 @@ use Rattle.dw_rows.specs.ProgramState.{row_between}
 use Rattle.dw_rows.specs.UnwindRows.{has_address, rows_of}
 use Rattle.dw_rows.specs.UnwindTables.{RowTable, has, row_at, IsFoundAt, IsTableOf}
 use Rattle.dw_rows.specs.UnwindTables.{IsUnder, IsRuleUnder, IsCfaUnder, IsEntryUnder, IsRowUnder}
-use Rattle.dw_rows.specs.Section.{FrameSection, Covers, IsCoverOf, IsChecked, rows_past, row_of, cie_in}
+use Rattle.dw_rows.specs.Section.{FrameSection, Covers, IsCoverOf, IsChecked, rows_by_cie, row_of, cie_in}
 use Rattle.dw_rows.specs.Section.{IsReturnRegister}
 use Rattle.dw_rows.specs.CompiledTable.{StoredSet, no_set, set_numbered, row_if, row_from, next_start, entry_start, rows_to}
 use Rattle.dw_rows.specs.CompiledTable.{LendsFound, given_found, IsPlacedAt}
@@ -66,13 +66,13 @@ row-fits s a row checked found =
     let pointed = pointed-in s.cies s.fdes parts f among in
     let c = pointed.0 in
     let none = (good-past s.cies s.fdes parts f among c pointed.1).1 in
-    let is : rows_past (cie_in s f) f ≡ rows_of c f = ap (λ o. rows_past o f) pointed.1 in
+    let is : rows_by_cie (cie_in s f) f ≡ rows_of c f = ap (λ o. rows_by_cie o f) pointed.1 in
     let has_row = covered-has s checked f among a covered in
     let placed : PlacedRow = has_row.1 in
     let only : IsCoverOf s.fdes a (Some f) = (among, covered, λ g g_in g_covers. checked-once s checked a g f g_in among g_covers covered) in
     let same : Some row ≡ Some (given_row s.expressions placed) =
     sym found ∙ row-found s a f (given_row s.expressions placed) only
-    (find-with s.expressions a (rows_past (cie_in s f) f) placed has_row.3) in
+    (find-with s.expressions a (rows_by_cie (cie_in s f) f) placed has_row.3) in
     let start : row.start ≡ placed.start = cc in
     let end : row.end ≡ placed.end = cc in
     let by = found-by (has_address a) f.initial_location (f.initial_location + f.address_range) (rows_of c f) placed (cover-rows c f none)

@@ -17,11 +17,11 @@ use Rattle.dw_rows.specs.RuleSet.{LendsRules}
 use Rattle.dw_rows.specs.GivenRows.{given_row}
 use Rattle.dw_rows.specs.UnwindRows.{has_address, rows_of}
 use Rattle.dw_rows.specs.UnwindTables.{has}
-use Rattle.dw_rows.specs.Section.{FrameSection, Covers, IsCoverOf, IsChecked, CoversOnce, rows_past, covers, row_of, cie_in}
+use Rattle.dw_rows.specs.Section.{FrameSection, Covers, IsCoverOf, IsChecked, CoversOnce, rows_by_cie, covers, row_of, cie_in}
 use Rattle.dw_rows.specs.Section.{IsReturnRegister}
 use Rattle.dw_rows.specs.Overlap.{IsIndexOf}
 use Rattle.dw_rows.specs.CompiledTable.{StoredSet, no_set, set_numbered, row_if, row_from, next_start, rows_to, placed_rows}
-use Rattle.dw_rows.specs.CompiledTable.{rows_of_each, with_register, returning, returning_past, LendsSet, LendsFound, IsPlacedAt}
+use Rattle.dw_rows.specs.CompiledTable.{rows_of_each, with_register, returning, returning_by_cie, LendsSet, LendsFound, IsPlacedAt}
 use Rattle.dw_rows.specs.CompiledTable.{IsTableUpTo, IsClosedAt, IsFilled, AreEntries, ArePlacedRows}
 use Rattle.dw_rows.proofs.Covering.{cover-rows, here, find-below, find-above, find-some}
 use Rattle.dw_rows.proofs.Lookups.{row-found, row-none}
@@ -52,7 +52,7 @@ find-returning a r (x ∷ rows) = go (has_address a x) (find-returning a r rows)
 
 -- an FDE of a checked section has a CIE, and a row for each address that the FDE covers
 pub covered-has : (s : FrameSection) → IsChecked s → (f : Fde) → Contains s.fdes f → (a : ℕ) → Covers f a
-    → (c : Cie) × (row : PlacedRow) × (cie_in s f ≡ Some c) × (find (has_address a) (rows_past (cie_in s f) f) ≡ Some row)
+    → (c : Cie) × (row : PlacedRow) × (cie_in s f ≡ Some c) × (find (has_address a) (rows_by_cie (cie_in s f) f) ≡ Some row)
     × (find (has a) (placed_rows s f) ≡ Some (row, c.return_address_register))
 covered-has s checked f among a covered =
     let parts = checked-parts s checked in
@@ -60,8 +60,8 @@ covered-has s checked f among a covered =
     let c = pointed.0 in
     let r = c.return_address_register in
     let none = (good-past s.cies s.fdes parts f among c pointed.1).1 in
-    let is : rows_past (cie_in s f) f ≡ rows_of c f = ap (λ o. rows_past o f) pointed.1 in
-    let is_returning : placed_rows s f ≡ returning r (rows_of c f) = ap (λ o. returning_past o f) pointed.1 in
+    let is : rows_by_cie (cie_in s f) f ≡ rows_of c f = ap (λ o. rows_by_cie o f) pointed.1 in
+    let is_returning : placed_rows s f ≡ returning r (rows_of c f) = ap (λ o. returning_by_cie o f) pointed.1 in
     let found = some-is (find (has_address a) (rows_of c f))
     (find-some a f.initial_location (f.initial_location + f.address_range) (rows_of c f) (cover-rows c f none) covered.0 covered.1) in (
       c,
@@ -85,7 +85,7 @@ uncovered-none s checked f among a not_here =
     let c = pointed.0 in
     let r = c.return_address_register in
     let none = (good-past s.cies s.fdes parts f among c pointed.1).1 in
-    let is : placed_rows s f ≡ returning r (rows_of c f) = ap (λ o. returning_past o f) pointed.1 in
+    let is : placed_rows s f ≡ returning r (rows_of c f) = ap (λ o. returning_by_cie o f) pointed.1 in
     let cover = cover-rows c f none in
     let end = f.initial_location + f.address_range in
     let no_row : find (has_address a) (rows_of c f) ≡ None = elim (cases_lt a f.initial_location) [
@@ -170,7 +170,7 @@ row-in-each s fdes checked index a = elim (first-cover a fdes) [
       let row = has_row.1 in
       let only : IsCoverOf s.fdes a (Some f) = (among, found.2, λ g g_in g_covers. checked-once s checked a g f g_in among g_covers found.2) in
       let is : row_of s a ≡ Some (given_row s.expressions row) =
-      row-found s a f (given_row s.expressions row) only (find-with s.expressions a (rows_past (cie_in s f) f) row has_row.3) in
+      row-found s a f (given_row s.expressions row) only (find-with s.expressions a (rows_by_cie (cie_in s f) f) row has_row.3) in
       let returns : IsReturnRegister s a c.return_address_register = (f, c, only, has_row.2, refl) in
       subst (IsPlacedAt s a)
       (sym (one-in-each s checked a fdes f (row, c.return_address_register) index.from found.1 found.2 has_row.4)) (is, returns)

@@ -17,7 +17,7 @@ use Rattle.dw_rows.specs.GivenRows.{LendsEntry, LendsEach}
 use Rattle.dw_rows.specs.GoodRows.{IsGoodAmong, IsGoodRule, IsGoodCfa, IsGoodEntry, HasGoodExpressions}
 use Rattle.dw_rows.specs.UnwindRows.{rows_of, has_address}
 use Rattle.dw_rows.specs.Clauses.{IsRow, AreRowsFrom, start_in, program_in}
-use Rattle.dw_rows.specs.Section.{FrameSection, IsChecked, covers, rows_in, rows_past, row_of}
+use Rattle.dw_rows.specs.Section.{FrameSection, IsChecked, covers, rows_in, rows_by_cie, row_of}
 use Rattle.dw_rows.proofs.Elements.{contained-map}
 use Rattle.dw_rows.proofs.Parts.{pointed-in, good-past}
 use Rattle.dw_rows.proofs.Faults.{at-found}
@@ -91,7 +91,7 @@ row-good s checked f among row inside =
     let none = good-past s.cies s.fdes parts f among c pointed.1 in
     let good = good-from-fde c f (good-from-cie c none.0) none.1 in
     let es = s.expressions in
-    let rows : rows_in s f ≡ map (given_row es) (rows_of c f) = ap (λ o. map (given_row es) (rows_past o f)) pointed.1 in
+    let rows : rows_in s f ≡ map (given_row es) (rows_of c f) = ap (λ o. map (given_row es) (rows_by_cie o f)) pointed.1 in
     let placed = contained-map (given_row es) (rows_of c f) row (subst (λ l. Contains l row) rows inside) in
     let is = one-of (start_in c f good) (program_in c f good) f.initial_location (f.initial_location + f.address_range)
     (rows_of c f) placed.0

@@ -11,7 +11,7 @@ use Rattle.dw_rows.specs.InForce.{Start}
 use Rattle.dw_rows.specs.GivenRows.{given_row}
 use Rattle.dw_rows.specs.UnwindRows.{rows_of, has_address}
 use Rattle.dw_rows.specs.Clauses.{IsRowAt, IsRow, AreRowsFrom, start_in, program_in}
-use Rattle.dw_rows.specs.Section.{FrameSection, Covers, IsCoverOf, IsChecked, rows_in, rows_past}
+use Rattle.dw_rows.specs.Section.{FrameSection, Covers, IsCoverOf, IsChecked, rows_in, rows_by_cie}
 use Rattle.dw_rows.specs.ExactRows.{HasOneRow}
 use Rattle.dw_rows.proofs.Tables.{rule_list-table, rule_list-same}
 use Rattle.dw_rows.proofs.Parts.{pointed-in, good-past}
@@ -101,7 +101,7 @@ has-one-row s a checked f among covers =
     (rows_of c f) row
     (rows-of-good c f good) one.1 in
     let es = s.expressions in
-    let rows : rows_in s f ≡ map (given_row es) (rows_of c f) = ap (λ o. map (given_row es) (rows_past o f)) pointed.1 in
+    let rows : rows_in s f ≡ map (given_row es) (rows_of c f) = ap (λ o. map (given_row es) (rows_by_cie o f)) pointed.1 in
     let lends = lends-in s checked c f cie_found.0 among in
     let lent = row-lends es c f good row is.0.0 is.0.1 lends in
     let only : IsCoverOf s.fdes a (Some f) = (among, covers, λ g g_in g_covers. checked-once s checked a g f g_in among g_covers covers) in

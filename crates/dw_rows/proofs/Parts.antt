@@ -6,7 +6,7 @@ use Rattle.std.specs.Option.{option_or}
 use Rattle.dw_bytes.specs.declared.fault.Fault.{Fault}
 use Rattle.dw_frame.specs.Records.{Cie, Fde}
 use Rattle.dw_rows.specs.ProgramFault.{cie_fault, fde_fault}
-use Rattle.dw_rows.specs.Section.{first_fault, cie_at, pointer_fault, program_fault, fault_past, overlap_fault, programs_fault}
+use Rattle.dw_rows.specs.Section.{first_fault, cie_at, pointer_fault, program_fault, fault_by_cie, overlap_fault, programs_fault}
 use Rattle.dw_rows.specs.Section.{parts_fault, CoversOnce}
 use Rattle.dw_rows.specs.Overlap.{fde_offset}
 use Rattle.dw_frame.specs.Bounds.{Ascends}
@@ -55,4 +55,4 @@ good-past cies fdes none f among c is =
     let parts = parts-pass cies fdes none in
     let found = at-found cies f.cie_pointer c is in
     let past = none-each (program_fault cies) fdes parts.fde_programs f among in
-    (none-each cie_fault cies parts.cie_programs c found.0, ap (λ o. fault_past o f) (sym is) ∙ past)
+    (none-each cie_fault cies parts.cie_programs c found.0, ap (λ o. fault_by_cie o f) (sym is) ∙ past)

@@ -16,7 +16,7 @@ use Rattle.dw_rows.specs.ProgramState.{row_between}
 use Rattle.dw_rows.specs.RowCursors.{RowCursor, GivesNextRow, rows_left}
 use Rattle.dw_rows.specs.UnwindRows.{rows_of}
 use Rattle.dw_rows.specs.UnwindTables.{row_bytes, fde_bytes}
-use Rattle.dw_rows.specs.Section.{FrameSection, cie_in, rows_past}
+use Rattle.dw_rows.specs.Section.{FrameSection, cie_in, rows_by_cie}
 use Rattle.dw_rows.specs.Overlap.{IsIndexOf}
 use Rattle.dw_rows.specs.CompiledTable.{StoredSet, returning, row_with, rows_to, entry_bytes, IsTableUpTo, IsPushed, IsFilling, LacksRoom}
 use Rattle.dw_rows.proofs.GivenRows.{length-with}
@@ -68,8 +68,8 @@ bytes-given es (row ∷ rows) =
 pub fde-cost : (s : FrameSection) (c : Cie) (f : Fde) → cie_in s f ≡ Some c
     → fde_bytes s f ≡ 80 + cost (returning c.return_address_register (rows_of c f))
 fde-cost s c f pointed =
-    ap (λ n. 80 + n) (bytes-given s.expressions (rows_past (cie_in s f) f)
-    ∙ ap (λ o. sum_by row_bytes (rows_past o f)) pointed
+    ap (λ n. 80 + n) (bytes-given s.expressions (rows_by_cie (cie_in s f) f)
+    ∙ ap (λ o. sum_by row_bytes (rows_by_cie o f)) pointed
     ∙ sym (cost-returning c.return_address_register (rows_of c f)))
 
 -- ---- the rows of an FDE

@@ -20,7 +20,7 @@ use Rattle.dw_rows.specs.UnwindRows.{rows_of, Cover}
 use Rattle.dw_rows.specs.UnwindTables.{has}
 use Rattle.dw_rows.specs.Section.{FrameSection, cie_in}
 use Rattle.dw_rows.specs.CompiledTable.{StoredSet, no_set, set_numbered, row_if, row_with, row_from, next_start, rows_to}
-use Rattle.dw_rows.specs.CompiledTable.{returning, returning_past}
+use Rattle.dw_rows.specs.CompiledTable.{returning, returning_by_cie}
 use Rattle.dw_rows.specs.CompiledTable.{IsTableUpTo, IsClosedAt, IsBegunAt, IsPushed, IsFilling, IsFilled, IsEntryCount}
 use Rattle.dw_rows.proofs.Covering.{cover-after, here, not-here-below, not-here-above}
 use Rattle.dw_rows.proofs.Lending.{lends-kept}
@@ -222,7 +222,7 @@ pub filled : (s : FrameSection) (c : Cie) (f : Fde) (last : ℕ) (old new : List
     → IsTableUpTo s.expressions (f.initial_location + f.address_range) new new_sets → IsFilled s f last old old_sets new new_sets
 filled s c f last old new old_sets new_sets pointed all t = record {
   table = t;
-  rows = all ∙ ap (λ o. rows_to old_sets old last ++ returning_past o f) (sym pointed);
+  rows = all ∙ ap (λ o. rows_to old_sets old last ++ returning_by_cie o f) (sym pointed);
 }
 
 -- ---- `find` in lists

@@ -7,7 +7,7 @@ use Rattle.dw_frame.specs.Sections.{entries_of}
 use Rattle.dw_frame.proofs.EachRecord.{sections-are-records}
 use Rattle.dw_rows.specs.ProgramFault.{cie_fault, fde_fault}
 use Rattle.dw_rows.specs.Good.{IsGoodCieProgram, IsGoodFdeProgram}
-use Rattle.dw_rows.specs.Section.{cie_at, pointer_fault, program_fault, fault_past, parts_fault, section_fault, frame_of, CoversOnce}
+use Rattle.dw_rows.specs.Section.{cie_at, pointer_fault, program_fault, fault_by_cie, parts_fault, section_fault, frame_of, CoversOnce}
 use Rattle.dw_rows.specs.Section.{cies_among, fdes_among}
 use Rattle.dw_rows.specs.WellFormed.{IsWellFormed}
 use Rattle.dw_rows.specs.Overlap.{cie_offset, fde_offset, AreApart}
@@ -72,7 +72,7 @@ passes laws cies fdes up pointers cie_programs fde_programs once = record {
       let c = pointers f among in
       let is = found-at cies up c.0 f.cie_pointer c.1 c.2 in
       let good = (laws.cie c.0).1 (cie_programs c.0 c.1) in
-      ap (λ o. fault_past o f) is ∙ (laws.fde c.0 f good).1 (fde_programs f c.0 among c.1 c.2));
+      ap (λ o. fault_by_cie o f) is ∙ (laws.fde c.0 f good).1 (fde_programs f c.0 among c.1 c.2));
   overlap = none-overlap fdes (apart-from-once fdes once);
 }
 

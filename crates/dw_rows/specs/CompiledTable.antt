@@ -93,12 +93,12 @@ abbrev pub returning : ℕ → List PlacedRow → List (PlacedRow × ℕ)
 returning r rows = map (with_register r) rows
 
 -- the rows of an FDE, with the return address register of its CIE
-abbrev pub returning_past : Option Cie → Fde → List (PlacedRow × ℕ)
-returning_past None f = []
-returning_past (Some c) f = returning c.return_address_register (rows_of c f)
+abbrev pub returning_by_cie : Option Cie → Fde → List (PlacedRow × ℕ)
+returning_by_cie None f = []
+returning_by_cie (Some c) f = returning c.return_address_register (rows_of c f)
 
 abbrev pub placed_rows : FrameSection → Fde → List (PlacedRow × ℕ)
-placed_rows s f = returning_past (cie_in s f) f
+placed_rows s f = returning_by_cie (cie_in s f) f
 
 abbrev pub rows_of_each : FrameSection → List Fde → List (PlacedRow × ℕ)
 rows_of_each s [] = []

@@ -83,14 +83,14 @@ cie_at cies at = find (λ c. c.offset == at) cies
 abbrev pub pointer_fault : List Cie → Fde → Option Fault
 pointer_fault cies f = if is_some (cie_at cies f.cie_pointer) then None else Some (record { kind = NoSuchCie; at = f.cie_pointer_offset })
 
-abbrev pub fault_past : Option Cie → Fde → Option Fault
-fault_past None f = None
-fault_past (Some c) f = fde_fault c f
+abbrev pub fault_by_cie : Option Cie → Fde → Option Fault
+fault_by_cie None f = None
+fault_by_cie (Some c) f = fde_fault c f
 
 -- The first fault of an FDE's program, which begins with the rules that its CIE's program leaves.
 -- None if the CIE_pointer isn't the offset of a CIE.
 abbrev pub program_fault : List Cie → Fde → Option Fault
-program_fault cies f = fault_past (cie_at cies f.cie_pointer) f
+program_fault cies f = fault_by_cie (cie_at cies f.cie_pointer) f
 
 -- whether two FDEs share an address: each begins before the other ends, and neither is empty
 abbrev pub shares : Fde → Fde → Bool
@@ -130,13 +130,13 @@ pub record IsChecked (s : FrameSection) : Type 0 where
 abbrev pub cie_in : FrameSection → Fde → Option Cie
 cie_in s f = cie_at s.cies f.cie_pointer
 
-abbrev pub rows_past : Option Cie → Fde → List PlacedRow
-rows_past None f = []
-rows_past (Some c) f = rows_of c f
+abbrev pub rows_by_cie : Option Cie → Fde → List PlacedRow
+rows_by_cie None f = []
+rows_by_cie (Some c) f = rows_of c f
 
 -- the rows of an FDE whose CIE is among `cies`, with the offsets of expressions
 abbrev pub placed_rows : List Cie → Fde → List PlacedRow
-placed_rows cies f = rows_past (cie_at cies f.cie_pointer) f
+placed_rows cies f = rows_by_cie (cie_at cies f.cie_pointer) f
 
 -- the rows of an FDE, with the expressions in place of their offsets
 abbrev pub rows_in : FrameSection → Fde → List Row

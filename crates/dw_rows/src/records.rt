@@ -15,7 +15,7 @@ ghost use Rattle.dw_rows.specs.Initial.{AreLeftBy};
 
 use crate::checked_expressions::CheckedExpressions;
 use crate::initial_rules::InitialRules;
-use crate::program_checks::{check_cie_program, check_fde_quickly};
+use crate::program_checks::{check_cie_program, quick_or_full_check};
 use crate::unwind_context::UnwindContext;
 use crate::unwind_state::UnwindState;
 use dw_bytes::{Fault, FaultKind};
@@ -208,7 +208,7 @@ pub fn check_fdes<'a>(
         let offset = fde.cie_pointer;
         match begin_with_rules_again(&mut context.state, cies, initial, last, offset) {
             Some(found) => {
-                rows += u128::from(check_fde_quickly(context, checked, &found.cie, fde)?);
+                rows += u128::from(quick_or_full_check(context, checked, &found.cie, fde)?);
                 last = Some(found);
             }
             None => unreachable!(),

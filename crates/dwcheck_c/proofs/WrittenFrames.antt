@@ -9,7 +9,7 @@ use Rattle.dw_unwind.specs.declared.frames.Stop.TheVariants.{Limit}
 use Rattle.dwcheck_c.specs.declared.answer.CFrame.{CFrame}
 use Rattle.dwcheck_c.proofs.Putting.{puts_shown}
 use Rattle.dwcheck_c.specs.Frames.{AreWritten, IsLeftAt, cframe_of, stop_number}
-use Rattle.dwcheck_c.specs.ProcessWalks.{AreFramesBy, Unwinding, WalksBy, place_after, place_past}
+use Rattle.dwcheck_c.specs.ProcessWalks.{AreFramesBy, Unwinding, WalksBy, place_after, place_after_frames}
 use Rattle.dwcheck_c.specs.Slots.{put_into}
 
 -- ---- walks that go on
@@ -18,14 +18,14 @@ pub no-frames : (u : Unwinding) (o : Option Place) → AreFramesBy u o []
 no-frames u None = tt
 no-frames u (Some p) = tt
 
-past-none : (u : Unwinding) (o : Option Place) → place_past u o [] ≡ o
-past-none u None = refl
-past-none u (Some p) = refl
+after-none : (u : Unwinding) (o : Option Place) → place_after_frames u o [] ≡ o
+after-none u None = refl
+after-none u (Some p) = refl
 
 -- a walk goes on with the frame at its place
 goes-on : (u : Unwinding) (o : Option Place) (frames : List WalkedFrame) (p : Place) (f : WalkedFrame) → AreFramesBy u o frames
-    → place_past u o frames ≡ Some p → IsFrameAt u.callers p f
-    → AreFramesBy u o (frames ++ f ∷ []) × (place_past u o (frames ++ f ∷ []) ≡ place_after u p.looked_up f.caller)
+    → place_after_frames u o frames ≡ Some p → IsFrameAt u.callers p f
+    → AreFramesBy u o (frames ++ f ∷ []) × (place_after_frames u o (frames ++ f ∷ []) ≡ place_after u p.looked_up f.caller)
 goes-on u None [] p f are at is = absurd (none at)
   where
     none : ◌≡◌ {A = Option Place} None (Some p) → ⊥
@@ -33,7 +33,7 @@ goes-on u None [] p f are at is = absurd (none at)
 goes-on u (Some q) [] p f are at is =
     let same : q ≡ p = cc in (
       (subst (λ (x : Place). IsFrameAt u.callers x f) (sym same) is, no-frames u (place_after u q.looked_up f.caller)),
-      past-none u (place_after u q.looked_up f.caller) ∙ ap (λ (x : Place). place_after u x.looked_up f.caller) same,
+      after-none u (place_after u q.looked_up f.caller) ∙ ap (λ (x : Place). place_after u x.looked_up f.caller) same,
     )
 goes-on u None (g ∷ frames) p f are at is = absurd are
 goes-on u (Some q) (g ∷ frames) p f are at is =
@@ -87,7 +87,7 @@ begins u first old = record { frames = []; are = tt; next = refl; written = refl
 pub record HasGiven (u : Unwinding) (first p : Place) (last : WalkedFrame) (old new : List CFrame) (count : ℕ) : Type 0 where
   pub frames : List WalkedFrame
   pub are : AreFramesBy u (Some first) frames
-  pub next : place_past u (Some first) frames ≡ place_after u p.looked_up last.caller
+  pub next : place_after_frames u (Some first) frames ≡ place_after u p.looked_up last.caller
   pub ends : stop_after frames ≡ stop_of_caller last.caller
   pub written : new ≡ put_into (map cframe_of frames) old
   pub counted : length frames ≡ count

@@ -7,7 +7,7 @@ use Rattle.dw_unwind.specs.WalkViews.{brief_of}
 use Rattle.dw_unwind.specs.declared.frames.Stop.{Stop}
 use Rattle.dw_unwind.specs.declared.frames.Stop.TheVariants.{Limit, NotCovered, ReturnUndefined, ReturnUnreadable, ReturnDivisionByZero}
 use Rattle.dw_process.specs.Processes.{ProcessState}
-use Rattle.dwcheck_c.specs.ProcessWalks.{AreFramesBy, Unwinding, WalksBy, place_past, through_held}
+use Rattle.dwcheck_c.specs.ProcessWalks.{AreFramesBy, Unwinding, WalksBy, place_after_frames, through_held}
 use Rattle.dwcheck_c.specs.Slots.{put_into}
 use Rattle.dwcheck_c.specs.declared.answer.CAnswer.{CAnswer}
 use Rattle.dwcheck_c.specs.declared.answer.CFrame.{CFrame}
@@ -63,7 +63,7 @@ pub record IsBacktrace (held : Option ProcessState) (abi : Abi) (memory : ℕ �
 pub record IsLeftAt (u : Unwinding) (first p : Place) (old new : List CFrame) (count : ℕ) : Type 0 where
   pub frames : List WalkedFrame
   pub are : AreFramesBy u (Some first) frames
-  pub next : place_past u (Some first) frames ≡ Some p
+  pub next : place_after_frames u (Some first) frames ≡ Some p
   pub written : new ≡ put_into (map cframe_of frames) old
   pub counted : length frames ≡ count
   pub long : length new ≡ length old

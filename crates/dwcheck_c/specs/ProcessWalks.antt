@@ -76,10 +76,10 @@ AreFramesBy u None (f ∷ frames) = ⊥
 AreFramesBy u (Some p) (f ∷ frames) = IsFrameAt u.callers p f × AreFramesBy u (place_after u p.looked_up f.caller) frames
 
 -- where a walk is after these frames
-abbrev pub place_past : Unwinding → Option Place → List WalkedFrame → Option Place
-place_past u p [] = p
-place_past u None (f ∷ frames) = None
-place_past u (Some p) (f ∷ frames) = place_past u (place_after u p.looked_up f.caller) frames
+abbrev pub place_after_frames : Unwinding → Option Place → List WalkedFrame → Option Place
+place_after_frames u p [] = p
+place_after_frames u None (f ∷ frames) = None
+place_after_frames u (Some p) (f ∷ frames) = place_after_frames u (place_after u p.looked_up f.caller) frames
 
 -- The result of a walk: its first frames, at most `limit` of them, and why it ends with these. If
 -- there are `limit` frames, the reason is `Limit`, even if no other frame follows.

@@ -3,7 +3,7 @@ use Rattle.std.proofs.lemmas.List.Sorted.{answers_always}
 use Rattle.dw_bytes.specs.Operands.{block_of}
 use Rattle.dw_loclists.specs.declared.stored_lists.StoredExpression.{StoredExpression}
 use Rattle.dw_loclists.specs.Locations.{location_of}
-use Rattle.dw_loclists.specs.Kept.{IsStoredOf}
+use Rattle.dw_loclists.specs.Stored.{IsStoredOf}
 use Rattle.dw_loclists.specs.Views.{offset_of}
 use Rattle.dw_loclists.proofs.Search.{searched-found, searched-none, ascending-same}
 use Rattle.dw_loclists.proofs.find.find_expression.Goals as goal

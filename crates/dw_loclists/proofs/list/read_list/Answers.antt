@@ -7,7 +7,7 @@ use Rattle.dw_bytes.specs.Reading.{ReadPosition, MovesForward}
 use Rattle.dw_bytes.specs.Answers.{memory}
 use Rattle.dw_loclists.specs.declared.stored_lists.StoredExpression.{StoredExpression}
 use Rattle.dw_loclists.specs.Entries.{Entry}
-use Rattle.dw_loclists.specs.Kept.{Passes}
+use Rattle.dw_loclists.specs.Stored.{Passes}
 use Rattle.dw_loclists.specs.Reading.{checked_entry_at, entries_at, list_at}
 use Rattle.dw_loclists.proofs.EachList.{entries-end, list-stops}
 use Rattle.dw_loclists.proofs.Passing.{one-more, last-one, refused, or-false, goes-then, goes-nowhere}

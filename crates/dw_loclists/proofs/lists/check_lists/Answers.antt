@@ -5,7 +5,7 @@ use Rattle.dw_bytes.specs.Answers.{memory}
 use Rattle.dw_loclists.specs.Reading.{tables_from, lists_fault}
 use Rattle.dw_loclists.specs.Lists.{Table, lists_of}
 use Rattle.dw_loclists.specs.Locations.{expressions_in}
-use Rattle.dw_loclists.specs.Kept.{Kept, stored_from, with_table, AreStoredOf}
+use Rattle.dw_loclists.specs.Stored.{Kept, stored_from, with_table, AreStoredOf}
 use Rattle.dw_loclists.proofs.EachTable.{at-fault}
 use Rattle.dw_loclists.proofs.StoredLists.{table-kept, keeps-table}
 use Rattle.dw_loclists.proofs.Checked.{all-tables, tables-checked, tables-are, tables-fault, one-more}

@@ -3,7 +3,7 @@ use Rattle.dw_bytes.proofs.Sequences.{all-read}
 use Rattle.dw_loclists.specs.Lists.{Table, lists_of}
 use Rattle.dw_loclists.specs.Locations.{expressions_in}
 use Rattle.dw_loclists.specs.Reading.{tables_of, tables_from}
-use Rattle.dw_loclists.specs.Kept.{stored_of, stored_from, AreStoredOf}
+use Rattle.dw_loclists.specs.Stored.{stored_of, stored_from, AreStoredOf}
 use Rattle.dw_loclists.proofs.lists.check_lists.Given as goal
 
 abbrev pub invariant-tables : goal.invariant-tables

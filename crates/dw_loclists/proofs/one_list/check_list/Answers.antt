@@ -1,6 +1,6 @@
 use Rattle.std.proofs.Common.{◌≡◌, [], Ok, ap, subst, sym, ◌∙◌}
 use Rattle.dw_bytes.specs.Reading.{ReadPosition, section_from}
-use Rattle.dw_loclists.specs.Kept.{AreStoredOf, list_found}
+use Rattle.dw_loclists.specs.Stored.{AreStoredOf, list_found}
 use Rattle.dw_loclists.specs.Lists.{Loclist}
 use Rattle.dw_loclists.specs.Reading.{list_at}
 use Rattle.dw_loclists.proofs.one_list.check_list.Goals as goal

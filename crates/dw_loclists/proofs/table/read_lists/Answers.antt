@@ -5,7 +5,7 @@ use Rattle.std.proofs.lemmas.List.{map-append}
 use Rattle.dw_bytes.specs.Answers.{memory}
 use Rattle.dw_loclists.specs.declared.contents.LocationList.{LocationList}
 use Rattle.dw_loclists.specs.Reading.{lists_at}
-use Rattle.dw_loclists.specs.Kept.{stored_of}
+use Rattle.dw_loclists.specs.Stored.{stored_of}
 use Rattle.dw_loclists.specs.Views.{start_of}
 use Rattle.dw_loclists.proofs.EachTable.{next-list, last-list, bad-list, list-begins}
 use Rattle.dw_loclists.proofs.StoredLists.{kept-as, list-kept, keeps-list}

@@ -2,7 +2,7 @@ use Rattle.std.proofs.Common.{◌≡◌, List, ◌-◌}
 use Rattle.dw_bytes.specs.Reading.{MovesForward}
 use Rattle.dw_loclists.specs.Lists.{Loclist}
 use Rattle.dw_loclists.specs.Reading.{lists_at}
-use Rattle.dw_loclists.specs.Kept.{KeepsLists}
+use Rattle.dw_loclists.specs.Stored.{KeepsLists}
 use Rattle.dw_loclists.proofs.EachTable.{put_lists}
 use Rattle.dw_loclists.proofs.table.read_lists.Given as goal
 

@@ -9,7 +9,7 @@ use Rattle.dw_loclists.specs.declared.contents.LocationList.{LocationList}
 use Rattle.dw_loclists.specs.Lists.{table_header, starts_of}
 use Rattle.dw_loclists.specs.Bounds.{Ascends}
 use Rattle.dw_loclists.specs.Reading.{list_offset_at, table_at}
-use Rattle.dw_loclists.specs.Kept.{Kept, stored_of}
+use Rattle.dw_loclists.specs.Stored.{Kept, stored_of}
 use Rattle.dw_loclists.specs.Views.{start_of}
 use Rattle.dw_loclists.proofs.EachTable.{table-made, table-unnamed, header-leaves, new-starts, table-of, lists-found}
 use Rattle.dw_loclists.proofs.StoredLists.{past-lists}

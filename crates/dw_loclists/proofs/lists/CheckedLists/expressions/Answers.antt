@@ -1,6 +1,6 @@
 use Rattle.std.proofs.Common.{ap, subst, sym, ◌∙◌}
 use Rattle.dw_loclists.specs.Reading.{ListSection, located_in}
-use Rattle.dw_loclists.specs.Kept.{AreStoredOf}
+use Rattle.dw_loclists.specs.Stored.{AreStoredOf}
 use Rattle.dw_loclists.proofs.InPlace.{all-lendable, all-lent}
 use Rattle.dw_loclists.proofs.lists.CheckedLists.expressions.Goals as goal
 

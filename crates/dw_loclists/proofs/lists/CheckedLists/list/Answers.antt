@@ -4,7 +4,7 @@ use Rattle.dw_loclists.specs.declared.contents.LocationList.{LocationList}
 use Rattle.dw_loclists.specs.Bounds.{Ascends}
 use Rattle.dw_loclists.specs.Lists.{starts_of}
 use Rattle.dw_loclists.specs.Reading.{ListSection, lists_in}
-use Rattle.dw_loclists.specs.Kept.{Kept}
+use Rattle.dw_loclists.specs.Stored.{Kept}
 use Rattle.dw_loclists.specs.Views.{start_of}
 use Rattle.dw_loclists.proofs.Checked.{lists-ascend}
 use Rattle.dw_loclists.proofs.Search.{ascends-back}

@@ -6,7 +6,7 @@ use Rattle.dw_loclists.specs.Entries.{Entry}
 use Rattle.dw_loclists.specs.Lists.{Loclist, starts_of}
 use Rattle.dw_loclists.specs.Locations.{bounded_at, defaults_in, or_else_all}
 use Rattle.dw_loclists.specs.Reading.{entries_at, ListSection, lists_in, located_in}
-use Rattle.dw_loclists.specs.Kept.{AreStoredOf}
+use Rattle.dw_loclists.specs.Stored.{AreStoredOf}
 use Rattle.dw_loclists.specs.Views.{start_of}
 use Rattle.dw_loclists.specs.Walks.{entries_in}
 use Rattle.dw_loclists.proofs.Located.{list-read, inside-section, given-among, kept-among, kept-ascend}

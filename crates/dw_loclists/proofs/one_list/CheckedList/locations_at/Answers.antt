@@ -6,7 +6,7 @@ use Rattle.dw_loclists.specs.Entries.{Entry}
 use Rattle.dw_loclists.specs.Lists.{Loclist}
 use Rattle.dw_loclists.specs.Locations.{bounded_at, defaults_in, expressions_of, locations_of, or_else_all}
 use Rattle.dw_loclists.specs.Reading.{entries_at}
-use Rattle.dw_loclists.specs.Kept.{AreStoredOf, list_found}
+use Rattle.dw_loclists.specs.Stored.{AreStoredOf, list_found}
 use Rattle.dw_loclists.specs.Walks.{entries_in}
 use Rattle.dw_loclists.proofs.EachList.{list-entries}
 use Rattle.dw_loclists.proofs.Located.{entries-among, kept-among, list-ascend}
