@@ -3,7 +3,7 @@
 use Rattle.std.proofs.Common.{◌≡◌, ◌∙◌, ℕ, List, refl, subst}
 use Rattle.std.specs.Prelude.{Option}
 use Rattle.std.proofs.Math.Path.{fun_ext}
-use Rattle.dw_rows.specs.Abi.{Abi, abi_of}
+use Rattle.dw_rules.specs.Abi.{Abi, abi_of}
 use Rattle.dw_rows.specs.Section.{FrameSection}
 use Rattle.dw_unwind.specs.Caller.{Caller}
 use Rattle.dw_unwind.specs.Modules.{over_sections}

@@ -20,7 +20,7 @@ use Rattle.dw_unwind.specs.declared.modules.Module.{Module}
 use Rattle.dw_check.specs.Report.{IsReport}
 use Rattle.dw_loclists.specs.Reading.{ListSection}
 use Rattle.dw_rows.specs.Section.{FrameSection, frame_of}
-use Rattle.dw_rows.specs.Abi.{Abi}
+use Rattle.dw_rules.specs.Abi.{Abi}
 use Rattle.dw_unwind.specs.Walks.{Place, WalkedFrame, Walks}
 use Rattle.dw_check.specs.WalkText.{walk_text}
 use Rattle.dw_unwind.specs.declared.frames.Stop.{Stop}

@@ -9,11 +9,11 @@ use Rattle.dw_bytes.specs.declared.target.AddressSize.TheVariants.{Four, Eight}
 use Rattle.dw_bytes.specs.Encoding.{bytes_of_address}
 use Rattle.dw_frame.specs.Records.{Cie, Fde}
 use Rattle.dw_frame.specs.Sections.{top_of}
-use Rattle.dw_rows.specs.Rules.{Row}
+use Rattle.dw_rules.specs.Rules.{Row}
 use Rattle.dw_stack.specs.Located.{LocatedExpression}
-use Rattle.dw_rows.specs.GivenRows.{given_row}
-use Rattle.dw_rows.proofs.GivenRows.{cover-with}
-use Rattle.dw_rows.specs.ProgramFault.{fde_fault}
+use Rattle.dw_rules.specs.GivenRows.{given_row}
+use Rattle.dw_rows.proofs.RowsWithExpressions.{cover-with}
+use Rattle.dw_rules.specs.ProgramFault.{fde_fault}
 use Rattle.dw_rows.specs.UnwindRows.{Cover, rows_of}
 use Rattle.dw_rows.proofs.Covering.{cover-rows}
 use Rattle.dw_check.specs.Text.{Fits, digits_of}

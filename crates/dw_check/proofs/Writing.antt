@@ -6,9 +6,9 @@ use Rattle.std.specs.List.{flat_map}
 use Rattle.std.specs.Io.KnownBytes.{Appends}
 use Rattle.dw_bytes.specs.declared.target.AddressSize.{AddressSize}
 use Rattle.dw_frame.specs.Records.{Cie, Fde}
-use Rattle.dw_rows.specs.Rules.{Row}
+use Rattle.dw_rules.specs.Rules.{Row}
 use Rattle.dw_rows.specs.Section.{FrameSection, cie_in, rows_in, rows_by_cie, row_of}
-use Rattle.dw_rows.specs.GivenRows.{given_row}
+use Rattle.dw_rules.specs.GivenRows.{given_row}
 use Rattle.dw_rows.specs.UnwindRows.{rows_of}
 use Rattle.dw_check.specs.SinkBytes.{AppendsFront}
 use Rattle.dw_check.specs.Text.{fde_line, row_line, lines_of, fde_text, found_text, lookup_text}

@@ -6,7 +6,7 @@ use Rattle.std.specs.Io.KnownBytes.{Appends}
 use Rattle.dw_bytes.specs.declared.target.Target.{Target}
 use Rattle.dw_bytes.specs.declared.target.AddressSize.{AddressSize}
 use Rattle.dw_bytes.specs.declared.fault.Fault.{Fault}
-use Rattle.dw_rows.specs.Abi.{Abi, abi_of}
+use Rattle.dw_rules.specs.Abi.{Abi, abi_of}
 use Rattle.dw_rows.specs.Section.{FrameSection, section_fault, frame_of}
 use Rattle.dw_loclists.specs.Reading.{ListSection, lists_fault}
 use Rattle.dw_stack.specs.declared.state.Kind.{Kind}

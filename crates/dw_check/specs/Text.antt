@@ -9,8 +9,8 @@ use Rattle.dw_bytes.specs.declared.fault.Fault.{Fault}
 use Rattle.dw_bytes.specs.declared.target.AddressSize.{AddressSize}
 use Rattle.dw_bytes.specs.declared.target.AddressSize.TheVariants.{Four, Eight}
 use Rattle.dw_frame.specs.Records.{Cie, Fde}
-use Rattle.dw_rows.specs.Rules.{Rule, Cfa, Row, default, undefined, same_value, offset, val_offset, register, expression, val_expression}
-use Rattle.dw_rows.specs.Rules.{register_and_offset, cfa_expression}
+use Rattle.dw_rules.specs.Rules.{Rule, Cfa, Row, default, undefined, same_value, offset, val_offset, register, expression, val_expression}
+use Rattle.dw_rules.specs.Rules.{register_and_offset, cfa_expression}
 use Rattle.dw_rows.specs.Section.{FrameSection, cie_in, rows_in, row_of}
 use Rattle.dw_sections.specs.declared.section.Section.{Section}
 use Rattle.dw_sections.specs.Text.{section_text}

@@ -5,7 +5,7 @@ ghost use Rattle.std.specs.List.{flat_map};
 ghost use Rattle.std.specs.String.{string_bytes};
 ghost use Rattle.dw_frame.specs.Views.{cie_of, fde_of};
 ghost use Rattle.dw_stack.specs.Certificates.{checked_of};
-ghost use Rattle.dw_rows.specs.Views.{rule_of, cfa_rule_of};
+ghost use Rattle.dw_rules.specs.Views.{rule_of, cfa_rule_of};
 ghost use Rattle.dw_bytes.specs.Text.{kind_text};
 ghost use Rattle.dw_check.specs.Text.{refused_line, expression_text, expression_offset_line, records_text, fde_line, cfa_text};
 ghost use Rattle.dw_check.specs.Text.{rule_text, register_text, row_line, digits_of, Fits};

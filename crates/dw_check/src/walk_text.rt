@@ -2,7 +2,7 @@
 
 ghost use Rattle.std.specs.Prelude.{◌≡◌, ◌++◌, IfOk, List, MatchResult, OnOk, Some, false, option_map};
 ghost use Rattle.std.specs.String.{string_bytes};
-ghost use Rattle.dw_rows.specs.AbiViews.{roles_of};
+ghost use Rattle.dw_rules.specs.AbiViews.{roles_of};
 ghost use Rattle.dw_unwind.specs.CallerViews.{answer_in};
 ghost use Rattle.dw_unwind.specs.Walks.{AlwaysUnwinds, IsFrameAt, Place, WalkedFrame, Walks};
 ghost use Rattle.dw_unwind.specs.WalkSteps.{GivesNext, about_to_give, frame_at, stop_of};

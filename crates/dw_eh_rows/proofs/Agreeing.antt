@@ -5,12 +5,12 @@ use Rattle.std.proofs.lemmas.List.{length-append}
 use Rattle.dw_frame.specs.Instructions.{Instruction}
 use Rattle.dw_frame.specs.Records.{Cie}
 use Rattle.dw_stack.specs.Located.{LocatedExpression}
-use Rattle.dw_rows.specs.Expressions.{expression_in}
-use Rattle.dw_rows.specs.Rules.{PlacedRule, PlacedCfa, default, undefined, same_value, offset, val_offset, register}
-use Rattle.dw_rows.specs.Rules.{expression, val_expression, register_and_offset, cfa_expression}
-use Rattle.dw_rows.specs.Effects.{Effect, stays, advances_loc, sets_loc, defines_cfa, changes_register, changes_offset, sets, restores}
-use Rattle.dw_rows.specs.Effects.{remembers_state, restores_state, effect_of, effects_by}
-use Rattle.dw_rows.specs.GivenRows.{or_nowhere}
+use Rattle.dw_rules.specs.Expressions.{expression_in}
+use Rattle.dw_rules.specs.Rules.{PlacedRule, PlacedCfa, default, undefined, same_value, offset, val_offset, register}
+use Rattle.dw_rules.specs.Rules.{expression, val_expression, register_and_offset, cfa_expression}
+use Rattle.dw_rules.specs.Effects.{Effect, stays, advances_loc, sets_loc, defines_cfa, changes_register, changes_offset, sets, restores}
+use Rattle.dw_rules.specs.Effects.{remembers_state, restores_state, effect_of, effects_by}
+use Rattle.dw_rules.specs.GivenRows.{or_nowhere}
 use Rattle.dw_eh_frame.specs.Instructions.{EhInstruction, plain, args_size, negate_ra_state}
 use Rattle.dw_eh_frame.specs.Same.{unplaced, IsMoved, AreNops, SayTheSame}
 use Rattle.dw_eh_rows.specs.Meaning.{numbered, eh_effects_from, eh_expression_in, expression_number}

@@ -6,11 +6,11 @@ use Rattle.std.proofs.lemmas.Bool.Decides.{nat_tests}
 use Rattle.std.proofs.lemmas.List.{map-append, reverse-append, append-nil}
 use Rattle.dw_frame.specs.Records.{Fde}
 use Rattle.dw_stack.specs.Located.{LocatedExpression}
-use Rattle.dw_rows.specs.Rules.{PlacedRule, PlacedCfa, PlacedRow, Rule, Cfa, Row, default, undefined, same_value, offset, val_offset, register}
-use Rattle.dw_rows.specs.Rules.{expression, val_expression, register_and_offset, cfa_expression, with_rule, rules_below, rule_list}
-use Rattle.dw_rows.specs.Effects.{Effect, stays, advances_loc, sets_loc, defines_cfa, changes_register, changes_offset, sets, restores}
-use Rattle.dw_rows.specs.Effects.{remembers_state, restores_state}
-use Rattle.dw_rows.specs.InForce.{Start, location_of, rule_at, cfa_at, with_register, with_offset, cie_start, start_after_cie}
+use Rattle.dw_rules.specs.Rules.{PlacedRule, PlacedCfa, PlacedRow, Rule, Cfa, Row, default, undefined, same_value, offset, val_offset, register}
+use Rattle.dw_rules.specs.Rules.{expression, val_expression, register_and_offset, cfa_expression, with_rule, rules_below, rule_list}
+use Rattle.dw_rules.specs.Effects.{Effect, stays, advances_loc, sets_loc, defines_cfa, changes_register, changes_offset, sets, restores}
+use Rattle.dw_rules.specs.Effects.{remembers_state, restores_state}
+use Rattle.dw_rules.specs.InForce.{Start, location_of, rule_at, cfa_at, with_register, with_offset, cie_start, start_after_cie}
 use Rattle.dw_rows.specs.UnwindRows.{row_up_to, rows_up_to, rows_after}
 use Rattle.dw_eh_rows.specs.Named.{rule_with, cfa_with, entry_with, row_with, rows_with}
 

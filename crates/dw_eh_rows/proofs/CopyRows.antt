@@ -9,9 +9,9 @@ use Rattle.dw_bytes.specs.Reading.{ReadPosition}
 use Rattle.dw_bytes.proofs.Readers.{same-reading}
 use Rattle.dw_frame.specs.Instructions.{Instruction}
 use Rattle.dw_frame.specs.Records.{Cie}
-use Rattle.dw_rows.specs.Rules.{PlacedRow}
-use Rattle.dw_rows.specs.Effects.{Effect, effect_of}
-use Rattle.dw_rows.specs.InForce.{Start, rule_at, cfa_at, cie_start}
+use Rattle.dw_rules.specs.Rules.{PlacedRow}
+use Rattle.dw_rules.specs.Effects.{Effect, effect_of}
+use Rattle.dw_rules.specs.InForce.{Start, rule_at, cfa_at, cie_start}
 use Rattle.dw_rows.specs.UnwindRows.{rows_after}
 use Rattle.dw_eh_frame.specs.declared.pointer.Bases.{Bases}
 use Rattle.dw_eh_frame.specs.declared.dialect.Dialect.{Dialect}

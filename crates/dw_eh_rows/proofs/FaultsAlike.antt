@@ -11,17 +11,17 @@ use Rattle.dw_frame.specs.Records.{Cie}
 use Rattle.dw_stack.specs.declared.state.Kind.{Kind}
 use Rattle.dw_stack.specs.FirstFault.{expression_fault}
 use Rattle.dw_stack.specs.Located.{located_fault, moved_by}
-use Rattle.dw_rows.specs.declared.register_rules.TheConstants.{MAX_RULES}
-use Rattle.dw_rows.specs.declared.remember_stack.TheConstants.{MAX_REMEMBERED}
-use Rattle.dw_rows.specs.Rules.{PlacedRule, PlacedCfa, Rule, default, undefined, same_value, offset, val_offset, register, rule_list, rule_count}
-use Rattle.dw_rows.specs.Rules.{expression, val_expression, register_and_offset, cfa_expression}
-use Rattle.dw_rows.specs.Effects.{Effect, stays, advances_loc, sets_loc, defines_cfa, changes_register, changes_offset, sets, restores}
-use Rattle.dw_rows.specs.Effects.{remembers_state, restores_state, effect_of, needs_register_cfa, overflows, is_barred}
-use Rattle.dw_rows.specs.Expressions.{expression_in}
-use Rattle.dw_rows.specs.GivenRows.{nowhere}
-use Rattle.dw_rows.specs.InForce.{Start, location_of, rule_at, cfa_at, open_count, not_register_cfa, cie_start}
-use Rattle.dw_rows.specs.ProgramFault.{goes_back, lacks_cfa, is_restore_state, is_remember_state, refusal_at, refusal_at_end, cie_refusal_at}
-use Rattle.dw_rows.specs.ProgramFault.{standing_at, fault_from, first_refusal}
+use Rattle.dw_rules.specs.declared.register_rules.TheConstants.{MAX_RULES}
+use Rattle.dw_rules.specs.declared.remember_stack.TheConstants.{MAX_REMEMBERED}
+use Rattle.dw_rules.specs.Rules.{PlacedRule, PlacedCfa, Rule, default, undefined, same_value, offset, val_offset, register, rule_list, rule_count}
+use Rattle.dw_rules.specs.Rules.{expression, val_expression, register_and_offset, cfa_expression}
+use Rattle.dw_rules.specs.Effects.{Effect, stays, advances_loc, sets_loc, defines_cfa, changes_register, changes_offset, sets, restores}
+use Rattle.dw_rules.specs.Effects.{remembers_state, restores_state, effect_of, needs_register_cfa, overflows, is_barred}
+use Rattle.dw_rules.specs.Expressions.{expression_in}
+use Rattle.dw_rules.specs.GivenRows.{nowhere}
+use Rattle.dw_rules.specs.InForce.{Start, location_of, rule_at, cfa_at, open_count, not_register_cfa, cie_start}
+use Rattle.dw_rules.specs.ProgramFault.{goes_back, lacks_cfa, is_restore_state, is_remember_state, refusal_at, refusal_at_end, cie_refusal_at}
+use Rattle.dw_rules.specs.ProgramFault.{standing_at, fault_from, first_refusal}
 use Rattle.dw_eh_frame.specs.Instructions.{plain, args_size, negate_ra_state}
 use Rattle.dw_eh_frame.specs.Same.{unplaced, AreNops}
 use Rattle.dw_eh_frame.proofs.Shifted.{item-by, instruction-by, eh-instruction-by}

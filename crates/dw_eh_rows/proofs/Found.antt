@@ -9,8 +9,8 @@ use Rattle.dw_frame.specs.Bounds.{Ascends, offset_of}
 use Rattle.dw_frame.proofs.EachRecord.{sections-are-records}
 use Rattle.dw_frame.proofs.RecordBounds.{records-ascend}
 use Rattle.dw_stack.specs.Located.{LocatedExpression}
-use Rattle.dw_rows.specs.Rules.{PlacedRow, Row}
-use Rattle.dw_rows.specs.GivenRows.{given_row, located_at}
+use Rattle.dw_rules.specs.Rules.{PlacedRow, Row}
+use Rattle.dw_rules.specs.GivenRows.{given_row, located_at}
 use Rattle.dw_rows.specs.UnwindRows.{rows_of, has_address}
 use Rattle.dw_rows.specs.Good.{IsGoodFdeProgram}
 use Rattle.dw_rows.specs.ExactRows.{HasOneRow}

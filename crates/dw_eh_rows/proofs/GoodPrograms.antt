@@ -9,9 +9,9 @@ use Rattle.dw_bytes.specs.Answers.{values_in}
 use Rattle.dw_frame.specs.Records.{Cie}
 use Rattle.dw_stack.specs.Located.{LocatedExpression, located_fault, moved_by}
 use Rattle.dw_stack.proofs.Named.{none_if_good}
-use Rattle.dw_rows.specs.Effects.{Effect}
-use Rattle.dw_rows.specs.InForce.{Start}
-use Rattle.dw_rows.specs.ProgramFault.{standing_at, refusal_at, refusal_at_end, cie_refusal_at, end_of}
+use Rattle.dw_rules.specs.Effects.{Effect}
+use Rattle.dw_rules.specs.InForce.{Start}
+use Rattle.dw_rules.specs.ProgramFault.{standing_at, refusal_at, refusal_at_end, cie_refusal_at, end_of}
 use Rattle.dw_rows.proofs.Goods.{Fine, fine-iff, FineCie, fine-cie-iff}
 use Rattle.dw_rows.proofs.Programs.{located-good}
 use Rattle.dw_rows.proofs.RowCursors.{standing_at-none}

@@ -24,13 +24,13 @@ use Rattle.dw_stack.specs.Paths.{Placed}
 use Rattle.dw_stack.specs.Expressions.{operations_in, reading_fault}
 use Rattle.dw_stack.specs.FirstFault.{Question, first_no, asked_of, asked_last, asked_from, states_to, first_fault, expression_fault}
 use Rattle.dw_stack.specs.Located.{LocatedExpression, located_fault, moved_by}
-use Rattle.dw_rows.specs.declared.register_rules.TheConstants.{MAX_RULES}
-use Rattle.dw_rows.specs.declared.remember_stack.TheConstants.{MAX_REMEMBERED}
-use Rattle.dw_rows.specs.Rules.{rule_count}
-use Rattle.dw_rows.specs.Effects.{Effect, effect_of, needs_register_cfa, overflows, is_barred}
-use Rattle.dw_rows.specs.Expressions.{expression_in}
-use Rattle.dw_rows.specs.InForce.{Start, location_of, rule_at, cfa_at, open_count, not_register_cfa, fde_start, cie_start}
-use Rattle.dw_rows.specs.ProgramFault.{goes_back, lacks_cfa, is_restore_state, is_remember_state, first_refusal, refusal_at, refusal_at_end, cie_refusal_at, standing_at, item_fault, fault_from, end_of, cie_fault, fde_fault}
+use Rattle.dw_rules.specs.declared.register_rules.TheConstants.{MAX_RULES}
+use Rattle.dw_rules.specs.declared.remember_stack.TheConstants.{MAX_REMEMBERED}
+use Rattle.dw_rules.specs.Rules.{rule_count}
+use Rattle.dw_rules.specs.Effects.{Effect, effect_of, needs_register_cfa, overflows, is_barred}
+use Rattle.dw_rules.specs.Expressions.{expression_in}
+use Rattle.dw_rules.specs.InForce.{Start, location_of, rule_at, cfa_at, open_count, not_register_cfa, fde_start, cie_start}
+use Rattle.dw_rules.specs.ProgramFault.{goes_back, lacks_cfa, is_restore_state, is_remember_state, first_refusal, refusal_at, refusal_at_end, cie_refusal_at, standing_at, item_fault, fault_from, end_of, cie_fault, fde_fault}
 use Rattle.dw_eh_frame.specs.Places.{is_overlap}
 
 abbrev Never : {X : Type 0} → Result X Fault → Type 0

@@ -6,9 +6,9 @@ use Rattle.dw_bytes.specs.Reading.{ReadPosition}
 use Rattle.dw_frame.specs.Instructions.{Instruction}
 use Rattle.dw_frame.specs.Records.{Cie}
 use Rattle.dw_frame.specs.Sections.{Header, cie_header, fde_header}
-use Rattle.dw_rows.specs.Rules.{PlacedRow}
-use Rattle.dw_rows.specs.Effects.{Effect, effect_of}
-use Rattle.dw_rows.specs.InForce.{start_after_cie}
+use Rattle.dw_rules.specs.Rules.{PlacedRow}
+use Rattle.dw_rules.specs.Effects.{Effect, effect_of}
+use Rattle.dw_rules.specs.InForce.{start_after_cie}
 use Rattle.dw_rows.specs.UnwindRows.{rows_after}
 use Rattle.dw_eh_frame.specs.Instructions.{EhInstruction, plain, args_size, negate_ra_state}
 use Rattle.dw_eh_frame.specs.Records.{EhFde}

@@ -8,10 +8,10 @@ use Rattle.dw_frame.specs.Instructions.{Instruction}
 use Rattle.dw_frame.specs.Codes.{instructions_of}
 use Rattle.dw_frame.specs.Records.{Cie, Fde}
 use Rattle.dw_frame.specs.Sections.{Header, cie_header, fde_header}
-use Rattle.dw_rows.specs.Effects.{Effect, stays, effect_of, effects_by, effects_of}
-use Rattle.dw_rows.specs.Expressions.{expression_in}
-use Rattle.dw_rows.specs.InForce.{Start, start_after_cie, fde_start, cie_start}
-use Rattle.dw_rows.specs.ProgramFault.{standing_at, refusal_at, refusal_at_end, cie_refusal_at, fault_from, end_of, cie_fault, fde_fault}
+use Rattle.dw_rules.specs.Effects.{Effect, stays, effect_of, effects_by, effects_of}
+use Rattle.dw_rules.specs.Expressions.{expression_in}
+use Rattle.dw_rules.specs.InForce.{Start, start_after_cie, fde_start, cie_start}
+use Rattle.dw_rules.specs.ProgramFault.{standing_at, refusal_at, refusal_at_end, cie_refusal_at, fault_from, end_of, cie_fault, fde_fault}
 use Rattle.dw_eh_frame.specs.Records.{EhCie, EhFde}
 use Rattle.dw_eh_frame.specs.Instructions.{EhInstruction, plain, args_size, negate_ra_state, dialect_of}
 use Rattle.dw_eh_frame.specs.Rewriting.{IsSameCie, IsSameFde}

@@ -7,8 +7,8 @@ use Rattle.dw_bytes.specs.Answers.{values_in}
 use Rattle.dw_bytes.specs.Reading.{ReadPosition}
 use Rattle.dw_frame.specs.Instructions.{Instruction}
 use Rattle.dw_frame.specs.Codes.{AreInstructions, instructions_of}
-use Rattle.dw_rows.specs.Effects.{Effect, effects_by, effects_of}
-use Rattle.dw_rows.specs.InForce.{Start, start_after_cie, rule_at, cfa_at, cie_start}
+use Rattle.dw_rules.specs.Effects.{Effect, effects_by, effects_of}
+use Rattle.dw_rules.specs.InForce.{Start, start_after_cie, rule_at, cfa_at, cie_start}
 use Rattle.dw_rows.specs.Good.{IsGoodFdeProgram}
 use Rattle.dw_rows.specs.UnwindRows.{rows_after, rows_of}
 use Rattle.dw_frame.proofs.EachInstruction.{programs-are-instructions}

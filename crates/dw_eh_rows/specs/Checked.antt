@@ -10,7 +10,7 @@ use Rattle.dw_frame.specs.Bounds.{offset_of}
 use Rattle.dw_eh_frame.specs.Places.{IsOn, is_overlap, written_program}
 use Rattle.dw_eh_frame.specs.Refused.{too_long}
 use Rattle.dw_eh_frame.specs.Rewriting.{Pair}
-use Rattle.dw_rows.specs.Rules.{PlacedRow}
+use Rattle.dw_rules.specs.Rules.{PlacedRow}
 use Rattle.dw_eh_rows.specs.Meaning.{AreEhRows, EhCovers, eh_fdes}
 use Rattle.dw_eh_rows.specs.OneRow.{HasOneEhRow}
 

@@ -11,9 +11,9 @@ use Rattle.dw_bytes.specs.Answers.{values_in}
 use Rattle.dw_frame.specs.Records.{Cie}
 use Rattle.dw_frame.specs.Sections.{Header, cie_header, fde_header}
 use Rattle.dw_stack.specs.Located.{located_fault}
-use Rattle.dw_rows.specs.Effects.{Effect}
-use Rattle.dw_rows.specs.InForce.{Start, start_after_cie}
-use Rattle.dw_rows.specs.ProgramFault.{standing_at, refusal_at, refusal_at_end, cie_refusal_at, end_of}
+use Rattle.dw_rules.specs.Effects.{Effect}
+use Rattle.dw_rules.specs.InForce.{Start, start_after_cie}
+use Rattle.dw_rules.specs.ProgramFault.{standing_at, refusal_at, refusal_at_end, cie_refusal_at, end_of}
 use Rattle.dw_rows.specs.Section.{first_fault, overlap_fault}
 use Rattle.dw_eh_frame.specs.declared.pointer.Bases.{Bases}
 use Rattle.dw_eh_frame.specs.Copies.{distinct}

@@ -2,7 +2,7 @@
 use Rattle.std.specs.Prelude.{◌≡◌, ℕ, Bool, List, ◌++◌, Contains}
 use Rattle.dw_frame.specs.Records.{Cie, Fde, cie_record}
 use Rattle.dw_stack.specs.Located.{LocatedExpression}
-use Rattle.dw_rows.specs.Rules.{PlacedRow}
+use Rattle.dw_rules.specs.Rules.{PlacedRow}
 use Rattle.dw_rows.specs.Good.{IsGoodFdeProgram}
 use Rattle.dw_rows.specs.UnwindRows.{rows_of}
 use Rattle.dw_eh_frame.specs.Records.{EhFde, eh_cie}

@@ -7,11 +7,11 @@ use Rattle.dw_frame.specs.Instructions.{Instruction}
 use Rattle.dw_frame.specs.Records.{Cie, Fde}
 use Rattle.dw_frame.specs.Sections.{Header, cie_header}
 use Rattle.dw_stack.specs.Located.{LocatedExpression}
-use Rattle.dw_rows.specs.Expressions.{expression_in}
-use Rattle.dw_rows.specs.GivenRows.{nowhere, or_nowhere}
-use Rattle.dw_rows.specs.Rules.{PlacedRow}
-use Rattle.dw_rows.specs.Effects.{Effect, stays, effect_of}
-use Rattle.dw_rows.specs.InForce.{start_after_cie}
+use Rattle.dw_rules.specs.Expressions.{expression_in}
+use Rattle.dw_rules.specs.GivenRows.{nowhere, or_nowhere}
+use Rattle.dw_rules.specs.Rules.{PlacedRow}
+use Rattle.dw_rules.specs.Effects.{Effect, stays, effect_of}
+use Rattle.dw_rules.specs.InForce.{start_after_cie}
 use Rattle.dw_rows.specs.UnwindRows.{rows_after}
 use Rattle.dw_eh_frame.specs.Records.{EhFde, EhRecord, eh_cie, eh_fde, eh_nothing}
 use Rattle.dw_eh_frame.specs.declared.dialect.Dialect.{Dialect}

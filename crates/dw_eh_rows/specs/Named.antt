@@ -4,9 +4,9 @@ use Rattle.std.specs.Prelude.{◌≡◌, ℕ, List, map, Some, Contains}
 use Rattle.std.specs.Option.{option_map}
 use Rattle.dw_frame.specs.Instructions.{Instruction}
 use Rattle.dw_stack.specs.Located.{LocatedExpression}
-use Rattle.dw_rows.specs.Expressions.{expression_in}
-use Rattle.dw_rows.specs.Rules.{PlacedRule, PlacedCfa, PlacedRow, Rule, Cfa, Row, default, undefined, same_value, offset, val_offset}
-use Rattle.dw_rows.specs.Rules.{register, expression, val_expression, register_and_offset, cfa_expression}
+use Rattle.dw_rules.specs.Expressions.{expression_in}
+use Rattle.dw_rules.specs.Rules.{PlacedRule, PlacedCfa, PlacedRow, Rule, Cfa, Row, default, undefined, same_value, offset, val_offset}
+use Rattle.dw_rules.specs.Rules.{register, expression, val_expression, register_and_offset, cfa_expression}
 
 -- an expression without the place where it lies
 abbrev pub content : LocatedExpression → LocatedExpression

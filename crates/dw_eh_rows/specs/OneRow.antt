@@ -1,8 +1,8 @@
 -- The one row of an address that an FDE of `.eh_frame` covers.
 use Rattle.std.specs.Prelude.{◌≡◌, ℕ, Bool, List, [], ◌∷◌, ◌++◌, Some, filter}
 use Rattle.dw_frame.specs.Records.{Cie}
-use Rattle.dw_rows.specs.Rules.{PlacedRow}
-use Rattle.dw_rows.specs.GivenRows.{given_row, located_at}
+use Rattle.dw_rules.specs.Rules.{PlacedRow}
+use Rattle.dw_rules.specs.GivenRows.{given_row, located_at}
 use Rattle.dw_rows.specs.UnwindRows.{has_address}
 use Rattle.dw_rows.specs.Section.{FrameSection, IsReturnRegister, row_of}
 use Rattle.dw_eh_frame.specs.Records.{EhFde, EhRecord}

@@ -6,7 +6,7 @@ ghost use Rattle.dw_bytes.specs.Answers.{values_in};
 ghost use Rattle.dw_bytes.specs.declared.fault.Fault.{Fault};
 ghost use Rattle.dw_bytes.specs.declared.target.Target.{Target};
 ghost use Rattle.dw_frame.specs.Records.{Fde, fde_record};
-ghost use Rattle.dw_rows.specs.Rules.{PlacedRow};
+ghost use Rattle.dw_rules.specs.Rules.{PlacedRow};
 ghost use Rattle.dw_rows.specs.Section.{FrameSection, IsChecked, row_of, section_fault};
 ghost use Rattle.dw_eh_frame.specs.declared.pointer.Bases.{Bases};
 ghost use Rattle.dw_eh_frame.specs.Copies.{distinct};

@@ -4,8 +4,9 @@ use Rattle.std.specs.Prelude.{cond, Contains, IfSome}
 use Rattle.std.specs.Option.{option_and_then, option_map}
 use Rattle.std.proofs.lemmas.List.Elements.{All-contains}
 use Rattle.dw_bytes.specs.declared.target.Target.{Target}
-use Rattle.dw_rows.specs.Rules.{Row}
-use Rattle.dw_rows.specs.UnwindTables.{IsRowUnder, row_at}
+use Rattle.dw_rules.specs.Rules.{Row}
+use Rattle.dw_tables.specs.UnwindTables.{row_at}
+use Rattle.dw_rows.specs.RowLookups.{IsRowUnder}
 use Rattle.dw_unwind.specs.Modules.{as_linked}
 use Rattle.dw_process.specs.declared.loaded_module.LoadedModule.{LoadedModule}
 use Rattle.dw_process.specs.ModuleMaps.{is_in, module_at}

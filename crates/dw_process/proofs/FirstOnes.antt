@@ -5,8 +5,8 @@ use Rattle.std.specs.Option.{option_and_then, option_or}
 use Rattle.std.proofs.lemmas.Bool.Decides.{nat_tests}
 use Rattle.dw_bytes.specs.declared.target.Target.{Target}
 use Rattle.dw_eval.specs.World.{World}
-use Rattle.dw_rows.specs.Abi.{Abi}
-use Rattle.dw_rows.specs.Rules.{Row}
+use Rattle.dw_rules.specs.Abi.{Abi}
+use Rattle.dw_rules.specs.Rules.{Row}
 use Rattle.dw_unwind.specs.Caller.{Caller, UnwindsBy, machine}
 use Rattle.dw_unwind.specs.Modules.{OrElse, over_tables}
 use Rattle.dw_unwind.specs.Walks.{over_rows}

@@ -3,9 +3,10 @@ use Rattle.std.proofs.Common.{◌≡◌, ℕ, ◌^◌, ◌<◌, true, Option, So
 use Rattle.std.specs.Prelude.{IfSome}
 use Rattle.dw_bytes.specs.declared.target.Target.{Target}
 use Rattle.dw_eval.specs.Numbers.{width_of}
-use Rattle.dw_rows.specs.Rules.{Row}
+use Rattle.dw_rules.specs.Rules.{Row}
 use Rattle.dw_rows.specs.Section.{FrameSection}
-use Rattle.dw_rows.specs.UnwindTables.{IsFoundAt, IsTableOf, row_at}
+use Rattle.dw_tables.specs.UnwindTables.{IsTableOf, row_at}
+use Rattle.dw_rows.specs.RowLookups.{IsFoundAt}
 use Rattle.dw_unwind.specs.Modules.{as_linked}
 use Rattle.dw_process.specs.FirstRows.{HasRowInRange}
 use Rattle.dw_process.specs.ModuleMaps.{is_in}

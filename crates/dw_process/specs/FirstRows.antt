@@ -2,8 +2,8 @@
 -- ranges. If each module has rows only in its range, that is the module of the address.
 use Rattle.std.specs.Prelude.{◌≡◌, ℕ, true, List, [], ◌∷◌, map, IfSome, Option, None}
 use Rattle.std.specs.Option.{option_or}
-use Rattle.dw_rows.specs.Rules.{Row}
-use Rattle.dw_rows.specs.UnwindTables.{RowTable}
+use Rattle.dw_rules.specs.Rules.{Row}
+use Rattle.dw_tables.specs.UnwindTables.{RowTable}
 use Rattle.dw_unwind.specs.declared.modules.Module.{Module}
 use Rattle.dw_process.specs.ModuleMaps.{is_in}
 use Rattle.dw_process.specs.Processes.{row_of_module}

@@ -6,9 +6,10 @@ use Rattle.std.specs.Option.{option_and_then, option_map}
 use Rattle.dw_bytes.specs.declared.target.Target.{Target}
 use Rattle.dw_eh_rows.specs.Signals.{is_signal_at}
 use Rattle.dw_eh_rows.specs.declared.signals.AddressRange.{AddressRange as SignalRange}
-use Rattle.dw_rows.specs.Rules.{Row}
+use Rattle.dw_rules.specs.Rules.{Row}
 use Rattle.dw_rows.specs.Section.{FrameSection, frame_of, section_fault}
-use Rattle.dw_rows.specs.UnwindTables.{IsRowUnder, IsTableOf, RowTable, expression_bytes, row_at}
+use Rattle.dw_tables.specs.UnwindTables.{IsTableOf, RowTable, expression_bytes, row_at}
+use Rattle.dw_rows.specs.RowLookups.{IsRowUnder}
 use Rattle.dw_unwind.specs.Modules.{as_linked}
 use Rattle.dw_process.specs.ModuleMaps.{AreInOrder, IsPlaceFor, is_in, module_at}
 use Rattle.dw_process.specs.Ranges.{IsRangeFor}

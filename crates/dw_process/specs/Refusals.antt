@@ -3,7 +3,7 @@ use Rattle.std.specs.Prelude.{◌≡◌, ◌⊎◌, ℕ, ◌<◌, List, Option, 
 use Rattle.dw_bytes.specs.declared.target.Target.{Target}
 use Rattle.dw_bytes.specs.Answers.{memory}
 use Rattle.dw_rows.specs.Section.{FrameSection, frame_of, section_fault}
-use Rattle.dw_rows.specs.UnwindTables.{table_bytes}
+use Rattle.dw_tables.specs.UnwindTables.{table_bytes}
 use Rattle.dw_process.specs.ModuleMaps.{IsFree, IsTaken}
 use Rattle.dw_process.specs.Ranges.{HasNoRange, IsRangeFor}
 use Rattle.dw_process.specs.declared.address_range.AddressRange.{AddressRange}

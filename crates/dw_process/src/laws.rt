@@ -3,9 +3,9 @@
 
 ghost use Rattle.std.specs.Prelude.{◌≡◌, ◌↔◌, ◌<◌, ◌^◌, ℕ, true, All, Contains, IfSome, List, None, Option, Some};
 ghost use Rattle.dw_eval.specs.Numbers.{width_of};
-ghost use Rattle.dw_rows.specs.Abi.{Abi};
+ghost use Rattle.dw_rules.specs.Abi.{Abi};
 ghost use Rattle.dw_rows.specs.Section.{FrameSection};
-ghost use Rattle.dw_rows.specs.UnwindTables.{IsTableOf};
+ghost use Rattle.dw_tables.specs.UnwindTables.{IsTableOf};
 ghost use Rattle.dw_unwind.specs.Caller.{Caller};
 ghost use Rattle.dw_unwind.specs.Modules.{over_tables};
 ghost use Rattle.dw_unwind.specs.Walks.{over_rows};

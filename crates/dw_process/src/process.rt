@@ -18,6 +18,7 @@ use crate::shared_table::SharedTable;
 use dw_bytes::{OUT_OF_MEMORY, Target};
 use dw_eh_rows::AddressRange as SignalRange;
 use dw_rows::{CheckedFrame, UnwindRow, UnwindRows, check_frame};
+use dw_tables::UnwindTable;
 use dw_unwind::as_linked;
 use std::alloc::Global;
 use std::marker::Model;
@@ -85,7 +86,7 @@ fn prepare(
         Ok(place) => place,
         Err(id) => return Err(Refusal::Overlaps(id)),
     };
-    let Some(table) = frame.compile(alloc, room)? else {
+    let Some(table) = UnwindTable::compile(alloc, frame, room)? else {
         return Err(Refusal::Room);
     };
     match SharedTable::new(alloc, table) {
@@ -142,7 +143,7 @@ impl Process {
     /// may not share an address with the range of another module.
     ///
     /// `room` bounds what the compiled table stores, copied expressions included
-    /// (`CheckedFrame::compile` says how the bytes are counted). Checking and compiling may need
+    /// (`UnwindTable::compile` says how the bytes are counted). Checking and compiling may need
     /// more memory than that while they run. After an error the process is unchanged.
     pub fn add(
         &mut self,

@@ -1,10 +1,12 @@
 //! A compiled table that several processes share.
 
 ghost use Rattle.std.specs.Prelude.{◌≡◌, IfSome};
-ghost use Rattle.dw_rows.specs.UnwindTables.{IsRowUnder, row_at};
+ghost use Rattle.dw_tables.specs.UnwindTables.{row_at};
+ghost use Rattle.dw_rows.specs.RowLookups.{IsRowUnder};
 
 use dw_bytes::Target;
-use dw_rows::{UnwindRow, UnwindRows, UnwindTable};
+use dw_rows::{UnwindRow, UnwindRows};
+use dw_tables::UnwindTable;
 use std::alloc::Global;
 use std::marker::Model;
 use std::sync::Arc;
@@ -17,7 +19,7 @@ pub struct SharedTable {
 }
 
 impl Model for SharedTable {
-    ghost use Rattle.dw_rows.specs.UnwindTables.{RowTable};
+    ghost use Rattle.dw_tables.specs.UnwindTables.{RowTable};
 
     ghost Value = { RowTable };
 
@@ -61,7 +63,7 @@ impl UnwindRows for SharedTable {
     type Slot = ();
 
     ghost use Rattle.std.specs.Prelude.{◌≡◌};
-    ghost use Rattle.dw_rows.specs.UnwindTables.{row_at};
+    ghost use Rattle.dw_tables.specs.UnwindTables.{row_at};
 
     ghost target_of = { λ t. t.target };
 

@@ -11,9 +11,9 @@ use Rattle.std.proofs.lemmas.List.{append-nil}
 use Rattle.std.proofs.lemmas.Option.{slice_get-get_or}
 use Rattle.dw_bytes.specs.declared.fault.Fault.{Fault}
 use Rattle.dw_bytes.specs.declared.fault.FaultKind.TheVariants.{AbiTooLarge, AbiTwice}
-use Rattle.dw_rows.specs.declared.abi.TheConstants.{MAX_KEPT}
-use Rattle.dw_rows.specs.Abi.{is_among, abi_fault, place_of_second, CanBeAbi, StandsAgain}
-use Rattle.dw_rows.proofs.AbiRules.{no-fault, second-here, second-later, twice}
+use Rattle.dw_rules.specs.declared.abi.TheConstants.{MAX_KEPT}
+use Rattle.dw_rules.specs.Abi.{is_among, abi_fault, place_of_second, CanBeAbi, StandsAgain}
+use Rattle.dw_rules.proofs.AbiRules.{no-fault, second-here, second-later, twice}
 
 -- ---- distinct numbers, and one more number after them
 

@@ -8,12 +8,12 @@ use Rattle.dw_frame.specs.Records.{Cie, Fde}
 use Rattle.dw_frame.specs.Sections.{entries_of, top_of}
 use Rattle.dw_frame.specs.Bounds.{Ascends, IsSoundCie, IsSoundFde}
 use Rattle.dw_stack.specs.Located.{LocatedExpression}
-use Rattle.dw_rows.specs.Expressions.{cie_expressions, frame_expressions}
-use Rattle.dw_rows.specs.ProgramFault.{cie_fault}
+use Rattle.dw_rules.specs.Expressions.{cie_expressions, frame_expressions}
+use Rattle.dw_rules.specs.ProgramFault.{cie_fault}
 use Rattle.dw_rows.specs.Section.{FrameSection, CoversOnce, IsChecked, section_fault, frame_of, parts_fault, placed_rows, rows_in}
-use Rattle.dw_rows.specs.GivenRows.{given_row}
-use Rattle.dw_rows.specs.RuleSet.{StoredRules}
-use Rattle.dw_rows.specs.Initial.{AreLeftBy}
+use Rattle.dw_rules.specs.GivenRows.{given_row}
+use Rattle.dw_rules.specs.RuleSet.{StoredRules}
+use Rattle.dw_rules.specs.Initial.{AreLeftBy}
 use Rattle.dw_rows.specs.Overlap.{cie_offset, fde_offset, IsAddressIndex, IsKept}
 use Rattle.dw_rows.specs.declared.index.IndexEntry.{IndexEntry}
 use Rattle.dw_rows.proofs.Faults.{option_or-none, none-each}

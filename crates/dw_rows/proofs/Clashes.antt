@@ -13,7 +13,7 @@ use Rattle.dw_frame.specs.Records.{Fde}
 use Rattle.dw_rows.specs.Section.{first_fault, overlap_fault, shares, SharesAddress, CoversOnce}
 use Rattle.dw_rows.specs.Overlap.{fde_offset, AreApart, IsApart, Overlaps, IsFirstOverlap}
 use Rattle.dw_frame.specs.Bounds.{Ascends}
-use Rattle.dw_rows.proofs.Search.{ascending-at}
+use Rattle.dw_rules.proofs.Search.{ascending-at}
 use Rattle.dw_rows.proofs.Faults.{none-each}
 use Rattle.dw_rows.proofs.Sweeps.{covers-once}
 

@@ -10,7 +10,7 @@ use Rattle.dw_frame.specs.Records.{Cie}
 use Rattle.dw_rows.specs.Section.{first_fault, cie_at}
 use Rattle.dw_rows.specs.Overlap.{cie_offset}
 use Rattle.dw_frame.specs.Bounds.{Ascends}
-use Rattle.dw_rows.proofs.Search.{ascending-same}
+use Rattle.dw_rules.proofs.Search.{ascending-same}
 
 -- if `option_or` gives none, both of its arguments are none
 pub option_or-none : {A : Type 0} (a b : Option A) → option_or a b ≡ None → (a ≡ None) × (b ≡ None)

@@ -8,7 +8,7 @@ use Rattle.dw_frame.specs.Records.{Cie, Fde}
 use Rattle.dw_frame.specs.Codes.{instructions_of}
 use Rattle.dw_stack.specs.Expressions.{IsGoodExpression}
 use Rattle.dw_stack.specs.Located.{LocatedExpression}
-use Rattle.dw_rows.specs.Expressions.{expressions_in, expressions_of, cie_expressions, fde_expressions, frame_expressions}
+use Rattle.dw_rules.specs.Expressions.{expressions_in, expressions_of, cie_expressions, fde_expressions, frame_expressions}
 use Rattle.dw_rows.specs.Section.{FrameSection, IsChecked, frame_of}
 use Rattle.dw_rows.proofs.ExpressionOrder.{expression-inside}
 use Rattle.dw_rows.proofs.Parts.{pointed-in, good-past}

@@ -8,17 +8,17 @@ use Rattle.std.proofs.lemmas.List.Elements.{All-from_recursion, recursion_from_A
 use Rattle.dw_frame.specs.Records.{Fde}
 use Rattle.dw_stack.specs.declared.state.Kind.{Kind}
 use Rattle.dw_stack.specs.declared.state.Kind.TheVariants.{FrameCfa, FrameRegister}
-use Rattle.dw_rows.specs.Rules.{PlacedRule, PlacedCfa, PlacedRow, Row, default, undefined, same_value, offset, val_offset, register}
-use Rattle.dw_rows.specs.Rules.{expression, val_expression, register_and_offset, cfa_expression}
-use Rattle.dw_rows.specs.Effects.{Effect}
-use Rattle.dw_rows.specs.InForce.{Start}
-use Rattle.dw_rows.specs.GivenRows.{or_nowhere, located_at, given_rule, given_cfa, given_rules, given_row, IsLent, LendsRule, LendsCfa}
-use Rattle.dw_rows.specs.GivenRows.{LendsEntry, LendsEach}
+use Rattle.dw_rules.specs.Rules.{PlacedRule, PlacedCfa, PlacedRow, Row, default, undefined, same_value, offset, val_offset, register}
+use Rattle.dw_rules.specs.Rules.{expression, val_expression, register_and_offset, cfa_expression}
+use Rattle.dw_rules.specs.Effects.{Effect}
+use Rattle.dw_rules.specs.InForce.{Start}
+use Rattle.dw_rules.specs.GivenRows.{or_nowhere, located_at, given_rule, given_cfa, given_rules, given_row, IsLent, LendsRule, LendsCfa}
+use Rattle.dw_rules.specs.GivenRows.{LendsEntry, LendsEach}
 use Rattle.dw_rows.specs.GoodRows.{IsGoodAmong, IsGoodRule, IsGoodCfa, IsGoodEntry, HasGoodExpressions}
 use Rattle.dw_rows.specs.UnwindRows.{rows_of, has_address}
 use Rattle.dw_rows.specs.Clauses.{IsRow, AreRowsFrom, start_in, program_in}
 use Rattle.dw_rows.specs.Section.{FrameSection, IsChecked, covers, rows_in, rows_by_cie, row_of}
-use Rattle.dw_rows.proofs.Elements.{contained-map}
+use Rattle.dw_rules.proofs.Elements.{contained-map}
 use Rattle.dw_rows.proofs.Parts.{pointed-in, good-past}
 use Rattle.dw_rows.proofs.Faults.{at-found}
 use Rattle.dw_rows.proofs.Programs.{good-from-cie, good-from-fde}

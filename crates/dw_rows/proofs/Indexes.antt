@@ -16,10 +16,10 @@ use Rattle.dw_rows.specs.Overlap.{fde_offset, initial_of, IsIndexOf, IsOrdered, 
 use Rattle.dw_rows.specs.declared.index.IndexEntry.{IndexEntry}
 use Rattle.dw_frame.specs.Views.{fde_of}
 use Rattle.dw_frame.specs.declared.entry.FrameDescriptionEntry.{FrameDescriptionEntry}
-use Rattle.dw_rows.proofs.Elements.{placed-map, sorted-map, sorted-back, some-element}
+use Rattle.dw_rules.proofs.Elements.{placed-map, sorted-map, sorted-back, some-element}
 use Rattle.dw_frame.specs.Bounds.{Ascends}
 use Rattle.dw_frame.specs.Records.{Fde}
-use Rattle.dw_rows.proofs.Search.{ascending-at, squeeze, three_ways}
+use Rattle.dw_rules.proofs.Search.{ascending-at, squeeze, three_ways}
 use Rattle.std.proofs.lemmas.Bool.{cases_lt, le-ltb}
 
 -- FDEs at different indices have different offsets

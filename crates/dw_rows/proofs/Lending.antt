@@ -12,22 +12,22 @@ use Rattle.dw_frame.specs.Codes.{instructions_of}
 use Rattle.dw_frame.specs.Bounds.{Ascends}
 use Rattle.dw_stack.specs.declared.state.Kind.TheVariants.{FrameCfa, FrameRegister}
 use Rattle.dw_stack.specs.Located.{LocatedExpression, located_as}
-use Rattle.dw_rows.specs.Rules.{PlacedRule, PlacedCfa, PlacedRow, rule_in, rule_list}
-use Rattle.dw_rows.specs.Effects.{Effect, sets, defines_cfa, effect_of, effects_by, effects_of}
-use Rattle.dw_rows.specs.Expressions.{expression_in, cie_expressions, fde_expressions, expression_at, frame_expressions}
-use Rattle.dw_rows.specs.ExpressionOrder.{expression_offset}
-use Rattle.dw_rows.specs.InForce.{Start, rule_at, cie_start, effects_of_cie, fde_start}
-use Rattle.dw_rows.specs.RuleSet.{LendsRules}
-use Rattle.dw_rows.specs.GivenRows.{LendsRule, LendsCfa, LendsEach}
+use Rattle.dw_rules.specs.Rules.{PlacedRule, PlacedCfa, PlacedRow, rule_in, rule_list}
+use Rattle.dw_rules.specs.Effects.{Effect, sets, defines_cfa, effect_of, effects_by, effects_of}
+use Rattle.dw_rules.specs.Expressions.{expression_in, cie_expressions, fde_expressions, expression_at, frame_expressions}
+use Rattle.dw_rules.specs.ExpressionOrder.{expression_offset}
+use Rattle.dw_rules.specs.InForce.{Start, rule_at, cie_start, effects_of_cie, fde_start}
+use Rattle.dw_rules.specs.RuleSet.{LendsRules}
+use Rattle.dw_rules.specs.GivenRows.{LendsRule, LendsCfa, LendsEach}
 use Rattle.dw_rows.specs.Good.{prefix, rule_after, IsGoodFdeProgram}
 use Rattle.dw_rows.specs.Clauses.{IsRowAt, start_in, program_in}
 use Rattle.dw_rows.specs.Section.{FrameSection, IsChecked, frame_of}
 use Rattle.dw_rows.specs.RowCursors.{RowCursor, StandsAfter, LendsTo, Lends}
-use Rattle.dw_rows.proofs.NamedExpressions.{rules-have, cfa-has, listed-have}
-use Rattle.dw_rows.proofs.ExpressionsAmong.{of-instruction, of-effect, of-frame-cie, of-frame-fde}
+use Rattle.dw_rules.proofs.NamedExpressions.{rules-have, cfa-has, listed-have}
+use Rattle.dw_rules.proofs.ExpressionsAmong.{of-instruction, of-effect, of-frame-cie, of-frame-fde}
 use Rattle.dw_rows.proofs.ExpressionOrder.{expression-found, cie-expressions-ascend, fde-expressions-ascend}
 use Rattle.dw_rows.proofs.Programs.{effects-good, good-read-fde, start-same}
-use Rattle.dw_rows.proofs.Tables.{rule_list-table, rule_list-same}
+use Rattle.dw_rules.proofs.Tables.{rule_list-table, rule_list-same}
 use Rattle.dw_rows.proofs.CheckedSections.{checked-read, in-programs}
 
 -- ---- the rules that a cursor has

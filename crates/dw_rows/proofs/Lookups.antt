@@ -4,7 +4,7 @@ use Rattle.std.specs.Prelude.{Bool, true, false, Some, None, find, option_and_th
 use Rattle.std.specs.List.{Contains}
 use Rattle.std.proofs.lemmas.Bool.Decides.{nat_tests}
 use Rattle.dw_frame.specs.Records.{Fde}
-use Rattle.dw_rows.specs.Rules.{Row}
+use Rattle.dw_rules.specs.Rules.{Row}
 use Rattle.dw_rows.specs.UnwindRows.{has_address}
 use Rattle.dw_rows.specs.Section.{FrameSection, Covers, IsCoverOf, rows_in, covers, row_of}
 

@@ -3,7 +3,7 @@
 use Rattle.std.proofs.Common.{◌≡◌, ℕ, ◌+◌, ◌<◌, ◌≤◌, List, [], ◌∷◌, ◌++◌, length, refl, sym, ap, ◌∙◌, arith, inl, inr, append_assoc}
 use Rattle.std.proofs.Common.{length-append}
 use Rattle.std.proofs.lemmas.Bool.{cases_lt}
-use Rattle.dw_rows.specs.Effects.{Effect, remembers_state, restores_state}
+use Rattle.dw_rules.specs.Effects.{Effect, remembers_state, restores_state}
 use Rattle.dw_rows.specs.Good.{remembers, restores_in, IsBalanced, Match}
 use Rattle.dw_rows.proofs.Matching.{remembers-append, restores-append}
 

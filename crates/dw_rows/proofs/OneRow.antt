@@ -5,15 +5,15 @@ use Rattle.std.proofs.Common.{ltb, leb, Some, Contains}
 use Rattle.std.proofs.lemmas.Bool.Decides.{nat_tests}
 use Rattle.std.specs.Prelude.{◌&&◌, find, filter}
 use Rattle.dw_frame.specs.Records.{Fde}
-use Rattle.dw_rows.specs.Rules.{PlacedRow, Row, rule_in}
-use Rattle.dw_rows.specs.Effects.{Effect}
-use Rattle.dw_rows.specs.InForce.{Start}
-use Rattle.dw_rows.specs.GivenRows.{given_row}
+use Rattle.dw_rules.specs.Rules.{PlacedRow, Row, rule_in}
+use Rattle.dw_rules.specs.Effects.{Effect}
+use Rattle.dw_rules.specs.InForce.{Start}
+use Rattle.dw_rules.specs.GivenRows.{given_row}
 use Rattle.dw_rows.specs.UnwindRows.{rows_of, has_address}
 use Rattle.dw_rows.specs.Clauses.{IsRowAt, IsRow, AreRowsFrom, start_in, program_in}
 use Rattle.dw_rows.specs.Section.{FrameSection, Covers, IsCoverOf, IsChecked, rows_in, rows_by_cie}
 use Rattle.dw_rows.specs.ExactRows.{HasOneRow}
-use Rattle.dw_rows.proofs.Tables.{rule_list-table, rule_list-same}
+use Rattle.dw_rules.proofs.Tables.{rule_list-table, rule_list-same}
 use Rattle.dw_rows.proofs.Parts.{pointed-in, good-past}
 use Rattle.dw_rows.proofs.Faults.{at-found}
 use Rattle.dw_rows.proofs.Programs.{good-from-cie, good-from-fde}
@@ -21,7 +21,7 @@ use Rattle.dw_rows.proofs.Covering.{cover-rows}
 use Rattle.dw_rows.proofs.RowsOf.{rows-of-good, one-row}
 use Rattle.dw_rows.proofs.Lookups.{row-found}
 use Rattle.dw_rows.proofs.Lending.{lends-in, row-lends}
-use Rattle.dw_rows.proofs.GivenRows.{filter-with}
+use Rattle.dw_rows.proofs.RowsWithExpressions.{filter-with}
 use Rattle.dw_rows.proofs.CheckedSections.{checked-parts, checked-once}
 
 -- ---- the only row that passes a test

@@ -5,7 +5,7 @@ use Rattle.std.specs.Prelude.{is_some}
 use Rattle.std.specs.Option.{option_or}
 use Rattle.dw_bytes.specs.declared.fault.Fault.{Fault}
 use Rattle.dw_frame.specs.Records.{Cie, Fde}
-use Rattle.dw_rows.specs.ProgramFault.{cie_fault, fde_fault}
+use Rattle.dw_rules.specs.ProgramFault.{cie_fault, fde_fault}
 use Rattle.dw_rows.specs.Section.{first_fault, cie_at, pointer_fault, program_fault, fault_by_cie, overlap_fault, programs_fault}
 use Rattle.dw_rows.specs.Section.{parts_fault, CoversOnce}
 use Rattle.dw_rows.specs.Overlap.{fde_offset}

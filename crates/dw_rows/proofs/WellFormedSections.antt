@@ -5,7 +5,7 @@ use Rattle.dw_bytes.specs.Answers.{values_in, fault_in}
 use Rattle.dw_frame.specs.Records.{Cie, Fde, Record}
 use Rattle.dw_frame.specs.Sections.{entries_of}
 use Rattle.dw_frame.proofs.EachRecord.{sections-are-records}
-use Rattle.dw_rows.specs.ProgramFault.{cie_fault, fde_fault}
+use Rattle.dw_rules.specs.ProgramFault.{cie_fault, fde_fault}
 use Rattle.dw_rows.specs.Good.{IsGoodCieProgram, IsGoodFdeProgram}
 use Rattle.dw_rows.specs.Section.{cie_at, pointer_fault, program_fault, fault_by_cie, parts_fault, section_fault, frame_of, CoversOnce}
 use Rattle.dw_rows.specs.Section.{cies_among, fdes_among}

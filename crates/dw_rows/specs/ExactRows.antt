@@ -2,8 +2,8 @@
 -- section 6.4.1).
 use Rattle.std.specs.Prelude.{◌≡◌, ℕ, [], ◌∷◌, Some, IfSome, Contains, filter}
 use Rattle.dw_frame.specs.Records.{Cie, Fde}
-use Rattle.dw_rows.specs.Rules.{PlacedRow, Row}
-use Rattle.dw_rows.specs.GivenRows.{given_row, LendsCfa, LendsEach}
+use Rattle.dw_rules.specs.Rules.{PlacedRow, Row}
+use Rattle.dw_rules.specs.GivenRows.{given_row, LendsCfa, LendsEach}
 use Rattle.dw_rows.specs.UnwindRows.{has_address}
 use Rattle.dw_rows.specs.Good.{IsLast, IsGoodFdeProgram}
 use Rattle.dw_rows.specs.Clauses.{IsRowAt, start_in, program_in}

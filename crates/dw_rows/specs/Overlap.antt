@@ -8,9 +8,9 @@ use Rattle.dw_rows.specs.declared.index.IndexEntry.{IndexEntry}
 use Rattle.std.specs.List.Sorted.{IsNonDecreasingBy}
 use Rattle.dw_frame.specs.Records.{Cie, Fde}
 use Rattle.dw_rows.specs.Section.{FrameSection, SharesAddress, IsChecked, row_count}
-use Rattle.dw_rows.specs.RuleSet.{StoredRules}
-use Rattle.dw_rows.specs.Expressions.{cie_expressions}
-use Rattle.dw_rows.specs.Initial.{AreLeftBy}
+use Rattle.dw_rules.specs.RuleSet.{StoredRules}
+use Rattle.dw_rules.specs.Expressions.{cie_expressions}
+use Rattle.dw_rules.specs.Initial.{AreLeftBy}
 
 abbrev pub fde_offset : Fde → ℕ
 fde_offset f = f.offset

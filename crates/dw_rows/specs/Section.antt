@@ -10,11 +10,11 @@ use Rattle.dw_bytes.specs.declared.fault.FaultKind.TheVariants.{NoSuchCie, Overl
 use Rattle.dw_bytes.specs.Answers.{values_in, fault_in}
 use Rattle.dw_frame.specs.Records.{Cie, Fde, Record, cie_record, fde_record}
 use Rattle.dw_frame.specs.Sections.{entries_of}
-use Rattle.dw_rows.specs.Rules.{PlacedRow, Row}
+use Rattle.dw_rules.specs.Rules.{PlacedRow, Row}
 use Rattle.dw_stack.specs.Located.{LocatedExpression}
-use Rattle.dw_rows.specs.Expressions.{frame_expressions}
-use Rattle.dw_rows.specs.ProgramFault.{cie_fault, fde_fault}
-use Rattle.dw_rows.specs.GivenRows.{given_row}
+use Rattle.dw_rules.specs.Expressions.{frame_expressions}
+use Rattle.dw_rules.specs.ProgramFault.{cie_fault, fde_fault}
+use Rattle.dw_rules.specs.GivenRows.{given_row}
 use Rattle.dw_rows.specs.UnwindRows.{rows_of, has_address}
 
 -- A section with its target, and what is read before its first fault: CIEs and FDEs in separate

@@ -5,7 +5,7 @@ ghost use Rattle.std.specs.Prelude.{◌≡◌, [], ◌∷◌, ◌++◌, Some, On
 ghost use Rattle.dw_bytes.specs.Answers.{Answers};
 ghost use Rattle.dw_frame.specs.Views.{instruction_of, expression_of};
 ghost use Rattle.dw_stack.specs.Located.{located_as, located_fault};
-ghost use Rattle.dw_rows.specs.Expressions.{expression_in, list_of};
+ghost use Rattle.dw_rules.specs.Expressions.{expression_in, list_of};
 
 use dw_bytes::{Fault, FaultKind, OUT_OF_MEMORY};
 use dw_frame::{CallFrameInstruction, UnwindExpression};

@@ -7,36 +7,30 @@ ghost use Rattle.dw_frame.specs.Records.{Cie, Fde};
 ghost use Rattle.dw_frame.specs.Sections.{entries_of, top_of};
 ghost use Rattle.dw_frame.specs.Views.{cie_of, fde_of};
 ghost use Rattle.dw_bytes.specs.Answers.{Checks, Answers, fault_in};
-ghost use Rattle.dw_rows.specs.ProgramFault.{cie_fault, fde_fault};
+ghost use Rattle.dw_rules.specs.ProgramFault.{cie_fault, fde_fault};
 ghost use Rattle.dw_rows.specs.Section.{IsCoverOf, first_fault, overlap_fault, programs_fault, parts_fault, section_fault, IsChecked};
 ghost use Rattle.dw_rows.specs.Section.{frame_of, cie_in, placed_rows, rows_in, row_count, row_of};
 ghost use Rattle.std.specs.List.{flat_map, sum_by};
 ghost use Rattle.dw_rows.specs.Overlap.{cie_offset, fde_offset, IsAddressIndex};
 ghost use Rattle.dw_frame.specs.Bounds.{Ascends};
-ghost use Rattle.dw_rows.specs.ProgramState.{IsLeftBy};
-ghost use Rattle.dw_rows.specs.Initial.{AreLeftBy};
+ghost use Rattle.dw_rules.specs.ProgramState.{IsLeftBy};
+ghost use Rattle.dw_rules.specs.Initial.{AreLeftBy};
 ghost use Rattle.dw_stack.specs.Located.{all_located};
-ghost use Rattle.dw_rows.specs.Expressions.{cie_expressions, frame_expressions};
-ghost use Rattle.dw_rows.specs.BorrowedExpressions.{borrowed_by};
-ghost use Rattle.dw_rows.specs.LentExpressions.{lent_by};
-ghost use Rattle.dw_rows.specs.UnwindTables.{IsTableOf, expression_bytes, table_bytes};
+ghost use Rattle.dw_rules.specs.Expressions.{cie_expressions, frame_expressions};
+ghost use Rattle.dw_rules.specs.BorrowedExpressions.{borrowed_by};
+ghost use Rattle.dw_rules.specs.LentExpressions.{lent_by};
 ghost use Rattle.dw_rows.specs.RowCursors.{Lends};
 
-use crate::borrowed_expressions::BorrowedExpressions;
 use crate::checked_expressions::CheckedExpressions;
 use crate::index::{IndexEntry, covering, first_overlap, index_of};
-use crate::initial_rules::InitialRules;
-use crate::lent_expressions::LentExpressions;
 use crate::lookup::write_row_at;
 use crate::records::{begin_with_rules_of_cie, check_cies, check_fdes, check_pointers, find_cie};
-use crate::row::UnwindTableRow;
 use crate::row_iter::Rows;
-use crate::table::UnwindTable;
-use crate::table_room::Unmade;
-use crate::unwind_context::UnwindContext;
-use crate::unwind_state::UnwindState;
 use dw_bytes::{Fault, FaultKind, OUT_OF_MEMORY, Target};
 use dw_frame::{CommonInformationEntry, Entry, FrameDescriptionEntry, entries};
+use dw_rules::{
+    BorrowedExpressions, InitialRules, LentExpressions, UnwindContext, UnwindState, UnwindTableRow,
+};
 use dw_stack::CheckedExpression;
 use std::alloc::Global;
 use std::marker::Model;
@@ -343,7 +337,7 @@ impl<'a> CheckedFrame<'a> {
     /// the rules that the CIE's program leaves: the FDE's program begins with them. The search
     /// first tries the CIEs at the indices `near` and `near + 1`, and sets `near` to the index of
     /// the FDE's CIE.
-    pub(crate) fn begin_with_cie(
+    pub fn begin_with_cie(
         &self,
         state: &mut UnwindState,
         near: &mut usize,
@@ -362,53 +356,15 @@ impl<'a> CheckedFrame<'a> {
     }
 
     /// An index entry for each FDE that covers at least one address, in order of address.
-    pub(crate) fn index(&self) -> &[IndexEntry]
+    pub fn index(&self) -> &[IndexEntry]
         ensures index { IsAddressIndex self.now.fdes result.now }
         ensures checked { IsChecked self.now }
     {
         self.index.as_slice()
     }
 
-    /// Compiles the rows of all FDEs into a table, which makes millions of look-ups cheap. The
-    /// table borrows nothing, so the section may be dropped.
-    ///
-    /// `room` bounds what the table stores, counted as 16 bytes for each entry (each row has one,
-    /// and so has each gap after a row), 64 for each rule set and 16 for each of its register
-    /// rules, and 24 for each expression and its length (clause `stored`). Each row of the table and
-    /// each expression of the section is counted (clause `counted`). The arrays of the table hold
-    /// nothing else, except for 8 bytes: two counts of a look-up's search blocks. That they have no
-    /// spare capacity is tested, not proved. While the table is made, more memory is in use that
-    /// isn't counted: the spare capacity of arrays that grow, the copies that they are cut to, and
-    /// 16 KB by which equal rules are found again.
-    ///
-    /// `Ok(None)` means that the sum would be more than `room`, and that no table was made. The
-    /// rows of a section of N bytes may take 700 times N bytes. The result is never `Ok(None)` if
-    /// `room` is at least 80 bytes for each row, 16 for each register rule of each row, 80 for each
-    /// FDE, 24 for each expression and its length, and 80 more (clause `none`). That is enough even
-    /// if no rows share rules, so a body that never shares rules meets the contract. That rows
-    /// share rules is tested, not proved.
-    ///
-    /// The only fault is `Memory`, with offset 0. Each program is run once. Compiling n rows takes
-    /// O(n log n) time.
-    pub fn compile(&self, alloc: Global, room: usize) -> Result<Option<UnwindTable>, Fault>
-        ensures table { IfOk result (λ made. IfSome made (IsTableOf self.now)) }
-        ensures room { IfOk result
-            (λ made. IfSome made (λ table. 16 * length table.rows ≤ room)) }
-        ensures counted { IfOk result (λ made. IfSome made (λ table. 16 * length table.rows
-            + sum_by expression_bytes self.now.expressions ≤ table.bytes)) }
-        ensures stored { IfOk result (λ made. IfSome made (λ table. table.bytes ≤ room)) }
-        ensures none { IfOk result (λ made. IfNone made (room < table_bytes self.now)) }
-        ensures memory { IfErr result (λ fault. fault ≡ OUT_OF_MEMORY) }
-    {
-        match UnwindTable::of(self, alloc, room) {
-            Ok(table) => Ok(Some(table)),
-            Err(Unmade::Room) => Ok(None),
-            Err(Unmade::Memory) => Err(OUT_OF_MEMORY),
-        }
-    }
-
     /// The section's checked expressions, borrowed.
-    pub(crate) fn borrowed(&self) -> BorrowedExpressions<'_, 'a>
+    pub fn borrowed(&self) -> BorrowedExpressions<'_, 'a>
         ensures { borrowed_by result ≡ self.now.expressions }
     {
         let (cies, fdes) = self.expressions.split_at(self.in_cies);

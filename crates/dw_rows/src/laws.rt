@@ -3,20 +3,20 @@
 
 ghost use Rattle.std.specs.Prelude.{◌≡◌, ◌⊎◌, false, ℕ, ◌+◌, ◌<◌, ◌≤◌, ◌↔◌, List, length, Option, Some, None, slice_get, filter, [], ◌∷◌};
 ghost use Rattle.std.specs.Prelude.{Err, All, Contains, IfSome, map, ◌++◌};
-ghost use Rattle.dw_rows.specs.GivenRows.{given_row};
+ghost use Rattle.dw_rules.specs.GivenRows.{given_row};
 ghost use Rattle.dw_frame.specs.Sections.{top_of};
-ghost use Rattle.dw_rows.specs.UnwindTables.{IsRowUnder, IsTableOf, RowTable, row_at};
+ghost use Rattle.dw_rows.specs.RowLookups.{IsRowUnder};
 ghost use Rattle.dw_frame.specs.Records.{Cie, Fde};
 ghost use Rattle.std.specs.Option.{option_to_list};
 ghost use Rattle.dw_bytes.specs.declared.fault.FaultKind.TheVariants.{AbiTwice};
-ghost use Rattle.dw_rows.specs.Abi.{Abi, CanBeAbi, StandsAgain, abi_fault, no_abi, rule_under, rules_under};
-ghost use Rattle.dw_rows.specs.Rules.{Rule, PlacedRule, PlacedCfa, PlacedRow, Row, IsTable, rule_in, rule_list};
+ghost use Rattle.dw_rules.specs.Abi.{Abi, CanBeAbi, StandsAgain, abi_fault, no_abi, rule_under, rules_under};
+ghost use Rattle.dw_rules.specs.Rules.{Rule, PlacedRule, PlacedCfa, PlacedRow, Row, IsTable, rule_in, rule_list};
 ghost use Rattle.dw_bytes.specs.declared.fault.FaultKind.{FaultKind};
 ghost use Rattle.dw_frame.specs.Instructions.{Instruction};
-ghost use Rattle.dw_rows.specs.Effects.{Effect, restores_state, effect_of, is_barred};
-ghost use Rattle.dw_rows.specs.Expressions.{expression_in};
-ghost use Rattle.dw_rows.specs.InForce.{Start, location_of};
-ghost use Rattle.dw_rows.specs.ProgramFault.{cie_fault, fde_fault, refusal_at};
+ghost use Rattle.dw_rules.specs.Effects.{Effect, restores_state, effect_of, is_barred};
+ghost use Rattle.dw_rules.specs.Expressions.{expression_in};
+ghost use Rattle.dw_rules.specs.InForce.{Start, location_of};
+ghost use Rattle.dw_rules.specs.ProgramFault.{cie_fault, fde_fault, refusal_at};
 ghost use Rattle.dw_rows.specs.UnwindRows.{rows_of, has_address, Cover};
 ghost use Rattle.dw_rows.specs.Good.{rule_after, cfa_after, Match, IsGoodCieProgram, IsGoodFdeProgram};
 ghost use Rattle.dw_rows.specs.Clauses.{AreRules, AreRowsOf};
@@ -29,9 +29,9 @@ ghost use Rattle.dw_rows.specs.GoodRows.{HasGoodExpressions};
 ghost use Rattle.dw_rows.specs.ExactRows.{HasOneRow};
 ghost use Rattle.dw_rows.specs.Section.{FrameSection, Covers, rows_in, row_of, IsChecked, section_fault};
 ghost use Rattle.dw_rows.specs.WellFormed.{IsWellFormed};
-ghost use Rattle.dw_rows.specs.declared.abi.TheConstants.{MAX_KEPT};
-ghost use Rattle.dw_rows.specs.declared.register_rules.TheConstants.{MAX_RULES};
-ghost use Rattle.dw_rows.specs.declared.remember_stack.TheConstants.{MAX_REMEMBERED};
+ghost use Rattle.dw_rules.specs.declared.abi.TheConstants.{MAX_KEPT};
+ghost use Rattle.dw_rules.specs.declared.register_rules.TheConstants.{MAX_RULES};
+ghost use Rattle.dw_rules.specs.declared.remember_stack.TheConstants.{MAX_REMEMBERED};
 
 /// The rules after the first k + 1 instructions (`rule_after` and `cfa_after`, Good.antt) follow
 /// from the rules after fewer instructions, as the standard says for each kind of instruction
@@ -177,17 +177,6 @@ pub fn rows_have_good_expressions()
         → row_of s a ≡ Some row → HasGoodExpressions s.expressions row }
     ensures under { (s : FrameSection) (a : ℕ) → IsChecked s → (row : Row)
         → row_of s a ≡ Some row → IsRowUnder s.target row }
-{}
-
-/// The row that a table of an accepted section has at an address begins and ends at or below the
-/// highest address of the section's target. Two tables of the same section have the same row at
-/// each address, with the same return address register.
-pub fn tables_of_sections()
-    ensures fit { (s : FrameSection) (t : RowTable) → IsChecked s → IsTableOf s t → (a : ℕ)
-        → IfSome (row_at t a) (λ found. ((found.0).start ≤ top_of s.target)
-        × ((found.0).end ≤ top_of s.target)) }
-    ensures same { (s : FrameSection) (t u : RowTable) → IsTableOf s t → IsTableOf s u → (a : ℕ)
-        → row_at t a ≡ row_at u a }
 {}
 
 /// Each remember_state has at most one matching restore_state, and each restore_state has at most

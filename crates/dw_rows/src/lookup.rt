@@ -3,19 +3,17 @@
 ghost use Rattle.std.specs.Prelude.{◌≡◌, ◌+◌, ◌<◌, ◌≤◌, List, ◌∷◌, Some, find, map};
 ghost use Rattle.std.specs.Bool.{OnTrue, OnFalse};
 ghost use Rattle.dw_frame.specs.Views.{cie_of, fde_of};
-ghost use Rattle.dw_rows.specs.ProgramFault.{fde_fault};
+ghost use Rattle.dw_rules.specs.ProgramFault.{fde_fault};
 ghost use Rattle.dw_rows.specs.UnwindRows.{rows_of, has_address};
-ghost use Rattle.dw_rows.specs.ProgramState.{IsLeftBy};
-ghost use Rattle.dw_rows.specs.RuleSet.{StoredRules};
+ghost use Rattle.dw_rules.specs.ProgramState.{IsLeftBy};
+ghost use Rattle.dw_rules.specs.RuleSet.{StoredRules};
 ghost use Rattle.dw_rows.specs.RowCursors.{cursor_at, above, Seeks, GoesPast, Lends};
-ghost use Rattle.dw_rows.specs.GivenRows.{given_row};
-ghost use Rattle.dw_rows.specs.LentExpressions.{lent_by};
+ghost use Rattle.dw_rules.specs.GivenRows.{given_row};
+ghost use Rattle.dw_rules.specs.LentExpressions.{lent_by};
 
-use crate::lent_expressions::LentExpressions;
-use crate::row::UnwindTableRow;
 use crate::row_cursor::{Next, begin_rows_at, next_plain};
-use crate::unwind_state::UnwindState;
 use dw_frame::{CommonInformationEntry, FrameDescriptionEntry, Instructions};
+use dw_rules::{LentExpressions, UnwindState, UnwindTableRow};
 
 /// Overwrites `row` with the row of `address`. `fde` must cover the address, and the initial rules
 /// in `state` must be the rules that the CIE's program leaves.

@@ -4,22 +4,20 @@
 ghost use Rattle.std.specs.Prelude.{◌≡◌, ◌<◌, ◌++◌, None, Some, option_map, map, length, slice_get, MatchOption, IfSome, IfOk, OnOk};
 ghost use Rattle.dw_bytes.specs.Answers.{Checks, Answers};
 ghost use Rattle.dw_frame.specs.Views.{cie_of, fde_of};
-ghost use Rattle.dw_rows.specs.Expressions.{cie_expressions, fde_expressions};
-ghost use Rattle.dw_rows.specs.ProgramFault.{cie_fault};
+ghost use Rattle.dw_rules.specs.Expressions.{cie_expressions, fde_expressions};
+ghost use Rattle.dw_rules.specs.ProgramFault.{cie_fault};
 ghost use Rattle.dw_rows.specs.Section.{cie_at, first_fault, pointer_fault, program_fault, placed_rows};
 ghost use Rattle.std.specs.List.{flat_map};
 ghost use Rattle.dw_rows.specs.Overlap.{cie_offset};
 ghost use Rattle.dw_frame.specs.Bounds.{Ascends};
-ghost use Rattle.dw_rows.specs.ProgramState.{IsLeftBy};
-ghost use Rattle.dw_rows.specs.Initial.{AreLeftBy};
+ghost use Rattle.dw_rules.specs.ProgramState.{IsLeftBy};
+ghost use Rattle.dw_rules.specs.Initial.{AreLeftBy};
 
 use crate::checked_expressions::CheckedExpressions;
-use crate::initial_rules::InitialRules;
 use crate::program_checks::{check_cie_program, quick_or_full_check};
-use crate::unwind_context::UnwindContext;
-use crate::unwind_state::UnwindState;
 use dw_bytes::{Fault, FaultKind};
 use dw_frame::{CommonInformationEntry, FrameDescriptionEntry};
+use dw_rules::{InitialRules, UnwindContext, UnwindState};
 use std::alloc::Global;
 
 /// Finds the CIE that begins at `offset`, by binary search, and returns its index in `cies`. `None`

@@ -2,16 +2,13 @@
 
 ghost use Rattle.std.specs.Prelude.{◌≡◌, None};
 ghost use Rattle.dw_frame.specs.Views.{cie_of, fde_of};
-ghost use Rattle.dw_rows.specs.ProgramFault.{cie_fault, fde_fault};
+ghost use Rattle.dw_rules.specs.ProgramFault.{cie_fault, fde_fault};
 ghost use Rattle.dw_rows.specs.UnwindRows.{rows_of};
 
 use crate::checked_frame::CheckedFrame;
-use crate::lent_expressions::LentExpressions;
-use crate::row::UnwindTableRow;
 use crate::row_cursor::{begin_rows, begin_rows_at, next_range};
-use crate::unwind_context::UnwindContext;
-use crate::unwind_state::UnwindState;
 use dw_frame::{CommonInformationEntry, FrameDescriptionEntry, Instructions};
+use dw_rules::{LentExpressions, UnwindContext, UnwindState, UnwindTableRow};
 use std::iter::FusedIterator;
 use std::marker::Model;
 
@@ -32,14 +29,14 @@ pub struct Rows<'f, 'a> {
 
 impl<'f, 'a> Model for Rows<'f, 'a> {
     ghost use Rattle.std.specs.Prelude.{List, drop, map, ◌+◌};
-    ghost use Rattle.dw_rows.specs.Rules.{Row};
+    ghost use Rattle.dw_rules.specs.Rules.{Row};
 
     ghost Value = { List Row };
 
     ghost use Rattle.dw_frame.specs.Views.{cie_of, fde_of};
     ghost use Rattle.dw_rows.specs.UnwindRows.{rows_of};
-    ghost use Rattle.dw_rows.specs.GivenRows.{given_row};
-    ghost use Rattle.dw_rows.specs.LentExpressions.{lent_by};
+    ghost use Rattle.dw_rules.specs.GivenRows.{given_row};
+    ghost use Rattle.dw_rules.specs.LentExpressions.{lent_by};
     ghost use Rattle.dw_rows.specs.RowCursors.{cursor_at, IsReady, Lends};
 
     ghost view = { λ r. map (given_row (lent_by r.expressions))
@@ -53,7 +50,7 @@ impl<'f, 'a> Rows<'f, 'a> {
     ghost use Rattle.std.specs.Prelude.{◌≡◌, None, Some, [], ◌∷◌, Contains};
     ghost use Rattle.std.specs.Bool.{OnTrue, OnFalse};
     ghost use Rattle.dw_frame.specs.Views.{cie_of, fde_of};
-    ghost use Rattle.dw_rows.specs.ProgramFault.{cie_fault, fde_fault};
+    ghost use Rattle.dw_rules.specs.ProgramFault.{cie_fault, fde_fault};
     ghost use Rattle.dw_rows.specs.UnwindRows.{rows_of};
     ghost use Rattle.dw_rows.specs.Section.{cie_in, rows_in};
 

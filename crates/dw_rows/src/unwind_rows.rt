@@ -2,14 +2,12 @@
 
 ghost use Rattle.std.specs.Prelude.{◌≡◌, ℕ, IfSome, Option};
 ghost use Rattle.dw_bytes.specs.declared.target.Target.{Target as OfTarget};
-ghost use Rattle.dw_rows.specs.Rules.{Row};
-ghost use Rattle.dw_rows.specs.UnwindTables.{IsFoundAt, IsRowUnder, row_at};
+ghost use Rattle.dw_rules.specs.Rules.{Row};
+ghost use Rattle.dw_rows.specs.RowLookups.{IsFoundAt, IsRowUnder};
 
 use crate::checked_frame::CheckedFrame;
-use crate::row::UnwindTableRow;
-use crate::table::UnwindTable;
-use crate::unwind_row::UnwindRow;
 use dw_bytes::Target;
+use dw_rules::{UnwindRow, UnwindTableRow};
 
 /// A source of rows: something that can look up the row of an address. It is either a borrowed
 /// checked section, which runs an FDE's program, or a compiled table, which searches arrays.
@@ -43,48 +41,6 @@ pub trait UnwindRows {
     ) -> Option<(UnwindRow<'p, 'p>, u16)>
         ensures found { finds self.now address result }
         ensures under { IfSome result (λ found. IsRowUnder (target_of self.now) found.0) };
-}
-
-impl UnwindRows for UnwindTable {
-    type Slot = ();
-
-    ghost target_of = { λ t. t.target };
-
-    ghost finds = { λ t address found. found ≡ row_at t address };
-
-    #[inline(always)]
-    fn rows_target(&self) -> Target {
-        self.target()
-    }
-
-    #[inline(always)]
-    fn slot(&self) -> () {}
-
-    #[inline(always)]
-    fn find_row<'p>(&'p self, address: u64, _slot: &'p mut ()) -> Option<(UnwindRow<'p, 'p>, u16)> {
-        self.row_and_return_register(address)
-    }
-}
-
-impl<'f> UnwindRows for &'f UnwindTable {
-    type Slot = ();
-
-    ghost target_of = { λ t. t.now.target };
-
-    ghost finds = { λ t address found. found ≡ row_at t.now address };
-
-    #[inline(always)]
-    fn rows_target(&self) -> Target {
-        self.target()
-    }
-
-    #[inline(always)]
-    fn slot(&self) -> () {}
-
-    #[inline(always)]
-    fn find_row<'p>(&'p self, address: u64, _slot: &'p mut ()) -> Option<(UnwindRow<'p, 'p>, u16)> {
-        self.row_and_return_register(address)
-    }
 }
 
 impl<'f, 'a> UnwindRows for &'f CheckedFrame<'a> {

@@ -4,8 +4,8 @@
 ghost use Rattle.std.specs.Prelude.{◌≡◌, ◌<◌, ◌^◌, All, IfErr, IfOk, IfSome, IsOk, option_map};
 ghost use Rattle.dw_bytes.specs.Answers.{memory as out_of_memory};
 ghost use Rattle.dw_eval.specs.Numbers.{width_of};
-ghost use Rattle.dw_rows.specs.Abi.{no_abi};
-ghost use Rattle.dw_rows.specs.AbiViews.{roles_of};
+ghost use Rattle.dw_rules.specs.Abi.{no_abi};
+ghost use Rattle.dw_rules.specs.AbiViews.{roles_of};
 ghost use Rattle.dw_unwind.specs.Caller.{Unwinds, machine};
 ghost use Rattle.dw_unwind.specs.CallerFits.{CallerFits, FrameFits};
 ghost use Rattle.dw_unwind.specs.CallerViews.{caller_in};

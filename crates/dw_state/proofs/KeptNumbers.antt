@@ -6,8 +6,8 @@ use Rattle.std.specs.Option.{is_none, option_or, option_to_list, option_eq}
 use Rattle.std.proofs.lemmas.Bool.Decides.{nat_tests}
 use Rattle.std.proofs.lemmas.List.Folds.{list_any-append}
 use Rattle.dw_bytes.specs.declared.fault.Fault.{Fault}
-use Rattle.dw_rows.specs.Abi.{is_among, place_of_second, abi_fault}
-use Rattle.dw_rows.specs.declared.abi.TheConstants.{MAX_KEPT}
+use Rattle.dw_rules.specs.Abi.{is_among, place_of_second, abi_fault}
+use Rattle.dw_rules.specs.declared.abi.TheConstants.{MAX_KEPT}
 
 or_false : (a : Bool) → (a || false) ≡ a
 or_false true = refl

@@ -11,7 +11,7 @@ use Rattle.std.specs.Map.{lookup}
 use Rattle.std.specs.BTreeMap.{BTreeMap, get, Updates, IsUnchanged}
 use Rattle.std.proofs.lemmas.Bool.Decides.{nat_tests}
 use Rattle.std.proofs.lemmas.List.Sums.{fold-append}
-use Rattle.dw_rows.specs.Abi.{abi_fault}
+use Rattle.dw_rules.specs.Abi.{abi_fault}
 use Rattle.dw_state.specs.StateFile.{StateFact, bytes, first_that, content_in, byte_in, cfa_in, frame_base_in, object_in}
 use Rattle.dw_state.specs.StateFile.{kept_in, kept_with, stack_pointer_in, go_together, KnownState, IsGivenBy}
 

@@ -9,7 +9,7 @@ use Rattle.std.specs.Str.{bytes_eq}
 use Rattle.hex.specs.Hex.{decode_of}
 use Rattle.dw_bytes.specs.declared.target.Target.{Target}
 use Rattle.dw_frame.specs.Sections.{top_of}
-use Rattle.dw_rows.specs.Abi.{is_among, abi_fault}
+use Rattle.dw_rules.specs.Abi.{is_among, abi_fault}
 use Rattle.dw_state.specs.Addresses.{short_number, address_of}
 use Rattle.dw_state.specs.Parts.{parts_of}
 

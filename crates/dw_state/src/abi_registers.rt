@@ -3,8 +3,8 @@
 ghost use Rattle.std.specs.Prelude.{◌≡◌, [], None, Some};
 ghost use Rattle.std.specs.Bool.{OnTrue};
 ghost use Rattle.std.specs.Option.{is_none, option_or};
-ghost use Rattle.dw_rows.specs.Abi.{abi_fault, abi_of};
-ghost use Rattle.dw_rows.specs.AbiViews.{roles_of};
+ghost use Rattle.dw_rules.specs.Abi.{abi_fault, abi_of};
+ghost use Rattle.dw_rules.specs.AbiViews.{roles_of};
 ghost use Rattle.dw_state.specs.StateFile.{keep, kept_with};
 
 use arrayvec::ArrayVec;

@@ -3,6 +3,7 @@
 use crate::inputs::{FUNCTION, LITTLE, OneRegister, Unknown};
 use dw_check::{Answer, Caller, check, unwind, unwind_by, unwind_by_section};
 use dw_rows::{Abi, check_frame};
+use dw_tables::UnwindTable;
 use std::alloc::Global;
 
 /// The only known register of the frame, register 6.
@@ -29,7 +30,7 @@ fn is_worked(caller: &Option<Caller>) -> bool {
 fn callers(alloc: Global, address: u64) -> Option<[Option<Caller>; 3]> {
     let checked = check(alloc, &FUNCTION, &[], LITTLE).ok()?;
     let frame = check_frame(alloc, &FUNCTION, LITTLE).ok()?;
-    let table = frame.compile(alloc, 1 << 20).ok()??;
+    let table = UnwindTable::compile(alloc, &frame, 1 << 20).ok()??;
     Some([
         unwind(&checked, address, &REGISTERS, &Unknown),
         unwind_by_section(&frame, &Abi::none(), address, &REGISTERS, &Unknown),

@@ -6,15 +6,16 @@ ghost use Rattle.dw_unwind.specs.Caller.{Unwinds, machine};
 ghost use Rattle.dw_unwind.specs.CallerViews.{caller_in};
 ghost use Rattle.dw_eval.specs.Numbers.{width_of};
 ghost use Rattle.dw_eval.specs.Results.{IsEvaluation, value};
-ghost use Rattle.dw_rows.specs.Rules.{Row, offset, rule_in};
-ghost use Rattle.dw_rows.specs.AbiViews.{roles_of};
+ghost use Rattle.dw_rules.specs.Rules.{Row, offset, rule_in};
+ghost use Rattle.dw_rules.specs.AbiViews.{roles_of};
 ghost use Rattle.dw_rows.specs.Section.{FrameSection, row_of};
-ghost use Rattle.dw_rows.specs.UnwindTables.{IsTableOf};
+ghost use Rattle.dw_tables.specs.UnwindTables.{IsTableOf};
 ghost use Rattle.dw_stack.specs.Certificates.{checked_of};
 
 use dw_check::{Caller, unwind_by};
 use dw_eval::{Context, Memory, Outcome, Registers, evaluate};
-use dw_rows::{Abi, CheckedFrame, RegisterRule, UnwindTable};
+use dw_rows::{Abi, CheckedFrame, RegisterRule};
+use dw_tables::UnwindTable;
 use dw_stack::CheckedExpression;
 
 /// The offset from the CFA, in bytes, at which the function at `address` has saved a register.

@@ -5,7 +5,8 @@ ghost use Rattle.std.specs.Prelude.{◌==◌, if◌then◌else◌, Some, None};
 use crate::inputs::{EXPRESSIONS, FUNCTION, LITTLE};
 use dw_check::{Answer, BriefFrame, Module, Stop, Walk, backtrace_in, unwind_in};
 use dw_eval::{MemoryBlock, Registers};
-use dw_rows::{Abi, CheckedFrame, UnwindTable, check_frame};
+use dw_rows::{Abi, CheckedFrame, check_frame};
+use dw_tables::UnwindTable;
 use std::alloc::Global;
 
 /// The registers of a frame where only register 6 is known. Its content is the address of the first
@@ -35,9 +36,9 @@ pub(crate) const STACK: MemoryBlock<'static> = MemoryBlock {
 /// is loaded at 0x101000, and a library, in which it is loaded at 0x201000.
 fn program_and_library(alloc: Global) -> Option<[Module<UnwindTable>; 2]> {
     let program = check_frame(alloc, &FUNCTION, LITTLE).ok()?;
-    let program = program.compile(alloc, 1 << 20).ok()??;
+    let program = UnwindTable::compile(alloc, &program, 1 << 20).ok()??;
     let library = check_frame(alloc, &FUNCTION, LITTLE).ok()?;
-    let library = library.compile(alloc, 1 << 20).ok()??;
+    let library = UnwindTable::compile(alloc, &library, 1 << 20).ok()??;
     Some([
         Module::new(program, 0x10_0000),
         Module::new(library, 0x20_0000),

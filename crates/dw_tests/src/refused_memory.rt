@@ -17,6 +17,7 @@ use dw_loclists::CheckedLists;
 use dw_ops::{Expression, operations};
 use dw_process::{Process, Refusal};
 use dw_rows::{Abi, CheckedFrame, check_frame};
+use dw_tables::UnwindTable;
 use dw_stack::{Kind, Mode, State, certify, recheck};
 use std::alloc::{AllocError, Global};
 use std::io;
@@ -364,7 +365,7 @@ fn compiles(rt: &impl Abort, alloc: Global, section: &[u8], address: u64, end: u
     let Ok(frame) = check_frame(alloc, section, LITTLE) else {
         return false;
     };
-    match frame.compile(alloc, 1 << 20) {
+    match UnwindTable::compile(alloc, &frame, 1 << 20) {
         Ok(made) => {
             let Some(table) = made else {
                 panic!(rt; "there is room")

@@ -5,7 +5,8 @@ ghost use Rattle.std.specs.Prelude.{◌<◌, ◌^◌, length};
 use crate::inputs::{BIG_FUNCTION, BIG_SHORT, EXPRESSIONS, FUNCTION, LITTLE};
 use crate::rows::{descending, push_fde};
 use dw_bytes::{Fault, Target};
-use dw_rows::{CfaRule, CheckedFrame, RegisterRule, UnwindTable, check_frame};
+use dw_rows::{CfaRule, CheckedFrame, RegisterRule, check_frame};
+use dw_tables::UnwindTable;
 use std::alloc::{AllocError, Global};
 use std::process::Abort;
 
@@ -16,7 +17,8 @@ const AMPLE: usize = 1 << 20;
 fn compiled(alloc: Global, section: &[u8]) -> Result<Option<UnwindTable>, Fault>
     requires { length section.now < 2 ^ 32 }
 {
-    check_frame(alloc, section, LITTLE)?.compile(alloc, AMPLE)
+    let frame = check_frame(alloc, section, LITTLE)?;
+    UnwindTable::compile(alloc, &frame, AMPLE)
 }
 
 /// Where the row of an address begins and ends, and its return address register, as the compiled
@@ -94,7 +96,7 @@ fn agrees(rt: &impl Abort, alloc: Global, section: &[u8], from: u64, count: u64)
     requires { length section.now < 2 ^ 32 }
 {
     let frame = check_frame(alloc, section, LITTLE).ok()?;
-    let table = frame.compile(alloc, AMPLE).ok()??;
+    let table = UnwindTable::compile(alloc, &frame, AMPLE).ok()??;
     for step in 0..count {
         let address = from.wrapping_add(step);
         assert_eq!(rt;
@@ -146,7 +148,7 @@ fn has_rows(rt: &impl Abort, alloc: Global, section: &[u8], target: Target, rows
     let Ok(frame) = check_frame(alloc, section, target) else {
         panic!(rt; "it is good")
     };
-    let Ok(Some(table)) = frame.compile(alloc, AMPLE) else {
+    let Ok(Some(table)) = UnwindTable::compile(alloc, &frame, AMPLE) else {
         panic!(rt; "there is room")
     };
     for (address, row) in rows {
@@ -380,7 +382,7 @@ fn a_table_keeps_hundreds_of_rules_apart(rt: HostRuntime) -> Result<(), Fault> {
 fn refusals(rt: &impl Abort, alloc: Global, frame: &CheckedFrame<'_>, rooms: usize) -> usize {
     let mut refused = 0usize;
     for room in 0..rooms {
-        match frame.compile(alloc, room) {
+        match UnwindTable::compile(alloc, frame, room) {
             Ok(Some(_)) => {}
             Ok(None) => refused = refused.saturating_add(1),
             Err(fault) => panic!(rt; "{fault:?}"),
@@ -395,8 +397,8 @@ fn has_least_room(rt: &impl Abort, alloc: Global, section: &[u8], least: usize) 
     requires { length section.now < 2 ^ 32 }
 {
     let frame = check_frame(alloc, section, LITTLE)?;
-    assert!(rt; frame.compile(alloc, least.saturating_sub(1))?.is_none());
-    assert!(rt; frame.compile(alloc, least)?.is_some());
+    assert!(rt; UnwindTable::compile(alloc, &frame, least.saturating_sub(1))?.is_none());
+    assert!(rt; UnwindTable::compile(alloc, &frame, least)?.is_some());
     Ok(())
 }
 

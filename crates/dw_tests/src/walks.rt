@@ -3,6 +3,7 @@
 use crate::inputs::{LITTLE, ROUND, Unknown};
 use dw_check::{Backtrace, Stop, backtrace, backtrace_by, backtrace_by_section, check};
 use dw_rows::{Abi, check_frame};
+use dw_tables::UnwindTable;
 use std::alloc::Global;
 
 /// The number of frames of an endless walk that is cut at `limit` frames, and why the walk stops.
@@ -21,7 +22,7 @@ fn walk_by_section(alloc: Global, limit: u32) -> Option<Backtrace> {
 /// The endless walk by the compiled table, up to `limit` frames.
 fn walk_by_table(alloc: Global, limit: u32) -> Option<Backtrace> {
     let frame = check_frame(alloc, &ROUND, LITTLE).ok()?;
-    let table = frame.compile(alloc, 1 << 20).ok()??;
+    let table = UnwindTable::compile(alloc, &frame, 1 << 20).ok()??;
     backtrace_by(alloc, &table, &Abi::none(), 3, &Unknown, &Unknown, limit).ok()
 }
 

@@ -6,7 +6,8 @@ use crate::mixed::Mixed;
 use crate::{TARGET, number_of};
 use dw_bytes::Target;
 use dw_check::unwind_by;
-use dw_rows::{Abi, RegisterRule, UnwindRow, UnwindTable, check_frame};
+use dw_rows::{Abi, RegisterRule, UnwindRow, check_frame};
+use dw_tables::UnwindTable;
 use std::alloc::Global;
 
 /// More bytes than any table needs.
@@ -19,7 +20,7 @@ fn compiled(alloc: Global, section: &[u8], target: Target) -> Option<UnwindTable
         return None;
     }
     let frame = check_frame(alloc, section, target).ok()?;
-    frame.compile(alloc, AMPLE).ok()?
+    UnwindTable::compile(alloc, &frame, AMPLE).ok()?
 }
 
 /// Looks up the row of each of `addresses`, `times` times, and returns the sum of the rows' end

@@ -3,7 +3,8 @@
 use crate::TARGET;
 use dw_check::{Answer, BriefFrame, Module, Stop, Walk};
 use dw_eval::{MemoryBlock, Registers};
-use dw_rows::{Abi, UnwindTable, check_frame};
+use dw_rows::{Abi, check_frame};
+use dw_tables::UnwindTable;
 use std::alloc::Global;
 
 /// Registers whose contents are given by number: register n has `contents[n]`.
@@ -71,7 +72,7 @@ fn modules_of(alloc: Global, sections: &[LoadedSection<'_>]) -> Option<Vec<Modul
             return None;
         }
         let frame = check_frame(alloc, section.bytes, TARGET).ok()?;
-        let table = frame.compile(alloc, 1 << 40).ok()??;
+        let table = UnwindTable::compile(alloc, &frame, 1 << 40).ok()??;
         modules.push(Module::new(table, section.load_address)).ok()?;
     }
     Some(modules)

@@ -4,11 +4,11 @@ use Rattle.std.specs.Prelude.{All, Option, Some, None, zero, slice_get}
 use Rattle.std.specs.List.{AllByRecursion}
 use Rattle.std.proofs.lemmas.List.{append_assoc, map-append}
 use Rattle.std.proofs.lemmas.List.Elements.{recursion_from_All}
-use Rattle.dw_rows.specs.Abi.{Abi, or_rule, rule_under, rules_under}
-use Rattle.dw_rows.specs.Rules.{Rule, Cfa, Row, default, undefined, same_value, offset, val_offset, register, expression, val_expression}
+use Rattle.dw_rules.specs.Abi.{Abi, or_rule, rule_under, rules_under}
+use Rattle.dw_rules.specs.Rules.{Rule, Cfa, Row, default, undefined, same_value, offset, val_offset, register, expression, val_expression}
 use Rattle.dw_frame.specs.Records.{Cie}
 use Rattle.dw_rows.specs.Section.{FrameSection, cie_in}
-use Rattle.dw_rows.specs.UnwindTables.{IsFoundAt}
+use Rattle.dw_rows.specs.RowLookups.{IsFoundAt}
 use Rattle.dw_stack.specs.declared.state.Kind.{Kind}
 use Rattle.dw_stack.specs.Located.{LocatedExpression}
 use Rattle.dw_eval.specs.World.{World}

@@ -16,10 +16,10 @@ use Rattle.dw_stack.specs.Located.{LocatedExpression}
 use Rattle.dw_stack.specs.Machine.{Configuration, entry, EvaluationError, Unreadable, DivisionByZero, GivesResult, LocationDescription}
 use Rattle.dw_stack.specs.Machine.{Piece, Run}
 use Rattle.dw_stack.specs.Paths.{Placed}
-use Rattle.dw_rows.specs.Abi.{Abi, Role, unnamed, kept, stack_pointer, rule_of_role, or_rule, rule_under, rules_under}
-use Rattle.dw_rows.specs.UnwindTables.{IsUnder, IsRuleUnder, IsCfaUnder, IsEntryUnder, IsRowUnder}
-use Rattle.dw_rows.specs.Rules.{Rule, Cfa, Row, RuleOver, register_and_offset, cfa_expression, rule_in}
-use Rattle.dw_rows.specs.Rules.{default, same_value, offset, val_offset, register, expression, val_expression}
+use Rattle.dw_rules.specs.Abi.{Abi, Role, unnamed, kept, stack_pointer, rule_of_role, or_rule, rule_under, rules_under}
+use Rattle.dw_rows.specs.RowLookups.{IsUnder, IsRuleUnder, IsCfaUnder, IsEntryUnder, IsRowUnder}
+use Rattle.dw_rules.specs.Rules.{Rule, Cfa, Row, RuleOver, register_and_offset, cfa_expression, rule_in}
+use Rattle.dw_rules.specs.Rules.{default, same_value, offset, val_offset, register, expression, val_expression}
 use Rattle.dw_eval.specs.Fits.{NumbersFit}
 use Rattle.dw_eval.specs.Meaning.{meaning_of}
 use Rattle.dw_eval.specs.Numbers.{wrap, width_of}

@@ -11,12 +11,12 @@ use Rattle.std.proofs.lemmas.List.{get_or_past}
 use Rattle.std.proofs.lemmas.List.Elements.{recursion_from_All}
 use Rattle.dw_bytes.specs.declared.target.Target.{Target}
 use Rattle.dw_eval.specs.World.{World}
-use Rattle.dw_rows.specs.Abi.{Abi, Role, unnamed, kept, stack_pointer, abi_of, is_among, or_rule, rule_of_role, rule_under, rules_under}
-use Rattle.dw_rows.specs.Rules.{Rule, Cfa, Row, IsTable, RuleOver, rule_in, default, same_value, offset, val_offset, register, expression}
-use Rattle.dw_rows.specs.Rules.{val_expression}
-use Rattle.dw_rows.specs.Views.{rule_of}
-use Rattle.dw_rows.specs.declared.row.RegisterRule as declared
-use Rattle.dw_rows.specs.declared.row.RegisterRule.TheVariants as rules
+use Rattle.dw_rules.specs.Abi.{Abi, Role, unnamed, kept, stack_pointer, abi_of, is_among, or_rule, rule_of_role, rule_under, rules_under}
+use Rattle.dw_rules.specs.Rules.{Rule, Cfa, Row, IsTable, RuleOver, rule_in, default, same_value, offset, val_offset, register, expression}
+use Rattle.dw_rules.specs.Rules.{val_expression}
+use Rattle.dw_rules.specs.Views.{rule_of}
+use Rattle.dw_rules.specs.declared.row.RegisterRule as declared
+use Rattle.dw_rules.specs.declared.row.RegisterRule.TheVariants as rules
 use Rattle.std.specs.Bool.{OnTrue}
 use Rattle.dw_unwind.specs.Caller.{Answer, value, undefined, unreadable, division_by_zero, content, if_value, number_plus}
 use Rattle.dw_unwind.specs.Caller.{AreRegisters, Caller, IsCaller, IsCfa, IsRegister}

@@ -5,8 +5,8 @@ use Rattle.std.proofs.Common.{refl, ap, sym, subst, ◌∙◌, arith, inl, inr}
 use Rattle.std.specs.Prelude.{◌⊎◌, Option, Some, None, Contains, filter}
 use Rattle.std.proofs.lemmas.Bool.Decides.{nat_tests}
 use Rattle.dw_frame.specs.Records.{Cie, Fde}
-use Rattle.dw_rows.specs.Abi.{Abi}
-use Rattle.dw_rows.specs.Rules.{Row}
+use Rattle.dw_rules.specs.Abi.{Abi}
+use Rattle.dw_rules.specs.Rules.{Row}
 use Rattle.dw_rows.specs.Section.{FrameSection, Covers, IsChecked, cie_at, rows_in}
 use Rattle.dw_rows.specs.ExactRows.{HasOneRow}
 use Rattle.dw_eval.specs.World.{World}

@@ -7,11 +7,11 @@ use Rattle.std.specs.List.{AllByRecursion}
 use Rattle.std.proofs.lemmas.Bool.Decides.{nat_tests}
 use Rattle.std.proofs.lemmas.List.{get_or-set_other, get_or-set_same, drop_all}
 use Rattle.dw_bytes.specs.declared.target.Target.{Target}
-use Rattle.dw_rows.specs.Abi.{Abi, abi_of, is_among, rule_under}
-use Rattle.dw_rows.specs.Rules.{Rule, offset, rule_in}
+use Rattle.dw_rules.specs.Abi.{Abi, abi_of, is_among, rule_under}
+use Rattle.dw_rules.specs.Rules.{Rule, offset, rule_in}
 use Rattle.dw_unwind.specs.Caller.{Answer, IsRegister, content_plus, machine}
 use Rattle.dw_unwind.specs.Contents.{HasContents, Overlays, abi_rules, content_changed}
-use Rattle.dw_rows.specs.SavedRules.{Saved, as_saved}
+use Rattle.dw_rules.specs.SavedRules.{Saved, as_saved}
 use Rattle.dw_unwind.specs.Walks.{content_of}
 use Rattle.dw_unwind.specs.declared.in_place.TheConstants.{LITTLE_64}
 use Rattle.dw_unwind.specs.declared.register_file.TheConstants.{PLACES}

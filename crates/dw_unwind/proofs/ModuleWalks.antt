@@ -8,7 +8,7 @@ use Rattle.std.proofs.lemmas.Nat.{pow_pos}
 use Rattle.std.proofs.lemmas.Int.{int_rem_euclid_is}
 use Rattle.dw_bytes.specs.declared.target.Target.{Target}
 use Rattle.dw_eval.specs.Numbers.{width_of}
-use Rattle.dw_rows.specs.Abi.{Abi}
+use Rattle.dw_rules.specs.Abi.{Abi}
 use Rattle.dw_rows.specs.Section.{FrameSection}
 use Rattle.dw_unwind.specs.Caller.{Answer, value, undefined, unreadable, division_by_zero, Caller}
 use Rattle.dw_unwind.specs.CallerFits.{AnswerFits, CallerFits}

@@ -1,13 +1,13 @@
 -- A row gives exactly one caller, given laws about evaluations of its expressions.
 use Rattle.std.proofs.Common.{◌≡◌, ℕ, ◌≤◌, ◌==◌, if◌then◌else◌, Bool, true, false, List, [], ◌∷◌, refl, ap, sym, subst, ◌∙◌, length}
 use Rattle.std.specs.Prelude.{Option, Some, None, IfSome, All}
-use Rattle.dw_rows.specs.Abi.{Abi, Role, unnamed, kept, stack_pointer, rule_of_role, or_rule, rule_under, rules_under}
+use Rattle.dw_rules.specs.Abi.{Abi, Role, unnamed, kept, stack_pointer, rule_of_role, or_rule, rule_under, rules_under}
 use Rattle.std.specs.List.{AllByRecursion}
 use Rattle.std.proofs.lemmas.List.Elements.{recursion_from_All}
 use Rattle.dw_bytes.specs.declared.target.Target.{Target}
 use Rattle.dw_frame.specs.Records.{Cie}
-use Rattle.dw_rows.specs.Rules.{Rule, Cfa, register_and_offset, cfa_expression, Row, RuleOver, rule_in, default, same_value, offset}
-use Rattle.dw_rows.specs.Rules.{val_offset, register, expression, val_expression}
+use Rattle.dw_rules.specs.Rules.{Rule, Cfa, register_and_offset, cfa_expression, Row, RuleOver, rule_in, default, same_value, offset}
+use Rattle.dw_rules.specs.Rules.{val_offset, register, expression, val_expression}
 use Rattle.dw_stack.specs.Located.{LocatedExpression}
 use Rattle.dw_rows.specs.GoodRows.{IsGoodAmong, IsGoodRule, IsGoodCfa, IsGoodEntry, HasGoodExpressions}
 use Rattle.dw_rows.specs.Section.{FrameSection, cie_in, row_of}

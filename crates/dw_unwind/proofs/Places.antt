@@ -7,9 +7,9 @@ use Rattle.std.proofs.Math.Path.{fun_ext}
 use Rattle.std.proofs.lemmas.Bool.Decides.{nat_tests}
 use Rattle.std.proofs.lemmas.List.Elements.{recursion_from_All}
 use Rattle.dw_eval.specs.World.{World}
-use Rattle.dw_rows.specs.Abi.{Abi, Role, unnamed, kept, stack_pointer, abi_of, is_among, or_rule, rule_of_role, rule_under, rules_under}
-use Rattle.dw_rows.specs.Rules.{Rule, Cfa, Row, IsTable, RuleOver, rule_in, default, same_value, offset, val_offset, register, expression}
-use Rattle.dw_rows.specs.Rules.{val_expression}
+use Rattle.dw_rules.specs.Abi.{Abi, Role, unnamed, kept, stack_pointer, abi_of, is_among, or_rule, rule_of_role, rule_under, rules_under}
+use Rattle.dw_rules.specs.Rules.{Rule, Cfa, Row, IsTable, RuleOver, rule_in, default, same_value, offset, val_offset, register, expression}
+use Rattle.dw_rules.specs.Rules.{val_expression}
 use Rattle.dw_unwind.specs.declared.register_file.TheConstants.{PLACES}
 use Rattle.dw_unwind.specs.Caller.{Answer, AreRegisters, Caller, IsCaller, IsCfa}
 use Rattle.dw_unwind.specs.Contents.{HasContents, Overlays, abi_rules, content_changed}

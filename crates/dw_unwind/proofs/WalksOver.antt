@@ -1,10 +1,11 @@
 -- A walk with one unwinder is a walk with another that gives the same callers.
 use Rattle.std.proofs.Common.{◌≡◌, ℕ, List, [], ◌∷◌, Option, None, Some, refl, subst, sym}
 use Rattle.std.specs.Prelude.{◌↔◌, IfSome, option_map}
-use Rattle.dw_rows.specs.Abi.{Abi}
-use Rattle.dw_rows.specs.Rules.{Row}
+use Rattle.dw_rules.specs.Abi.{Abi}
+use Rattle.dw_rules.specs.Rules.{Row}
 use Rattle.dw_rows.specs.Section.{FrameSection}
-use Rattle.dw_rows.specs.UnwindTables.{IsFoundAt, IsTableOf, RowTable, row_at}
+use Rattle.dw_tables.specs.UnwindTables.{IsTableOf, RowTable, row_at}
+use Rattle.dw_rows.specs.RowLookups.{IsFoundAt}
 use Rattle.dw_unwind.specs.Caller.{Caller, UnwindsBy, machine}
 use Rattle.dw_unwind.specs.declared.frames.Stop.{Stop}
 use Rattle.dw_unwind.specs.Walks.{AlwaysUnwinds, CallerRelation, Place, WalkedFrame, AreFrames, UnwindsAt, Walks, next_place, over_rows, over_section, over_table}

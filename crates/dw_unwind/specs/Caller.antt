@@ -4,9 +4,9 @@ use Rattle.std.specs.Prelude.{◌≡◌, ℕ, ◌+◌, ◌^◌, nat_le, ℤ, pos
 use Rattle.dw_bytes.specs.declared.target.Target.{Target}
 use Rattle.dw_bytes.specs.Encoding.{bytes_of_address}
 use Rattle.dw_frame.specs.Records.{Cie, Fde}
-use Rattle.dw_rows.specs.Rules.{Rule, Cfa, register_and_offset, cfa_expression, Row, RuleOver, default, same_value, offset}
-use Rattle.dw_rows.specs.Rules.{val_offset, register, expression, val_expression}
-use Rattle.dw_rows.specs.Abi.{Abi, rule_under, rules_under}
+use Rattle.dw_rules.specs.Rules.{Rule, Cfa, register_and_offset, cfa_expression, Row, RuleOver, default, same_value, offset}
+use Rattle.dw_rules.specs.Rules.{val_offset, register, expression, val_expression}
+use Rattle.dw_rules.specs.Abi.{Abi, rule_under, rules_under}
 use Rattle.dw_stack.specs.Located.{LocatedExpression}
 use Rattle.dw_stack.specs.declared.state.Kind.{Kind}
 use Rattle.dw_stack.specs.declared.state.Kind.TheVariants.{FrameCfa, FrameRegister}

@@ -3,8 +3,8 @@
 use Rattle.std.specs.Prelude.{◌≡◌, ℕ, ◌==◌, if◌then◌else◌, List, [], ◌∷◌, Option, Some, None, IfSome, option_map}
 use Rattle.std.proofs.Math.ListN.{get_or}
 use Rattle.dw_eval.specs.World.{World}
-use Rattle.dw_rows.specs.Abi.{Abi, rule_of_role}
-use Rattle.dw_rows.specs.Rules.{Rule}
+use Rattle.dw_rules.specs.Abi.{Abi, rule_of_role}
+use Rattle.dw_rules.specs.Rules.{Rule}
 use Rattle.dw_unwind.specs.declared.unwinding.Unwound.{Unwound}
 use Rattle.dw_unwind.specs.Caller.{Answer, content, IsRegister}
 use Rattle.dw_unwind.specs.UnwoundViews.{caller_with}

@@ -1,7 +1,7 @@
 -- Callee-saved registers that are marked by number.
 use Rattle.std.specs.Prelude.{◌≡◌, ◌<◌, ◌==◌, ◌||◌, if◌then◌else◌, ℕ, Bool, false, List, length}
 use Rattle.std.proofs.Math.ListN.{get_or}
-use Rattle.dw_rows.specs.Abi.{is_among}
+use Rattle.dw_rules.specs.Abi.{is_among}
 use Rattle.dw_unwind.specs.declared.register_file.TheConstants.{PLACES}
 
 -- exactly the registers with these numbers are marked, of those that have a place

@@ -5,10 +5,10 @@ use Rattle.std.specs.Prelude.{◌≡◌, ℕ, ◌≤◌, ◌^◌, pos, ◌-ℤ�
 use Rattle.std.specs.Borrow.{Bor}
 use Rattle.dw_bytes.specs.declared.target.Target.{Target}
 use Rattle.dw_eval.specs.Numbers.{wrap, width_of}
-use Rattle.dw_rows.specs.Abi.{Abi}
-use Rattle.dw_rows.specs.Rules.{Row}
+use Rattle.dw_rules.specs.Abi.{Abi}
+use Rattle.dw_rules.specs.Rules.{Row}
 use Rattle.dw_rows.specs.Section.{FrameSection}
-use Rattle.dw_rows.specs.UnwindTables.{RowTable, IsTableOf}
+use Rattle.dw_tables.specs.UnwindTables.{RowTable, IsTableOf}
 use Rattle.dw_unwind.specs.Caller.{Caller}
 use Rattle.dw_unwind.specs.Walks.{CallerRelation, over_rows, over_section, over_table}
 use Rattle.dw_unwind.specs.declared.modules.Module.{Module}

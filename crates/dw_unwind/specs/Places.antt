@@ -2,7 +2,7 @@
 -- caller's registers were to be written to one.
 use Rattle.std.specs.Prelude.{◌≡◌, ◌≢◌, ℕ, ◌<◌, ◌≤◌, Any, Bool, Option, Some}
 use Rattle.std.specs.Bool.{MatchBool}
-use Rattle.dw_rows.specs.Rules.{Rule, default}
+use Rattle.dw_rules.specs.Rules.{Rule, default}
 use Rattle.dw_unwind.specs.declared.register_file.TheConstants.{PLACES}
 use Rattle.dw_unwind.specs.Caller.{Caller}
 use Rattle.dw_unwind.specs.Walks.{CallerRelation, UnwindsAt}

@@ -1,7 +1,7 @@
 -- A walk up the stack that gives one frame at a time: its progress, and the frame that it gives
 -- next.
 use Rattle.std.specs.Prelude.{◌≡◌, ℕ, List, [], ◌∷◌, Option, Some, None, option_map}
-use Rattle.dw_rows.specs.Rules.{PlacedRule}
+use Rattle.dw_rules.specs.Rules.{PlacedRule}
 use Rattle.dw_unwind.specs.Caller.{Answer, Caller}
 use Rattle.dw_unwind.specs.Walks.{CallerRelation, WalkedFrame, AreFrames, UnwindsAt, address_before, contents_of, next_place, stop_of_caller}
 use Rattle.dw_unwind.specs.declared.frames.Stop.{Stop}

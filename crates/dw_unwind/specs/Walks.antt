@@ -5,10 +5,10 @@
 -- ends.
 use Rattle.std.specs.Prelude.{◌≡◌, ℕ, zero, suc, ◌≤◌, ◌==◌, if◌then◌else◌, List, [], ◌∷◌, length, Option, Some, None, option_map}
 use Rattle.dw_bytes.specs.declared.target.Target.{Target}
-use Rattle.dw_rows.specs.Abi.{Abi}
-use Rattle.dw_rows.specs.Rules.{Row}
+use Rattle.dw_rules.specs.Abi.{Abi}
+use Rattle.dw_rules.specs.Rules.{Row}
 use Rattle.dw_rows.specs.Section.{FrameSection}
-use Rattle.dw_rows.specs.UnwindTables.{RowTable, row_at}
+use Rattle.dw_tables.specs.UnwindTables.{RowTable, row_at}
 use Rattle.dw_unwind.specs.Caller.{Answer, value, undefined, unreadable, division_by_zero, Caller, Unwinds, UnwindsBy, machine}
 use Rattle.dw_unwind.specs.declared.frames.Stop.{Stop}
 use Rattle.dw_unwind.specs.declared.frames.Stop.TheVariants.{Limit, NotCovered, ReturnUndefined, ReturnUnreadable, ReturnDivisionByZero}

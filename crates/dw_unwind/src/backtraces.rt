@@ -3,7 +3,7 @@
 ghost use Rattle.std.specs.Prelude.{◌≡◌, ◌<◌, ◌^◌, ℕ, All, IfErr, IfOk, IsOk};
 ghost use Rattle.dw_bytes.specs.Answers.{memory as out_of_memory};
 ghost use Rattle.dw_eval.specs.Numbers.{width_of};
-ghost use Rattle.dw_rows.specs.AbiViews.{roles_of};
+ghost use Rattle.dw_rules.specs.AbiViews.{roles_of};
 ghost use Rattle.dw_unwind.specs.CallerFits.{FrameFits};
 ghost use Rattle.dw_unwind.specs.Modules.{AreBelow, over_modules_of_rows};
 ghost use Rattle.dw_unwind.specs.Walks.{Walks, over_rows, over_section, first_place};

@@ -3,10 +3,10 @@
 
 ghost use Rattle.std.specs.Prelude.{◌≡◌, ◌<◌, ℕ, All, IfSome, MatchOption, Option, Some, map};
 ghost use Rattle.std.specs.Bool.{OnTrue};
-ghost use Rattle.dw_rows.specs.Abi.{abi_of, rule_under};
-ghost use Rattle.dw_rows.specs.Rules.{IsTable, RuleOver, rule_in};
-ghost use Rattle.dw_rows.specs.SavedRules.{as_saved};
-ghost use Rattle.dw_rows.specs.Views.{cfa_rule_of};
+ghost use Rattle.dw_rules.specs.Abi.{abi_of, rule_under};
+ghost use Rattle.dw_rules.specs.Rules.{IsTable, RuleOver, rule_in};
+ghost use Rattle.dw_rules.specs.SavedRules.{as_saved};
+ghost use Rattle.dw_rules.specs.Views.{cfa_rule_of};
 ghost use Rattle.dw_stack.specs.Located.{LocatedExpression};
 ghost use Rattle.dw_unwind.specs.Caller.{IsCfa, IsRegister, machine, value};
 ghost use Rattle.dw_unwind.specs.CallerViews.{answer_in, machine_in};

@@ -2,7 +2,7 @@
 
 ghost use Rattle.std.specs.Prelude.{◌≡◌, ◌^◌, ℕ, IfSome, option_map};
 ghost use Rattle.dw_eval.specs.Numbers.{width_of};
-ghost use Rattle.dw_rows.specs.AbiViews.{roles_of};
+ghost use Rattle.dw_rules.specs.AbiViews.{roles_of};
 ghost use Rattle.dw_unwind.specs.CallerFits.{CallerFits};
 ghost use Rattle.dw_unwind.specs.CallerViews.{caller_in};
 ghost use Rattle.dw_unwind.specs.Modules.{AreBelow, as_linked, over_modules_of_rows};

@@ -2,7 +2,7 @@
 
 ghost use Rattle.std.specs.Prelude.{◌≡◌, ◌<◌, ◌≤◌, ◌^◌, ℕ, All, IfSome, IsSome, None, if◌then◌else◌};
 ghost use Rattle.std.specs.Bool.{OnFalse, OnTrue};
-ghost use Rattle.dw_rows.specs.Abi.{is_among};
+ghost use Rattle.dw_rules.specs.Abi.{is_among};
 ghost use Rattle.dw_unwind.specs.Contents.{content_changed, contents_in};
 ghost use Rattle.dw_unwind.specs.KeptRegisters.{ArePicked};
 

@@ -1,8 +1,8 @@
 //! The trait `Unwinder`, for types that can find the caller of a frame.
 
 ghost use Rattle.std.specs.Prelude.{◌≡◌, ℕ, IfOk, IfSome, MatchOption, OnErr, Some, option_map};
-ghost use Rattle.dw_rows.specs.Abi.{abi_of};
-ghost use Rattle.dw_rows.specs.AbiViews.{roles_of};
+ghost use Rattle.dw_rules.specs.Abi.{abi_of};
+ghost use Rattle.dw_rules.specs.AbiViews.{roles_of};
 ghost use Rattle.dw_unwind.specs.Caller.{value};
 ghost use Rattle.dw_unwind.specs.CallerFits.{CallerFits};
 ghost use Rattle.dw_unwind.specs.CallerViews.{answer_in};
@@ -25,7 +25,7 @@ use dw_rows::{Abi, UnwindRows};
 /// `RegisterList`, which is private to this crate.
 pub trait Unwinder {
     ghost use Rattle.std.specs.Prelude.{ℕ, Option};
-    ghost use Rattle.dw_rows.specs.Abi.{Abi};
+    ghost use Rattle.dw_rules.specs.Abi.{Abi};
     ghost use Rattle.dw_unwind.specs.Walks.{CallerRelation};
 
     /// Which caller a frame has, under an ABI and with this memory: a relation between the frame's

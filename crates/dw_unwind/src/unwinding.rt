@@ -2,9 +2,9 @@
 
 ghost use Rattle.std.specs.Prelude.{◌≡◌, ◌^◌, ℕ, IfSome, Option, option_map};
 ghost use Rattle.dw_eval.specs.Numbers.{width_of};
-ghost use Rattle.dw_rows.specs.Abi.{no_abi, rule_under, rules_under};
-ghost use Rattle.dw_rows.specs.AbiViews.{roles_of};
-ghost use Rattle.dw_rows.specs.Rules.{Row};
+ghost use Rattle.dw_rules.specs.Abi.{no_abi, rule_under, rules_under};
+ghost use Rattle.dw_rules.specs.AbiViews.{roles_of};
+ghost use Rattle.dw_rules.specs.Rules.{Row};
 ghost use Rattle.dw_unwind.specs.Caller.{AreRegisters, IsRegister, Unwinds, UnwindsBy, machine};
 ghost use Rattle.dw_unwind.specs.CallerFits.{CallerFits};
 ghost use Rattle.dw_unwind.specs.CallerViews.{answer_in, caller_in, machine_in};
@@ -186,7 +186,7 @@ pub fn unwind_in_place<U: Unwinder, R: Registers, M: Memory>(
 /// row.
 ///
 /// ```rust
-/// let Some(table) = frame.compile(alloc, 1 << 20)? else {
+/// let Some(table) = UnwindTable::compile(alloc, &frame, 1 << 20)? else {
 ///     return Ok(()); // its rows take more than that
 /// };
 /// let caller = unwind_by(&table, &abi, address, &registers, &memory);

@@ -2,7 +2,7 @@
 
 ghost use Rattle.std.specs.Prelude.{◌≡◌, ℕ, IfOk, IfSome, MatchOption, MatchResult, Some, option_map};
 ghost use Rattle.std.specs.Option.{IsSomeAnd};
-ghost use Rattle.dw_rows.specs.AbiViews.{roles_of};
+ghost use Rattle.dw_rules.specs.AbiViews.{roles_of};
 ghost use Rattle.dw_unwind.specs.Caller.{value};
 ghost use Rattle.dw_unwind.specs.CallerFits.{CallerFits, ProgressFits};
 ghost use Rattle.dw_unwind.specs.CallerViews.{answer_in, caller_in};
@@ -297,7 +297,7 @@ impl<'w, U: Unwinder, M: Memory> Walk<'w, U, M> {
 impl<'w, U: Unwinder + Drop, M: Memory> Iterator for Walk<'w, U, M> {
     type Item = BriefFrame;
 
-    ghost use Rattle.dw_rows.specs.AbiViews.{roles_of};
+    ghost use Rattle.dw_rules.specs.AbiViews.{roles_of};
     ghost use Rattle.dw_unwind.specs.WalkViews.{NextFrame};
 
     /// What a call of `next` gives, and how it changes the walk (`NextFrame` in WalkViews.antt).

@@ -1,7 +1,7 @@
 //! The contents of a frame's registers, for walks that give no registers.
 
 ghost use Rattle.std.specs.Prelude.{◌≡◌, ℕ, IfErr, IfOk, MatchOption, OnErr, None, Some};
-ghost use Rattle.dw_rows.specs.Abi.{abi_of};
+ghost use Rattle.dw_rules.specs.Abi.{abi_of};
 ghost use Rattle.dw_unwind.specs.Contents.{UnwindsTo, contents_in};
 ghost use Rattle.dw_unwind.specs.Places.{LacksPlace};
 ghost use Rattle.dw_unwind.specs.Walks.{address_before};

@@ -2,7 +2,7 @@
 use Rattle.std.proofs.Common.{◌≡◌, ℕ, zero, suc, ◌+◌, ◌<◌, ◌≤◌, ◌∙◌, List, [], ◌∷◌, length, map, refl, sym, ap, subst, arith}
 use Rattle.std.specs.Prelude.{IfSome, None, Option, Some, option_map}
 use Rattle.std.proofs.lemmas.List.{length-map}
-use Rattle.dw_rows.specs.Abi.{Abi}
+use Rattle.dw_rules.specs.Abi.{Abi}
 use Rattle.dw_unwind.specs.Caller.{Answer, Caller, value, undefined, unreadable, division_by_zero}
 use Rattle.dw_unwind.specs.Walks.{Place, WalkedFrame, content_of, first_place, stop_after, stop_of_caller, stop_of_return}
 use Rattle.dw_unwind.specs.declared.frames.Stop.{Stop}

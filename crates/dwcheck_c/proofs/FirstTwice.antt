@@ -5,8 +5,8 @@ use Rattle.std.proofs.lemmas.Bool.{le-ltb}
 use Rattle.std.proofs.lemmas.List.{drop_more, take_more, length-take-le, take_all, drop_all}
 use Rattle.std.specs.Option.{option_to_list}
 use Rattle.dw_bytes.specs.declared.fault.FaultKind.TheVariants.{AbiTwice}
-use Rattle.dw_rows.specs.declared.abi.TheConstants.{MAX_KEPT}
-use Rattle.dw_rows.specs.Abi.{is_among, abi_fault, place_of_second}
+use Rattle.dw_rules.specs.declared.abi.TheConstants.{MAX_KEPT}
+use Rattle.dw_rules.specs.Abi.{is_among, abi_fault, place_of_second}
 
 -- none of the first `place` registers occurs twice among them, so the first number that does, in
 -- the registers and `after`, is the first such number from there on

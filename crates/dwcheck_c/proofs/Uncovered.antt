@@ -1,7 +1,7 @@
 -- The only frame of a walk through a closed process.
 use Rattle.std.proofs.Common.{◌≡◌, ◌≢◌, ℕ, List, [], ◌∷◌, length, Option, None, refl, arith}
 use Rattle.std.specs.Prelude.{slice_set}
-use Rattle.dw_rows.specs.Abi.{Abi}
+use Rattle.dw_rules.specs.Abi.{Abi}
 use Rattle.dw_unwind.specs.Walks.{WalkedFrame}
 use Rattle.dw_unwind.specs.declared.frames.Stop.TheVariants.{Limit, NotCovered}
 use Rattle.dwcheck_c.specs.declared.answer.CFrame.{CFrame}

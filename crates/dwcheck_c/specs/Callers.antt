@@ -1,7 +1,7 @@
 -- What C gets as the caller of a frame.
 use Rattle.std.specs.Prelude.{◌≡◌, ◌^◌, ℕ, List, length, map, Option, None, Some}
 use Rattle.dw_eval.specs.Numbers.{width_of}
-use Rattle.dw_rows.specs.Abi.{Abi}
+use Rattle.dw_rules.specs.Abi.{Abi}
 use Rattle.dw_unwind.specs.Caller.{Answer, Caller}
 use Rattle.dw_unwind.specs.CallerFits.{CallerFits}
 use Rattle.dw_process.specs.Processes.{ProcessState}

@@ -1,6 +1,6 @@
 -- A cursor: where a walk up a stack is, as plain data that C owns.
 use Rattle.std.specs.Prelude.{◌≡◌, ℕ, ◌+◌, ◌≤◌, ◌==◌, if◌then◌else◌, IfSome, List, [], ◌∷◌, length, map, Option, Some}
-use Rattle.dw_rows.specs.Abi.{Abi}
+use Rattle.dw_rules.specs.Abi.{Abi}
 use Rattle.dw_unwind.specs.Contents.{contents_in}
 use Rattle.dw_unwind.specs.Places.{LacksPlace}
 use Rattle.dw_unwind.specs.Walks.{IsFrameAt, Place, WalkedFrame, address_before, stop_after, stop_of_caller}

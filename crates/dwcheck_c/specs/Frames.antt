@@ -1,6 +1,6 @@
 -- What C gets as the frames of a walk.
 use Rattle.std.specs.Prelude.{◌≡◌, ℕ, List, length, map, Option, Some, None}
-use Rattle.dw_rows.specs.Abi.{Abi}
+use Rattle.dw_rules.specs.Abi.{Abi}
 use Rattle.dw_unwind.specs.Caller.{Answer, value, undefined, unreadable, division_by_zero}
 use Rattle.dw_unwind.specs.Walks.{Place, WalkedFrame, first_place}
 use Rattle.dw_unwind.specs.WalkViews.{brief_of}

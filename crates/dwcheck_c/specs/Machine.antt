@@ -3,7 +3,7 @@ use Rattle.std.specs.Prelude.{ℕ, ◌/◌, ◌%◌, ◌^◌, ◌==◌, Bool, fa
 use Rattle.std.specs.Option.{option_or}
 use Rattle.dw_bytes.specs.declared.fault.Fault.{Fault}
 use Rattle.dw_eval.specs.MemoryBlocks.{block_byte}
-use Rattle.dw_rows.specs.Abi.{Abi, abi_of, abi_fault}
+use Rattle.dw_rules.specs.Abi.{Abi, abi_of, abi_fault}
 use Rattle.dwcheck_c.specs.declared.memory.CBlock.{CBlock}
 use Rattle.dwcheck_c.specs.declared.state.CState.{CState}
 

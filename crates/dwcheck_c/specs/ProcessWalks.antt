@@ -5,7 +5,7 @@
 -- processors that sign return addresses: the bits of a return address that have the signature are
 -- no part of the caller's address.
 use Rattle.std.specs.Prelude.{◌≡◌, ℕ, ◌≤◌, ◌-◌, ◌==◌, bit_and, if◌then◌else◌, Bool, false, List, [], ◌∷◌, length, Option, Some, None, option_map}
-use Rattle.dw_rows.specs.Abi.{Abi}
+use Rattle.dw_rules.specs.Abi.{Abi}
 use Rattle.dw_unwind.specs.Caller.{Caller}
 use Rattle.dw_unwind.specs.Walks.{CallerRelation, IsFrameAt, Place, WalkedFrame, address_before, content_of, contents_of, over_rows, stop_after}
 use Rattle.dw_unwind.specs.declared.frames.Stop.{Stop}

@@ -1,8 +1,8 @@
 -- What C gets as a row.
 use Rattle.std.specs.Prelude.{◌≡◌, ℕ, pos, List, length, map, Option, Some, option_map}
 use Rattle.std.specs.Option.{option_and_then}
-use Rattle.dw_rows.specs.Rules.{Rule, Cfa, default, undefined, same_value, offset, val_offset, register, expression, val_expression}
-use Rattle.dw_rows.specs.Rules.{register_and_offset, cfa_expression}
+use Rattle.dw_rules.specs.Rules.{Rule, Cfa, default, undefined, same_value, offset, val_offset, register, expression, val_expression}
+use Rattle.dw_rules.specs.Rules.{register_and_offset, cfa_expression}
 use Rattle.dw_process.specs.Processes.{ProcessState, found_at}
 use Rattle.dw_process.specs.declared.found_row.FoundRow.{FoundRow}
 use Rattle.dwcheck_c.specs.Slots.{put_into}

@@ -1,7 +1,7 @@
 -- The bytes of a rule's expression.
 use Rattle.std.specs.Prelude.{ℕ, ◌==◌, if◌then◌else◌, nat_le, List, Option, Some, None}
 use Rattle.std.specs.Option.{option_and_then}
-use Rattle.dw_rows.specs.Rules.{Rule, Cfa, Row, cfa_expression, expression, rule_in, val_expression}
+use Rattle.dw_rules.specs.Rules.{Rule, Cfa, Row, cfa_expression, expression, rule_in, val_expression}
 use Rattle.dw_process.specs.Processes.{ProcessState}
 use Rattle.dwcheck_c.specs.Rows.{found_in}
 

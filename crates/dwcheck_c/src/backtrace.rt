@@ -1,8 +1,8 @@
 //! Walks up a stack, and writes its frames to an array that C passes.
 
 ghost use Rattle.std.specs.Prelude.{◌≡◌, ◌≤◌, ◌↔◌, ℕ, false, List, None, Option, Some, length, option_map};
-ghost use Rattle.dw_rows.specs.Abi.{Abi as Roles, abi_fault, abi_of};
-ghost use Rattle.dw_rows.specs.AbiViews.{roles_of};
+ghost use Rattle.dw_rules.specs.Abi.{Abi as Roles, abi_fault, abi_of};
+ghost use Rattle.dw_rules.specs.AbiViews.{roles_of};
 ghost use Rattle.dw_unwind.specs.Caller.{Answer};
 ghost use Rattle.dw_unwind.specs.UnwoundViews.{caller_with};
 ghost use Rattle.dw_unwind.specs.WalkViews.{brief_in, brief_of};

@@ -3,7 +3,7 @@
 
 ghost use Rattle.std.specs.Prelude.{◌≡◌, ◌≤◌, ◌^◌, IfSome, map, option_map};
 ghost use Rattle.dw_eval.specs.Numbers.{width_of};
-ghost use Rattle.dw_rows.specs.AbiViews.{roles_of};
+ghost use Rattle.dw_rules.specs.AbiViews.{roles_of};
 ghost use Rattle.dw_unwind.specs.CallerFits.{CallerFits};
 ghost use Rattle.dw_unwind.specs.CallerViews.{answer_in};
 ghost use Rattle.dw_unwind.specs.UnwoundViews.{caller_with};

@@ -3,7 +3,7 @@
 ghost use Rattle.std.specs.Prelude.{◌≡◌, ◌≢◌, ◌+◌, ◌≤◌, ◌<◌, ◌⊎◌, ℕ, IfNone, IfSome, IsSome, List, None, Option, Some, if◌then◌else◌, length};
 ghost use Rattle.std.specs.Bool.{OnTrue, OnFalse};
 ghost use Rattle.dw_process.specs.Processes.{ProcessState, is_signal_in};
-ghost use Rattle.dw_rows.specs.Abi.{Abi, abi_of};
+ghost use Rattle.dw_rules.specs.Abi.{Abi, abi_of};
 ghost use Rattle.dw_unwind.specs.Contents.{contents_in};
 ghost use Rattle.dw_unwind.specs.Places.{LacksPlace};
 ghost use Rattle.dw_unwind.specs.Walks.{first_place};

@@ -1,7 +1,7 @@
 //! The registers of a caller in lists, for walks whose registers have no place in a cursor.
 
 ghost use Rattle.std.specs.Prelude.{◌≡◌, [], Option, Some, option_map};
-ghost use Rattle.dw_rows.specs.AbiViews.{roles_of};
+ghost use Rattle.dw_rules.specs.AbiViews.{roles_of};
 ghost use Rattle.dw_unwind.specs.UnwoundViews.{caller_with};
 ghost use Rattle.dw_unwind.specs.CallerViews.{answer_in};
 ghost use Rattle.dw_unwind.specs.Walks.{UnwindsAt, content_of, contents_of};

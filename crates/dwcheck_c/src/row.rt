@@ -1,8 +1,8 @@
 //! C's structs for a row and for the rule of a register, and the conversions to them.
 
 ghost use Rattle.std.specs.Prelude.{◌≡◌, ◌≤◌, length, map, pos};
-ghost use Rattle.dw_rows.specs.SavedRules.{as_saved};
-ghost use Rattle.dw_rows.specs.Views.{rule_of, cfa_rule_of};
+ghost use Rattle.dw_rules.specs.SavedRules.{as_saved};
+ghost use Rattle.dw_rules.specs.Views.{rule_of, cfa_rule_of};
 ghost use Rattle.dw_stack.specs.Certificates.{checked_of};
 ghost use Rattle.dwcheck_c.specs.Rows.{crule_of, cfa_coded, coded, IsRowOf};
 ghost use Rattle.dwcheck_c.specs.Slots.{put_into};

@@ -2,7 +2,7 @@
 
 ghost use Rattle.std.specs.Option.{IsSomeAnd};
 ghost use Rattle.std.specs.Prelude.{◌≡◌, ◌⊎◌, None, Some, length, option_map};
-ghost use Rattle.dw_rows.specs.Views.{cfa_rule_of, rule_of};
+ghost use Rattle.dw_rules.specs.Views.{cfa_rule_of, rule_of};
 ghost use Rattle.dwcheck_c.specs.Lent.{Reads, loan_of, read_by};
 ghost use Rattle.dwcheck_c.specs.RuleBytes.{bytes_at, bytes_in_row, cfa_bytes, rule_bytes};
 ghost use Rattle.dwcheck_c.specs.Slots.{put_into};

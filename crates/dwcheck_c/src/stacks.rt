@@ -3,7 +3,7 @@
 ghost use Rattle.std.specs.Prelude.{◌≡◌, ◌≢◌, ◌≤◌, ◌⊎◌, None};
 ghost use Rattle.std.specs.Bool.{OnTrue, OnFalse};
 ghost use Rattle.std.specs.Option.{IsSomeAnd};
-ghost use Rattle.dw_rows.specs.AbiViews.{roles_of};
+ghost use Rattle.dw_rules.specs.AbiViews.{roles_of};
 ghost use Rattle.dwcheck_c.specs.Callers.{IsCaller, Unwinds};
 ghost use Rattle.dwcheck_c.specs.Faults.{Reports};
 ghost use Rattle.dwcheck_c.specs.Frames.{IsBacktrace, stop_number};

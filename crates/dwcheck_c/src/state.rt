@@ -2,7 +2,7 @@
 
 ghost use Rattle.std.specs.Prelude.{◌≡◌, ◌≤◌};
 ghost use Rattle.dw_bytes.specs.declared.fault.FaultKind.{FaultKind};
-ghost use Rattle.dw_rows.specs.Abi.{abi_fault, is_among};
+ghost use Rattle.dw_rules.specs.Abi.{abi_fault, is_among};
 
 use crate::memory::{Blocks, CBlock};
 use dw_bytes::{Fault, FaultKind};
@@ -117,7 +117,7 @@ pub struct CState<'a> {
 
 impl<'a> CState<'a> {
     ghost use Rattle.std.specs.Prelude.{◌≡◌, None};
-    ghost use Rattle.dw_rows.specs.AbiViews.{roles_of};
+    ghost use Rattle.dw_rules.specs.AbiViews.{roles_of};
     ghost use Rattle.dwcheck_c.specs.Machine.{abi_fault_of, abi_in, registers_of, memory_of, pointer_of, register_in, byte_in};
 
     pub(crate) fn registers(&self) -> Contents<'a>

@@ -1,7 +1,7 @@
 use Rattle.std.proofs.Common.{◌≡◌, ◌++◌, map}
 use Rattle.std.specs.List.{flat_map}
 use Rattle.std.specs.String.{string_bytes}
-use Rattle.dw_rows.specs.Views.{numbered_rule_of}
+use Rattle.dw_rules.specs.Views.{numbered_rule_of}
 use Rattle.dw_check.specs.Text.{register_text}
 use Rattle.dw_check.proofs.lines.push_rules.Given as goal
 

@@ -1,8 +1,8 @@
 use Rattle.std.proofs.Common.{◌≡◌, List, Some, ap, map, sym, subst, ◌∙◌}
 use Rattle.std.specs.List.{All}
 use Rattle.dw_frame.specs.Records.{Cie, Fde}
-use Rattle.dw_rows.specs.Rules.{Row}
-use Rattle.dw_rows.specs.GivenRows.{given_row}
+use Rattle.dw_rules.specs.Rules.{Row}
+use Rattle.dw_rules.specs.GivenRows.{given_row}
 use Rattle.dw_rows.specs.UnwindRows.{rows_of}
 use Rattle.dw_rows.specs.Section.{FrameSection, cie_in, rows_in, rows_by_cie}
 use Rattle.dw_check.specs.Text.{Fits}

@@ -1,6 +1,6 @@
 use Rattle.std.proofs.Common.{refl, subst}
 use Rattle.std.specs.Prelude.{option_map}
-use Rattle.dw_rows.specs.AbiViews.{roles_of}
+use Rattle.dw_rules.specs.AbiViews.{roles_of}
 use Rattle.dw_check.specs.CallerText.{caller_text}
 use Rattle.dw_unwind.specs.CallerViews.{caller_in}
 use Rattle.dw_unwind.specs.Modules.{unborrowed}

@@ -1,5 +1,5 @@
 use Rattle.std.proofs.Common.{refl}
-use Rattle.dw_rows.specs.AbiViews.{roles_of}
+use Rattle.dw_rules.specs.AbiViews.{roles_of}
 use Rattle.dw_unwind.specs.Modules.{unborrowed}
 use Rattle.dw_state.specs.StateViews.{known_state_of}
 use Rattle.dw_unwind.specs.Walks.{first_place}

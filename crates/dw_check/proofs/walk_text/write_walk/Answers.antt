@@ -1,6 +1,6 @@
 use Rattle.std.proofs.Common.{◌≡◌, ◌∙◌, ◌+◌, arith, ap, refl, rules, subst, sym}
 use Rattle.std.specs.Io.KnownBytes.{Appends}
-use Rattle.dw_rows.specs.AbiViews.{roles_of}
+use Rattle.dw_rules.specs.AbiViews.{roles_of}
 use Rattle.dw_unwind.specs.WalkSteps.{GivesFrame, frame_at}
 use Rattle.dw_unwind.specs.WalkViews.{brief_in, brief_of}
 use Rattle.dw_check.specs.SinkBytes.{AppendsFront}

@@ -1,5 +1,5 @@
 use Rattle.std.proofs.Common.{◌≡◌, ◌-◌, ◌≤◌, false}
-use Rattle.dw_rows.specs.AbiViews.{roles_of}
+use Rattle.dw_rules.specs.AbiViews.{roles_of}
 use Rattle.dw_unwind.specs.WalkSteps.{frame_at}
 use Rattle.dw_check.specs.WriteResults.{IsSame}
 use Rattle.dw_check.proofs.WrittenWalks.{Shown}

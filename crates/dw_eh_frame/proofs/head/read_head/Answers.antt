@@ -11,4 +11,4 @@ returns-clause-numbers c =
     (c.skip_eh_data.ensures.goes_on.same_target ∙ (c.read_letters.ensures.goes_on.same_target ∙ c.read_version.ensures.goes_on.same_target))
     (search rules)
     c.in-Ok.ensures.found
-    (omega (arith, ap (λ (r : ReadPosition). r.position) c.copy-past.ensures, c.in-Ok.ensures.count, c.from.ensures, c.position.ensures, c.position-2.ensures, c.read_numbers.ensures.goes_on.forward))
+    (omega (arith, ap (λ (r : ReadPosition). r.position) c.copy-ahead.ensures, c.in-Ok.ensures.count, c.from.ensures, c.position.ensures, c.position-2.ensures, c.read_numbers.ensures.goes_on.forward))

@@ -3,10 +3,10 @@ use Rattle.dw_frame.specs.Views.{cie_of, fde_of}
 use Rattle.dw_frame.specs.declared.entry.CommonInformationEntry.{CommonInformationEntry}
 use Rattle.dw_frame.specs.declared.entry.FrameDescriptionEntry.{FrameDescriptionEntry}
 use Rattle.dw_stack.specs.Located.{all_located}
-use Rattle.dw_rows.specs.Expressions.{cie_expressions, frame_expressions}
+use Rattle.dw_rules.specs.Expressions.{cie_expressions, frame_expressions}
 use Rattle.std.specs.List.{flat_map}
 use Rattle.dw_rows.specs.Section.{parts_fault, section_fault, frame_of, placed_rows}
-use Rattle.dw_rows.specs.Initial.{AreLeftBy}
+use Rattle.dw_rules.specs.Initial.{AreLeftBy}
 use Rattle.dw_rows.specs.Overlap.{cie_offset, fde_offset, IsAddressIndex}
 use Rattle.dw_frame.specs.Bounds.{Ascends}
 use Rattle.dw_rows.proofs.Standing.{section-answered}

@@ -1,7 +1,7 @@
 use Rattle.std.proofs.Common.{◌+◌}
 use Rattle.dw_rows.specs.UnwindRows.{rows_of}
 use Rattle.dw_rows.proofs.Covering.{cover-rows}
-use Rattle.dw_rows.proofs.GivenRows.{cover-with}
+use Rattle.dw_rows.proofs.RowsWithExpressions.{cover-with}
 use Rattle.dw_rows.proofs.RowsOf.{one-row}
 use Rattle.dw_rows.proofs.laws.rows_cover.Goals as goal
 

@@ -1,4 +1,4 @@
-use Rattle.dw_rows.proofs.CompiledTables.{section-row-under}
+use Rattle.dw_rows.proofs.RowsUnder.{section-row-under}
 use Rattle.dw_rows.proofs.GoodRows.{row-good, found-good}
 use Rattle.dw_rows.proofs.laws.rows_have_good_expressions.Goals as goal
 

@@ -1,4 +1,4 @@
-use Rattle.dw_rows.proofs.Tables.{rule_list-table, rule_in-rule_list, IsTable-rule_list}
+use Rattle.dw_rules.proofs.Tables.{rule_list-table, rule_in-rule_list, IsTable-rule_list}
 use Rattle.dw_rows.proofs.laws.rule_lists_are_rules.Goals as goal
 
 pub returns : goal.returns

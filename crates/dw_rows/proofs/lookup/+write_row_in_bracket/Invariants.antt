@@ -1,6 +1,6 @@
 use Rattle.std.proofs.Common.{◌+◌, ◌-◌, ◌≤◌, List, ◌∷◌, length}
 use Rattle.dw_frame.specs.Views.{cie_of, fde_of}
-use Rattle.dw_rows.specs.RuleSet.{StoredRules}
+use Rattle.dw_rules.specs.RuleSet.{StoredRules}
 use Rattle.dw_rows.specs.RowCursors.{cursor_at, Seeks, above}
 use Rattle.dw_rows.proofs.lookup.+write_row_in_bracket.Given as goal
 

@@ -3,8 +3,8 @@ use Rattle.std.specs.Prelude.{find}
 use Rattle.dw_frame.specs.Views.{cie_of, fde_of}
 use Rattle.dw_rows.specs.UnwindRows.{rows_of, has_address}
 use Rattle.dw_rows.specs.RowCursors.{cursor_at, RowCursor, above}
-use Rattle.dw_rows.specs.LentExpressions.{lent_by}
-use Rattle.dw_rows.proofs.GivenRows.{find-with}
+use Rattle.dw_rules.specs.LentExpressions.{lent_by}
+use Rattle.dw_rows.proofs.RowsWithExpressions.{find-with}
 use Rattle.dw_rows.proofs.Covering.{not-missed}
 use Rattle.dw_rows.proofs.Coming.{plain-row, seeks-found, seeks-on, seeks-cursor, seeks-nearer, seeks-cfa, seeks-lent, seeks-remembers}
 use Rattle.dw_rows.proofs.Coming.{seeks-no-restore, seeks-end}

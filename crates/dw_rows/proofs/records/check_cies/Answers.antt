@@ -1,12 +1,12 @@
 use Rattle.std.proofs.Common.{◌≡◌, ◌+◌, [], ◌∷◌, ◌++◌, map, take, drop, sym, ap, subst, ◌∙◌, arith, rules}
 use Rattle.std.proofs.Common.{append_assoc}
 use Rattle.dw_frame.specs.Views.{cie_of}
-use Rattle.dw_rows.specs.Expressions.{expressions_of, cie_expressions}
-use Rattle.dw_rows.specs.ProgramFault.{cie_fault}
-use Rattle.dw_rows.specs.ProgramState.{IsLeftBy}
-use Rattle.dw_rows.proofs.Elements.{front-map}
+use Rattle.dw_rules.specs.Expressions.{expressions_of, cie_expressions}
+use Rattle.dw_rules.specs.ProgramFault.{cie_fault}
+use Rattle.dw_rules.specs.ProgramState.{IsLeftBy}
+use Rattle.dw_rules.proofs.Elements.{front-map}
 use Rattle.dw_rows.proofs.Faults.{passed, drop-at}
-use Rattle.dw_rows.proofs.Initials.{left-one}
+use Rattle.dw_rules.proofs.Initials.{left-one}
 use Rattle.dw_rows.proofs.records.check_cies.Goals as goal
 
 pub loop-cie-preserved : goal.loop-cie-preserved

@@ -1,9 +1,9 @@
 use Rattle.std.proofs.Common.{◌≡◌, ◌++◌, map, take, drop}
 use Rattle.dw_frame.specs.Views.{cie_of}
-use Rattle.dw_rows.specs.Expressions.{cie_expressions}
-use Rattle.dw_rows.specs.ProgramFault.{cie_fault}
+use Rattle.dw_rules.specs.Expressions.{cie_expressions}
+use Rattle.dw_rules.specs.ProgramFault.{cie_fault}
 use Rattle.dw_rows.specs.Section.{first_fault}
-use Rattle.dw_rows.specs.Initial.{AreLeftBy}
+use Rattle.dw_rules.specs.Initial.{AreLeftBy}
 use Rattle.dw_rows.proofs.records.check_cies.Given as goal
 
 abbrev pub invariant-loop-cie : goal.invariant-loop-cie

@@ -3,7 +3,7 @@ use Rattle.dw_frame.specs.Views.{cie_of, fde_of}
 use Rattle.dw_frame.specs.Records.{Cie, Fde}
 use Rattle.dw_bytes.specs.declared.fault.FaultKind.TheVariants.{NoSuchCie}
 use Rattle.dw_rows.specs.Section.{cie_at, pointer_fault}
-use Rattle.dw_rows.proofs.Elements.{contains-map}
+use Rattle.dw_rules.proofs.Elements.{contains-map}
 use Rattle.dw_rows.proofs.Faults.{none-each}
 use Rattle.dw_rows.proofs.records.check_fdes.Goals as goal
 

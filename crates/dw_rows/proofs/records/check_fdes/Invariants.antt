@@ -1,8 +1,8 @@
 use Rattle.std.proofs.Common.{◌≡◌, ◌≤◌, ◌+◌, ◌*◌, ◌^◌, ◌++◌, length, map, drop, Some, IfSome}
 use Rattle.std.specs.List.{flat_map}
 use Rattle.dw_frame.specs.Views.{cie_of, fde_of}
-use Rattle.dw_rows.specs.Expressions.{fde_expressions}
-use Rattle.dw_rows.specs.ProgramState.{IsLeftBy}
+use Rattle.dw_rules.specs.Expressions.{fde_expressions}
+use Rattle.dw_rules.specs.ProgramState.{IsLeftBy}
 use Rattle.dw_rows.specs.Section.{cie_at, first_fault, program_fault, placed_rows}
 use Rattle.dw_rows.proofs.records.check_fdes.Given as goal
 

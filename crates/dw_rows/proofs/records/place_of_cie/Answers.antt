@@ -4,9 +4,9 @@ use Rattle.std.proofs.lemmas.List.{get_or_default}
 use Rattle.dw_frame.specs.Views.{cie_of}
 use Rattle.dw_frame.specs.declared.entry.CommonInformationEntry.{CommonInformationEntry}
 use Rattle.dw_rows.specs.Overlap.{cie_offset}
-use Rattle.dw_rows.proofs.Search.{searched-found, searched-none}
+use Rattle.dw_rules.proofs.Search.{searched-found, searched-none}
 use Rattle.dw_rows.proofs.Faults.{found-at, absent-at}
-use Rattle.dw_rows.proofs.Elements.{ascending-back, contains-map, contained-map, read-map, some-element}
+use Rattle.dw_rules.proofs.Elements.{ascending-back, contains-map, contained-map, read-map, some-element}
 use Rattle.dw_rows.proofs.records.place_of_cie.Goals as goal
 
 abbrev offset_in : CommonInformationEntry → ℕ

@@ -1,5 +1,5 @@
 use Rattle.std.proofs.lemmas.Result.{IfOk-weaker}
-use Rattle.dw_rows.specs.AbiViews.{roles_of}
+use Rattle.dw_rules.specs.AbiViews.{roles_of}
 use Rattle.dw_unwind.specs.Walks.{first_place}
 use Rattle.dw_unwind.specs.WalkViews.{frames_in}
 use Rattle.dw_unwind.proofs.backtraces.backtrace_by_section.Goals as goal

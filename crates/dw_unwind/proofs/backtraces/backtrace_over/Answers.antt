@@ -1,7 +1,7 @@
 use Rattle.std.proofs.Common.{◌≡◌, ◌∷◌, [], ◌++◌, ◌+◌, ◌∙◌, ap, subst, length, List, sym, arith, length-append}
 use Rattle.std.proofs.lemmas.List.{map-append}
 use Rattle.std.specs.Prelude.{All}
-use Rattle.dw_rows.specs.AbiViews.{roles_of}
+use Rattle.dw_rules.specs.AbiViews.{roles_of}
 use Rattle.dw_unwind.specs.declared.frames.Frame as declared
 use Rattle.dw_unwind.specs.CallerFits.{FrameFits}
 use Rattle.dw_unwind.specs.Walks.{Place, CallerRelation, WalkedFrame, first_place}

@@ -1,6 +1,6 @@
 use Rattle.std.proofs.Common.{◌≡◌, ◌-◌, ◌≤◌, ◌<◌, ℕ, length}
 use Rattle.std.specs.Prelude.{All}
-use Rattle.dw_rows.specs.AbiViews.{roles_of}
+use Rattle.dw_rules.specs.AbiViews.{roles_of}
 use Rattle.dw_unwind.specs.CallerFits.{FrameFits, ProgressFits}
 use Rattle.dw_unwind.specs.Walks.{first_place}
 use Rattle.dw_unwind.specs.WalkViews.{frames_in}

@@ -1,5 +1,5 @@
 use Rattle.std.proofs.Common.{◌&&◌, ℕ, None, Option, Some, arith, refl, sym, subst}
-use Rattle.dw_rows.specs.Abi.{abi_of}
+use Rattle.dw_rules.specs.Abi.{abi_of}
 use Rattle.dw_unwind.specs.CallerViews.{answer_in, machine_in}
 use Rattle.dw_unwind.specs.Contents.{HasContents, abi_rules, content_changed, contents_in}
 use Rattle.dw_unwind.specs.Places.{Fills}

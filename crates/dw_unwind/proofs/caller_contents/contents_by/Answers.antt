@@ -1,7 +1,7 @@
 use Rattle.std.proofs.Common.{ℕ, List, Option, Some, subst, arith}
 use Rattle.dw_bytes.specs.declared.target.Target.{Target}
-use Rattle.dw_rows.specs.Abi.{abi_of, rule_under}
-use Rattle.dw_rows.specs.Rules.{Rule}
+use Rattle.dw_rules.specs.Abi.{abi_of, rule_under}
+use Rattle.dw_rules.specs.Rules.{Rule}
 use Rattle.dw_unwind.specs.Caller.{IsCaller, machine}
 use Rattle.dw_unwind.specs.CallerViews.{answer_in}
 use Rattle.dw_unwind.specs.Contents.{HasContents, contents_in}

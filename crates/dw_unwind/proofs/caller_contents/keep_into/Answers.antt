@@ -1,7 +1,7 @@
 use Rattle.std.proofs.Common.{◌∙◌, ◌==◌, None, ap, arith, get_or, refl}
 use Rattle.std.proofs.lemmas.List.{drop_all}
 use Rattle.std.proofs.lemmas.List.Folds.{list_any_at}
-use Rattle.dw_rows.specs.Abi.{abi_of}
+use Rattle.dw_rules.specs.Abi.{abi_of}
 use Rattle.dw_unwind.specs.CallerViews.{machine_in}
 use Rattle.dw_unwind.specs.Contents.{abi_rules, content_changed, contents_in}
 use Rattle.dw_unwind.specs.Walks.{content_of}

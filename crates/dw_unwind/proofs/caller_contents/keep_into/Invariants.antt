@@ -1,5 +1,5 @@
 use Rattle.std.proofs.Common.{ℕ, Option, None, drop}
-use Rattle.dw_rows.specs.Abi.{abi_of}
+use Rattle.dw_rules.specs.Abi.{abi_of}
 use Rattle.dw_unwind.specs.CallerViews.{machine_in}
 use Rattle.dw_unwind.specs.Contents.{Keeps, abi_rules, contents_in}
 use Rattle.dw_unwind.specs.Places.{Writes}

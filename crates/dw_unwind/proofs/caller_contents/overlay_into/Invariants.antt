@@ -1,6 +1,6 @@
 use Rattle.std.proofs.Common.{◌≡◌, ◌++◌, ℕ, Option, map}
-use Rattle.dw_rows.specs.Rules.{rule_in}
-use Rattle.dw_rows.specs.Views.{numbered_rule_of}
+use Rattle.dw_rules.specs.Rules.{rule_in}
+use Rattle.dw_rules.specs.Views.{numbered_rule_of}
 use Rattle.dw_unwind.specs.CallerViews.{answer_in, machine_in}
 use Rattle.dw_unwind.specs.Contents.{Overlays, contents_in}
 use Rattle.dw_unwind.specs.Places.{Writes}

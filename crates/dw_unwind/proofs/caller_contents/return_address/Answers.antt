@@ -1,7 +1,7 @@
 use Rattle.std.proofs.Common.{sym}
-use Rattle.dw_rows.specs.Abi.{abi_of, rule_of_role, rule_under}
-use Rattle.dw_rows.specs.Rules.{rule_in}
-use Rattle.dw_rows.specs.Views.{rule_of}
+use Rattle.dw_rules.specs.Abi.{abi_of, rule_of_role, rule_under}
+use Rattle.dw_rules.specs.Rules.{rule_in}
+use Rattle.dw_rules.specs.Views.{rule_of}
 use Rattle.dw_unwind.specs.CallerViews.{answer_in, machine_in}
 use Rattle.dw_unwind.specs.Contents.{contents_in}
 use Rattle.dw_unwind.proofs.Contents.{by-abi, by-row, known-register}

@@ -1,4 +1,4 @@
-use Rattle.dw_rows.specs.Abi.{abi_of}
+use Rattle.dw_rules.specs.Abi.{abi_of}
 use Rattle.dw_unwind.specs.CallerViews.{answer_in, machine_in}
 use Rattle.dw_unwind.specs.Contents.{abi_rules, contents_in}
 use Rattle.dw_unwind.proofs.Contents.{overlaid}

@@ -1,5 +1,5 @@
 use Rattle.std.proofs.Common.{ℕ, Option, subst, sym}
-use Rattle.dw_rows.specs.Abi.{abi_of}
+use Rattle.dw_rules.specs.Abi.{abi_of}
 use Rattle.dw_unwind.specs.Caller.{machine, value}
 use Rattle.dw_unwind.specs.CallerViews.{answer_in}
 use Rattle.dw_unwind.specs.Contents.{HasContents, abi_rules, contents_in}

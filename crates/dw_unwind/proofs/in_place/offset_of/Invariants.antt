@@ -1,6 +1,6 @@
 use Rattle.std.proofs.Common.{◌≡◌, map}
-use Rattle.dw_rows.specs.Rules.{rule_in}
-use Rattle.dw_rows.specs.SavedRules.{as_saved}
+use Rattle.dw_rules.specs.Rules.{rule_in}
+use Rattle.dw_rules.specs.SavedRules.{as_saved}
 use Rattle.dw_stack.specs.Located.{LocatedExpression}
 use Rattle.dw_unwind.proofs.in_place.offset_of.Given as goal
 

@@ -1,7 +1,7 @@
 use Rattle.std.proofs.Common.{map}
 use Rattle.std.specs.Prelude.{None}
-use Rattle.dw_rows.specs.Abi.{abi_of}
-use Rattle.dw_rows.specs.SavedRules.{as_saved}
+use Rattle.dw_rules.specs.Abi.{abi_of}
+use Rattle.dw_rules.specs.SavedRules.{as_saved}
 use Rattle.dw_unwind.specs.Caller.{machine, value}
 use Rattle.dw_unwind.specs.Contents.{abi_rules, contents_in}
 use Rattle.dw_unwind.specs.declared.in_place.TheConstants.{LITTLE_64}

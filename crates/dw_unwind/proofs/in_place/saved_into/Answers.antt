@@ -1,7 +1,7 @@
 use Rattle.std.proofs.Common.{◌≡◌, List, ap, map, rules, subst, w64, ℤ}
 use mir.Val.{to_z, of_z}
-use Rattle.dw_rows.specs.Rules.{offset}
-use Rattle.dw_rows.specs.SavedRules.{Saved, as_saved}
+use Rattle.dw_rules.specs.Rules.{offset}
+use Rattle.dw_rules.specs.SavedRules.{Saved, as_saved}
 use Rattle.dw_unwind.specs.Caller.{IsRegister}
 use Rattle.dw_unwind.specs.CallerViews.{answer_in, machine_in}
 use Rattle.dw_unwind.specs.Contents.{contents_in}

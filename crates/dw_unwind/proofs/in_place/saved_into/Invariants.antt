@@ -1,5 +1,5 @@
 use Rattle.std.proofs.Common.{◌≡◌, ◌++◌, ℕ, ℤ, Option, map}
-use Rattle.dw_rows.specs.SavedRules.{as_saved}
+use Rattle.dw_rules.specs.SavedRules.{as_saved}
 use Rattle.dw_unwind.specs.CallerViews.{answer_in, machine_in}
 use Rattle.dw_unwind.specs.Contents.{Overlays, contents_in}
 use Rattle.dw_unwind.proofs.in_place.saved_into.Given as goal

@@ -1,5 +1,5 @@
 use Rattle.std.proofs.Common.{◌||◌, ◌∙◌, Bool, ap, refl}
-use Rattle.dw_rows.specs.Abi.{is_among}
+use Rattle.dw_rules.specs.Abi.{is_among}
 use Rattle.dw_unwind.specs.declared.register_file.TheConstants.{PLACES}
 use Rattle.dw_unwind.proofs.InPlace.{all-false, marks-all, marks-next}
 use Rattle.dw_unwind.proofs.kept_registers.marks_of.Goals as goal

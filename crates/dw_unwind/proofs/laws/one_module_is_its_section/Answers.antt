@@ -1,6 +1,6 @@
 use Rattle.std.proofs.Common.{◌^◌, ℕ, Option, Some}
 use Rattle.dw_eval.specs.Numbers.{width_of}
-use Rattle.dw_rows.specs.Abi.{Abi}
+use Rattle.dw_rules.specs.Abi.{Abi}
 use Rattle.dw_rows.specs.Section.{FrameSection, IsChecked}
 use Rattle.dw_unwind.specs.Caller.{Caller}
 use Rattle.dw_unwind.specs.CallerFits.{CallerFits}

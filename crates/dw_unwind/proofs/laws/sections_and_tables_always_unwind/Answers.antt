@@ -1,7 +1,8 @@
 use Rattle.std.proofs.Common.{◌≡◌, ℕ, Option}
 use Rattle.std.specs.Borrow.{Bor}
 use Rattle.dw_rows.specs.Section.{FrameSection}
-use Rattle.dw_rows.specs.UnwindTables.{IsFoundAt, RowTable, row_at}
+use Rattle.dw_tables.specs.UnwindTables.{RowTable, row_at}
+use Rattle.dw_rows.specs.RowLookups.{IsFoundAt}
 use Rattle.dw_unwind.specs.Caller.{machine}
 use Rattle.dw_unwind.specs.Modules.{over_modules_of_rows, over_sections, over_tables, unborrowed}
 use Rattle.dw_unwind.specs.Walks.{over_rows, over_section, over_table}

@@ -1,4 +1,4 @@
-use Rattle.dw_rows.specs.UnwindTables.{row_at}
+use Rattle.dw_tables.specs.UnwindTables.{row_at}
 use Rattle.dw_unwind.proofs.Callers.{found-unwinds, unwinds-found}
 use Rattle.dw_unwind.proofs.laws.unwinding_by_what_is_found.Goals as goal
 

@@ -1,6 +1,7 @@
 use Rattle.std.proofs.Common.{◌≡◌}
 use Rattle.dw_rows.specs.Section.{FrameSection}
-use Rattle.dw_rows.specs.UnwindTables.{IsFoundAt, IsTableOf, RowTable, row_at}
+use Rattle.dw_tables.specs.UnwindTables.{IsTableOf, RowTable, row_at}
+use Rattle.dw_rows.specs.RowLookups.{IsFoundAt}
 use Rattle.dw_unwind.specs.Walks.{over_rows, over_section, over_table}
 use Rattle.dw_unwind.proofs.ModuleWalks.{likes_same, others_like, through_borrowed, through_modules}
 use Rattle.dw_unwind.proofs.WalksOver.{over_a_table, over_what_a_table_gives, over_what_is_found}

@@ -1,5 +1,6 @@
 use Rattle.std.proofs.Common.{◌≡◌}
-use Rattle.dw_rows.specs.UnwindTables.{IsFoundAt, row_at}
+use Rattle.dw_tables.specs.UnwindTables.{row_at}
+use Rattle.dw_rows.specs.RowLookups.{IsFoundAt}
 use Rattle.dw_unwind.specs.Walks.{over_rows, over_section, over_table}
 use Rattle.dw_unwind.proofs.WalksOver.{over_a_table, over_what_a_table_gives, over_what_is_found, walks_same}
 use Rattle.dw_unwind.proofs.laws.walks_over_what_is_found.Goals as goal

@@ -1,8 +1,8 @@
 use Rattle.std.proofs.Common.{◌≡◌, ℕ, subst}
 use Rattle.std.proofs.lemmas.List.Elements.{recursion_from_All}
-use Rattle.dw_rows.specs.Abi.{rule_under, rules_under}
-use Rattle.dw_rows.specs.AbiViews.{roles_of}
-use Rattle.dw_rows.specs.Rules.{Rule}
+use Rattle.dw_rules.specs.Abi.{rule_under, rules_under}
+use Rattle.dw_rules.specs.AbiViews.{roles_of}
+use Rattle.dw_rules.specs.Rules.{Rule}
 use Rattle.dw_unwind.specs.Caller.{IsRegister}
 use Rattle.dw_unwind.specs.CallerViews.{answer_in, machine_in}
 use Rattle.dw_unwind.proofs.Callers.{by_default, found_register}

@@ -1,4 +1,4 @@
-use Rattle.dw_rows.specs.AbiViews.{roles_of}
+use Rattle.dw_rules.specs.AbiViews.{roles_of}
 use Rattle.dw_unwind.specs.Caller.{machine}
 use Rattle.dw_unwind.proofs.unwinding.unwind_by_section.Goals as goal
 

@@ -1,7 +1,7 @@
 use Rattle.std.proofs.Common.{ℕ, List, Some, subst}
 use Rattle.dw_bytes.specs.declared.target.Target.{Target}
-use Rattle.dw_rows.specs.AbiViews.{roles_of}
-use Rattle.dw_rows.specs.Rules.{Rule}
+use Rattle.dw_rules.specs.AbiViews.{roles_of}
+use Rattle.dw_rules.specs.Rules.{Rule}
 use Rattle.dw_unwind.specs.Caller.{AreRegisters, Caller, IsCaller, machine}
 use Rattle.dw_unwind.specs.CallerViews.{answer_in}
 use Rattle.dw_unwind.proofs.Callers.{by_rules}

@@ -1,7 +1,7 @@
 use Rattle.std.proofs.Common.{◌≡◌, ◌+◌, ◌∙◌, ℕ, Option, Some, ap, arith, refl, sym}
 use Rattle.std.specs.Prelude.{option_map, slice_set}
 use Rattle.std.proofs.lemmas.List.{length-set}
-use Rattle.dw_rows.specs.AbiViews.{roles_of}
+use Rattle.dw_rules.specs.AbiViews.{roles_of}
 use Rattle.dw_unwind.specs.UnwoundViews.{caller_with}
 use Rattle.dw_unwind.specs.Walks.{Place, WalkedFrame, contents_of}
 use Rattle.dwcheck_c.specs.Frames.{cframe_by, cframe_of}

@@ -1,5 +1,5 @@
 use Rattle.std.proofs.Common.{◌-◌, ◌≤◌, length}
-use Rattle.dw_rows.specs.Abi.{abi_of}
+use Rattle.dw_rules.specs.Abi.{abi_of}
 use Rattle.dwcheck_c.specs.Cursors.{place_of}
 use Rattle.dwcheck_c.specs.Frames.{IsLeftAt}
 use Rattle.dwcheck_c.specs.ProcessWalks.{through_process}

@@ -1,6 +1,6 @@
 use Rattle.std.proofs.Common.{◌≡◌, ◌∙◌, Option, Some, ap, refl, subst, sym, ℕ}
 use Rattle.std.specs.Prelude.{None, option_map}
-use Rattle.dw_rows.specs.Abi.{abi_of}
+use Rattle.dw_rules.specs.Abi.{abi_of}
 use Rattle.dw_unwind.specs.Contents.{UnwindsTo, contents_in}
 use Rattle.dw_unwind.specs.UnwoundViews.{caller_with}
 use Rattle.dw_unwind.specs.Walks.{UnwindsAt, WalkedFrame}

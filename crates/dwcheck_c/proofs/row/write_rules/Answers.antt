@@ -1,8 +1,8 @@
 use Rattle.std.proofs.Common.{◌∙◌, ◌∷◌, [], ℕ, ap, map, sym}
-use Rattle.dw_rows.specs.declared.row.RegisterRule.{RegisterRule}
+use Rattle.dw_rules.specs.declared.row.RegisterRule.{RegisterRule}
 use Rattle.std.specs.Prelude.{slice_set}
 use Rattle.std.proofs.lemmas.List.{length-map, map-append}
-use Rattle.dw_rows.specs.Views.{numbered_rule_of}
+use Rattle.dw_rules.specs.Views.{numbered_rule_of}
 use Rattle.dwcheck_c.specs.Rows.{crule_of}
 use Rattle.dwcheck_c.specs.Slots.{put_into}
 use Rattle.dwcheck_c.proofs.Putting.{comes, one_more, puts_shown}

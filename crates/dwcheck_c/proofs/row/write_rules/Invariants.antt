@@ -1,5 +1,5 @@
 use Rattle.std.proofs.Common.{◌≡◌, ◌++◌, map, length}
-use Rattle.dw_rows.specs.Views.{numbered_rule_of}
+use Rattle.dw_rules.specs.Views.{numbered_rule_of}
 use Rattle.dwcheck_c.specs.Rows.{crule_of}
 use Rattle.dwcheck_c.specs.Slots.{put_into}
 use Rattle.dwcheck_c.proofs.row.write_rules.Given as goal

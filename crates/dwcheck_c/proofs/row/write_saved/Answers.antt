@@ -2,7 +2,7 @@ use Rattle.std.proofs.Common.{◌≡◌, ◌∙◌, ◌∷◌, [], ℤ, ap, leng
 use Rattle.std.specs.Prelude.{slice_set}
 use Rattle.std.proofs.lemmas.List.{length-map, map-append}
 use mir.Val.{to_z, of_z}
-use Rattle.dw_rows.specs.SavedRules.{Saved, as_saved}
+use Rattle.dw_rules.specs.SavedRules.{Saved, as_saved}
 use Rattle.dwcheck_c.specs.Rows.{crule_of}
 use Rattle.dwcheck_c.specs.Slots.{put_into}
 use Rattle.dwcheck_c.proofs.Putting.{comes, one_more, puts_shown}

@@ -1,5 +1,5 @@
 use Rattle.std.proofs.Common.{ℕ, Some, None, ap, ◌∙◌, subst}
-use Rattle.dw_rows.specs.UnwindTables.{row_at}
+use Rattle.dw_tables.specs.UnwindTables.{row_at}
 use Rattle.dw_process.specs.Processes.{IsFoundIn, ProcessState, found_at, found_with}
 use Rattle.dw_process.proofs.Finding.{its_module, its_row_found}
 use Rattle.dw_process.proofs.process.Process.row_for_address.Goals as goal

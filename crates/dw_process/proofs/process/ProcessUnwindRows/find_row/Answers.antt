@@ -1,6 +1,7 @@
 use Rattle.std.proofs.Common.{ℕ, ap, ◌∙◌, subst}
 use Rattle.std.specs.Prelude.{IfSome}
-use Rattle.dw_rows.specs.UnwindTables.{IsRowUnder, row_at}
+use Rattle.dw_tables.specs.UnwindTables.{row_at}
+use Rattle.dw_rows.specs.RowLookups.{IsRowUnder}
 use Rattle.dw_process.specs.Processes.{ProcessState, row_in}
 use Rattle.dw_process.proofs.Finding.{its_row_in, under}
 use Rattle.dw_process.proofs.process.ProcessUnwindRows.find_row.Goals as goal

@@ -3,7 +3,7 @@ use Rattle.dw_frame.specs.Records.{Cie}
 use Rattle.dw_frame.specs.Views.{cie_of, fde_of}
 use Rattle.dw_frame.specs.declared.entry.CommonInformationEntry.{CommonInformationEntry}
 use Rattle.dw_rows.specs.Section.{FrameSection, cie_at}
-use Rattle.dw_rows.specs.ProgramFault.{cie_fault, fde_fault}
+use Rattle.dw_rules.specs.ProgramFault.{cie_fault, fde_fault}
 use Rattle.dw_rows.proofs.Parts.{pointed-in, good-past}
 use Rattle.dw_frame.specs.Bounds.{Ascends}
 use Rattle.dw_rows.specs.Overlap.{cie_offset}

@@ -2,10 +2,10 @@ use Rattle.std.proofs.Common.{◌≡◌, ◌+◌, Some, arith, refl, ap, map, sy
 use Rattle.std.specs.Prelude.{find}
 use Rattle.dw_frame.specs.Views.{cie_of, fde_of}
 use Rattle.dw_rows.specs.Section.{rows_by_cie}
-use Rattle.dw_rows.specs.GivenRows.{given_row}
+use Rattle.dw_rules.specs.GivenRows.{given_row}
 use Rattle.dw_rows.specs.UnwindRows.{rows_of, has_address}
 use Rattle.dw_rows.proofs.Covering.{cover-rows, found-by}
-use Rattle.dw_rows.proofs.GivenRows.{cover-with}
+use Rattle.dw_rows.proofs.RowsWithExpressions.{cover-with}
 use Rattle.dw_rows.proofs.Lookups.{row-found, row-none}
 use Rattle.dw_rows.proofs.checked_frame.CheckedFrame.row_for_address_into.Goals as goal
 

@@ -1,7 +1,7 @@
 use Rattle.std.proofs.Common.{rules, arith, refl, ap, map, ◌+◌, ◌<◌, ◌^◌}
 use Rattle.dw_frame.specs.Views.{cie_of, fde_of}
-use Rattle.dw_rows.specs.GivenRows.{given_row}
-use Rattle.dw_rows.specs.LentExpressions.{lent_by}
+use Rattle.dw_rules.specs.GivenRows.{given_row}
+use Rattle.dw_rules.specs.LentExpressions.{lent_by}
 use Rattle.dw_rows.specs.RowCursors.{cursor_at}
 use Rattle.dw_rows.proofs.Coming.{ready-rests, ready-comes}
 use Rattle.dw_rows.proofs.row_iter.Rows.next_into.Goals as goal

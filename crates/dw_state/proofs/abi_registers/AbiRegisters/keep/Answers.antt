@@ -1,7 +1,7 @@
 use Rattle.std.proofs.Common.{rules, arith, ◌≡◌, ◌<◌, ◌∙◌, sym, false, true, nat_eq, Some, length}
 use Rattle.std.specs.Option.{option_eq}
-use Rattle.dw_rows.specs.Abi.{is_among}
-use Rattle.dw_rows.specs.declared.abi.TheConstants.{MAX_KEPT}
+use Rattle.dw_rules.specs.Abi.{is_among}
+use Rattle.dw_rules.specs.declared.abi.TheConstants.{MAX_KEPT}
 use Rattle.dw_state.proofs.KeptNumbers.{one_more_fits, one_too_many, stack_pointer_stays, is_stack_pointer}
 use Rattle.dw_state.proofs.abi_registers.AbiRegisters.keep.Goals as goal
 use Rattle.dw_state.proofs.abi_registers.AbiRegisters.keep.Goals.{then-eq-via-then-eq, then-eq-via-else-eq+then-is_full}

@@ -1,6 +1,6 @@
 use Rattle.std.proofs.Common.{rules, ◌≡◌, None, false, true, refl}
-use Rattle.dw_rows.specs.Abi.{is_among}
-use Rattle.dw_rows.specs.Abi.{abi_fault}
+use Rattle.dw_rules.specs.Abi.{is_among}
+use Rattle.dw_rules.specs.Abi.{abi_fault}
 use Rattle.dw_state.proofs.KeptNumbers.{stack_pointer_fits, kept_stays}
 use Rattle.dw_state.proofs.abi_registers.AbiRegisters.set_stack_pointer.Goals as goal
 

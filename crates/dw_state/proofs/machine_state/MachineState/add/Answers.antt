@@ -2,7 +2,7 @@ use Rattle.std.proofs.Common.{sym, ap, rules, refl, ◌∙◌}
 use Rattle.std.specs.Ordering.{nat_cmp}
 use Rattle.std.specs.BTreeMap.{get}
 use Rattle.std.specs.Option.{is_none}
-use Rattle.dw_rows.specs.Abi.{abi_fault}
+use Rattle.dw_rules.specs.Abi.{abi_fault}
 use Rattle.dw_state.specs.StateFile.{register, bytes, cfa, frame_base, object, keep, stack_pointer, kept_with}
 use Rattle.dw_state.specs.StateViews.{known_state_of}
 use Rattle.dw_state.proofs.KnownState.{added, given_more, plain_goes, together_more, or_none, where_true}

@@ -1,5 +1,5 @@
 use Rattle.std.proofs.Common.{Option, drop}
-use Rattle.dw_rows.specs.AbiViews.{roles_of}
+use Rattle.dw_rules.specs.AbiViews.{roles_of}
 use Rattle.dw_unwind.specs.Caller.{Caller}
 use Rattle.dw_unwind.specs.Modules.{over_modules_of_rows}
 use Rattle.dw_unwind.proofs.modules.RefSliceModuleUnwinder.unwind_into.Given as goal

@@ -1,5 +1,5 @@
 use Rattle.std.proofs.Common.{◌≡◌, ◌++◌, map}
-use Rattle.dw_rows.specs.Views.{numbered_rule_of}
+use Rattle.dw_rules.specs.Views.{numbered_rule_of}
 use Rattle.dw_unwind.specs.Caller.{AreRegisters}
 use Rattle.dw_unwind.specs.CallerViews.{answer_in, machine_in}
 use Rattle.dw_unwind.proofs.present.Present.registers_into.Given as goal

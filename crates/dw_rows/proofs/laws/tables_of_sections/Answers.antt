@@ -1,5 +1,0 @@
-use Rattle.dw_rows.proofs.CompiledTables.{tables-fit, tables-same}
-use Rattle.dw_rows.proofs.laws.tables_of_sections.Goals as goal
-
-pub returns : goal.returns
-returns c = record { fit = tables-fit; same = tables-same }

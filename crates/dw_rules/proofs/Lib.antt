@@ -1,0 +1,16 @@
+pub mod Tables
+pub mod Edits
+pub mod Effects
+pub mod Search
+pub mod Elements
+pub mod SavedRules
+pub mod ExpressionsByOffset
+pub mod Checking
+pub mod Initials
+pub mod Stacks
+pub mod NamedExpressions
+pub mod ExpressionsAmong
+pub mod GivenRows
+pub mod Under
+pub mod AbiRules
+pub mod ExpressionBytes

@@ -1,0 +1,190 @@
+//! `UnwindRow`: a row of the unwind table with borrowed rules.
+
+ghost use Rattle.std.specs.Prelude.{◌≡◌, ◌≤◌, ◌+◌, ◌<◌, IfSome, Some, All, length, map};
+ghost use Rattle.dw_rules.specs.Abi.{or_rule, rule_under, rules_under};
+ghost use Rattle.dw_rules.specs.AbiViews.{roles_of};
+ghost use Rattle.dw_rules.specs.Rules.{IsTable, RuleOver, rule_in};
+ghost use Rattle.dw_rules.specs.SavedRules.{as_saved};
+ghost use Rattle.dw_rules.specs.Views.{rule_of, cfa_rule_of, entries_of, stored_cfa_of};
+ghost use Rattle.dw_rules.specs.GivenRows.{given_row, LendsCfa, LendsEach, IsRuleOfKind};
+ghost use Rattle.dw_rules.specs.GivenRows.{IsCfaOfKind, IsEntryOfKind};
+ghost use Rattle.dw_rules.specs.LentExpressions.{lent_by};
+
+use crate::abi::Abi;
+use crate::lent_expressions::LentExpressions;
+use crate::plain_rules::PlainRules;
+use crate::register_rules::{MAX_RULES, RuleEntry, rule_of_register};
+use crate::row::{CfaRule, RegisterRule, RegisterRules, given_cfa, given_rule};
+use crate::stored_rule::{StoredCfa, StoredRule};
+use std::marker::Model;
+
+/// A row of the unwind table (DWARF 5, section 6.4.1): the addresses from `start` up to but not
+/// including `end`, and the rules that hold there. The rules are borrowed from an `UnwindTable` or
+/// an `UnwindTableRow`.
+///
+/// ```rust
+/// let Some((row, return_register)) = table.row_and_return_register(0x1004) else {
+///     return Ok(()); // no FDE covers it
+/// };
+/// if let RegisterRule::Offset(offset) = row.register(return_register) {
+///     println!(rt; "the return address is saved at {} from the CFA", offset)?;
+/// }
+/// ```
+#[derive(Debug, Drop)]
+pub struct UnwindRow<'t, 'a> {
+    start: u64,
+    end: u64,
+    cfa: StoredCfa,
+    rules: &'t [RuleEntry],
+    expressions: LentExpressions<'t, 'a>,
+}
+
+impl<'t, 'a> Model for UnwindRow<'t, 'a> {
+    ghost use Rattle.std.specs.Prelude.{Some, length, ◌≤◌};
+    ghost use Rattle.dw_rules.specs.Rules.{Row, IsTable};
+
+    ghost Value = { Row };
+
+    ghost use Rattle.dw_rules.specs.declared.register_rules.TheConstants.{MAX_RULES};
+    ghost use Rattle.dw_rules.specs.Views.{stored_cfa_of, entries_of};
+    ghost use Rattle.dw_rules.specs.GivenRows.{given_row, LendsCfa, LendsEach};
+    ghost use Rattle.dw_rules.specs.LentExpressions.{lent_by};
+
+    ghost view = { λ row. given_row (lent_by row.expressions) (record {
+      start = row.start;
+      end = row.end;
+      cfa = Some (stored_cfa_of row.cfa);
+      rules = entries_of row.rules.now;
+    }) };
+
+    ghost invariant = { λ row. LendsCfa (lent_by row.expressions) (stored_cfa_of row.cfa)
+        × LendsEach (lent_by row.expressions) (entries_of row.rules.now)
+        × IsTable 0 (entries_of row.rules.now)
+        × (length row.rules.now ≤ MAX_RULES) };
+}
+
+impl<'t, 'a> UnwindRow<'t, 'a> {
+    /// A row with the given addresses and rules. For each expression offset in the rules,
+    /// `expressions` must have the expression that begins there.
+    pub fn new(
+        start: u64,
+        end: u64,
+        cfa: StoredCfa,
+        rules: &'t [RuleEntry],
+        expressions: LentExpressions<'t, 'a>,
+    ) -> Self
+        requires cfa { LendsCfa (lent_by expressions) (stored_cfa_of cfa) }
+        requires rules { LendsEach (lent_by expressions) (entries_of rules.now) }
+        requires table { IsTable 0 (entries_of rules.now) }
+        requires few { length rules.now ≤ MAX_RULES }
+        ensures { result ≡ given_row (lent_by expressions.entry) (record {
+          start = start;
+          end = end;
+          cfa = Some (stored_cfa_of cfa);
+          rules = entries_of rules.now;
+        }) }
+    {
+        UnwindRow {
+            start,
+            end,
+            cfa,
+            rules,
+            expressions,
+        }
+    }
+
+    /// The first address that the row covers.
+    pub fn start_address(&self) -> u64
+        ensures { result ≡ self.now.start }
+    {
+        self.start
+    }
+
+    /// The address after the last one that the row covers.
+    pub fn end_address(&self) -> u64
+        ensures { result ≡ self.now.end }
+    {
+        self.end
+    }
+
+    /// How the CFA is found. An expression in the rule is borrowed, and needs no second check.
+    #[inline(always)]
+    pub fn cfa(&self) -> CfaRule<'a>
+        ensures cfa { self.now.cfa ≡ Some (cfa_rule_of result) }
+        ensures kind { IsCfaOfKind (cfa_rule_of result) }
+    {
+        given_cfa(self.cfa, &self.expressions)
+    }
+
+    /// The rule of a register, or `Default` if none is in force. An expression in the rule is
+    /// borrowed, and needs no second check.
+    #[inline(always)]
+    pub fn register(&self, number: u16) -> RegisterRule<'a>
+        ensures rule { rule_of result ≡ rule_in self.now.rules number }
+        ensures kind { IsRuleOfKind (rule_of result) }
+    {
+        given_rule(rule_of_register(self.rules, number), &self.expressions)
+    }
+
+    /// The row's rules, if each of them says that a register below `limit` is saved relative to the
+    /// CFA. So nearly all rows are that compilers write for x86-64.
+    #[inline(always)]
+    pub fn plain_rules(&self, limit: u16) -> Option<PlainRules<'t>>
+        ensures rules { IfSome result (λ plain. self.now.rules ≡ map as_saved plain) }
+        ensures below { IfSome result (All (λ saved. saved.0 < limit)) }
+        ensures ascending { IsTable 0 self.now.rules }
+    {
+        PlainRules::of(self.rules, limit)
+    }
+
+    /// The rules other than `Default` as pairs of register and rule, in ascending order of
+    /// registers. There are at most `MAX_RULES`.
+    pub fn rules(&self) -> RegisterRules<'t, 'a>
+        ensures rules { result ≡ self.now.rules }
+        ensures ascending { IsTable 0 self.now.rules }
+        ensures few { length self.now.rules ≤ MAX_RULES }
+        ensures kinds { All IsEntryOfKind self.now.rules }
+    {
+        RegisterRules {
+            entries: self.rules,
+            others: &[],
+            expressions: self.expressions,
+        }
+    }
+
+    /// The rule of a register under an ABI. If the row has no rule for the register, the ABI's rule
+    /// is used; if the ABI has none either, the result is `Undefined`.
+    #[inline(always)]
+    pub fn register_with(&self, abi: &Abi, number: u16) -> RegisterRule<'a>
+        ensures rule { rule_of result
+            ≡ or_rule (rule_under (roles_of abi.now) self.now.rules number) RuleOver.undefined }
+        ensures kind { IsRuleOfKind (rule_of result) }
+    {
+        match self.register(number) {
+            RegisterRule::Default => match abi.register(number) {
+                StoredRule::Default => RegisterRule::Undefined,
+                rule => given_rule(rule, &self.expressions),
+            },
+            rule => rule,
+        }
+    }
+
+    /// The row's rules, and the ABI's rules for registers to which the row gives none: pairs of
+    /// register and rule, in ascending order of registers. There are at most twice `MAX_RULES`.
+    #[inline(always)]
+    pub fn rules_with<'r>(&self, abi: &'r Abi) -> RegisterRules<'r, 'a>
+    where
+        't: 'r,
+        ensures rules { result ≡ rules_under (roles_of abi.now) self.now.rules }
+        ensures ascending { IsTable 0 (rules_under (roles_of abi.now) self.now.rules) }
+        ensures few { length (rules_under (roles_of abi.now) self.now.rules)
+            ≤ MAX_RULES + MAX_RULES }
+        ensures kinds { All IsEntryOfKind (rules_under (roles_of abi.now) self.now.rules) }
+    {
+        RegisterRules {
+            entries: self.rules,
+            others: abi.as_slice(),
+            expressions: self.expressions,
+        }
+    }
+}

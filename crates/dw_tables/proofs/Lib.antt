@@ -1,0 +1,6 @@
+pub mod TableRows
+pub mod TableRoom
+pub mod FilledTables
+pub mod CompiledTables
+pub mod TableEntries
+pub mod RuleSets

@@ -1,0 +1,54 @@
+-- The entries of a compiled table, which are stored as a list of starts and a list of rule set
+-- numbers.
+use Rattle.std.proofs.Common.{◌≡◌, ℕ, zero, suc, ◌<◌, List, [], ◌∷◌, ◌++◌, length, get_or, refl, sym, ap, arith, Some}
+use Rattle.std.specs.Prelude.{slice_get}
+use Rattle.std.specs.List.Sorted.{IsNonDecreasingBy}
+use Rattle.dw_tables.specs.declared.table_entries.TableEntry.{TableEntry}
+use Rattle.dw_tables.specs.CompiledTable.{paired, entry_start, IsEntryCount, IsStartCount}
+
+pub paired-length : (starts sets : List ℕ) → length starts ≡ length sets → length (paired starts sets) ≡ length starts
+paired-length [] sets even = refl
+paired-length (x ∷ starts) [] even = absurd (omega arith)
+paired-length (x ∷ starts) (n ∷ sets) even = ap suc (paired-length starts sets (omega arith))
+
+pub paired-more : (starts sets : List ℕ) (x n : ℕ) → length starts ≡ length sets
+    → paired (starts ++ x ∷ []) (sets ++ n ∷ []) ≡ paired starts sets ++ record { start = x; set = n } ∷ []
+paired-more [] [] x n even = refl
+paired-more [] (m ∷ sets) x n even = absurd (omega arith)
+paired-more (y ∷ starts) [] x n even = absurd (omega arith)
+paired-more (y ∷ starts) (m ∷ sets) x n even =
+    ap (λ (l : List TableEntry). record { start = y; set = m } ∷ l) (paired-more starts sets x n (omega arith))
+
+pub paired-start : (starts sets : List ℕ) (k x : ℕ) (d : TableEntry) → length starts ≡ length sets → k < length starts
+    → (get_or (paired starts sets) k d).start ≡ get_or starts k x
+paired-start [] sets k x d even lt = absurd (omega arith)
+paired-start (y ∷ starts) [] k x d even lt = absurd (omega arith)
+paired-start (y ∷ starts) (m ∷ sets) zero x d even lt = refl
+paired-start (y ∷ starts) (m ∷ sets) (suc k) x d even lt = paired-start starts sets k x d (omega arith) (omega arith)
+
+pub paired-at : (starts sets : List ℕ) (k x n : ℕ) → length starts ≡ length sets → k < length starts → x ≡ get_or starts k x
+    → n ≡ get_or sets k n → slice_get (paired starts sets) k ≡ Some (record { start = x; set = n })
+paired-at [] sets k x n even lt is is_set = absurd (omega arith)
+paired-at (y ∷ starts) [] k x n even lt is is_set = absurd (omega arith)
+paired-at (y ∷ starts) (m ∷ sets) zero x n even lt is is_set =
+    let e : TableEntry = record { start = x; set = n } in
+    ap Some (λ i. record { start = sym is i; set = sym is_set i })
+paired-at (y ∷ starts) (m ∷ sets) (suc k) x n even lt is is_set = paired-at starts sets k x n (omega arith) (omega arith) is is_set
+
+pub paired-sorted : (starts sets : List ℕ) → length starts ≡ length sets → IsNonDecreasingBy entry_start (paired starts sets)
+    → IsNonDecreasingBy (λ x. x) starts
+paired-sorted starts sets even sorted i j x le lt =
+    let d : TableEntry = record { start = 0; set = 0 } in
+    let long = paired-length starts sets even in
+    let up = sorted i j d le (omega arith) in
+    omega (arith, up, paired-start starts sets i x d even (omega arith), paired-start starts sets j x d even lt)
+
+pub paired-count : (starts sets : List ℕ) (a count : ℕ) → length starts ≡ length sets → IsStartCount starts a count
+    → IsEntryCount (paired starts sets) a count
+paired-count starts sets a count even c =
+    let long = paired-length starts sets even in
+    record {
+      bound = omega (arith, c.bound);
+      below = λ k d lt. omega (arith, c.below k 0 lt, paired-start starts sets k 0 d even (omega (arith, c.bound)));
+      above = λ k d le lt. omega (arith, c.above k 0 le (omega arith), paired-start starts sets k 0 d even (omega arith));
+    }

@@ -1,0 +1,16 @@
+//! Compiled tables: all rows of a checked `.debug_frame` section in order of address, so that look-ups
+//! are fast and need neither the section nor its programs (DWARF 5, section 6.4.1).
+#![tactic(auto)]
+
+mod entry_starts;
+mod expression_copies;
+pub mod laws;
+mod placed_table;
+mod rule_numbers;
+mod rule_set_numbers;
+mod rule_sets;
+mod table;
+mod table_entries;
+mod table_room;
+
+pub use table::UnwindTable;

@@ -1,0 +1,104 @@
+//! A list of rule sets, each with its return address register.
+
+ghost use Rattle.std.specs.Prelude.{◌≡◌, ◌<◌, ◌≤◌, [], ◌∷◌, ◌++◌, IfOk, length, Some, slice_get};
+ghost use Rattle.std.specs.Bool.{OnTrue};
+ghost use Rattle.std.specs.Option.{option_map};
+ghost use Rattle.dw_rules.specs.Rules.{IsTable};
+ghost use Rattle.dw_rules.specs.Views.{stored_cfa_of, entries_of};
+
+use dw_rules::{InitialRules, MAX_RULES, RuleEntry, RuleSet, StoredCfa};
+use std::alloc::{AllocError, Global};
+use std::marker::Model;
+
+/// A list of rule sets, each with the return address register of the CIE that its rows belong to.
+/// Rows of a table refer to a rule set by its index.
+#[derive(Drop)]
+pub struct RuleSets {
+    rules: InitialRules,
+    registers: Vec<u16>,
+}
+
+impl Model for RuleSets {
+    ghost use Rattle.std.specs.Prelude.{◌≡◌, List, length};
+    ghost use Rattle.dw_tables.specs.CompiledTable.{StoredSet, zipped};
+
+    ghost Value = { List StoredSet };
+
+    ghost view = { λ s. zipped s.rules s.registers.items };
+
+    ghost invariant = { λ s. length s.rules ≡ length s.registers.items };
+}
+
+impl RuleSets {
+    /// An empty list.
+    pub fn new(alloc: Global) -> Self
+        ensures { result ≡ [] }
+    {
+        RuleSets {
+            rules: InitialRules::new(alloc),
+            registers: Vec::new(alloc),
+        }
+    }
+
+    /// Appends a rule set with its return address register. If memory can't be allocated, the list
+    /// is unchanged.
+    pub fn push(&mut self, rules: &RuleSet, register: u16) -> Result<(), AllocError>
+        ensures { IfOk result (λ _. self.new
+            ≡ self.old ++ record { rules = rules.now; register = register } ∷ []) }
+    {
+        self.registers.push(register)?;
+        match self.rules.push(rules) {
+            Ok(()) => Ok(()),
+            Err(_) => {
+                let _ = self.registers.pop();
+                Err(AllocError)
+            }
+        }
+    }
+
+    /// Copies the list into new arrays, so that no capacity is spare. The contract doesn't say so:
+    /// it speaks only of the elements.
+    pub fn cut(&mut self, alloc: Global) -> Result<(), AllocError>
+        ensures { self.new ≡ self.old }
+    {
+        let registers = Vec::from_slice(alloc, self.registers.as_slice())?;
+        self.rules.cut(alloc)?;
+        self.registers = registers;
+        Ok(())
+    }
+
+    /// How many rule sets there are.
+    pub fn count(&self) -> usize
+        ensures { result ≡ length self.now }
+    {
+        self.registers.len()
+    }
+
+    /// Borrows the rule set at index `place`: the CFA's rule, the entries of the register rules,
+    /// and the return address register.
+    #[inline(always)]
+    pub fn lend(&self, place: usize) -> (Option<StoredCfa>, &[RuleEntry], u16)
+        requires { place < length self.now }
+        ensures rules { slice_get self.now place ≡ Some (record {
+          rules = record {
+            cfa = option_map stored_cfa_of result.0;
+            rules = entries_of (result.1).now;
+          };
+          register = result.2;
+        }) }
+        ensures few { length (result.1).now ≤ MAX_RULES }
+        ensures table { IsTable 0 (entries_of (result.1).now) }
+    {
+        let (cfa, entries) = self.rules.lend(place);
+        (cfa, entries, self.registers[place])
+    }
+
+    /// Whether the element at index `place` has these rules and this return address register.
+    pub fn are_at(&self, place: usize, rules: &RuleSet, register: u16) -> bool
+        requires { place < length self.now }
+        ensures { OnTrue result (slice_get self.now place
+            ≡ Some (record { rules = rules.now; register = register })) }
+    {
+        self.registers[place] == register && self.rules.are_at(place, rules)
+    }
+}

@@ -1,0 +1,201 @@
+//! All rows of a checked section in order of address, compiled into a table that makes look-ups
+//! fast.
+
+ghost use Rattle.std.specs.Prelude.{◌≡◌, ◌+◌, ◌*◌, ◌≤◌, ◌<◌, IfOk, IfErr, IfSome, IfNone, length};
+ghost use Rattle.std.specs.Option.{option_map};
+ghost use Rattle.std.specs.List.{sum_by};
+ghost use Rattle.dw_tables.specs.UnwindTables.{row_at, expression_bytes, table_bytes, IsTableOf};
+ghost use Rattle.dw_rows.specs.RowLookups.{IsRowUnder};
+ghost use Rattle.dw_tables.specs.CompiledTable.{LacksRoom};
+
+use crate::expression_copies::copy_expressions;
+use crate::placed_table::PlacedTable;
+use crate::table_room::Unmade;
+use dw_bytes::{Fault, OUT_OF_MEMORY, Target};
+use dw_rows::{CheckedFrame, UnwindRows};
+use dw_rules::{LentExpressions, OwnedExpressions, UnwindRow};
+use std::alloc::Global;
+use std::marker::Model;
+
+/// All rows of a checked section in order of address, each with its return address register.
+/// `UnwindTable::compile` makes the table.
+///
+/// The table borrows nothing: it owns a copy of the bytes of the few expressions in its rules, so
+/// the section may be dropped. A look-up reads a few array elements, where a look-up in a checked
+/// section has to run a program.
+///
+/// ```rust
+/// let Some(table) = UnwindTable::compile(alloc, &frame, 1 << 20)? else {
+///     return Ok(()); // it takes more than that
+/// };
+/// if let Some(row) = table.row_for_address(0x1004) {
+///     println!(rt; "{:#x}..{:#x}", row.start_address(), row.end_address())?;
+/// }
+/// ```
+#[derive(Drop)]
+pub struct UnwindTable {
+    target: Target,
+    placed: PlacedTable,
+    expressions: OwnedExpressions,
+}
+
+impl Model for UnwindTable {
+    ghost use Rattle.dw_tables.specs.UnwindTables.{RowTable};
+
+    ghost Value = { RowTable };
+
+    ghost use Rattle.std.specs.Prelude.{◌+◌, All, Contains, map};
+    ghost use Rattle.std.specs.List.{sum_by};
+    ghost use Rattle.dw_stack.specs.Located.{LocatedExpression};
+    ghost use Rattle.dw_tables.specs.UnwindTables.{expression_bytes};
+    ghost use Rattle.dw_rows.specs.RowLookups.{IsUnder};
+    ghost use Rattle.dw_tables.specs.CompiledTable.{LendsFound, given_found};
+
+    ghost view = { λ t. record {
+      target = t.target;
+      rows = map (given_found t.expressions) t.placed.rows;
+      bytes = t.placed.bytes + sum_by expression_bytes t.expressions;
+    } };
+
+    ghost invariant = { λ t. All (LendsFound t.expressions) t.placed.rows
+        × ((e : LocatedExpression) → Contains t.expressions e → IsUnder t.target e) };
+}
+
+impl UnwindTable {
+    /// Compiles the rows of all FDEs of a checked section into a table, which makes millions of look-ups cheap. The
+    /// table borrows nothing, so the section may be dropped.
+    ///
+    /// `room` bounds what the table stores, counted as 16 bytes for each entry (each row has one,
+    /// and so has each gap after a row), 64 for each rule set and 16 for each of its register
+    /// rules, and 24 for each expression and its length (clause `stored`). Each row of the table and
+    /// each expression of the section is counted (clause `counted`). The arrays of the table hold
+    /// nothing else, except for 8 bytes: two counts of a look-up's search blocks. That they have no
+    /// spare capacity is tested, not proved. While the table is made, more memory is in use that
+    /// isn't counted: the spare capacity of arrays that grow, the copies that they are cut to, and
+    /// 16 KB by which equal rules are found again.
+    ///
+    /// `Ok(None)` means that the sum would be more than `room`, and that no table was made. The
+    /// rows of a section of N bytes may take 700 times N bytes. The result is never `Ok(None)` if
+    /// `room` is at least 80 bytes for each row, 16 for each register rule of each row, 80 for each
+    /// FDE, 24 for each expression and its length, and 80 more (clause `none`). That is enough even
+    /// if no rows share rules, so a body that never shares rules meets the contract. That rows
+    /// share rules is tested, not proved.
+    ///
+    /// The only fault is `Memory`, with offset 0. Each program is run once. Compiling n rows takes
+    /// O(n log n) time.
+    pub fn compile(
+        alloc: Global,
+        frame: &CheckedFrame<'_>,
+        room: usize,
+    ) -> Result<Option<Self>, Fault>
+        ensures table { IfOk result (λ made. IfSome made (IsTableOf frame.now)) }
+        ensures room { IfOk result
+            (λ made. IfSome made (λ table. 16 * length table.rows ≤ room)) }
+        ensures counted { IfOk result (λ made. IfSome made (λ table. 16 * length table.rows
+            + sum_by expression_bytes frame.now.expressions ≤ table.bytes)) }
+        ensures stored { IfOk result (λ made. IfSome made (λ table. table.bytes ≤ room)) }
+        ensures none { IfOk result (λ made. IfNone made (room < table_bytes frame.now)) }
+        ensures memory { IfErr result (λ fault. fault ≡ OUT_OF_MEMORY) }
+    {
+        match UnwindTable::of(frame, alloc, room) {
+            Ok(table) => Ok(Some(table)),
+            Err(Unmade::Room) => Ok(None),
+            Err(Unmade::Memory) => Err(OUT_OF_MEMORY),
+        }
+    }
+
+    /// Compiles a checked section into a table that stores at most `room` bytes. The expressions
+    /// are copied first, and the rows may take what is left of the room.
+    fn of(frame: &CheckedFrame<'_>, alloc: Global, room: usize) -> Result<Self, Unmade>
+        ensures table { IfOk result (IsTableOf frame.now) }
+        ensures room { IfOk result (λ table. 16 * length table.rows ≤ room) }
+        ensures counted { IfOk result (λ table. 16 * length table.rows
+            + sum_by expression_bytes frame.now.expressions ≤ table.bytes) }
+        ensures stored { IfOk result (λ table. table.bytes ≤ room) }
+        ensures short { IfErr result (λ why. LacksRoom why room (table_bytes frame.now)) }
+    {
+        let mut left = room;
+        let expressions = copy_expressions(alloc, &frame.borrowed(), &mut left)?;
+        let placed = PlacedTable::of(frame, alloc, left)?;
+        Ok(UnwindTable {
+            target: frame.target(),
+            placed,
+            expressions,
+        })
+    }
+
+    /// The target that the section was read with.
+    pub fn target(&self) -> Target
+        ensures { result ≡ self.now.target }
+    {
+        self.target
+    }
+
+    /// The row of an address and the return address register that its CIE names, or `None` if no
+    /// FDE covers the address. The row's rules and expressions are borrowed from the table. A
+    /// look-up allocates no memory, and takes O(log n) steps for n rows, usually only a few.
+    #[inline(always)]
+    pub fn row_and_return_register(&self, address: u64) -> Option<(UnwindRow<'_, '_>, u16)>
+        ensures row { result ≡ row_at self.now address }
+
+        // The row's expressions have the table's target.
+        ensures under { IfSome result (λ found. IsRowUnder self.now.target found.0) }
+    {
+        self.placed
+            .find(address, LentExpressions::Owned(&self.expressions))
+    }
+
+    /// The row of an address, or `None` if no FDE covers the address. The row's rules and
+    /// expressions are borrowed from the table.
+    #[inline(always)]
+    pub fn row_for_address(&self, address: u64) -> Option<UnwindRow<'_, '_>>
+        ensures row { result ≡ option_map (λ found. found.0) (row_at self.now address) }
+    {
+        match self.row_and_return_register(address) {
+            Some((row, _)) => Some(row),
+            None => None,
+        }
+    }
+}
+
+impl UnwindRows for UnwindTable {
+    type Slot = ();
+
+    ghost target_of = { λ t. t.target };
+
+    ghost finds = { λ t address found. found ≡ row_at t address };
+
+    #[inline(always)]
+    fn rows_target(&self) -> Target {
+        self.target()
+    }
+
+    #[inline(always)]
+    fn slot(&self) -> () {}
+
+    #[inline(always)]
+    fn find_row<'p>(&'p self, address: u64, _slot: &'p mut ()) -> Option<(UnwindRow<'p, 'p>, u16)> {
+        self.row_and_return_register(address)
+    }
+}
+
+impl<'f> UnwindRows for &'f UnwindTable {
+    type Slot = ();
+
+    ghost target_of = { λ t. t.now.target };
+
+    ghost finds = { λ t address found. found ≡ row_at t.now address };
+
+    #[inline(always)]
+    fn rows_target(&self) -> Target {
+        self.target()
+    }
+
+    #[inline(always)]
+    fn slot(&self) -> () {}
+
+    #[inline(always)]
+    fn find_row<'p>(&'p self, address: u64, _slot: &'p mut ()) -> Option<(UnwindRow<'p, 'p>, u16)> {
+        self.row_and_return_register(address)
+    }
+}
