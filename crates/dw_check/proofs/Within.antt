@@ -11,7 +11,7 @@ use Rattle.dw_frame.specs.Records.{Cie, Fde}
 use Rattle.dw_frame.specs.Sections.{top_of}
 use Rattle.dw_rules.specs.Rules.{Row}
 use Rattle.dw_stack.specs.Located.{LocatedExpression}
-use Rattle.dw_rules.specs.GivenRows.{given_row}
+use Rattle.dw_rules.specs.RowsWithExpressions.{row_with_expressions}
 use Rattle.dw_rows.proofs.RowsWithExpressions.{cover-with}
 use Rattle.dw_rules.specs.ProgramFault.{fde_fault}
 use Rattle.dw_rows.specs.UnwindRows.{Cover, rows_of}
@@ -38,8 +38,8 @@ cover_fits size from to (row ∷ rows) h k =
 -- the addresses of the rows of an FDE without a fault fit in the digits
 pub good_rows_fit : (target : Target) (size : AddressSize) (cie : Cie) (fde : Fde) → size ≡ target.address_size → fde_fault cie fde ≡ None
     → fde.initial_location + fde.address_range ≤ top_of target → (es : List LocatedExpression)
-    → All (λ row. Fits size row) (map (given_row es) (rows_of cie fde))
+    → All (λ row. Fits size row) (map (row_with_expressions es) (rows_of cie fde))
 good_rows_fit target size cie fde z none h es =
-    (cover_fits size fde.initial_location (fde.initial_location + fde.address_range) (map (given_row es) (rows_of cie fde))
+    (cover_fits size fde.initial_location (fde.initial_location + fde.address_range) (map (row_with_expressions es) (rows_of cie fde))
     (cover-with es fde.initial_location (rows_of cie fde) (fde.initial_location + fde.address_range) (cover-rows cie fde none))
     (below_top target size (fde.initial_location + fde.address_range) z h)).1

@@ -8,7 +8,7 @@ use Rattle.dw_bytes.specs.declared.target.AddressSize.{AddressSize}
 use Rattle.dw_frame.specs.Records.{Cie, Fde}
 use Rattle.dw_rules.specs.Rules.{Row}
 use Rattle.dw_rows.specs.Section.{FrameSection, cie_in, rows_in, rows_by_cie, row_of}
-use Rattle.dw_rules.specs.GivenRows.{given_row}
+use Rattle.dw_rules.specs.RowsWithExpressions.{row_with_expressions}
 use Rattle.dw_rows.specs.UnwindRows.{rows_of}
 use Rattle.dw_check.specs.SinkBytes.{AppendsFront}
 use Rattle.dw_check.specs.Text.{fde_line, row_line, lines_of, fde_text, found_text, lookup_text}
@@ -40,13 +40,13 @@ writes_whole a b (Err Write) x h = h
 pub fde_then : (frame : FrameSection) (size : AddressSize) (cie : Cie) (fde : Fde) (rows : List Row) (a b c : Option (List ℕ))
     (r : Result (Unit {0}) ReportFault)
     → size ≡ frame.target.address_size → cie_in frame fde ≡ Some cie
-    → rows ≡ map (given_row frame.expressions) (rows_of cie fde)
+    → rows ≡ map (row_with_expressions frame.expressions) (rows_of cie fde)
     → Appends a b (fde_line size cie fde) → Writes b c r (flat_map (row_line size) rows) → Writes a c r (fde_text frame fde)
 unfolding fde_text
 fde_then frame size cie fde rows a b c r z e d h k =
     let both : Writes a c r (lines_of size (Some cie) fde rows) =
     writes_then a b c r (fde_line size cie fde) (flat_map (row_line size) rows) h k in
-    let its : rows ≡ rows_in frame fde = d ∙ ap (λ o. map (given_row frame.expressions) (rows_by_cie o fde)) (sym e) in
+    let its : rows ≡ rows_in frame fde = d ∙ ap (λ o. map (row_with_expressions frame.expressions) (rows_by_cie o fde)) (sym e) in
     subst (λ s. Writes a c r (lines_of s (cie_in frame fde) fde (rows_in frame fde))) z
     (subst (λ o. Writes a c r (lines_of size o fde (rows_in frame fde))) (sym e)
     (subst (λ l. Writes a c r (lines_of size (Some cie) fde l)) its both))

@@ -11,7 +11,7 @@ use Rattle.dw_frame.specs.Instructions.{def_cfa_sf, def_cfa_offset_sf, val_offse
 use Rattle.dw_frame.specs.Codes.{line_of, extended_line}
 use Rattle.dw_eh_frame.specs.declared.dialect.Dialect.{Dialect}
 use Rattle.dw_eh_frame.specs.Instructions.{is_unread, plain_line_of}
-use Rattle.dw_eh_frame.specs.Same.{unplaced_block, IsMoved}
+use Rattle.dw_eh_frame.specs.SameInstructions.{unplaced_block, IsMoved}
 
 -- ---- operands
 

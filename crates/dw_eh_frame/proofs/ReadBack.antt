@@ -21,7 +21,7 @@ use Rattle.dw_eh_frame.proofs.PastInstructions.{past-reads}
 use Rattle.dw_eh_frame.proofs.Moved.{move-instruction}
 use Rattle.dw_eh_frame.proofs.Unread.{unread-refused}
 use Rattle.dw_eh_frame.proofs.SaidAgain.{as-dwarf, as-eh, encodes-nop, kind-of, some-bytes, foreign-anywhere, silenced-says}
-use Rattle.dw_eh_frame.specs.Same.{SayTheSame}
+use Rattle.dw_eh_frame.specs.SameInstructions.{SayTheSame}
 use Rattle.dw_eh_frame.specs.Rewriting.{IsSameProgram}
 
 abbrev reading : Target → ℕ → List ℕ → ReadPosition

@@ -19,7 +19,7 @@ use Rattle.dw_frame.proofs.EachInstruction.{exact-instruction, next-instruction,
 use Rattle.dw_eh_frame.specs.declared.dialect.Dialect.{Dialect}
 use Rattle.dw_eh_frame.specs.Instructions.{EhInstruction, plain, args_size, negate_ra_state, eh_line_of, eh_instruction_at, eh_instructions_of, is_foreign, EncodesEhInstruction, AreEhInstructions}
 use Rattle.dw_eh_frame.specs.Silencing.{past_instruction, piece, unread, silenced_up_to, silenced_then, silenced}
-use Rattle.dw_eh_frame.specs.Same.{AreNops}
+use Rattle.dw_eh_frame.specs.SameInstructions.{AreNops}
 use Rattle.dw_eh_frame.proofs.PastInstructions.{past-reads, past-stays, unread-long, up-to-long}
 use Rattle.dw_eh_frame.proofs.SaidAgain.{past-refused, kind-of, as-dwarf, encodes-nop}
 use Rattle.dw_eh_frame.proofs.Unread.{unread-refused}

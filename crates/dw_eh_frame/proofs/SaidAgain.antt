@@ -18,7 +18,7 @@ use Rattle.dw_eh_frame.specs.Instructions.{EhInstruction, plain, args_size, nega
 use Rattle.dw_eh_frame.specs.Instructions.{EncodesEhInstruction, AreEhInstructions}
 use Rattle.dw_eh_frame.specs.declared.dialect.Dialect.{Dialect}
 use Rattle.dw_eh_frame.specs.Silencing.{past_operands, past_code, past_instruction, piece, silenced_up_to, silenced_then, silenced}
-use Rattle.dw_eh_frame.specs.Same.{IsMoved, AreNops, SayTheSame}
+use Rattle.dw_eh_frame.specs.SameInstructions.{IsMoved, AreNops, SayTheSame}
 use Rattle.dw_eh_frame.proofs.Written.{one-byte}
 use Rattle.dw_eh_frame.proofs.PastInstructions.{past-reads, up-to-long}
 use Rattle.dw_eh_frame.proofs.Moved.{move-instruction}

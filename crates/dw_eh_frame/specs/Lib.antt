@@ -16,7 +16,7 @@ pub mod Copies
 -- programs with nops in place of some instructions
 pub mod Silencing
 -- programs with the same instructions, except for nops
-pub mod Same
+pub mod SameInstructions
 -- when a `.debug_frame` section says what an `.eh_frame` section says
 pub mod Rewriting
 -- where records were written, and where faults are

@@ -15,7 +15,7 @@ ghost use Rattle.dw_eh_frame.specs.Instructions.{EhInstruction, AreEhInstruction
 ghost use Rattle.dw_eh_frame.specs.declared.dialect.Dialect.{Dialect};
 ghost use Rattle.dw_eh_frame.specs.Records.{EhRecord};
 ghost use Rattle.dw_eh_frame.specs.Rewriting.{IsRewriting, IsSameProgram, Pair};
-ghost use Rattle.dw_eh_frame.specs.Same.{SayTheSame};
+ghost use Rattle.dw_eh_frame.specs.SameInstructions.{SayTheSame};
 
 /// The bytes of a program encode one list of instructions only.
 pub fn programs_are_unambiguous()

@@ -10,9 +10,9 @@ use Rattle.dw_rules.specs.Rules.{PlacedRule, PlacedCfa, default, undefined, same
 use Rattle.dw_rules.specs.Rules.{expression, val_expression, register_and_offset, cfa_expression}
 use Rattle.dw_rules.specs.Effects.{Effect, stays, advances_loc, sets_loc, defines_cfa, changes_register, changes_offset, sets, restores}
 use Rattle.dw_rules.specs.Effects.{remembers_state, restores_state, effect_of, effects_by}
-use Rattle.dw_rules.specs.GivenRows.{or_nowhere}
+use Rattle.dw_rules.specs.RowsWithExpressions.{or_nowhere}
 use Rattle.dw_eh_frame.specs.Instructions.{EhInstruction, plain, args_size, negate_ra_state}
-use Rattle.dw_eh_frame.specs.Same.{unplaced, IsMoved, AreNops, SayTheSame}
+use Rattle.dw_eh_frame.specs.SameInstructions.{unplaced, IsMoved, AreNops, SayTheSame}
 use Rattle.dw_eh_rows.specs.Meaning.{numbered, eh_effects_from, eh_expression_in, expression_number}
 use Rattle.dw_eh_rows.specs.Named.{Names, content}
 use Rattle.dw_eh_rows.proofs.Alike.{Naming, rule_to, cfa_to, effect_to, Fits, Step, left, right, both, lefts, rights, AllFit}

@@ -18,12 +18,12 @@ use Rattle.dw_rules.specs.Rules.{expression, val_expression, register_and_offset
 use Rattle.dw_rules.specs.Effects.{Effect, stays, advances_loc, sets_loc, defines_cfa, changes_register, changes_offset, sets, restores}
 use Rattle.dw_rules.specs.Effects.{remembers_state, restores_state, effect_of, needs_register_cfa, overflows, is_barred}
 use Rattle.dw_rules.specs.Expressions.{expression_in}
-use Rattle.dw_rules.specs.GivenRows.{nowhere}
+use Rattle.dw_rules.specs.RowsWithExpressions.{nowhere}
 use Rattle.dw_rules.specs.InForce.{Start, location_of, rule_at, cfa_at, open_count, not_register_cfa, cie_start}
 use Rattle.dw_rules.specs.ProgramFault.{goes_back, lacks_cfa, is_restore_state, is_remember_state, refusal_at, refusal_at_end, cie_refusal_at}
 use Rattle.dw_rules.specs.ProgramFault.{standing_at, fault_from, first_refusal}
 use Rattle.dw_eh_frame.specs.Instructions.{plain, args_size, negate_ra_state}
-use Rattle.dw_eh_frame.specs.Same.{unplaced, AreNops}
+use Rattle.dw_eh_frame.specs.SameInstructions.{unplaced, AreNops}
 use Rattle.dw_eh_frame.proofs.Shifted.{item-by, instruction-by, eh-instruction-by}
 use Rattle.dw_eh_frame.proofs.ReadTwice.{Items, EhItems, Silent, ReadTwice}
 use Rattle.dw_eh_rows.specs.Meaning.{numbered}

@@ -10,7 +10,7 @@ use Rattle.dw_frame.proofs.EachRecord.{sections-are-records}
 use Rattle.dw_frame.proofs.RecordBounds.{records-ascend}
 use Rattle.dw_stack.specs.Located.{LocatedExpression}
 use Rattle.dw_rules.specs.Rules.{PlacedRow, Row}
-use Rattle.dw_rules.specs.GivenRows.{given_row, located_at}
+use Rattle.dw_rules.specs.RowsWithExpressions.{row_with_expressions, located_at}
 use Rattle.dw_rows.specs.UnwindRows.{rows_of, has_address}
 use Rattle.dw_rows.specs.Good.{IsGoodFdeProgram}
 use Rattle.dw_rows.specs.ExactRows.{HasOneRow}
@@ -103,8 +103,8 @@ filter-named : (u : ℕ → LocatedExpression) (a : ℕ) (rows : List PlacedRow)
 filter-named u a rows = filter-mapped (has_address a) (has_address a) (row_with u) (λ row. refl) rows
 
 filter-given : (es : List LocatedExpression) (a : ℕ) (rows : List PlacedRow)
-    → filter (has_address a) (map (given_row es) rows) ≡ map (given_row es) (filter (has_address a) rows)
-filter-given es a rows = filter-mapped (has_address a) (has_address a) (given_row es) (λ row. refl) rows
+    → filter (has_address a) (map (row_with_expressions es) rows) ≡ map (row_with_expressions es) (filter (has_address a) rows)
+filter-given es a rows = filter-mapped (has_address a) (has_address a) (row_with_expressions es) (λ row. refl) rows
 
 single : (u : ℕ → LocatedExpression) (xs : List PlacedRow) (y : Row) → rows_with u xs ≡ y ∷ []
     → (x : PlacedRow) × (xs ≡ x ∷ []) × (row_with u x ≡ y)
@@ -186,12 +186,12 @@ has-one-kept-row rows_law apart a bases section s w checked e among x covers =
     let same : rows_with u has.rows ≡ rows_with v (rows_of c f) = has.same (located_at s.expressions)
     (names-of-cie s checked (apart s checked) c good.first c_among) (names-of-fde s checked (apart s checked) c f good f_among) in
     let own = row-again u v x has.rows (rows_of c f) one.0 same one.1 in
-    let rows : rows_in s f ≡ map (given_row s.expressions) (rows_of c f) = ap (λ o. map (given_row s.expressions) (rows_by_cie o f)) cie_found in
-    let alone : filter (has_address x) (rows_in s f) ≡ given_row s.expressions one.0 ∷ [] =
-    ap (filter (has_address x)) rows ∙ (filter-given s.expressions x (rows_of c f) ∙ ap (map (given_row s.expressions)) one.1) in
+    let rows : rows_in s f ≡ map (row_with_expressions s.expressions) (rows_of c f) = ap (λ o. map (row_with_expressions s.expressions) (rows_by_cie o f)) cie_found in
+    let alone : filter (has_address x) (rows_in s f) ≡ row_with_expressions s.expressions one.0 ∷ [] =
+    ap (filter (has_address x)) rows ∙ (filter-given s.expressions x (rows_of c f) ∙ ap (map (row_with_expressions s.expressions)) one.1) in
     let again : filter (has_address x) (rows_in s f) ≡ law.row ∷ [] = ap (λ (g : Fde). filter (has_address x) (rows_in s g)) fde_is ∙ law.one in
-    let row_is : law.row ≡ given_row s.expressions one.0 =
-    head-is law.row (given_row s.expressions one.0) (filter (has_address x) (rows_in s f)) again alone in
+    let row_is : law.row ≡ row_with_expressions s.expressions one.0 =
+    head-is law.row (row_with_expressions s.expressions one.0) (filter (has_address x) (rows_in s f)) again alone in
     let up : Ascends offset_of (made-records pairs) = records-ascend s.target 0 s.section (made-records pairs) w.rewriting.encoded in
     let only : IsCoverOf s.fdes x (Some f) = (f_among, here, λ g g_in g_covers. law.covers.2 g g_in g_covers ∙ sym fde_is) in
     record {

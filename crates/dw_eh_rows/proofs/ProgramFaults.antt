@@ -15,7 +15,7 @@ use Rattle.dw_rules.specs.ProgramFault.{standing_at, refusal_at, refusal_at_end,
 use Rattle.dw_eh_frame.specs.Records.{EhCie, EhFde}
 use Rattle.dw_eh_frame.specs.Instructions.{EhInstruction, plain, args_size, negate_ra_state, dialect_of}
 use Rattle.dw_eh_frame.specs.Rewriting.{IsSameCie, IsSameFde}
-use Rattle.dw_eh_frame.specs.Same.{AreNops}
+use Rattle.dw_eh_frame.specs.SameInstructions.{AreNops}
 use Rattle.dw_eh_frame.proofs.PastInstructions.{silenced-long}
 use Rattle.dw_eh_frame.proofs.Shifted.{instruction-by}
 use Rattle.dw_eh_frame.proofs.ReadTwice.{Items, EhItems, Silent, ReadTwice, read-alike}

@@ -18,7 +18,7 @@ use Rattle.dw_eh_frame.proofs.ReadBack.{programs-read-back}
 use Rattle.dw_eh_frame.specs.Instructions.{EhInstruction}
 use Rattle.dw_eh_rows.specs.Meaning.{as_fde, dialect_in, eh_effects_from, eh_rows_by, expression_number}
 use Rattle.dw_eh_rows.specs.Named.{content, rows_with}
-use Rattle.dw_eh_rows.specs.Kept.{KeepsRows}
+use Rattle.dw_eh_rows.specs.RewrittenRows.{KeepsRows}
 use Rattle.dw_eh_rows.proofs.Alike.{Naming, lefts, rights, rows-alike}
 use Rattle.dw_eh_rows.proofs.Agreeing.{Agreeing, agreeing, made-named, own-named, own-named-first}
 

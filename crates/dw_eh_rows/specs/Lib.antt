@@ -16,4 +16,4 @@ pub mod Faults
 -- ---- About the section that is written for another.
 
 -- a rewritten section keeps the rows of each FDE
-pub mod Kept
+pub mod RewrittenRows

@@ -8,7 +8,7 @@ use Rattle.dw_frame.specs.Records.{Cie, Fde}
 use Rattle.dw_frame.specs.Sections.{Header, cie_header}
 use Rattle.dw_stack.specs.Located.{LocatedExpression}
 use Rattle.dw_rules.specs.Expressions.{expression_in}
-use Rattle.dw_rules.specs.GivenRows.{nowhere, or_nowhere}
+use Rattle.dw_rules.specs.RowsWithExpressions.{nowhere, or_nowhere}
 use Rattle.dw_rules.specs.Rules.{PlacedRow}
 use Rattle.dw_rules.specs.Effects.{Effect, stays, effect_of}
 use Rattle.dw_rules.specs.InForce.{start_after_cie}

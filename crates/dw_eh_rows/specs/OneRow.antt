@@ -2,7 +2,7 @@
 use Rattle.std.specs.Prelude.{◌≡◌, ℕ, Bool, List, [], ◌∷◌, ◌++◌, Some, filter}
 use Rattle.dw_frame.specs.Records.{Cie}
 use Rattle.dw_rules.specs.Rules.{PlacedRow}
-use Rattle.dw_rules.specs.GivenRows.{given_row, located_at}
+use Rattle.dw_rules.specs.RowsWithExpressions.{row_with_expressions, located_at}
 use Rattle.dw_rows.specs.UnwindRows.{has_address}
 use Rattle.dw_rows.specs.Section.{FrameSection, IsReturnRegister, row_of}
 use Rattle.dw_eh_frame.specs.Records.{EhFde, EhRecord}
@@ -22,7 +22,7 @@ pub record HasOneEhRow (is_aarch64 : Bool) (records : List EhRecord) (s : FrameS
   pub one : filter (has_address a) rows ≡ row ∷ []
   -- a look-up finds this row, with the same expressions, except for where they lie
   pub placed : PlacedRow
-  pub found : row_of s a ≡ Some (given_row s.expressions placed)
+  pub found : row_of s a ≡ Some (row_with_expressions s.expressions placed)
   pub same : row_with (λ n. content (expression_number (are.first ++ are.items) n)) row
       ≡ row_with (λ at. content (located_at s.expressions at)) placed
   -- it also finds the return address register of the FDE's CIE

@@ -16,7 +16,7 @@ ghost use Rattle.dw_eh_frame.specs.Records.{EhFde, EhRecord, eh_fde, eh_entries_
 ghost use Rattle.dw_eh_rows.specs.Checked.{IsFaultOf};
 ghost use Rattle.dw_eh_rows.specs.Faults.{eh_section_fault};
 ghost use Rattle.dw_eh_frame.specs.Rewriting.{IsRewriting, IsRewritten};
-ghost use Rattle.dw_eh_rows.specs.Kept.{KeepsRows};
+ghost use Rattle.dw_eh_rows.specs.RewrittenRows.{KeepsRows};
 ghost use Rattle.dw_eh_rows.specs.Meaning.{AreEhRows, EhCovers, eh_fdes};
 ghost use Rattle.dw_eh_rows.specs.OneRow.{HasOneEhRow};
 ghost use Rattle.dw_eh_rows.specs.Signals.{is_signal_at, is_signal_frame, signal_frames};

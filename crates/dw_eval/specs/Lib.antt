@@ -24,9 +24,9 @@ pub mod Views
 -- ---- Internal: no contract of a public call uses the modules below.
 
 -- proves that an operation pushes as many entries as `effect_of` says
-pub mod Fair
+pub mod StackEffects
 -- translates the code's `Environment`
-pub mod Handed
+pub mod Environments
 -- how an operation changes the stack
 pub mod StackChanges
 -- one step of a run as the code makes it

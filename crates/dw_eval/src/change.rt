@@ -5,7 +5,7 @@ ghost use Rattle.dw_ops.specs.Views.{operation_of};
 ghost use Rattle.dw_stack.specs.Effects.{effect_of};
 ghost use Rattle.dw_eval.specs.Fits.{AllFit};
 ghost use Rattle.dw_eval.specs.StackChanges.{stack_after_operation, stack_after_change, changed_by, IsSized, taken_by, added_by};
-ghost use Rattle.dw_eval.specs.Handed.{world_in};
+ghost use Rattle.dw_eval.specs.Environments.{world_in};
 
 use crate::context::{Memory, Registers};
 use crate::environment::Environment;

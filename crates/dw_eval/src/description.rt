@@ -5,7 +5,7 @@ ghost use Rattle.dw_ops.specs.Views.{bytes_of};
 ghost use Rattle.dw_eval.specs.UnderWay.{CanRun, IsUnderWay, RunsTo};
 ghost use Rattle.dw_eval.specs.Steps.{configuration_of};
 ghost use Rattle.dw_eval.specs.Views.{piece_in};
-ghost use Rattle.dw_eval.specs.Handed.{world_in};
+ghost use Rattle.dw_eval.specs.Environments.{world_in};
 
 use crate::context::{Memory, Registers};
 use crate::environment::Environment;

@@ -5,7 +5,7 @@ ghost use Rattle.dw_eval.specs.World.{IsSize, width};
 ghost use Rattle.dw_eval.specs.Values.{push, if_present, load_bytes};
 ghost use Rattle.dw_eval.specs.StackChanges.{one_of};
 ghost use Rattle.dw_bytes.specs.Encoding.{bytes_of_address};
-ghost use Rattle.dw_eval.specs.Handed.{world_in};
+ghost use Rattle.dw_eval.specs.Environments.{world_in};
 
 use crate::context::{Context, Memory, Registers};
 use crate::evaluation_error::EvaluationError;

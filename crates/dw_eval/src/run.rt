@@ -38,7 +38,7 @@ impl<'a, const PLACES: usize> Run<'a, PLACES> {
     ghost use Rattle.dw_eval.specs.Fits.{AllFit};
     ghost use Rattle.dw_eval.specs.Values.{answer};
     ghost use Rattle.dw_eval.specs.StackChanges.{error_of};
-    ghost use Rattle.dw_eval.specs.Handed.{world_in};
+    ghost use Rattle.dw_eval.specs.Environments.{world_in};
     ghost use Rattle.dw_eval.specs.Views.{location_description_of, extent_of_size, piece_in};
     ghost use Rattle.dw_eval.specs.Results.{result_of, single};
     ghost use Rattle.dw_eval.specs.Steps.{configuration_of, Applies, CanExecute, CanStepAt, FailsAt, MovesAt};

@@ -11,7 +11,7 @@ use Rattle.dw_stack.specs.Located.{LocatedExpression}
 use Rattle.dw_rules.specs.Expressions.{cie_expressions, frame_expressions}
 use Rattle.dw_rules.specs.ProgramFault.{cie_fault}
 use Rattle.dw_rows.specs.Section.{FrameSection, CoversOnce, IsChecked, section_fault, frame_of, parts_fault, placed_rows, rows_in}
-use Rattle.dw_rules.specs.GivenRows.{given_row}
+use Rattle.dw_rules.specs.RowsWithExpressions.{row_with_expressions}
 use Rattle.dw_rules.specs.RuleSet.{StoredRules}
 use Rattle.dw_rules.specs.Initial.{AreLeftBy}
 use Rattle.dw_rows.specs.Overlap.{cie_offset, fde_offset, IsAddressIndex, IsKept}
@@ -76,7 +76,7 @@ count-given s (f ∷ fdes) =
     let rows = placed_rows s.cies f in
     let placed = length-append rows (flat_map (placed_rows s.cies) fdes) in
     let given = length-append (rows_in s f) (flat_map (rows_in s) fdes) in
-    let same = length-map rows (given_row s.expressions) in
+    let same = length-map rows (row_with_expressions s.expressions) in
     let later = count-given s fdes in
     omega (arith, placed, given, same, later)
 

@@ -12,8 +12,8 @@ use Rattle.dw_rules.specs.Rules.{PlacedRule, PlacedCfa, PlacedRow, Row, default,
 use Rattle.dw_rules.specs.Rules.{expression, val_expression, register_and_offset, cfa_expression}
 use Rattle.dw_rules.specs.Effects.{Effect}
 use Rattle.dw_rules.specs.InForce.{Start}
-use Rattle.dw_rules.specs.GivenRows.{or_nowhere, located_at, given_rule, given_cfa, given_rules, given_row, IsLent, LendsRule, LendsCfa}
-use Rattle.dw_rules.specs.GivenRows.{LendsEntry, LendsEach}
+use Rattle.dw_rules.specs.RowsWithExpressions.{or_nowhere, located_at, rule_with_expressions, cfa_with_expressions, rules_with_expressions, row_with_expressions, IsLent, LendsRule, LendsCfa}
+use Rattle.dw_rules.specs.RowsWithExpressions.{LendsEntry, LendsEach}
 use Rattle.dw_rows.specs.GoodRows.{IsGoodAmong, IsGoodRule, IsGoodCfa, IsGoodEntry, HasGoodExpressions}
 use Rattle.dw_rows.specs.UnwindRows.{rows_of, has_address}
 use Rattle.dw_rows.specs.Clauses.{IsRow, AreRowsFrom, start_in, program_in}
@@ -46,7 +46,7 @@ lent-good s k kind at h =
     (record { among = among; of_kind = h.of_kind; good = (checked-expressions s k h.lent among).0 })
 
 rule-good : (s : FrameSection) → IsChecked s → (x : PlacedRule) → LendsRule s.expressions x
-    → IsGoodRule s.expressions (given_rule s.expressions x)
+    → IsGoodRule s.expressions (rule_with_expressions s.expressions x)
 rule-good s k (expression at) h = lent-good s k FrameRegister at h
 rule-good s k (val_expression at) h = lent-good s k FrameRegister at h
 rule-good s k default h = tt
@@ -57,20 +57,20 @@ rule-good s k (val_offset n) h = tt
 rule-good s k (register r) h = tt
 
 cfa-good : (s : FrameSection) → IsChecked s → (x : Option PlacedCfa) → IfSome x (LendsCfa s.expressions)
-    → IfSome (option_map (given_cfa s.expressions) x) (IsGoodCfa s.expressions)
+    → IfSome (option_map (cfa_with_expressions s.expressions) x) (IsGoodCfa s.expressions)
 cfa-good s k None h = tt
 cfa-good s k (Some (cfa_expression at)) h = lent-good s k FrameCfa at h
 cfa-good s k (Some (register_and_offset r n)) h = tt
 
 rules-by : (s : FrameSection) → IsChecked s → (rules : List (ℕ × PlacedRule)) → AllByRecursion (LendsEntry s.expressions) rules
-    → AllByRecursion (IsGoodEntry s.expressions) (given_rules s.expressions rules)
+    → AllByRecursion (IsGoodEntry s.expressions) (rules_with_expressions s.expressions rules)
 rules-by s k [] h = tt
 rules-by s k (x ∷ rules) h = (rule-good s k x.1 h.0, rules-by s k rules h.1)
 
 rules-good : (s : FrameSection) → IsChecked s → (rules : List (ℕ × PlacedRule)) → LendsEach s.expressions rules
-    → All (IsGoodEntry s.expressions) (given_rules s.expressions rules)
+    → All (IsGoodEntry s.expressions) (rules_with_expressions s.expressions rules)
 rules-good s k rules h =
-    All-from_recursion (IsGoodEntry s.expressions) (given_rules s.expressions rules)
+    All-from_recursion (IsGoodEntry s.expressions) (rules_with_expressions s.expressions rules)
     (rules-by s k rules (recursion_from_All (LendsEntry s.expressions) rules h))
 
 -- ---- the rows of programs
@@ -91,8 +91,8 @@ row-good s checked f among row inside =
     let none = good-past s.cies s.fdes parts f among c pointed.1 in
     let good = good-from-fde c f (good-from-cie c none.0) none.1 in
     let es = s.expressions in
-    let rows : rows_in s f ≡ map (given_row es) (rows_of c f) = ap (λ o. map (given_row es) (rows_by_cie o f)) pointed.1 in
-    let placed = contained-map (given_row es) (rows_of c f) row (subst (λ l. Contains l row) rows inside) in
+    let rows : rows_in s f ≡ map (row_with_expressions es) (rows_of c f) = ap (λ o. map (row_with_expressions es) (rows_by_cie o f)) pointed.1 in
+    let placed = contained-map (row_with_expressions es) (rows_of c f) row (subst (λ l. Contains l row) rows inside) in
     let is = one-of (start_in c f good) (program_in c f good) f.initial_location (f.initial_location + f.address_range)
     (rows_of c f) placed.0
     (rows-of-good c f good) placed.1 in

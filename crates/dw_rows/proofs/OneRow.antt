@@ -8,7 +8,7 @@ use Rattle.dw_frame.specs.Records.{Fde}
 use Rattle.dw_rules.specs.Rules.{PlacedRow, Row, rule_in}
 use Rattle.dw_rules.specs.Effects.{Effect}
 use Rattle.dw_rules.specs.InForce.{Start}
-use Rattle.dw_rules.specs.GivenRows.{given_row}
+use Rattle.dw_rules.specs.RowsWithExpressions.{row_with_expressions}
 use Rattle.dw_rows.specs.UnwindRows.{rows_of, has_address}
 use Rattle.dw_rows.specs.Clauses.{IsRowAt, IsRow, AreRowsFrom, start_in, program_in}
 use Rattle.dw_rows.specs.Section.{FrameSection, Covers, IsCoverOf, IsChecked, rows_in, rows_by_cie}
@@ -101,12 +101,12 @@ has-one-row s a checked f among covers =
     (rows_of c f) row
     (rows-of-good c f good) one.1 in
     let es = s.expressions in
-    let rows : rows_in s f ≡ map (given_row es) (rows_of c f) = ap (λ o. map (given_row es) (rows_by_cie o f)) pointed.1 in
+    let rows : rows_in s f ≡ map (row_with_expressions es) (rows_of c f) = ap (λ o. map (row_with_expressions es) (rows_by_cie o f)) pointed.1 in
     let lends = lends-in s checked c f cie_found.0 among in
     let lent = row-lends es c f good row is.0.0 is.0.1 lends in
     let only : IsCoverOf s.fdes a (Some f) = (among, covers, λ g g_in g_covers. checked-once s checked a g f g_in among g_covers covers) in
-    let alone : filter (has_address a) (rows_in s f) ≡ given_row es row ∷ [] =
-    ap (filter (has_address a)) rows ∙ filter-with es a (rows_of c f) ∙ ap (map (given_row es)) one.1 in
+    let alone : filter (has_address a) (rows_in s f) ≡ row_with_expressions es row ∷ [] =
+    ap (filter (has_address a)) rows ∙ filter-with es a (rows_of c f) ∙ ap (map (row_with_expressions es)) one.1 in
     record {
       fde = f;
       covers = only;
@@ -114,7 +114,7 @@ has-one-row s a checked f among covers =
       among = cie_found.0;
       pointed = cie_found.1;
       good = good;
-      row = given_row es row;
+      row = row_with_expressions es row;
       one = alone;
       placed = row;
       given = refl;
@@ -124,5 +124,5 @@ has-one-row s a checked f among covers =
       longest = (is.0.1.range a covers.0 covers.1).0 (has-both a row is.1);
       standard = is.0.1;
       only = λ other at. row-same (start_in c f good) (program_in c f good) is.0.0 other row at is.0.1;
-      found = row-found s a f (given_row es row) only (found-alone (has_address a) (rows_in s f) (given_row es row) alone);
+      found = row-found s a f (row_with_expressions es row) only (found-alone (has_address a) (rows_in s f) (row_with_expressions es row) alone);
     }

@@ -3,7 +3,7 @@
 use Rattle.std.specs.Prelude.{◌≡◌, ℕ, [], ◌∷◌, Some, IfSome, Contains, filter}
 use Rattle.dw_frame.specs.Records.{Cie, Fde}
 use Rattle.dw_rules.specs.Rules.{PlacedRow, Row}
-use Rattle.dw_rules.specs.GivenRows.{given_row, LendsCfa, LendsEach}
+use Rattle.dw_rules.specs.RowsWithExpressions.{row_with_expressions, LendsCfa, LendsEach}
 use Rattle.dw_rows.specs.UnwindRows.{has_address}
 use Rattle.dw_rows.specs.Good.{IsLast, IsGoodFdeProgram}
 use Rattle.dw_rows.specs.Clauses.{IsRowAt, start_in, program_in}
@@ -32,7 +32,7 @@ pub record HasOneRow (s : FrameSection) (a : ℕ) : Type 0 where
   pub only : (other : PlacedRow) → IsRowAt (start_in cie fde good) (program_in cie fde good) last other → other ≡ placed
   -- `row` is `placed` with the section's expressions in place of their offsets. Each expression has
   -- the kind that its rule needs.
-  pub given : row ≡ given_row s.expressions placed
+  pub given : row ≡ row_with_expressions s.expressions placed
   pub cfa_lent : IfSome placed.cfa (LendsCfa s.expressions)
   pub lent : LendsEach s.expressions placed.rules
   -- a look-up returns this row

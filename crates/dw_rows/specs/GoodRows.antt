@@ -6,7 +6,7 @@ use Rattle.dw_stack.specs.declared.state.Kind.TheVariants.{FrameCfa, FrameRegist
 use Rattle.dw_stack.specs.Expressions.{IsGoodExpression}
 use Rattle.dw_stack.specs.Located.{LocatedExpression}
 use Rattle.dw_rules.specs.Rules.{Rule, Cfa, Row, expression, val_expression, cfa_expression}
-use Rattle.dw_rules.specs.GivenRows.{IsOfKind}
+use Rattle.dw_rules.specs.RowsWithExpressions.{IsOfKind}
 
 -- The expression `e` is one of a section's expressions, has the kind `kind`, and is good.
 pub record IsGoodAmong (expressions : List LocatedExpression) (kind : Kind) (e : LocatedExpression) : Type 0 where

@@ -14,7 +14,7 @@ use Rattle.dw_rules.specs.Rules.{PlacedRow, Row}
 use Rattle.dw_stack.specs.Located.{LocatedExpression}
 use Rattle.dw_rules.specs.Expressions.{frame_expressions}
 use Rattle.dw_rules.specs.ProgramFault.{cie_fault, fde_fault}
-use Rattle.dw_rules.specs.GivenRows.{given_row}
+use Rattle.dw_rules.specs.RowsWithExpressions.{row_with_expressions}
 use Rattle.dw_rows.specs.UnwindRows.{rows_of, has_address}
 
 -- A section with its target, and what is read before its first fault: CIEs and FDEs in separate
@@ -140,7 +140,7 @@ placed_rows cies f = rows_by_cie (cie_at cies f.cie_pointer) f
 
 -- the rows of an FDE, with the expressions in place of their offsets
 abbrev pub rows_in : FrameSection → Fde → List Row
-rows_in s f = map (given_row s.expressions) (placed_rows s.cies f)
+rows_in s f = map (row_with_expressions s.expressions) (placed_rows s.cies f)
 
 -- the number of rows of all FDEs, added up
 abbrev pub row_count : FrameSection → ℕ

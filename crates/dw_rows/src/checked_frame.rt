@@ -18,7 +18,7 @@ ghost use Rattle.dw_rules.specs.Initial.{AreLeftBy};
 ghost use Rattle.dw_stack.specs.Located.{all_located};
 ghost use Rattle.dw_rules.specs.Expressions.{cie_expressions, frame_expressions};
 ghost use Rattle.dw_rules.specs.BorrowedExpressions.{borrowed_by};
-ghost use Rattle.dw_rules.specs.LentExpressions.{lent_by};
+ghost use Rattle.dw_rules.specs.RowExpressions.{row_expressions};
 ghost use Rattle.dw_rows.specs.RowCursors.{Lends};
 
 use crate::checked_expressions::CheckedExpressions;
@@ -29,7 +29,7 @@ use crate::row_iter::Rows;
 use dw_bytes::{Fault, FaultKind, OUT_OF_MEMORY, Target};
 use dw_frame::{CommonInformationEntry, Entry, FrameDescriptionEntry, entries};
 use dw_rules::{
-    BorrowedExpressions, InitialRules, LentExpressions, UnwindContext, UnwindState, UnwindTableRow,
+    BorrowedExpressions, InitialRules, RowExpressions, UnwindContext, UnwindState, UnwindTableRow,
 };
 use dw_stack::CheckedExpression;
 use std::alloc::Global;
@@ -373,10 +373,10 @@ impl<'a> CheckedFrame<'a> {
 
     /// The section's checked expressions, borrowed, in the type that a row stores. That type can
     /// also refer to the expressions of a compiled table.
-    pub(crate) fn lent(&self) -> LentExpressions<'_, 'a>
-        ensures { lent_by result ≡ self.now.expressions }
+    pub(crate) fn lent(&self) -> RowExpressions<'_, 'a>
+        ensures { row_expressions result ≡ self.now.expressions }
     {
-        LentExpressions::Borrowed(self.borrowed())
+        RowExpressions::Borrowed(self.borrowed())
     }
 
     /// The rows of one of this section's FDEs, in order of address. The iterator runs the FDE's

@@ -3,7 +3,7 @@
 
 ghost use Rattle.std.specs.Prelude.{◌≡◌, ◌⊎◌, false, ℕ, ◌+◌, ◌<◌, ◌≤◌, ◌↔◌, List, length, Option, Some, None, slice_get, filter, [], ◌∷◌};
 ghost use Rattle.std.specs.Prelude.{Err, All, Contains, IfSome, map, ◌++◌};
-ghost use Rattle.dw_rules.specs.GivenRows.{given_row};
+ghost use Rattle.dw_rules.specs.RowsWithExpressions.{row_with_expressions};
 ghost use Rattle.dw_frame.specs.Sections.{top_of};
 ghost use Rattle.dw_rows.specs.RowLookups.{IsRowUnder};
 ghost use Rattle.dw_frame.specs.Records.{Cie, Fde};
@@ -90,7 +90,7 @@ pub fn rows_cover()
         → fde.initial_location ≤ address → address < fde.initial_location + fde.address_range
         → (row : PlacedRow) × (filter (has_address address) (rows_of cie fde) ≡ row ∷ []) }
     ensures given { (es : List LocatedExpression) (from : ℕ) (rows : List PlacedRow) (to : ℕ)
-        → Cover from rows to → Cover from (map (given_row es) rows) to }
+        → Cover from rows to → Cover from (map (row_with_expressions es) rows) to }
 {}
 
 /// A list of rules in ascending order of registers, and the function from registers to rules that

@@ -8,12 +8,12 @@ ghost use Rattle.dw_rows.specs.UnwindRows.{rows_of, has_address};
 ghost use Rattle.dw_rules.specs.ProgramState.{IsLeftBy};
 ghost use Rattle.dw_rules.specs.RuleSet.{StoredRules};
 ghost use Rattle.dw_rows.specs.RowCursors.{cursor_at, above, Seeks, GoesPast, Lends};
-ghost use Rattle.dw_rules.specs.GivenRows.{given_row};
-ghost use Rattle.dw_rules.specs.LentExpressions.{lent_by};
+ghost use Rattle.dw_rules.specs.RowsWithExpressions.{row_with_expressions};
+ghost use Rattle.dw_rules.specs.RowExpressions.{row_expressions};
 
 use crate::row_cursor::{Next, begin_rows_at, next_plain};
 use dw_frame::{CommonInformationEntry, FrameDescriptionEntry, Instructions};
-use dw_rules::{LentExpressions, UnwindState, UnwindTableRow};
+use dw_rules::{RowExpressions, UnwindState, UnwindTableRow};
 
 /// Overwrites `row` with the row of `address`. `fde` must cover the address, and the initial rules
 /// in `state` must be the rules that the CIE's program leaves.
@@ -22,16 +22,16 @@ pub(crate) fn write_row_at<'f, 'a>(
     cie: &CommonInformationEntry<'a>,
     fde: &FrameDescriptionEntry<'a>,
     address: u64,
-    expressions: LentExpressions<'f, 'a>,
+    expressions: RowExpressions<'f, 'a>,
     row: &mut UnwindTableRow<'f, 'a>,
 )
-    requires lent { Lends (lent_by expressions) (cie_of cie.now) (fde_of fde.now) }
+    requires lent { Lends (row_expressions expressions) (cie_of cie.now) (fde_of fde.now) }
     requires left { IsLeftBy (cie_of cie.now) state.old.initial_rules }
     requires fde { fde_fault (cie_of cie.now) (fde_of fde.now) ≡ None }
     requires low { fde.now.initial_location ≤ address }
     requires high { address < fde.now.initial_location + fde.now.address_range }
     ensures { find (has_address address)
-        (map (given_row (lent_by expressions.entry)) (rows_of (cie_of cie.now) (fde_of fde.now)))
+        (map (row_with_expressions (row_expressions expressions.entry)) (rows_of (cie_of cie.now) (fde_of fde.now)))
         ≡ Some row.new }
 {
     let limit = fde.initial_location + fde.address_range;
@@ -74,10 +74,10 @@ fn write_row_in_bracket<'f, 'a>(
     cie: &CommonInformationEntry<'a>,
     fde: &FrameDescriptionEntry<'a>,
     address: u64,
-    expressions: LentExpressions<'f, 'a>,
+    expressions: RowExpressions<'f, 'a>,
     row: &mut UnwindTableRow<'f, 'a>,
 ) -> bool
-    requires lent { Lends (lent_by expressions) (cie_of cie.now) (fde_of fde.now) }
+    requires lent { Lends (row_expressions expressions) (cie_of cie.now) (fde_of fde.now) }
     requires fde { fde_fault (cie_of cie.now) (fde_of fde.now) ≡ None }
     requires low { fde.now.initial_location ≤ address }
     requires high { address < fde.now.initial_location + fde.now.address_range }
@@ -85,7 +85,7 @@ fn write_row_in_bracket<'f, 'a>(
         (above (state.old.current ∷ ks)
         (cursor_at (cie_of cie.now) (fde.now.initial_location + fde.now.address_range) state.old instructions.old)) }
     ensures found { OnTrue result (find (has_address address)
-        (map (given_row (lent_by expressions.entry)) (rows_of (cie_of cie.now) (fde_of fde.now)))
+        (map (row_with_expressions (row_expressions expressions.entry)) (rows_of (cie_of cie.now) (fde_of fde.now)))
         ≡ Some row.new) }
     ensures past { OnFalse result (GoesPast (cie_of cie.now) (fde_of fde.now) address
         (cursor_at (cie_of cie.now) (fde.now.initial_location + fde.now.address_range) state.old instructions.old)

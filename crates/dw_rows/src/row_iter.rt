@@ -8,7 +8,7 @@ ghost use Rattle.dw_rows.specs.UnwindRows.{rows_of};
 use crate::checked_frame::CheckedFrame;
 use crate::row_cursor::{begin_rows, begin_rows_at, next_range};
 use dw_frame::{CommonInformationEntry, FrameDescriptionEntry, Instructions};
-use dw_rules::{LentExpressions, UnwindContext, UnwindState, UnwindTableRow};
+use dw_rules::{RowExpressions, UnwindContext, UnwindState, UnwindTableRow};
 use std::iter::FusedIterator;
 use std::marker::Model;
 
@@ -23,7 +23,7 @@ pub struct Rows<'f, 'a> {
     fde: FrameDescriptionEntry<'a>,
     context: UnwindContext,
     instructions: Instructions<'a>,
-    expressions: LentExpressions<'f, 'a>,
+    expressions: RowExpressions<'f, 'a>,
     given: u64,
 }
 
@@ -35,15 +35,15 @@ impl<'f, 'a> Model for Rows<'f, 'a> {
 
     ghost use Rattle.dw_frame.specs.Views.{cie_of, fde_of};
     ghost use Rattle.dw_rows.specs.UnwindRows.{rows_of};
-    ghost use Rattle.dw_rules.specs.GivenRows.{given_row};
-    ghost use Rattle.dw_rules.specs.LentExpressions.{lent_by};
+    ghost use Rattle.dw_rules.specs.RowsWithExpressions.{row_with_expressions};
+    ghost use Rattle.dw_rules.specs.RowExpressions.{row_expressions};
     ghost use Rattle.dw_rows.specs.RowCursors.{cursor_at, IsReady, Lends};
 
-    ghost view = { λ r. map (given_row (lent_by r.expressions))
+    ghost view = { λ r. map (row_with_expressions (row_expressions r.expressions))
         (drop r.given (rows_of (cie_of r.cie) (fde_of r.fde))) };
 
     ghost invariant = { λ r. IsReady (cie_of r.cie) (fde_of r.fde)
-        (cursor_at (cie_of r.cie) (r.fde.initial_location + r.fde.address_range) r.context r.instructions) r.given × Lends (lent_by r.expressions) (cie_of r.cie) (fde_of r.fde) };
+        (cursor_at (cie_of r.cie) (r.fde.initial_location + r.fde.address_range) r.context r.instructions) r.given × Lends (row_expressions r.expressions) (cie_of r.cie) (fde_of r.fde) };
 }
 
 impl<'f, 'a> Rows<'f, 'a> {

@@ -10,7 +10,7 @@ pub mod Initials
 pub mod Stacks
 pub mod NamedExpressions
 pub mod ExpressionsAmong
-pub mod GivenRows
+pub mod RulesWithExpressions
 pub mod Under
 pub mod AbiRules
 pub mod ExpressionBytes

@@ -16,8 +16,8 @@ use Rattle.dw_rules.specs.FirstEntry.{rule_of_either, rules_of_either}
 use Rattle.dw_rules.specs.declared.register_rules.RuleEntry.{RuleEntry}
 use Rattle.dw_rules.specs.FirstEntry.{IsLowest}
 use Rattle.dw_rules.specs.Views.{entry_of, entries_of}
-use Rattle.dw_rules.specs.GivenRows.{given_rule, given_rules, LendsRule, LendsEntry, LendsEach}
-use Rattle.dw_rules.proofs.GivenRows.{rule_in-with, table-with, lends-rule_in}
+use Rattle.dw_rules.specs.RowsWithExpressions.{rule_with_expressions, rules_with_expressions, LendsRule, LendsEntry, LendsEach}
+use Rattle.dw_rules.proofs.RulesWithExpressions.{rule_in-with, table-with, lends-rule_in}
 use Rattle.dw_rules.proofs.NamedExpressions.{listed-have}
 use Rattle.dw_rules.proofs.Tables.{rule_in-below, rule_list-table, rule_list-same, rule_in-rule_list, IsTable-rule_list}
 
@@ -43,7 +43,7 @@ or-some (register r) y some = refl
 or-some (expression e) y some = refl
 or-some (val_expression e) y some = refl
 
-pub or-with : (es : List LocatedExpression) (x y : PlacedRule) → given_rule es (or_rule x y) ≡ or_rule (given_rule es x) (given_rule es y)
+pub or-with : (es : List LocatedExpression) (x y : PlacedRule) → rule_with_expressions es (or_rule x y) ≡ or_rule (rule_with_expressions es x) (rule_with_expressions es y)
 or-with es default y = refl
 or-with es undefined y = refl
 or-with es same_value y = refl
@@ -202,14 +202,14 @@ few-of-either es os t u = few-by (length es + length os) es os t u (omega arith)
 -- ---- the same rules, with expressions in place of their offsets
 
 pub rule_list-with : (es : List LocatedExpression) (f : ℕ → PlacedRule)
-    → given_rules es (rule_list f) ≡ rule_list (λ r. given_rule es (f r))
+    → rules_with_expressions es (rule_list f) ≡ rule_list (λ r. rule_with_expressions es (f r))
 rule_list-with es f =
-    sym (rule_list-table (given_rules es (rule_list f)) (table-with es 0 (rule_list f) (IsTable-rule_list f)))
-    ∙ rule_list-same _ _ (λ r h. rule_in-with es (rule_list f) r ∙ ap (given_rule es) (rule_in-rule_list f r h))
+    sym (rule_list-table (rules_with_expressions es (rule_list f)) (table-with es 0 (rule_list f) (IsTable-rule_list f)))
+    ∙ rule_list-same _ _ (λ r h. rule_in-with es (rule_list f) r ∙ ap (rule_with_expressions es) (rule_in-rule_list f r h))
 
 -- the rule that an ABI gives a role names no expression, so putting expressions in place of their
 -- offsets doesn't change it
-role-with : (es : List LocatedExpression) (x : Role) → given_rule es (rule_of_role x) ≡ rule_of_role x
+role-with : (es : List LocatedExpression) (x : Role) → rule_with_expressions es (rule_of_role x) ≡ rule_of_role x
 role-with es unnamed = refl
 role-with es kept = refl
 role-with es stack_pointer = refl
@@ -246,13 +246,13 @@ lends-either es rules others h k =
 -- expressions in place of their offsets, are the first table's rules under that ABI
 pub either-with : (es : List LocatedExpression) (rules others : List (ℕ × PlacedRule)) (abi : Abi)
     → ((r : ℕ) → rule_in others r ≡ rule_of_role (abi r))
-    → given_rules es (rules_of_either rules others) ≡ rules_under abi (given_rules es rules)
+    → rules_with_expressions es (rules_of_either rules others) ≡ rules_under abi (rules_with_expressions es rules)
 either-with es rules others abi are =
     rule_list-with es (rule_of_either rules others)
     ∙ rule_list-same _ _ (λ r h. or-with es (rule_in rules r) (rule_in others r)
-    ∙ ap (λ x. or_rule x (given_rule es (rule_in others r))) (sym (rule_in-with es rules r))
-    ∙ ap (λ x. or_rule (rule_in (given_rules es rules) r) (given_rule es x)) (are r)
-    ∙ ap (λ x. or_rule (rule_in (given_rules es rules) r) x) (role-with es (abi r)))
+    ∙ ap (λ x. or_rule x (rule_with_expressions es (rule_in others r))) (sym (rule_in-with es rules r))
+    ∙ ap (λ x. or_rule (rule_in (rules_with_expressions es rules) r) (rule_with_expressions es x)) (are r)
+    ∙ ap (λ x. or_rule (rule_in (rules_with_expressions es rules) r) x) (role-with es (abi r)))
 
 -- ---- the lowest entry of two tables, and what remains of both
 

@@ -2,7 +2,7 @@
 use Rattle.std.specs.Prelude.{◌≡◌, ℕ, List, ◌∷◌}
 use Rattle.dw_rules.specs.Abi.{or_rule}
 use Rattle.dw_rules.specs.Rules.{RuleOver, PlacedRule, IsTable, rule_in, rule_list}
-use Rattle.dw_rules.specs.GivenRows.{LendsEntry, LendsEach}
+use Rattle.dw_rules.specs.RowsWithExpressions.{LendsEntry, LendsEach}
 use Rattle.dw_stack.specs.Located.{LocatedExpression}
 
 -- the rule of register r in the first table, or, if that is default, in the second table

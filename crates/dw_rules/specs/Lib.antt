@@ -12,7 +12,7 @@ pub mod InForce
 -- what an ABI says about registers without a rule (this project's choice; 6.4.1 leaves it to ABIs)
 pub mod Abi
 -- rows as callers get them, with expressions in place of their offsets (6.4.1)
-pub mod GivenRows
+pub mod RowsWithExpressions
 -- rules that say where registers are saved, and nothing else (6.4.1)
 pub mod SavedRules
 -- ---- The first fault, computed from the bytes. Laws tie it to the trusted definitions.
@@ -26,7 +26,7 @@ pub mod Views
 -- ABIs: the role of each register
 pub mod AbiViews
 -- the checked expressions that the rules of a row refer to
-pub mod LentExpressions
+pub mod RowExpressions
 -- ---- How the code stores rules and states. The contracts of calls that only dw_rows and dw_tables
 -- make use the files of this part.
 

@@ -51,16 +51,16 @@ impl<'f, 'a> BorrowedExpressions<'f, 'a> {
             (λ checked. expression_at (borrowed_by self.now) offset ≡ Some
             (located_of (offset, checked))) }
     {
-        if let Some(checked) = find_lent(self.cies, offset) {
+        if let Some(checked) = find_borrowed(self.cies, offset) {
             return Some(checked);
         }
-        find_lent(self.fdes, offset)
+        find_borrowed(self.fdes, offset)
     }
 }
 
 /// The expression that begins at an offset of the section, found by binary search, or `None` if
 /// none begins there.
-fn find_lent<'a>(
+fn find_borrowed<'a>(
     expressions: &[(u32, CheckedExpression<'a>)],
     offset: u32,
 ) -> Option<CheckedExpression<'a>>

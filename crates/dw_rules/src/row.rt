@@ -7,14 +7,14 @@ ghost use Rattle.dw_rules.specs.FirstEntry.{rules_of_either, IsLowest};
 ghost use Rattle.dw_rules.specs.Rules.{CfaOver, IsTable, RuleOver, rule_in};
 ghost use Rattle.dw_rules.specs.Views.{rule_of, cfa_rule_of, entry_of, entries_of, stored_rule_of, stored_cfa_of};
 ghost use Rattle.dw_rules.specs.Expressions.{expression_at};
-ghost use Rattle.dw_rules.specs.GivenRows.{given_row, given_rule, given_cfa, located_at, LendsRule, LendsCfa, LendsEach, IsRuleOfKind};
-ghost use Rattle.dw_rules.specs.GivenRows.{IsCfaOfKind, IsEntryOfKind};
-ghost use Rattle.dw_rules.specs.LentExpressions.{lent_by};
+ghost use Rattle.dw_rules.specs.RowsWithExpressions.{row_with_expressions, rule_with_expressions, cfa_with_expressions, located_at, LendsRule, LendsCfa, LendsEach, IsRuleOfKind};
+ghost use Rattle.dw_rules.specs.RowsWithExpressions.{IsCfaOfKind, IsEntryOfKind};
+ghost use Rattle.dw_rules.specs.RowExpressions.{row_expressions};
 ghost use Rattle.dw_stack.specs.Located.{LocatedExpression, located_of};
 
 use crate::abi::Abi;
-use crate::lent_expressions::LentExpressions;
 use crate::register_rules::{MAX_RULES, RegisterRuleMap, RuleEntry, rule_of_entry};
+use crate::row_expressions::RowExpressions;
 use crate::stored_rule::{StoredCfa, StoredRule};
 use crate::unwind_row::UnwindRow;
 use dw_stack::CheckedExpression;
@@ -78,9 +78,12 @@ pub enum CfaRule<'a> {
 /// Turns a stored register rule into a public one: an expression's offset is replaced by the
 /// expression itself.
 #[inline(always)]
-pub fn given_rule<'a>(rule: StoredRule, expressions: &LentExpressions<'_, 'a>) -> RegisterRule<'a>
-    requires { LendsRule (lent_by expressions.now) (stored_rule_of rule) }
-    ensures { rule_of result ≡ given_rule (lent_by expressions.now) (stored_rule_of rule) }
+pub fn rule_with_expressions<'a>(
+    rule: StoredRule,
+    expressions: &RowExpressions<'_, 'a>,
+) -> RegisterRule<'a>
+    requires { LendsRule (row_expressions expressions.now) (stored_rule_of rule) }
+    ensures { rule_of result ≡ rule_with_expressions (row_expressions expressions.now) (stored_rule_of rule) }
 {
     match rule {
         StoredRule::Default => RegisterRule::Default,
@@ -103,9 +106,9 @@ pub fn given_rule<'a>(rule: StoredRule, expressions: &LentExpressions<'_, 'a>) -
 /// Turns a stored CFA rule into a public one: an expression's offset is replaced by the expression
 /// itself.
 #[inline(always)]
-pub fn given_cfa<'a>(cfa: StoredCfa, expressions: &LentExpressions<'_, 'a>) -> CfaRule<'a>
-    requires { LendsCfa (lent_by expressions.now) (stored_cfa_of cfa) }
-    ensures { cfa_rule_of result ≡ given_cfa (lent_by expressions.now) (stored_cfa_of cfa) }
+pub fn cfa_with_expressions<'a>(cfa: StoredCfa, expressions: &RowExpressions<'_, 'a>) -> CfaRule<'a>
+    requires { LendsCfa (row_expressions expressions.now) (stored_cfa_of cfa) }
+    ensures { cfa_rule_of result ≡ cfa_with_expressions (row_expressions expressions.now) (stored_cfa_of cfa) }
 {
     match cfa {
         StoredCfa::RegisterAndOffset { register, offset } => {
@@ -122,9 +125,9 @@ pub fn given_cfa<'a>(cfa: StoredCfa, expressions: &LentExpressions<'_, 'a>) -> C
 /// is passed by value: if its address were passed, a row would have to be in memory, and reading
 /// the row there would wait for it to be written.
 #[inline(never)]
-fn given_expression<'a>(offset: u32, expressions: LentExpressions<'_, 'a>) -> CheckedExpression<'a>
-    requires { (e : LocatedExpression) × (expression_at (lent_by expressions) offset ≡ Some e) }
-    ensures { located_of (offset, result) ≡ located_at (lent_by expressions.entry) offset }
+fn given_expression<'a>(offset: u32, expressions: RowExpressions<'_, 'a>) -> CheckedExpression<'a>
+    requires { (e : LocatedExpression) × (expression_at (row_expressions expressions) offset ≡ Some e) }
+    ensures { located_of (offset, result) ≡ located_at (row_expressions expressions.entry) offset }
 {
     match expressions.at(offset) {
         Some(expression) => expression,
@@ -141,7 +144,7 @@ pub struct UnwindTableRow<'f, 'a> {
     end: u64,
     cfa: StoredCfa,
     rules: RegisterRuleMap,
-    expressions: LentExpressions<'f, 'a>,
+    expressions: RowExpressions<'f, 'a>,
 }
 
 impl<'f, 'a> Model for UnwindTableRow<'f, 'a> {
@@ -151,18 +154,18 @@ impl<'f, 'a> Model for UnwindTableRow<'f, 'a> {
     ghost Value = { Row };
 
     ghost use Rattle.dw_rules.specs.Views.{stored_cfa_of};
-    ghost use Rattle.dw_rules.specs.GivenRows.{given_row, LendsCfa, LendsEach};
-    ghost use Rattle.dw_rules.specs.LentExpressions.{lent_by};
+    ghost use Rattle.dw_rules.specs.RowsWithExpressions.{row_with_expressions, LendsCfa, LendsEach};
+    ghost use Rattle.dw_rules.specs.RowExpressions.{row_expressions};
 
-    ghost view = { λ row. given_row (lent_by row.expressions) (record {
+    ghost view = { λ row. row_with_expressions (row_expressions row.expressions) (record {
       start = row.start;
       end = row.end;
       cfa = Some (stored_cfa_of row.cfa);
       rules = row.rules;
     }) };
 
-    ghost invariant = { λ row. LendsCfa (lent_by row.expressions) (stored_cfa_of row.cfa)
-        × LendsEach (lent_by row.expressions) row.rules };
+    ghost invariant = { λ row. LendsCfa (row_expressions row.expressions) (stored_cfa_of row.cfa)
+        × LendsEach (row_expressions row.expressions) row.rules };
 }
 
 impl<'f, 'a> UnwindTableRow<'f, 'a> {
@@ -185,7 +188,7 @@ impl<'f, 'a> UnwindTableRow<'f, 'a> {
                 offset: 0,
             },
             rules: RegisterRuleMap::new(),
-            expressions: LentExpressions::empty(),
+            expressions: RowExpressions::empty(),
         }
     }
 
@@ -197,11 +200,11 @@ impl<'f, 'a> UnwindTableRow<'f, 'a> {
         end: u64,
         cfa: StoredCfa,
         rules: &RegisterRuleMap,
-        expressions: LentExpressions<'f, 'a>,
+        expressions: RowExpressions<'f, 'a>,
     )
-        requires cfa { LendsCfa (lent_by expressions) (stored_cfa_of cfa) }
-        requires rules { LendsEach (lent_by expressions) rules.now }
-        ensures { self.new ≡ given_row (lent_by expressions.entry) (record {
+        requires cfa { LendsCfa (row_expressions expressions) (stored_cfa_of cfa) }
+        requires rules { LendsEach (row_expressions expressions) rules.now }
+        ensures { self.new ≡ row_with_expressions (row_expressions expressions.entry) (record {
           start = start;
           end = end;
           cfa = Some (stored_cfa_of cfa);
@@ -305,7 +308,7 @@ impl<'f, 'a> UnwindTableRow<'f, 'a> {
 pub struct RegisterRules<'f, 'a> {
     pub entries: &'f [RuleEntry],
     pub others: &'f [RuleEntry],
-    pub expressions: LentExpressions<'f, 'a>,
+    pub expressions: RowExpressions<'f, 'a>,
 }
 
 impl<'f, 'a> Model for RegisterRules<'f, 'a> {
@@ -315,18 +318,18 @@ impl<'f, 'a> Model for RegisterRules<'f, 'a> {
     ghost Value = { List (ℕ × Rule) };
 
     ghost use Rattle.dw_rules.specs.Views.{entries_of};
-    ghost use Rattle.dw_rules.specs.GivenRows.{given_rules, LendsEach};
-    ghost use Rattle.dw_rules.specs.LentExpressions.{lent_by};
+    ghost use Rattle.dw_rules.specs.RowsWithExpressions.{rules_with_expressions, LendsEach};
+    ghost use Rattle.dw_rules.specs.RowExpressions.{row_expressions};
     ghost use Rattle.dw_rules.specs.FirstEntry.{rules_of_either};
     ghost use Rattle.dw_rules.specs.Rules.{IsTable};
 
-    ghost view = { λ r. given_rules (lent_by r.expressions)
+    ghost view = { λ r. rules_with_expressions (row_expressions r.expressions)
         (rules_of_either (entries_of r.entries.now) (entries_of r.others.now)) };
 
     ghost invariant = { λ r. IsTable 0 (entries_of r.entries.now)
         × IsTable 0 (entries_of r.others.now)
-        × LendsEach (lent_by r.expressions) (entries_of r.entries.now)
-        × LendsEach (lent_by r.expressions) (entries_of r.others.now) };
+        × LendsEach (row_expressions r.expressions) (entries_of r.entries.now)
+        × LendsEach (row_expressions r.expressions) (entries_of r.others.now) };
 }
 
 /// Takes the entry with the lowest register out of the two tables. Returns that entry and the rest
@@ -375,7 +378,7 @@ impl<'f, 'a> Iterator for RegisterRules<'f, 'a> {
         let (entry, entries, others) = lowest(self.entries, self.others)?;
         self.entries = entries;
         self.others = others;
-        let rule = given_rule(rule_of_entry(&entry), &self.expressions);
+        let rule = rule_with_expressions(rule_of_entry(&entry), &self.expressions);
         Some((entry.register, rule))
     }
 }

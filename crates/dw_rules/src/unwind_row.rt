@@ -6,15 +6,17 @@ ghost use Rattle.dw_rules.specs.AbiViews.{roles_of};
 ghost use Rattle.dw_rules.specs.Rules.{IsTable, RuleOver, rule_in};
 ghost use Rattle.dw_rules.specs.SavedRules.{as_saved};
 ghost use Rattle.dw_rules.specs.Views.{rule_of, cfa_rule_of, entries_of, stored_cfa_of};
-ghost use Rattle.dw_rules.specs.GivenRows.{given_row, LendsCfa, LendsEach, IsRuleOfKind};
-ghost use Rattle.dw_rules.specs.GivenRows.{IsCfaOfKind, IsEntryOfKind};
-ghost use Rattle.dw_rules.specs.LentExpressions.{lent_by};
+ghost use Rattle.dw_rules.specs.RowsWithExpressions.{row_with_expressions, LendsCfa, LendsEach, IsRuleOfKind};
+ghost use Rattle.dw_rules.specs.RowsWithExpressions.{IsCfaOfKind, IsEntryOfKind};
+ghost use Rattle.dw_rules.specs.RowExpressions.{row_expressions};
 
 use crate::abi::Abi;
-use crate::lent_expressions::LentExpressions;
 use crate::plain_rules::PlainRules;
 use crate::register_rules::{MAX_RULES, RuleEntry, rule_of_register};
-use crate::row::{CfaRule, RegisterRule, RegisterRules, given_cfa, given_rule};
+use crate::row::{
+    CfaRule, RegisterRule, RegisterRules, cfa_with_expressions, rule_with_expressions,
+};
+use crate::row_expressions::RowExpressions;
 use crate::stored_rule::{StoredCfa, StoredRule};
 use std::marker::Model;
 
@@ -36,7 +38,7 @@ pub struct UnwindRow<'t, 'a> {
     end: u64,
     cfa: StoredCfa,
     rules: &'t [RuleEntry],
-    expressions: LentExpressions<'t, 'a>,
+    expressions: RowExpressions<'t, 'a>,
 }
 
 impl<'t, 'a> Model for UnwindRow<'t, 'a> {
@@ -47,18 +49,18 @@ impl<'t, 'a> Model for UnwindRow<'t, 'a> {
 
     ghost use Rattle.dw_rules.specs.declared.register_rules.TheConstants.{MAX_RULES};
     ghost use Rattle.dw_rules.specs.Views.{stored_cfa_of, entries_of};
-    ghost use Rattle.dw_rules.specs.GivenRows.{given_row, LendsCfa, LendsEach};
-    ghost use Rattle.dw_rules.specs.LentExpressions.{lent_by};
+    ghost use Rattle.dw_rules.specs.RowsWithExpressions.{row_with_expressions, LendsCfa, LendsEach};
+    ghost use Rattle.dw_rules.specs.RowExpressions.{row_expressions};
 
-    ghost view = { λ row. given_row (lent_by row.expressions) (record {
+    ghost view = { λ row. row_with_expressions (row_expressions row.expressions) (record {
       start = row.start;
       end = row.end;
       cfa = Some (stored_cfa_of row.cfa);
       rules = entries_of row.rules.now;
     }) };
 
-    ghost invariant = { λ row. LendsCfa (lent_by row.expressions) (stored_cfa_of row.cfa)
-        × LendsEach (lent_by row.expressions) (entries_of row.rules.now)
+    ghost invariant = { λ row. LendsCfa (row_expressions row.expressions) (stored_cfa_of row.cfa)
+        × LendsEach (row_expressions row.expressions) (entries_of row.rules.now)
         × IsTable 0 (entries_of row.rules.now)
         × (length row.rules.now ≤ MAX_RULES) };
 }
@@ -71,13 +73,13 @@ impl<'t, 'a> UnwindRow<'t, 'a> {
         end: u64,
         cfa: StoredCfa,
         rules: &'t [RuleEntry],
-        expressions: LentExpressions<'t, 'a>,
+        expressions: RowExpressions<'t, 'a>,
     ) -> Self
-        requires cfa { LendsCfa (lent_by expressions) (stored_cfa_of cfa) }
-        requires rules { LendsEach (lent_by expressions) (entries_of rules.now) }
+        requires cfa { LendsCfa (row_expressions expressions) (stored_cfa_of cfa) }
+        requires rules { LendsEach (row_expressions expressions) (entries_of rules.now) }
         requires table { IsTable 0 (entries_of rules.now) }
         requires few { length rules.now ≤ MAX_RULES }
-        ensures { result ≡ given_row (lent_by expressions.entry) (record {
+        ensures { result ≡ row_with_expressions (row_expressions expressions.entry) (record {
           start = start;
           end = end;
           cfa = Some (stored_cfa_of cfa);
@@ -113,7 +115,7 @@ impl<'t, 'a> UnwindRow<'t, 'a> {
         ensures cfa { self.now.cfa ≡ Some (cfa_rule_of result) }
         ensures kind { IsCfaOfKind (cfa_rule_of result) }
     {
-        given_cfa(self.cfa, &self.expressions)
+        cfa_with_expressions(self.cfa, &self.expressions)
     }
 
     /// The rule of a register, or `Default` if none is in force. An expression in the rule is
@@ -123,7 +125,7 @@ impl<'t, 'a> UnwindRow<'t, 'a> {
         ensures rule { rule_of result ≡ rule_in self.now.rules number }
         ensures kind { IsRuleOfKind (rule_of result) }
     {
-        given_rule(rule_of_register(self.rules, number), &self.expressions)
+        rule_with_expressions(rule_of_register(self.rules, number), &self.expressions)
     }
 
     /// The row's rules, if each of them says that a register below `limit` is saved relative to the
@@ -163,7 +165,7 @@ impl<'t, 'a> UnwindRow<'t, 'a> {
         match self.register(number) {
             RegisterRule::Default => match abi.register(number) {
                 StoredRule::Default => RegisterRule::Undefined,
-                rule => given_rule(rule, &self.expressions),
+                rule => rule_with_expressions(rule, &self.expressions),
             },
             rule => rule,
         }

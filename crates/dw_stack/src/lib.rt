@@ -2,6 +2,7 @@
 //! branches go, the stack never has too few or too many entries.
 #![tactic(auto)]
 
+mod branchless_check;
 mod certificate;
 mod checked;
 mod effect;
@@ -12,7 +13,6 @@ mod pass;
 mod register;
 mod state;
 mod step;
-mod straight;
 mod target;
 mod verify;
 

@@ -8,11 +8,11 @@ ghost use Rattle.dw_stack.specs.Expressions.{AreStatesOf, IsChecked, IsFaultOf, 
 ghost use Rattle.dw_stack.specs.FirstFault.{expression_fault};
 ghost use Rattle.dw_stack.specs.Certificates.{checked_of, checked_in, states_in};
 
+use crate::branchless_check::{certify_branchless, check_branchless};
 use crate::certificate::Certificate;
 use crate::checked::CheckedExpression;
 use crate::pass::pass;
 use crate::state::{Kind, State};
-use crate::straight::{certify_straight, check_straight};
 use dw_bytes::{Fault, FaultKind};
 use dw_ops::{Expression, operations};
 use std::alloc::Global;
@@ -65,7 +65,7 @@ fn check_with_states<'a>(
     })
 }
 
-/// Certifies an expression that `certify_straight` or `check_straight` didn't accept, by a pass
+/// Certifies an expression that `certify_branchless` or `check_branchless` didn't accept, by a pass
 /// over all paths at once.
 fn certify_all_paths<'a>(
     alloc: Global,
@@ -114,7 +114,7 @@ pub fn certify<'a>(
         (bytes_of expression.entry)) result }
     ensures inside { IfErr result (λ f. f.at ≤ length (bytes_of expression.entry)) }
 {
-    if let Some(certificate) = certify_straight(alloc, expression, kind) {
+    if let Some(certificate) = certify_branchless(alloc, expression, kind) {
         return Ok(certificate);
     }
     certify_all_paths(alloc, expression, kind)
@@ -135,7 +135,7 @@ pub fn check_expression<'a>(
         (bytes_of expression.entry)) result }
     ensures inside { IfErr result (λ f. f.at ≤ length (bytes_of expression.entry)) }
 {
-    if let Some(checked) = check_straight(expression, kind) {
+    if let Some(checked) = check_branchless(expression, kind) {
         return Ok(checked);
     }
     let certificate = certify_all_paths(alloc, expression, kind)?;

@@ -15,8 +15,8 @@ use Rattle.dw_rules.specs.Rules.{PlacedRule, PlacedCfa, PlacedRow, Row, default,
 use Rattle.dw_rules.specs.Rules.{expression, val_expression, register_and_offset, cfa_expression}
 use Rattle.dw_stack.specs.declared.state.Kind.{Kind}
 use Rattle.dw_stack.specs.declared.state.Kind.TheVariants.{FrameCfa, FrameRegister}
-use Rattle.dw_rules.specs.GivenRows.{or_nowhere, located_at, given_rule, given_cfa, given_rules, given_row, IsLent, LendsRule, LendsCfa}
-use Rattle.dw_rules.specs.GivenRows.{LendsEntry, LendsEach}
+use Rattle.dw_rules.specs.RowsWithExpressions.{or_nowhere, located_at, rule_with_expressions, cfa_with_expressions, rules_with_expressions, row_with_expressions, IsLent, LendsRule, LendsCfa}
+use Rattle.dw_rules.specs.RowsWithExpressions.{LendsEntry, LendsEach}
 use Rattle.dw_rules.specs.ProgramState.{row_between}
 use Rattle.dw_rows.specs.UnwindRows.{has_address, rows_of}
 use Rattle.dw_tables.specs.UnwindTables.{RowTable, has, row_at, IsTableOf}
@@ -25,7 +25,7 @@ use Rattle.dw_rows.specs.RowLookups.{IsUnder, IsRuleUnder, IsCfaUnder, IsEntryUn
 use Rattle.dw_rows.specs.Section.{FrameSection, Covers, IsCoverOf, IsChecked, rows_by_cie, row_of, cie_in}
 use Rattle.dw_rows.specs.Section.{IsReturnRegister}
 use Rattle.dw_tables.specs.CompiledTable.{StoredSet, no_set, set_numbered, row_if, row_from, next_start, entry_start, rows_to}
-use Rattle.dw_tables.specs.CompiledTable.{LendsFound, given_found, IsPlacedAt}
+use Rattle.dw_tables.specs.CompiledTable.{LendsFound, found_with_expressions, IsPlacedAt}
 use Rattle.dw_tables.specs.CompiledTable.{IsEntryCount, ArePlacedRows}
 use Rattle.dw_rows.proofs.Covering.{found-by, cover-rows, here}
 use Rattle.dw_rows.proofs.Lookups.{row-found, row-none}
@@ -69,8 +69,8 @@ row-fits s a row checked found =
     let has_row = covered-has s checked f among a covered in
     let placed : PlacedRow = has_row.1 in
     let only : IsCoverOf s.fdes a (Some f) = (among, covered, λ g g_in g_covers. checked-once s checked a g f g_in among g_covers covered) in
-    let same : Some row ≡ Some (given_row s.expressions placed) =
-    sym found ∙ row-found s a f (given_row s.expressions placed) only
+    let same : Some row ≡ Some (row_with_expressions s.expressions placed) =
+    sym found ∙ row-found s a f (row_with_expressions s.expressions placed) only
     (find-with s.expressions a (rows_by_cie (cie_in s f) f) placed has_row.3) in
     let start : row.start ≡ placed.start = cc in
     let end : row.end ≡ placed.end = cc in
@@ -82,25 +82,25 @@ row-fits s a row checked found =
 -- ---- what looking up an address in a table gives
 
 find-given : (es : List LocatedExpression) (a : ℕ) (rows : List (PlacedRow × ℕ))
-    → find (has a) (map (given_found es) rows) ≡ option_map (given_found es) (find (has a) rows)
+    → find (has a) (map (found_with_expressions es) rows) ≡ option_map (found_with_expressions es) (find (has a) rows)
 find-given es a [] = refl
 find-given es a (x ∷ rows) = go (has a x) (find-given es a rows)
   where
-    go : (b : Bool) → find (has a) (map (given_found es) rows) ≡ option_map (given_found es) (find (has a) rows)
-        → cond b (Some (given_found es x)) (find (has a) (map (given_found es) rows))
-        ≡ option_map (given_found es) (cond b (Some x) (find (has a) rows))
+    go : (b : Bool) → find (has a) (map (found_with_expressions es) rows) ≡ option_map (found_with_expressions es) (find (has a) rows)
+        → cond b (Some (found_with_expressions es x)) (find (has a) (map (found_with_expressions es) rows))
+        ≡ option_map (found_with_expressions es) (cond b (Some x) (find (has a) rows))
     go true next = refl
     go false next = next
 
 -- looking up an address in a table gives the row that is found among the rows as stored, with
 -- expressions in place of their offsets
 pub table-finds : (t : RowTable) (target : Target) (es : List LocatedExpression) (rows : List (PlacedRow × ℕ)) (bytes a : ℕ)
-    → record { target = target; rows = map (given_found es) rows; bytes = bytes } ≡ t
-    → option_map (given_found es) (find (has a) rows) ≡ row_at t a
+    → record { target = target; rows = map (found_with_expressions es) rows; bytes = bytes } ≡ t
+    → option_map (found_with_expressions es) (find (has a) rows) ≡ row_at t a
 table-finds t target es rows bytes a is = sym (find-given es a rows) ∙ ap (λ (x : RowTable). row_at x a) is
 
 found-at : (s : FrameSection) (a : ℕ) (o : Option (PlacedRow × ℕ)) → IsChecked s → IsPlacedAt s a o
-    → IsFoundAt s a (option_map (given_found s.expressions) o)
+    → IsFoundAt s a (option_map (found_with_expressions s.expressions) o)
 found-at s a None checked h = row-missing s a checked h
 found-at s a (Some x) checked h = h
 
@@ -108,11 +108,11 @@ found-at s a (Some x) checked h = h
 -- target, are a table of the section
 pub table-of : (s : FrameSection) (target : Target) (es : List LocatedExpression) (rows : List (PlacedRow × ℕ)) (bytes : ℕ)
     → target ≡ s.target → es ≡ s.expressions → ArePlacedRows s rows
-    → IsTableOf s (record { target = target; rows = map (given_found es) rows; bytes = bytes })
+    → IsTableOf s (record { target = target; rows = map (found_with_expressions es) rows; bytes = bytes })
 table-of s target es rows bytes same lent are = record {
   target = same;
   row = λ a. subst (IsFoundAt s a) (sym (find-given s.expressions a rows)
-      ∙ ap (λ (l : List LocatedExpression). find (has a) (map (given_found l) rows)) (sym lent))
+      ∙ ap (λ (l : List LocatedExpression). find (has a) (map (found_with_expressions l) rows)) (sym lent))
       (found-at s a (find (has a) rows) are.checked (are.row a));
 }
 
@@ -200,7 +200,7 @@ module _ (es : List LocatedExpression) (target : Target) (each : (e : LocatedExp
   lent-under kind at h =
       subst (IsUnder target) (sym (ap or_nowhere h.found)) (each h.lent (found-among (λ e. e.offset == at) es h.lent h.found))
 
-  rule-under : (x : PlacedRule) → LendsRule es x → IsRuleUnder target (given_rule es x)
+  rule-under : (x : PlacedRule) → LendsRule es x → IsRuleUnder target (rule_with_expressions es x)
   rule-under (expression at) h = lent-under FrameRegister at h
   rule-under (val_expression at) h = lent-under FrameRegister at h
   rule-under default h = tt
@@ -210,29 +210,29 @@ module _ (es : List LocatedExpression) (target : Target) (each : (e : LocatedExp
   rule-under (val_offset n) h = tt
   rule-under (register r) h = tt
 
-  cfa-under : (x : Option PlacedCfa) → IfSome x (LendsCfa es) → IfSome (option_map (given_cfa es) x) (IsCfaUnder target)
+  cfa-under : (x : Option PlacedCfa) → IfSome x (LendsCfa es) → IfSome (option_map (cfa_with_expressions es) x) (IsCfaUnder target)
   cfa-under None h = tt
   cfa-under (Some (cfa_expression at)) h = lent-under FrameCfa at h
   cfa-under (Some (register_and_offset r n)) h = tt
 
   rules-under : (rules : List (ℕ × PlacedRule)) → AllByRecursion (LendsEntry es) rules
-      → AllByRecursion (IsEntryUnder target) (given_rules es rules)
+      → AllByRecursion (IsEntryUnder target) (rules_with_expressions es rules)
   rules-under [] h = tt
   rules-under (x ∷ rules) h = (rule-under x.1 h.0, rules-under rules h.1)
 
-  pub row-under : (x : PlacedRow × ℕ) → LendsFound es x → IsRowUnder target (given_row es x.0)
+  pub row-under : (x : PlacedRow × ℕ) → LendsFound es x → IsRowUnder target (row_with_expressions es x.0)
   row-under x h = record {
     cfa = cfa-under x.0.cfa h.cfa;
-    rules = All-from_recursion (IsEntryUnder target) (given_rules es x.0.rules)
+    rules = All-from_recursion (IsEntryUnder target) (rules_with_expressions es x.0.rules)
         (rules-under x.0.rules (recursion_from_All (LendsEntry es) x.0.rules h.rules));
   }
 
   pub finds-under : (rows : List (PlacedRow × ℕ)) (a : ℕ) → All (LendsFound es) rows
-      → IfSome (option_map (given_found es) (find (has a) rows)) (λ found. IsRowUnder target found.0)
+      → IfSome (option_map (found_with_expressions es) (find (has a) rows)) (λ found. IsRowUnder target found.0)
   finds-under rows a all = go (find (has a) rows) refl
     where
       go : (o : Option (PlacedRow × ℕ)) → find (has a) rows ≡ o
-          → IfSome (option_map (given_found es) o) (λ found. IsRowUnder target found.0)
+          → IfSome (option_map (found_with_expressions es) o) (λ found. IsRowUnder target found.0)
       go None is = tt
       go (Some x) is = row-under x (found-lends es a rows x all is)
 

@@ -14,7 +14,7 @@ use Rattle.dw_stack.specs.Located.{LocatedExpression}
 use Rattle.dw_tables.specs.declared.table_entries.TableEntry.{TableEntry}
 use Rattle.dw_rules.specs.Rules.{PlacedCfa, PlacedRow}
 use Rattle.dw_rules.specs.RuleSet.{LendsRules}
-use Rattle.dw_rules.specs.GivenRows.{given_row}
+use Rattle.dw_rules.specs.RowsWithExpressions.{row_with_expressions}
 use Rattle.dw_rows.specs.UnwindRows.{has_address, rows_of}
 use Rattle.dw_tables.specs.UnwindTables.{has}
 use Rattle.dw_rows.specs.Section.{FrameSection, Covers, IsCoverOf, IsChecked, CoversOnce, rows_by_cie, covers, row_of, cie_in}
@@ -169,8 +169,8 @@ row-in-each s fdes checked index a = elim (first-cover a fdes) [
       let c = has_row.0 in
       let row = has_row.1 in
       let only : IsCoverOf s.fdes a (Some f) = (among, found.2, λ g g_in g_covers. checked-once s checked a g f g_in among g_covers found.2) in
-      let is : row_of s a ≡ Some (given_row s.expressions row) =
-      row-found s a f (given_row s.expressions row) only (find-with s.expressions a (rows_by_cie (cie_in s f) f) row has_row.3) in
+      let is : row_of s a ≡ Some (row_with_expressions s.expressions row) =
+      row-found s a f (row_with_expressions s.expressions row) only (find-with s.expressions a (rows_by_cie (cie_in s f) f) row has_row.3) in
       let returns : IsReturnRegister s a c.return_address_register = (f, c, only, has_row.2, refl) in
       subst (IsPlacedAt s a)
       (sym (one-in-each s checked a fdes f (row, c.return_address_register) index.from found.1 found.2 has_row.4)) (is, returns)

@@ -11,7 +11,7 @@ use Rattle.dw_tables.specs.declared.table_room.Unmade.{Unmade}
 use Rattle.dw_tables.specs.declared.table_room.Unmade.TheVariants.{Memory, Room}
 use Rattle.dw_tables.specs.declared.table_entries.TableEntry.{TableEntry}
 use Rattle.dw_rules.specs.Rules.{PlacedRow}
-use Rattle.dw_rules.specs.GivenRows.{given_row}
+use Rattle.dw_rules.specs.RowsWithExpressions.{row_with_expressions}
 use Rattle.dw_rules.specs.ProgramState.{row_between}
 use Rattle.dw_rows.specs.RowCursors.{RowCursor, GivesNextRow, rows_left}
 use Rattle.dw_rows.specs.UnwindRows.{rows_of}
@@ -19,7 +19,7 @@ use Rattle.dw_tables.specs.UnwindTables.{row_bytes, fde_bytes}
 use Rattle.dw_rows.specs.Section.{FrameSection, cie_in, rows_by_cie}
 use Rattle.dw_rows.specs.Overlap.{IsIndexOf}
 use Rattle.dw_tables.specs.CompiledTable.{StoredSet, returning, row_with, rows_to, entry_bytes, IsTableUpTo, IsPushed, IsFilling, LacksRoom}
-use Rattle.dw_rules.proofs.GivenRows.{length-with}
+use Rattle.dw_rules.proofs.RulesWithExpressions.{length-with}
 use Rattle.dw_rows.proofs.Indexes.{AreDistinct}
 use Rattle.dw_tables.proofs.TableRows.{rows-pushed, with-cfa}
 
@@ -58,11 +58,11 @@ cost-returning r (row ∷ rows) =
     sum-cons (λ x. row_bytes x.0) (row, r) (returning r rows) ∙ ap (λ n. row_bytes row + n) (cost-returning r rows)
     ∙ sym (sum-cons row_bytes row rows)
 
-bytes-given : (es : List LocatedExpression) (rows : List PlacedRow) → sum_by row_bytes (map (given_row es) rows) ≡ sum_by row_bytes rows
+bytes-given : (es : List LocatedExpression) (rows : List PlacedRow) → sum_by row_bytes (map (row_with_expressions es) rows) ≡ sum_by row_bytes rows
 bytes-given es [] = refl
 bytes-given es (row ∷ rows) =
-    sum-cons row_bytes (given_row es row) (map (given_row es) rows)
-    ∙ ap (λ (n : ℕ). 80 + 16 * n + sum_by row_bytes (map (given_row es) rows)) (length-with es row.rules)
+    sum-cons row_bytes (row_with_expressions es row) (map (row_with_expressions es) rows)
+    ∙ ap (λ (n : ℕ). 80 + 16 * n + sum_by row_bytes (map (row_with_expressions es) rows)) (length-with es row.rules)
     ∙ ap (λ n. row_bytes row + n) (bytes-given es rows) ∙ sym (sum-cons row_bytes row rows)
 
 pub fde-cost : (s : FrameSection) (c : Cie) (f : Fde) → cie_in s f ≡ Some c

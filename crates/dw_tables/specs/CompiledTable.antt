@@ -11,7 +11,7 @@ use Rattle.dw_tables.specs.declared.table_entries.TableEntry.{TableEntry}
 use Rattle.dw_rules.specs.Rules.{PlacedCfa, PlacedRow, Row}
 use Rattle.dw_rules.specs.Effects.{Effect}
 use Rattle.dw_rules.specs.RuleSet.{StoredRules, LendsRules}
-use Rattle.dw_rules.specs.GivenRows.{given_row, LendsCfa, LendsEach}
+use Rattle.dw_rules.specs.RowsWithExpressions.{row_with_expressions, LendsCfa, LendsEach}
 use Rattle.dw_rules.specs.ProgramState.{row_between}
 use Rattle.dw_rows.specs.RowCursors.{RowCursor, StandsAfter, rows_left}
 use Rattle.dw_rows.specs.UnwindRows.{rows_of}
@@ -184,7 +184,7 @@ stored_bytes entries sets = 16 * length entries + sets_bytes sets
 -- ---- a finished table
 
 -- rows with their return address registers, and how many bytes their entries and rule sets take
-pub record PlacedRows : Type 0 where
+pub record StoredRows : Type 0 where
   pub rows : List (PlacedRow × ℕ)
   pub bytes : ℕ
 
@@ -213,14 +213,14 @@ pub record LendsFound (es : List LocatedExpression) (found : PlacedRow × ℕ) :
   pub rules : LendsEach es found.0.rules
 
 -- the row with its expressions in place of their offsets, and its return address register
-abbrev pub given_found : List LocatedExpression → PlacedRow × ℕ → Row × ℕ
-given_found es found = (given_row es found.0, found.1)
+abbrev pub found_with_expressions : List LocatedExpression → PlacedRow × ℕ → Row × ℕ
+found_with_expressions es found = (row_with_expressions es found.0, found.1)
 
 -- What was found at the address a is the section's row there, with the return address register of
 -- the row's CIE. If nothing was found, the section has no row there.
 abbrev pub IsPlacedAt : FrameSection → ℕ → Option (PlacedRow × ℕ) → Type 0
 IsPlacedAt s a None = row_of s a ≡ None
-IsPlacedAt s a (Some found) = (row_of s a ≡ Some (given_row s.expressions found.0)) × IsReturnRegister s a found.1
+IsPlacedAt s a (Some found) = (row_of s a ≡ Some (row_with_expressions s.expressions found.0)) × IsReturnRegister s a found.1
 
 -- a look-up among `rows` finds the section's row at each address
 pub record ArePlacedRows (s : FrameSection) (rows : List (PlacedRow × ℕ)) : Type 0 where

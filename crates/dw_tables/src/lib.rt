@@ -5,10 +5,10 @@
 mod entry_starts;
 mod expression_copies;
 pub mod laws;
-mod placed_table;
 mod rule_numbers;
 mod rule_set_numbers;
 mod rule_sets;
+mod stored_table;
 mod table;
 mod table_entries;
 mod table_room;

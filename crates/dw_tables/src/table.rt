@@ -9,11 +9,11 @@ ghost use Rattle.dw_rows.specs.RowLookups.{IsRowUnder};
 ghost use Rattle.dw_tables.specs.CompiledTable.{LacksRoom};
 
 use crate::expression_copies::copy_expressions;
-use crate::placed_table::PlacedTable;
+use crate::stored_table::StoredTable;
 use crate::table_room::Unmade;
 use dw_bytes::{Fault, OUT_OF_MEMORY, Target};
 use dw_rows::{CheckedFrame, UnwindRows};
-use dw_rules::{LentExpressions, OwnedExpressions, UnwindRow};
+use dw_rules::{OwnedExpressions, RowExpressions, UnwindRow};
 use std::alloc::Global;
 use std::marker::Model;
 
@@ -35,7 +35,7 @@ use std::marker::Model;
 #[derive(Drop)]
 pub struct UnwindTable {
     target: Target,
-    placed: PlacedTable,
+    placed: StoredTable,
     expressions: OwnedExpressions,
 }
 
@@ -49,11 +49,11 @@ impl Model for UnwindTable {
     ghost use Rattle.dw_stack.specs.Located.{LocatedExpression};
     ghost use Rattle.dw_tables.specs.UnwindTables.{expression_bytes};
     ghost use Rattle.dw_rows.specs.RowLookups.{IsUnder};
-    ghost use Rattle.dw_tables.specs.CompiledTable.{LendsFound, given_found};
+    ghost use Rattle.dw_tables.specs.CompiledTable.{LendsFound, found_with_expressions};
 
     ghost view = { λ t. record {
       target = t.target;
-      rows = map (given_found t.expressions) t.placed.rows;
+      rows = map (found_with_expressions t.expressions) t.placed.rows;
       bytes = t.placed.bytes + sum_by expression_bytes t.expressions;
     } };
 
@@ -116,7 +116,7 @@ impl UnwindTable {
     {
         let mut left = room;
         let expressions = copy_expressions(alloc, &frame.borrowed(), &mut left)?;
-        let placed = PlacedTable::of(frame, alloc, left)?;
+        let placed = StoredTable::of(frame, alloc, left)?;
         Ok(UnwindTable {
             target: frame.target(),
             placed,
@@ -142,7 +142,7 @@ impl UnwindTable {
         ensures under { IfSome result (λ found. IsRowUnder self.now.target found.0) }
     {
         self.placed
-            .find(address, LentExpressions::Owned(&self.expressions))
+            .find(address, RowExpressions::Owned(&self.expressions))
     }
 
     /// The row of an address, or `None` if no FDE covers the address. The row's rules and

@@ -15,8 +15,8 @@ ghost use Rattle.dw_stack.specs.Certificates.{checked_of};
 use dw_check::{Caller, unwind_by};
 use dw_eval::{Context, Memory, Outcome, Registers, evaluate};
 use dw_rows::{Abi, CheckedFrame, RegisterRule};
-use dw_tables::UnwindTable;
 use dw_stack::CheckedExpression;
+use dw_tables::UnwindTable;
 
 /// The offset from the CFA, in bytes, at which the function at `address` has saved a register.
 ///

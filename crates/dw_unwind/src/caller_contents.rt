@@ -4,7 +4,7 @@ ghost use Rattle.std.specs.Prelude.{◌≡◌, ℕ, IfOk, OnErr, All, None, Some
 ghost use Rattle.dw_rules.specs.Abi.{Role, abi_of, is_among, rule_of_role, rule_under};
 ghost use Rattle.dw_rules.specs.Rules.{IsTable, rule_in};
 ghost use Rattle.dw_rules.specs.Views.{rule_of};
-ghost use Rattle.dw_rules.specs.GivenRows.{IsEntryOfKind, IsRuleOfKind};
+ghost use Rattle.dw_rules.specs.RowsWithExpressions.{IsEntryOfKind, IsRuleOfKind};
 ghost use Rattle.dw_unwind.specs.Caller.{IsRegister, if_value, number_plus, word};
 ghost use Rattle.dw_unwind.specs.CallerViews.{answer_in, machine_in};
 ghost use Rattle.dw_unwind.specs.Contents.{HasContents, Keeps, Overlays, UnwindsTo, abi_rules, contents_in};

@@ -2,7 +2,7 @@
 
 ghost use Rattle.std.specs.Prelude.{◌≡◌, ◌≢◌, ◌≤◌, ℕ, All, Some, length};
 ghost use Rattle.dw_rules.specs.Views.{cfa_rule_of, rule_of};
-ghost use Rattle.dw_rules.specs.GivenRows.{IsCfaOfKind, IsEntryOfKind, IsRuleOfKind};
+ghost use Rattle.dw_rules.specs.RowsWithExpressions.{IsCfaOfKind, IsEntryOfKind, IsRuleOfKind};
 ghost use Rattle.dw_stack.specs.Certificates.{checked_of};
 ghost use Rattle.dw_stack.specs.Located.{located_of};
 ghost use Rattle.dw_stack.specs.declared.state.Kind.TheVariants.{Location};

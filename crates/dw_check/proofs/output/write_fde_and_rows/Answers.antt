@@ -2,7 +2,7 @@ use Rattle.std.proofs.Common.{◌≡◌, List, Some, ap, map, sym, subst, ◌∙
 use Rattle.std.specs.List.{All}
 use Rattle.dw_frame.specs.Records.{Cie, Fde}
 use Rattle.dw_rules.specs.Rules.{Row}
-use Rattle.dw_rules.specs.GivenRows.{given_row}
+use Rattle.dw_rules.specs.RowsWithExpressions.{row_with_expressions}
 use Rattle.dw_rows.specs.UnwindRows.{rows_of}
 use Rattle.dw_rows.specs.Section.{FrameSection, cie_in, rows_in, rows_by_cie}
 use Rattle.dw_check.specs.Text.{Fits}
@@ -12,8 +12,8 @@ use Rattle.dw_check.proofs.output.write_fde_and_rows.Goals as goal
 
 -- the rows of an FDE are the rows of its program, run after the program of its CIE
 past : (s : FrameSection) (f : Fde) (c : Cie) (rows : List Row) → cie_in s f ≡ Some c → rows ≡ rows_in s f
-    → rows ≡ map (given_row s.expressions) (rows_of c f)
-past s f c rows is all = all ∙ ap (λ o. map (given_row s.expressions) (rows_by_cie o f)) is
+    → rows ≡ map (row_with_expressions s.expressions) (rows_of c f)
+past s f c rows is all = all ∙ ap (λ o. map (row_with_expressions s.expressions) (rows_by_cie o f)) is
 
 pub write_fde-requires-clause-fits : goal.write_fde-requires-clause-fits
 write_fde-requires-clause-fits g c = below_top c.args.frame.now.target _ _ c.requires.size c.requires.fits

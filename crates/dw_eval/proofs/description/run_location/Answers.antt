@@ -3,7 +3,7 @@ use Rattle.std.specs.Prelude.{◌==◌}
 use Rattle.dw_ops.specs.Views.{bytes_of}
 use Rattle.dw_stack.specs.declared.state.Kind.TheVariants.{Location}
 use Rattle.dw_stack.specs.Machine.{GivesResult}
-use Rattle.dw_eval.specs.Handed.{world_in}
+use Rattle.dw_eval.specs.Environments.{world_in}
 use Rattle.dw_eval.specs.StackChanges.{error_of}
 use Rattle.dw_eval.specs.Results.{result_of}
 use Rattle.dw_eval.specs.Views.{outcome_of}

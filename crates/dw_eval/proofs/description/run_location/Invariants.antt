@@ -1,6 +1,6 @@
 use Rattle.std.proofs.Common.{◌-◌, []}
 use Rattle.dw_ops.specs.Views.{bytes_of}
-use Rattle.dw_eval.specs.Handed.{world_in}
+use Rattle.dw_eval.specs.Environments.{world_in}
 use Rattle.dw_eval.specs.Steps.{configuration_of}
 use Rattle.dw_eval.specs.UnderWay.{IsUnderWay}
 use Rattle.dw_eval.proofs.description.run_location.Given as goal

@@ -4,7 +4,7 @@ use Rattle.dw_frame.specs.Views.{cie_of, fde_of}
 use Rattle.dw_rows.specs.UnwindRows.{rows_of, has_address}
 use Rattle.dw_rules.specs.RuleSet.{StoredRules}
 use Rattle.dw_rows.specs.RowCursors.{cursor_at, RowCursor, above}
-use Rattle.dw_rules.specs.LentExpressions.{lent_by}
+use Rattle.dw_rules.specs.RowExpressions.{row_expressions}
 use Rattle.dw_rows.proofs.RowsWithExpressions.{find-with}
 use Rattle.dw_rows.proofs.Covering.{not-missed}
 use Rattle.dw_rows.proofs.Coming.{plain-row, seeks-found, seeks-on, seeks-cursor, seeks-nearer, seeks-cfa, seeks-lent, seeks-remembers}
@@ -38,7 +38,7 @@ write_row-requires-clause-lent t c =
     let ks : List StoredRules = rules ∷ c.requires.seeks.0 in
     let h = c.loop-start.invariant.seeks c.requires.seeks.0 c.requires.seeks.1 in
     let step = plain-row w new c.in-Row.start c.in-Row.end ks c.in-Row.ensures.next in
-    seeks-lent cie fde c.args.address (above ks w) (above ks new) c.in-Row.start c.in-Row.end (lent_by c.args.expressions) h step
+    seeks-lent cie fde c.args.address (above ks w) (above ks new) c.in-Row.start c.in-Row.end (row_expressions c.args.expressions) h step
     c.requires.lent
 
 pub returns-then-address-end-clause-found : goal.returns-then-address-end-clause-found
@@ -51,7 +51,7 @@ returns-then-address-end-clause-found t c =
     let ks : List StoredRules = rules ∷ c.requires.seeks.0 in
     let h = c.loop-start.invariant.seeks c.requires.seeks.0 c.requires.seeks.1 in
     let step = plain-row w new c.in-Row.start c.in-Row.end ks c.in-Row.ensures.next in
-    find-with (lent_by c.args.expressions) c.args.address (rows_of cie fde) _
+    find-with (row_expressions c.args.expressions) c.args.address (rows_of cie fde) _
     (seeks-found cie fde c.args.address (above ks w) (above ks new) c.in-Row.start c.in-Row.end h step c.if-address-end.true)
     ∙ ap Some (sym c.write_row.ensures)
 

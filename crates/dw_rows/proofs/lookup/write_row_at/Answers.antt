@@ -3,7 +3,7 @@ use Rattle.std.specs.Prelude.{find}
 use Rattle.dw_frame.specs.Views.{cie_of, fde_of}
 use Rattle.dw_rows.specs.UnwindRows.{rows_of, has_address}
 use Rattle.dw_rows.specs.RowCursors.{cursor_at, RowCursor, above}
-use Rattle.dw_rules.specs.LentExpressions.{lent_by}
+use Rattle.dw_rules.specs.RowExpressions.{row_expressions}
 use Rattle.dw_rows.proofs.RowsWithExpressions.{find-with}
 use Rattle.dw_rows.proofs.Covering.{not-missed}
 use Rattle.dw_rows.proofs.Coming.{plain-row, seeks-found, seeks-on, seeks-cursor, seeks-nearer, seeks-cfa, seeks-lent, seeks-remembers}
@@ -22,7 +22,7 @@ write_row-requires c =
     let step = plain-row w new c.in-Row.start c.in-Row.end [] c.in-Row.ensures.next in
     record {
       cfa = seeks-cfa cie fde c.args.address (above [] w) (above [] new) c.in-Row.start c.in-Row.end c.loop-start.invariant step;
-      lent = seeks-lent cie fde c.args.address (above [] w) (above [] new) c.in-Row.start c.in-Row.end (lent_by c.args.expressions)
+      lent = seeks-lent cie fde c.args.address (above [] w) (above [] new) c.in-Row.start c.in-Row.end (row_expressions c.args.expressions)
           c.loop-start.invariant step c.requires.lent;
     }
 
@@ -33,7 +33,7 @@ returns-then-address-end c =
     let w : RowCursor = cursor_at cie (fde.initial_location + fde.address_range) c.loop-start.state c.loop-start.instructions in
     let new : RowCursor = cursor_at cie (fde.initial_location + fde.address_range) c.next_plain.new.state c.next_plain.new.instructions in
     let step = plain-row w new c.in-Row.start c.in-Row.end [] c.in-Row.ensures.next in
-    find-with (lent_by c.args.expressions) c.args.address (rows_of cie fde) _
+    find-with (row_expressions c.args.expressions) c.args.address (rows_of cie fde) _
     (seeks-found cie fde c.args.address (above [] w) (above [] new) c.in-Row.start c.in-Row.end c.loop-start.invariant step
     c.if-address-end.true)
     ∙ ap Some (sym c.write_row.ensures)

@@ -1,5 +1,5 @@
 use Rattle.std.proofs.Common.{ℕ, List, map, refl, subst}
-use Rattle.dw_rules.specs.GivenRows.{IsEntryOfKind}
+use Rattle.dw_rules.specs.RowsWithExpressions.{IsEntryOfKind}
 use Rattle.dw_rules.specs.Rules.{Rule, rule_in}
 use Rattle.dw_rules.specs.Views.{numbered_rule_of, rule_of}
 use Rattle.dw_unwind.specs.CallerViews.{answer_in, machine_in}

@@ -2,7 +2,7 @@ use Rattle.std.proofs.Common.{ap, ◌∙◌}
 use Rattle.std.specs.Option.{option_map}
 use Rattle.dw_ops.specs.Views.{operation_of}
 use Rattle.dw_stack.specs.Machine.{PieceExtent, location_of}
-use Rattle.dw_eval.specs.Handed.{world_in}
+use Rattle.dw_eval.specs.Environments.{world_in}
 use Rattle.dw_eval.specs.Views.{location_description_of}
 use Rattle.dw_eval.proofs.Steps.{piece_applies}
 use Rattle.dw_eval.proofs.run.Run.apply.Goals as goal

@@ -6,7 +6,7 @@ use Rattle.dw_stack.specs.Effects.{effect_of}
 use Rattle.dw_stack.specs.Machine.{CanDo}
 use Rattle.dw_eval.specs.BareOperations.{LeavesAlone}
 use Rattle.dw_eval.specs.StackChanges.{error_of}
-use Rattle.dw_eval.specs.Handed.{world_in}
+use Rattle.dw_eval.specs.Environments.{world_in}
 use Rattle.dw_eval.specs.Views.{location_description_of}
 use Rattle.dw_eval.proofs.Ahead.{same_read}
 use Rattle.dw_eval.proofs.Codes.{bare_has, bare_moves, bare_fails, alone_moves, can_read, applied_at, if_so, if_not}

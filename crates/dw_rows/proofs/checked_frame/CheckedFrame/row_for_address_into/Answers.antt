@@ -2,7 +2,7 @@ use Rattle.std.proofs.Common.{◌≡◌, ◌+◌, Some, arith, refl, ap, map, sy
 use Rattle.std.specs.Prelude.{find}
 use Rattle.dw_frame.specs.Views.{cie_of, fde_of}
 use Rattle.dw_rows.specs.Section.{rows_by_cie}
-use Rattle.dw_rules.specs.GivenRows.{given_row}
+use Rattle.dw_rules.specs.RowsWithExpressions.{row_with_expressions}
 use Rattle.dw_rows.specs.UnwindRows.{rows_of, has_address}
 use Rattle.dw_rows.proofs.Covering.{cover-rows, found-by}
 use Rattle.dw_rows.proofs.RowsWithExpressions.{cover-with}
@@ -25,9 +25,9 @@ returns-clause-fit c =
     let cie = cie_of c.write_row_of-cie.result in
     let fde = fde_of c.in_ok-fde.fde in
     let es = c.args.self.now.expressions in
-    let rows = map (given_row es) (rows_of cie fde) in
+    let rows = map (row_with_expressions es) (rows_of cie fde) in
     let found : find (has_address c.args.address) rows ≡ Some c.write_row_of-cie.new.row =
-    ap (λ o. find (has_address c.args.address) (map (given_row es) (rows_by_cie o fde))) (sym c.write_row_of-cie.ensures.cie)
+    ap (λ o. find (has_address c.args.address) (map (row_with_expressions es) (rows_by_cie o fde))) (sym c.write_row_of-cie.ensures.cie)
     ∙ c.write_row_of-cie.ensures.row in
     let by = found-by (has_address c.args.address) fde.initial_location (fde.initial_location + fde.address_range)
     rows c.write_row_of-cie.new.row

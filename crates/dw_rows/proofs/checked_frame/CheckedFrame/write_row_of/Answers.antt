@@ -3,7 +3,7 @@ use Rattle.std.specs.Prelude.{find}
 use Rattle.dw_frame.specs.Views.{cie_of, fde_of}
 use Rattle.dw_stack.specs.Located.{LocatedExpression}
 use Rattle.dw_rows.specs.Section.{rows_by_cie}
-use Rattle.dw_rules.specs.GivenRows.{given_row}
+use Rattle.dw_rules.specs.RowsWithExpressions.{row_with_expressions}
 use Rattle.dw_rows.specs.RowCursors.{Lends}
 use Rattle.dw_rows.specs.UnwindRows.{rows_of, has_address}
 use Rattle.dw_rows.proofs.checked_frame.CheckedFrame.write_row_of.Goals as goal
@@ -18,6 +18,6 @@ returns-clause-row c =
     let fde = fde_of c.args.fde.now in
     let cie = cie_of c.begin_with_cie-cie.result in
     let es = c.args.self.now.expressions in
-    ap (λ o. find (has_address c.args.address) (map (given_row es) (rows_by_cie o fde))) c.begin_with_cie-cie.ensures.cie
-    ∙ subst (λ (l : List LocatedExpression). find (has_address c.args.address) (map (given_row l) (rows_of cie fde))
+    ap (λ o. find (has_address c.args.address) (map (row_with_expressions es) (rows_by_cie o fde))) c.begin_with_cie-cie.ensures.cie
+    ∙ subst (λ (l : List LocatedExpression). find (has_address c.args.address) (map (row_with_expressions l) (rows_of cie fde))
     ≡ Some c.write_row_at.new.row) c.lent.ensures c.write_row_at.ensures

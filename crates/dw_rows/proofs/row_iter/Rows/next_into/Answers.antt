@@ -1,7 +1,7 @@
 use Rattle.std.proofs.Common.{rules, arith, refl, ap, map, ◌+◌, ◌<◌, ◌^◌}
 use Rattle.dw_frame.specs.Views.{cie_of, fde_of}
-use Rattle.dw_rules.specs.GivenRows.{given_row}
-use Rattle.dw_rules.specs.LentExpressions.{lent_by}
+use Rattle.dw_rules.specs.RowsWithExpressions.{row_with_expressions}
+use Rattle.dw_rules.specs.RowExpressions.{row_expressions}
 use Rattle.dw_rows.specs.RowCursors.{cursor_at}
 use Rattle.dw_rows.proofs.Coming.{ready-rests, ready-comes}
 use Rattle.dw_rows.proofs.row_iter.Rows.next_into.Goals as goal
@@ -19,7 +19,7 @@ returns-in-None-clause-none c =
     let k = ready-rests (cie_of c.self.inside.cie) (fde_of c.self.inside.fde)
     (cursor_at (cie_of c.self.inside.cie) (c.self.inside.fde.initial_location + c.self.inside.fde.address_range) c.self.inside.context c.self.inside.instructions)
     (cursor_at (cie_of c.self.inside.cie) (c.self.inside.fde.initial_location + c.self.inside.fde.address_range) c.next_range.new.context c.next_range.new.instructions) c.self.inside.given c.self.invariant.0 c.in-None.ensures in
-    let given = map (given_row (lent_by c.self.inside.expressions)) in
+    let given = map (row_with_expressions (row_expressions c.self.inside.expressions)) in
     rw (← c.self.view_is) (ap given k.none, ap given k.still, refl)
 
 pub overflow_add-self : goal.overflow_add-self
@@ -35,7 +35,7 @@ write_row-requires c =
     let k = ready-comes (cie_of c.self.inside.cie) (fde_of c.self.inside.fde)
     (cursor_at (cie_of c.self.inside.cie) (c.self.inside.fde.initial_location + c.self.inside.fde.address_range) c.self.inside.context c.self.inside.instructions)
     (cursor_at (cie_of c.self.inside.cie) (c.self.inside.fde.initial_location + c.self.inside.fde.address_range) c.next_range.new.context c.next_range.new.instructions) c.self.inside.given c.in-Some.start c.in-Some.end c.self.invariant.0 c.in-Some.ensures in
-    record { cfa = k.cfa; lent = k.lent (lent_by c.self.inside.expressions) c.self.invariant.1 }
+    record { cfa = k.cfa; lent = k.lent (row_expressions c.self.inside.expressions) c.self.invariant.1 }
 
 pub invariant_of-self : goal.invariant_of-self
 invariant_of-self c = (
@@ -50,4 +50,4 @@ returns-in-Some-clause-some c =
     let k = ready-comes (cie_of c.self.inside.cie) (fde_of c.self.inside.fde)
     (cursor_at (cie_of c.self.inside.cie) (c.self.inside.fde.initial_location + c.self.inside.fde.address_range) c.self.inside.context c.self.inside.instructions)
     (cursor_at (cie_of c.self.inside.cie) (c.self.inside.fde.initial_location + c.self.inside.fde.address_range) c.next_range.new.context c.next_range.new.instructions) c.self.inside.given c.in-Some.start c.in-Some.end c.self.invariant.0 c.in-Some.ensures in
-    rw (c.write_row.ensures, ← c.self.view_is) (ap (map (given_row (lent_by c.self.inside.expressions))) k.rows)
+    rw (c.write_row.ensures, ← c.self.view_is) (ap (map (row_with_expressions (row_expressions c.self.inside.expressions))) k.rows)

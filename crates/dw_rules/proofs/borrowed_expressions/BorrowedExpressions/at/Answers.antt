@@ -13,5 +13,5 @@ returns-in-Some c =
 pub returns : goal.returns
 returns c =
     let lent = c.args.self.now in
-    subst (λ o. MatchOption c.find_lent-2.result (o ≡ None) (λ checked. o ≡ Some (located_of (c.args.offset, checked))))
-    (sym (not-in-front (all_located lent.cies.now) (all_located lent.fdes.now) c.args.offset c.in_default.ensures)) c.find_lent-2.ensures
+    subst (λ o. MatchOption c.find_borrowed-2.result (o ≡ None) (λ checked. o ≡ Some (located_of (c.args.offset, checked))))
+    (sym (not-in-front (all_located lent.cies.now) (all_located lent.fdes.now) c.args.offset c.in_default.ensures)) c.find_borrowed-2.ensures

@@ -4,18 +4,18 @@ use Rattle.dw_rules.specs.Abi.{rules_under}
 use Rattle.dw_rules.specs.AbiViews.{roles_of}
 use Rattle.dw_rules.specs.FirstEntry.{rules_of_either}
 use Rattle.dw_rules.specs.Rules.{Row}
-use Rattle.dw_rules.specs.GivenRows.{IsEntryOfKind, LendsEach, given_rules}
-use Rattle.dw_rules.specs.LentExpressions.{lent_by}
+use Rattle.dw_rules.specs.RowsWithExpressions.{IsEntryOfKind, LendsEach, rules_with_expressions}
+use Rattle.dw_rules.specs.RowExpressions.{row_expressions}
 use Rattle.dw_rules.specs.Views.{entries_of}
 use Rattle.dw_rules.proofs.Edits.{length-entries_of}
-use Rattle.dw_rules.proofs.GivenRows.{kinds-with, length-with}
+use Rattle.dw_rules.proofs.RulesWithExpressions.{kinds-with, length-with}
 use Rattle.dw_rules.proofs.Under.{either-with, lends-either, few-of-either, roles-lend}
 use Rattle.dw_rules.proofs.Tables.{IsTable-rule_list}
 use Rattle.dw_rules.proofs.unwind_row.UnwindRow.rules_with.Goals as goal
 
 pub returns-clause-rules : goal.returns-clause-rules
 returns-clause-rules c =
-    let es = lent_by c.self.inside.expressions in
+    let es = row_expressions c.self.inside.expressions in
     let others = entries_of c.as_slice.result.now in
     either-with es (entries_of c.self.inside.rules.now) others (roles_of c.args.abi.now) c.as_slice.ensures.rules
     ∙ ap (λ (row : Row). rules_under (roles_of c.args.abi.now) row.rules) c.self.view_is
@@ -25,10 +25,10 @@ returns-clause-ascending c = IsTable-rule_list _
 
 pub returns-clause-few : goal.returns-clause-few
 returns-clause-few c =
-    let es = lent_by c.self.inside.expressions in
+    let es = row_expressions c.self.inside.expressions in
     let own = entries_of c.self.inside.rules.now in
     let others = entries_of c.as_slice.result.now in
-    let is : given_rules es (rules_of_either own others) ≡ rules_under (roles_of c.args.abi.now) c.args.self.now.rules =
+    let is : rules_with_expressions es (rules_of_either own others) ≡ rules_under (roles_of c.args.abi.now) c.args.self.now.rules =
     returns-clause-rules c in
     omega (
       arith,
@@ -43,7 +43,7 @@ returns-clause-few c =
 
 pub returns-clause-kinds : goal.returns-clause-kinds
 returns-clause-kinds c =
-    let es = lent_by c.self.inside.expressions in
+    let es = row_expressions c.self.inside.expressions in
     let own = entries_of c.self.inside.rules.now in
     let others = entries_of c.as_slice.result.now in
     let other_lends : LendsEach es others =
@@ -53,7 +53,7 @@ returns-clause-kinds c =
 
 pub invariant_of-result : goal.invariant_of-result
 invariant_of-result c =
-    let es = lent_by c.self.inside.expressions in
+    let es = row_expressions c.self.inside.expressions in
     let others = entries_of c.as_slice.result.now in (
       c.self.invariant.2,
       c.as_slice.ensures.table,

@@ -5,7 +5,7 @@ use Rattle.dw_bytes.specs.declared.target.Target.{Target}
 use Rattle.dw_stack.specs.Located.{LocatedExpression}
 use Rattle.dw_tables.specs.UnwindTables.{expression_bytes}
 use Rattle.dw_rows.specs.RowLookups.{IsUnder}
-use Rattle.dw_tables.specs.CompiledTable.{LendsFound, given_found}
+use Rattle.dw_tables.specs.CompiledTable.{LendsFound, found_with_expressions}
 use Rattle.dw_tables.proofs.CompiledTables.{table-of, all-under}
 use Rattle.dw_tables.proofs.table.UnwindTable.of.Goals as goal
 
@@ -31,7 +31,7 @@ returns-clause-room c =
       c.in_ok-placed.ensures.few,
       c.in_ok-placed.ensures.stored,
       c.in_ok-expressions.ensures.stored,
-      length-map c.in_ok-placed.placed.rows (given_found c.in_ok-expressions.expressions),
+      length-map c.in_ok-placed.placed.rows (found_with_expressions c.in_ok-expressions.expressions),
     )
 
 pub returns-clause-counted : goal.returns-clause-counted
@@ -40,7 +40,7 @@ returns-clause-counted c =
       arith,
       c.in_ok-placed.ensures.few,
       ap (λ (es : List LocatedExpression). sum_by expression_bytes es) (c.in_ok-expressions.ensures.owned ∙ c.borrowed.ensures),
-      length-map c.in_ok-placed.placed.rows (given_found c.in_ok-expressions.expressions),
+      length-map c.in_ok-placed.placed.rows (found_with_expressions c.in_ok-expressions.expressions),
     )
 
 pub returns-clause-stored : goal.returns-clause-stored

@@ -1,6 +1,6 @@
 use Rattle.std.proofs.Common.{[], ◌∷◌}
 use Rattle.std.proofs.lemmas.List.{map-append}
-use Rattle.dw_rules.specs.GivenRows.{IsEntryOfKind}
+use Rattle.dw_rules.specs.RowsWithExpressions.{IsEntryOfKind}
 use Rattle.dw_rules.specs.Views.{numbered_rule_of}
 use Rattle.dw_unwind.specs.CallerViews.{answer_in, machine_in}
 use Rattle.dw_unwind.proofs.Callers.{has_room, of_next, one_more, comes}

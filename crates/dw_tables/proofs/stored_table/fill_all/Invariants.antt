@@ -1,0 +1,16 @@
+use Rattle.std.proofs.Common.{◌+◌, ◌≤◌, map}
+use Rattle.std.proofs.Common.{take}
+use Rattle.std.specs.List.{sum_by}
+use Rattle.dw_frame.specs.Views.{fde_of}
+use Rattle.dw_rows.specs.Overlap.{fde_at}
+use Rattle.dw_tables.specs.CompiledTable.{stored_bytes}
+use Rattle.dw_tables.specs.UnwindTables.{fde_bytes}
+use Rattle.dw_tables.proofs.FilledTables.{IsFillingAll}
+use Rattle.dw_tables.proofs.stored_table.fill_all.Given as goal
+
+abbrev pub invariant-loop-entry : goal.invariant-loop-entry
+invariant-loop-entry l = record {
+  filling : IsFillingAll l.frame (map (fde_at (map fde_of l.fdes)) l.index) l.entry-index l.table.end l.table.entries l.table.numbers.sets;
+  spent : l.fn.room ≤ l.table.numbers.room + sum_by (fde_bytes l.frame) (take l.entry-index (map (fde_at (map fde_of l.fdes)) l.index));
+  stored : stored_bytes l.table.entries l.table.numbers.sets + l.table.numbers.room ≤ l.fn.room;
+}

@@ -1,0 +1,236 @@
+//! All rows of a section in order of address, as a compiled table stores them. The rules refer to
+//! an expression by its offset in the section.
+
+ghost use Rattle.std.specs.Prelude.{◌≡◌, ◌+◌, ◌*◌, ◌≤◌, Contains, IfOk, IfErr, All, find, length};
+ghost use Rattle.std.specs.Option.{option_map};
+ghost use Rattle.dw_frame.specs.Views.{fde_of};
+ghost use Rattle.dw_rules.specs.RowExpressions.{row_expressions};
+ghost use Rattle.dw_tables.specs.UnwindTables.{has, fde_bytes, all_rows_bytes};
+ghost use Rattle.dw_tables.specs.CompiledTable.{IsPushed, IsTableUpTo, IsClosedAt, IsBegunAt, IsFilled, ArePlacedRows, AreEntries, rows_to};
+ghost use Rattle.dw_tables.specs.CompiledTable.{LendsFound, found_with_expressions, LacksRoom, entry_bytes, stored_bytes};
+
+use crate::rule_numbers::RuleNumbers;
+use crate::rule_sets::RuleSets;
+use crate::table_entries::{TableEntries, TableEntry};
+use crate::table_room::{Unmade, less_room};
+use dw_frame::FrameDescriptionEntry;
+use dw_rows::{CheckedFrame, begin_rows, next_range};
+use dw_rules::{RowExpressions, RuleSet, UnwindContext, UnwindRow};
+use std::alloc::Global;
+use std::marker::Model;
+
+/// How many bytes of the room an entry uses up, not counting its rule set. Its start, the number of
+/// its rule set and a count in `Blocks` take at most this.
+pub const ROW_ROOM: usize = 16;
+
+const _: () = prove!(size_of::<u64>() + size_of::<u32>() + size_of::<u32>() <= ROW_ROOM);
+
+/// A compiled table while it is being filled.
+#[derive(Drop)]
+pub struct GrowingTable {
+    pub entries: TableEntries,
+    pub numbers: RuleNumbers,
+    /// The address after the last one that the rows so far cover.
+    pub end: u64,
+}
+
+impl GrowingTable {
+    /// Appends an entry: from the address `start` on, the rules `rules` hold, and the return
+    /// address register is `register`.
+    fn push(&mut self, start: u64, rules: &RuleSet, register: u16) -> Result<(), Unmade>
+        ensures pushed { IfOk result (λ _. IsPushed self.old.entries self.old.numbers.sets start
+            (record { rules = rules.now; register = register })
+            self.new.entries self.new.numbers.sets) }
+        ensures stored { IfOk result (λ _.
+            stored_bytes self.new.entries self.new.numbers.sets + self.new.numbers.room
+            ≤ stored_bytes self.old.entries self.old.numbers.sets + self.old.numbers.room) }
+        ensures spent { IfOk result (λ _. self.old.numbers.room
+            ≤ self.new.numbers.room + entry_bytes rules.now) }
+        ensures short { IfErr result
+            (λ why. LacksRoom why self.old.numbers.room (entry_bytes rules.now)) }
+    {
+        self.numbers.room = less_room(self.numbers.room, ROW_ROOM)?;
+        let set = self.numbers.number_of(rules, register)?;
+        self.entries.push(TableEntry { start, set })?;
+        Ok(())
+    }
+
+    /// Appends an entry without rules at `end`: no row covers the addresses from there on. If the
+    /// table has no entries, none is appended.
+    fn close(&mut self) -> Result<(), Unmade>
+        ensures closed { IfOk result (λ _. IsClosedAt self.old.end self.old.entries
+            self.old.numbers.sets self.new.entries self.new.numbers.sets) }
+        ensures stored { IfOk result (λ _.
+            stored_bytes self.new.entries self.new.numbers.sets + self.new.numbers.room
+            ≤ stored_bytes self.old.entries self.old.numbers.sets + self.old.numbers.room) }
+        ensures spent { IfOk result (λ _. self.old.numbers.room ≤ self.new.numbers.room + 80) }
+        ensures short { IfErr result (λ why. LacksRoom why self.old.numbers.room 80) }
+    {
+        if self.entries.count() == 0 {
+            return Ok(());
+        }
+        let end = self.end;
+        self.push(end, &RuleSet::new(), 0)?;
+        Ok(())
+    }
+
+    /// Prepares for a row that begins at `start`. If the last row ends before that, the gap gets an
+    /// entry without rules.
+    fn begin_at(&mut self, start: u64) -> Result<(), Unmade>
+        ensures begun { IfOk result (λ _. IsBegunAt self.old.end start self.old.entries
+            self.old.numbers.sets self.new.entries self.new.numbers.sets) }
+        ensures stored { IfOk result (λ _.
+            stored_bytes self.new.entries self.new.numbers.sets + self.new.numbers.room
+            ≤ stored_bytes self.old.entries self.old.numbers.sets + self.old.numbers.room) }
+        ensures spent { IfOk result (λ _. self.old.numbers.room ≤ self.new.numbers.room + 80) }
+        ensures short { IfErr result (λ why. LacksRoom why self.old.numbers.room 80) }
+    {
+        if self.end == start {
+            return Ok(());
+        }
+        self.close()?;
+        Ok(())
+    }
+}
+
+/// Appends the rows of one more FDE. The FDE must not begin below `table.end`, where the rows so
+/// far end.
+fn fill(
+    frame: &CheckedFrame<'_>,
+    fde: &FrameDescriptionEntry<'_>,
+    context: &mut UnwindContext,
+    table: &mut GrowingTable,
+    near: &mut usize,
+) -> Result<(), Unmade>
+    requires among { Contains frame.now.fdes (fde_of fde.now) }
+    requires table { IsTableUpTo frame.now.expressions table.old.end
+        table.old.entries table.old.numbers.sets }
+    requires order { table.old.end ≤ fde.now.initial_location }
+    ensures filled { IfOk result (λ _. IsFilled frame.now (fde_of fde.now) table.old.end
+        table.old.entries table.old.numbers.sets table.new.entries table.new.numbers.sets) }
+    ensures end { IfOk result (λ _. table.new.end
+        ≡ fde.now.initial_location + fde.now.address_range) }
+    ensures stored { IfOk result (λ _.
+        stored_bytes table.new.entries table.new.numbers.sets + table.new.numbers.room
+        ≤ stored_bytes table.old.entries table.old.numbers.sets + table.old.numbers.room) }
+    ensures spent { IfOk result (λ _. table.old.numbers.room
+        ≤ table.new.numbers.room + fde_bytes frame.now (fde_of fde.now)) }
+    ensures short { IfErr result (λ why. LacksRoom why table.old.numbers.room
+        (fde_bytes frame.now (fde_of fde.now))) }
+{
+    table.begin_at(fde.initial_location)?;
+    let cie = frame.begin_with_cie(&mut context.state, near, fde);
+    let mut instructions = begin_rows(context, fde);
+    let limit = fde.initial_location + fde.address_range;
+    while let Some((start, _)) = next_range(context, &mut instructions, &cie, limit) {
+        table.push(start, context.state.rules(), cie.return_address_register)?;
+    }
+    table.end = limit;
+    Ok(())
+}
+
+/// Fills a table with the rows of all FDEs, in order of address.
+fn fill_all(alloc: Global, frame: &CheckedFrame<'_>, room: usize) -> Result<GrowingTable, Unmade>
+    ensures entries { IfOk result (λ table. AreEntries table.entries table.numbers.sets) }
+    ensures rows { IfOk result (λ table. ArePlacedRows frame.now
+        (rows_to table.numbers.sets table.entries 0)) }
+    ensures stored { IfOk result (λ table.
+        stored_bytes table.entries table.numbers.sets ≤ room) }
+    ensures short { IfErr result (λ why. LacksRoom why room (all_rows_bytes frame.now)) }
+{
+    let base = match frame.index().first() {
+        Some(first) => first.start,
+        None => 0,
+    };
+    let mut table = GrowingTable {
+        entries: TableEntries::new(alloc, base),
+        numbers: RuleNumbers::new(alloc, room)?,
+        end: 0,
+    };
+    let mut context = UnwindContext::new();
+    let mut near = 0;
+    let fdes = frame.fdes();
+    let index = frame.index();
+    for entry in index {
+        let fde = fdes[entry.place];
+        fill(frame, &fde, &mut context, &mut table, &mut near)?;
+    }
+    table.close()?;
+    table.entries.finish(alloc)?;
+    Ok(table)
+}
+
+/// All rows of a section in order of address, each with its return address register. The rules
+/// refer to an expression by its offset in the section. The model has the list of rows, and the
+/// number of bytes that the stored entries and rule sets take.
+#[derive(Drop)]
+pub struct StoredTable {
+    entries: TableEntries,
+    sets: RuleSets,
+}
+
+impl Model for StoredTable {
+    ghost use Rattle.dw_tables.specs.CompiledTable.{StoredRows};
+
+    ghost Value = { StoredRows };
+
+    ghost use Rattle.dw_tables.specs.CompiledTable.{AreEntries, rows_to, stored_bytes};
+
+    ghost view = { λ t. record {
+      rows = rows_to t.sets t.entries 0;
+      bytes = stored_bytes t.entries t.sets;
+    } };
+
+    ghost invariant = { λ t. AreEntries t.entries t.sets };
+}
+
+impl StoredTable {
+    /// Compiles the rows of a checked section into at most `room` bytes. Spare capacity of arrays
+    /// isn't counted.
+    pub fn of(frame: &CheckedFrame<'_>, alloc: Global, room: usize) -> Result<Self, Unmade>
+        ensures rows { IfOk result (λ table. ArePlacedRows frame.now table.rows) }
+        ensures few { IfOk result (λ table. 16 * length table.rows ≤ table.bytes) }
+        ensures stored { IfOk result (λ table. table.bytes ≤ room) }
+        ensures short { IfErr result (λ why. LacksRoom why room (all_rows_bytes frame.now)) }
+    {
+        let GrowingTable {
+            entries,
+            numbers,
+            ..
+        } = fill_all(alloc, frame, room)?;
+        Ok(StoredTable {
+            entries,
+            sets: numbers.into_sets(alloc)?,
+        })
+    }
+
+    /// The row of an address and its return address register, or `None` if no row covers the
+    /// address. The row's rules and expressions are borrowed.
+    #[inline(always)]
+    pub fn find<'t, 'a>(
+        &'t self,
+        address: u64,
+        expressions: RowExpressions<'t, 'a>,
+    ) -> Option<(UnwindRow<'t, 'a>, u16)>
+        requires { All (LendsFound (row_expressions expressions)) self.now.rows }
+        ensures { result ≡ option_map (found_with_expressions (row_expressions expressions.entry))
+            (find (has address) self.now.rows) }
+    {
+        let after = self.entries.count_up_to(address);
+        if after == 0 || after == self.entries.count() {
+            return None;
+        }
+        let entry = self.entries.at(after - 1);
+        let (cfa, rules, register) = self.sets.lend(entry.set as usize);
+        match cfa {
+            Some(cfa) => {
+                let end = self.entries.start_at(after);
+                Some((
+                    UnwindRow::new(entry.start, end, cfa, rules, expressions),
+                    register,
+                ))
+            }
+            None => None,
+        }
+    }
+}
