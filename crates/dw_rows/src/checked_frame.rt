@@ -22,9 +22,10 @@ ghost use Rattle.dw_rules.specs.RowExpressions.{row_expressions};
 ghost use Rattle.dw_rows.specs.RowCursors.{Lends};
 
 use crate::checked_expressions::CheckedExpressions;
+use crate::cie_search::{find_cie, set_rules_of_cie};
 use crate::index::{IndexEntry, covering, first_overlap, index_of};
 use crate::lookup::write_row_at;
-use crate::records::{begin_with_rules_of_cie, check_cies, check_fdes, check_pointers, find_cie};
+use crate::record_checks::{check_cies, check_fdes, check_pointers};
 use crate::row_iter::Rows;
 use dw_bytes::{Fault, FaultKind, OUT_OF_MEMORY, Target};
 use dw_frame::{CommonInformationEntry, Entry, FrameDescriptionEntry, entries};
@@ -349,7 +350,7 @@ impl<'a> CheckedFrame<'a> {
         ensures left { IsLeftBy (cie_of result) state.new.initial_rules }
         ensures lends { Lends self.now.expressions (cie_of result) (fde_of fde.now) }
     {
-        match begin_with_rules_of_cie(state, &self.cies, &self.initial, near, fde.cie_pointer) {
+        match set_rules_of_cie(state, &self.cies, &self.initial, near, fde.cie_pointer) {
             Some(cie) => cie,
             None => unreachable!(),
         }

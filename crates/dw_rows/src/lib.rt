@@ -4,12 +4,13 @@
 
 mod checked_expressions;
 mod checked_frame;
+mod cie_search;
 mod index;
 pub mod laws;
 mod lookup;
 mod program_checks;
 mod quick_check;
-mod records;
+mod record_checks;
 mod row_cursor;
 mod row_iter;
 mod unwind_rows;

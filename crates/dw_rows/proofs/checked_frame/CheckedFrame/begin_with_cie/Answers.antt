@@ -12,8 +12,8 @@ use Rattle.dw_rows.proofs.Lending.{lends-in}
 use Rattle.dw_rows.proofs.CheckedSections.{checked-parts, checked-cies-ascend}
 use Rattle.dw_rows.proofs.checked_frame.CheckedFrame.begin_with_cie.Goals as goal
 
-pub begin_with_rules_of_cie-requires-clause-order : goal.begin_with_rules_of_cie-requires-clause-order
-begin_with_rules_of_cie-requires-clause-order c =
+pub set_rules_of_cie-requires-clause-order : goal.set_rules_of_cie-requires-clause-order
+set_rules_of_cie-requires-clause-order c =
     subst (λ (l : List CommonInformationEntry). Ascends cie_offset (map cie_of l)) (sym c.deref.ensures.value)
     (checked-cies-ascend _ c.self.invariant.checked)
 

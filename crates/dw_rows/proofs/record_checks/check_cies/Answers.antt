@@ -7,7 +7,7 @@ use Rattle.dw_rules.specs.ProgramState.{IsLeftBy}
 use Rattle.dw_rules.proofs.Elements.{front-map}
 use Rattle.dw_rows.proofs.Faults.{passed, drop-at}
 use Rattle.dw_rules.proofs.Initials.{left-one}
-use Rattle.dw_rows.proofs.records.check_cies.Goals as goal
+use Rattle.dw_rows.proofs.record_checks.check_cies.Goals as goal
 
 pub loop-cie-preserved : goal.loop-cie-preserved
 loop-cie-preserved c =

@@ -4,7 +4,7 @@ use Rattle.dw_frame.specs.Views.{cie_of, fde_of}
 use Rattle.dw_rules.specs.Expressions.{fde_expressions}
 use Rattle.dw_rules.specs.ProgramState.{IsLeftBy}
 use Rattle.dw_rows.specs.Section.{cie_at, first_fault, program_fault, placed_rows}
-use Rattle.dw_rows.proofs.records.check_fdes.Given as goal
+use Rattle.dw_rows.proofs.record_checks.check_fdes.Given as goal
 
 abbrev pub invariant-loop-fde : goal.invariant-loop-fde
 invariant-loop-fde l = record {

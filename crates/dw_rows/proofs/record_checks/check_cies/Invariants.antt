@@ -4,7 +4,7 @@ use Rattle.dw_rules.specs.Expressions.{cie_expressions}
 use Rattle.dw_rules.specs.ProgramFault.{cie_fault}
 use Rattle.dw_rows.specs.Section.{first_fault}
 use Rattle.dw_rules.specs.Initial.{AreLeftBy}
-use Rattle.dw_rows.proofs.records.check_cies.Given as goal
+use Rattle.dw_rows.proofs.record_checks.check_cies.Given as goal
 
 abbrev pub invariant-loop-cie : goal.invariant-loop-cie
 invariant-loop-cie l = record {

@@ -7,7 +7,7 @@ use Rattle.dw_rows.specs.Overlap.{cie_offset}
 use Rattle.dw_rows.specs.Section.{cie_at}
 use Rattle.dw_rows.proofs.Faults.{found-at}
 use Rattle.dw_rules.proofs.Elements.{contains-map, read-map}
-use Rattle.dw_rows.proofs.records.place_near.Goals as goal
+use Rattle.dw_rows.proofs.cie_search.place_near.Goals as goal
 
 abbrev offset_in : CommonInformationEntry → ℕ
 offset_in c = c.offset

@@ -7,7 +7,7 @@ use Rattle.dw_frame.specs.Views.{cie_of, fde_of}
 use Rattle.dw_rows.specs.Section.{cie_at, pointer_fault}
 use Rattle.dw_rules.proofs.Elements.{read-map, some-element}
 use Rattle.dw_rows.proofs.Faults.{passed}
-use Rattle.dw_rows.proofs.records.check_pointers.Goals as goal
+use Rattle.dw_rows.proofs.record_checks.check_pointers.Goals as goal
 
 -- an FDE whose CIE was found at an index has no CIE_pointer fault
 pointed : (cies : List CommonInformationEntry) (f : Fde) (place : ℕ) → place < length cies

@@ -3,7 +3,7 @@ use Rattle.std.proofs.lemmas.List.{length-map}
 use Rattle.dw_frame.specs.Views.{cie_of}
 use Rattle.dw_rules.proofs.Elements.{read-map}
 use Rattle.dw_rules.proofs.Initials.{left-count, left-at}
-use Rattle.dw_rows.proofs.records.begin_with_rules_again.Goals as goal
+use Rattle.dw_rows.proofs.cie_search.set_rules_after.Goals as goal
 
 pub set_initial_rules-requires : goal.set_initial_rules-requires
 set_initial_rules-requires c =

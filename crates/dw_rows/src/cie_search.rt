@@ -1,24 +1,15 @@
-//! The checks of a section's CIE_pointers, of its CIEs' programs, and of its FDEs' programs; and
-//! the search for the CIE at an offset.
+//! The CIE of an FDE, and the rules that the CIE's program leaves.
 
-ghost use Rattle.std.specs.Prelude.{◌≡◌, ◌<◌, ◌++◌, None, Some, option_map, map, length, slice_get, MatchOption, IfSome, IfOk, OnOk};
-ghost use Rattle.dw_bytes.specs.Answers.{Checks, Answers};
-ghost use Rattle.dw_frame.specs.Views.{cie_of, fde_of};
-ghost use Rattle.dw_rules.specs.Expressions.{cie_expressions, fde_expressions};
-ghost use Rattle.dw_rules.specs.ProgramFault.{cie_fault};
-ghost use Rattle.dw_rows.specs.Section.{cie_at, first_fault, pointer_fault, program_fault, placed_rows};
-ghost use Rattle.std.specs.List.{flat_map};
+ghost use Rattle.std.specs.Prelude.{◌≡◌, ◌<◌, None, Some, option_map, map, length, slice_get, MatchOption, IfSome};
+ghost use Rattle.dw_frame.specs.Views.{cie_of};
+ghost use Rattle.dw_rows.specs.Section.{cie_at};
 ghost use Rattle.dw_rows.specs.Overlap.{cie_offset};
 ghost use Rattle.dw_frame.specs.Bounds.{Ascends};
 ghost use Rattle.dw_rules.specs.ProgramState.{IsLeftBy};
 ghost use Rattle.dw_rules.specs.Initial.{AreLeftBy};
 
-use crate::checked_expressions::CheckedExpressions;
-use crate::program_checks::{check_cie_program, quick_or_full_check};
-use dw_bytes::{Fault, FaultKind};
-use dw_frame::{CommonInformationEntry, FrameDescriptionEntry};
-use dw_rules::{InitialRules, UnwindContext, UnwindState};
-use std::alloc::Global;
+use dw_frame::CommonInformationEntry;
+use dw_rules::{InitialRules, UnwindState};
 
 /// Finds the CIE that begins at `offset`, by binary search, and returns its index in `cies`. `None`
 /// means that no CIE begins there. The CIEs must be in order of offset.
@@ -40,7 +31,7 @@ fn place_of_cie(cies: &[CommonInformationEntry<'_>], offset: u64) -> Option<usiz
 /// that goes through many FDEs passes the index of the previous FDE's CIE as `near`, since most
 /// FDEs have that CIE or the CIE after it.
 #[inline(always)]
-fn place_near(cies: &[CommonInformationEntry<'_>], near: usize, offset: u64) -> Option<usize>
+pub fn place_near(cies: &[CommonInformationEntry<'_>], near: usize, offset: u64) -> Option<usize>
     requires { Ascends cie_offset (map cie_of cies.now) }
     ensures { MatchOption result
         (cie_at (map cie_of cies.now) offset ≡ None)
@@ -72,7 +63,7 @@ pub fn find_cie<'a>(
 /// the initial rules, the rules that the CIE's program leaves: the programs of this CIE's FDEs
 /// begin with them. The search tries the indices `near` and `near + 1` first. If it finds the CIE,
 /// it sets `near` to the CIE's index.
-pub fn begin_with_rules_of_cie<'a>(
+pub fn set_rules_of_cie<'a>(
     state: &mut UnwindState,
     cies: &[CommonInformationEntry<'a>],
     initial: &InitialRules,
@@ -92,10 +83,10 @@ pub fn begin_with_rules_of_cie<'a>(
 
 /// A CIE that a search found, with the offset at which it begins and its index among the CIEs.
 #[derive(Clone, Copy)]
-struct FoundCie<'a> {
-    offset: u64,
-    place: usize,
-    cie: CommonInformationEntry<'a>,
+pub struct CieSearch<'a> {
+    pub offset: u64,
+    pub place: usize,
+    pub cie: CommonInformationEntry<'a>,
 }
 
 /// Returns the CIE that begins at `offset`, or `None` if no CIE begins there. Stores in `state`, as
@@ -103,13 +94,13 @@ struct FoundCie<'a> {
 /// FDE, or `None` for the first FDE. If `last` is the CIE at `offset`, `state` already has its
 /// rules. If the CIE after `last` is at `offset`, no binary search is needed.
 #[inline(always)]
-fn begin_with_rules_again<'a>(
+pub fn set_rules_after<'a>(
     state: &mut UnwindState,
     cies: &[CommonInformationEntry<'a>],
     initial: &InitialRules,
-    last: Option<FoundCie<'a>>,
+    last: Option<CieSearch<'a>>,
     offset: u64,
-) -> Option<FoundCie<'a>>
+) -> Option<CieSearch<'a>>
     requires order { Ascends cie_offset (map cie_of cies.now) }
     requires left { AreLeftBy (map cie_of cies.now) initial.now }
     requires last { IfSome last (λ found. (cie_at (map cie_of cies.now) found.offset
@@ -132,85 +123,5 @@ fn begin_with_rules_again<'a>(
     let place = place_near(cies, near, offset)?;
     state.set_initial_rules(initial, place);
     let cie = cies[place];
-    Some(FoundCie { offset, place, cie })
-}
-
-/// Checks that each FDE's CIE_pointer is the offset of a CIE, in O(n log n) time for n CIEs and
-/// FDEs.
-pub fn check_pointers(
-    cies: &[CommonInformationEntry<'_>],
-    fdes: &[FrameDescriptionEntry<'_>],
-) -> Result<(), Fault>
-    requires { Ascends cie_offset (map cie_of cies.now) }
-    ensures { Checks (first_fault (pointer_fault (map cie_of cies.now))
-        (map fde_of fdes.now)) result }
-{
-    let mut near = 0;
-    for fde in fdes {
-        match place_near(cies, near, fde.cie_pointer) {
-            Some(place) => near = place,
-            None => {
-                return Err(Fault {
-                    kind: FaultKind::NoSuchCie,
-                    at: fde.cie_pointer_offset,
-                });
-            }
-        }
-    }
-    Ok(())
-}
-
-/// Checks each CIE's program. Returns the rules in force at the end of each program, and adds the
-/// programs' expressions to `checked`.
-pub fn check_cies<'a>(
-    alloc: Global,
-    state: &mut UnwindState,
-    checked: &mut CheckedExpressions<'a>,
-    cies: &[CommonInformationEntry<'a>],
-) -> Result<InitialRules, Fault>
-    ensures answer { Answers (first_fault cie_fault (map cie_of cies.now)) result }
-    ensures left { IfOk result (λ initial. AreLeftBy (map cie_of cies.now) initial) }
-    ensures kept { OnOk result (checked.new ≡ checked.old ++ cie_expressions (map cie_of cies.now)) }
-{
-    let mut left = InitialRules::new(alloc);
-    for cie in cies {
-        check_cie_program(state, checked, cie)?;
-        left.push(state.initial_rules())?;
-    }
-    Ok(left)
-}
-
-/// Checks each FDE's program, starting from the rules that its CIE's program leaves. Adds the
-/// programs' expressions to `checked`, and returns how many rows all FDEs have together. Each
-/// CIE_pointer must be the offset of a CIE.
-pub fn check_fdes<'a>(
-    context: &mut UnwindContext,
-    checked: &mut CheckedExpressions<'a>,
-    cies: &[CommonInformationEntry<'a>],
-    initial: &InitialRules,
-    fdes: &[FrameDescriptionEntry<'a>],
-) -> Result<u128, Fault>
-    requires order { Ascends cie_offset (map cie_of cies.now) }
-    requires left { AreLeftBy (map cie_of cies.now) initial.now }
-    requires pointed { first_fault (pointer_fault (map cie_of cies.now))
-        (map fde_of fdes.now) ≡ None }
-    ensures answer { Answers (first_fault (program_fault (map cie_of cies.now))
-        (map fde_of fdes.now)) result }
-    ensures kept { OnOk result (checked.new ≡ checked.old ++ fde_expressions (map fde_of fdes.now)) }
-    ensures rows { IfOk result (λ rows. rows
-        ≡ length (flat_map (placed_rows (map cie_of cies.now)) (map fde_of fdes.now))) }
-{
-    let mut rows = 0;
-    let mut last = None;
-    for fde in fdes {
-        let offset = fde.cie_pointer;
-        match begin_with_rules_again(&mut context.state, cies, initial, last, offset) {
-            Some(found) => {
-                rows += u128::from(quick_or_full_check(context, checked, &found.cie, fde)?);
-                last = Some(found);
-            }
-            None => unreachable!(),
-        }
-    }
-    Ok(rows)
+    Some(CieSearch { offset, place, cie })
 }
