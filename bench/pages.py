@@ -25,9 +25,8 @@ machine forbids that, and those in which gdb runs a program if the machine forbi
 differ from run to run; they aren't compared (see VARYING). --write replaces the output in the pages
 by what the commands wrote, where it differs. Read the changes before you commit them.
 
-The output depends on compilers. The pages show the output on Debian 12 with these packages: gcc g++
-clang lld llvm binutils gdb gdb-multiarch elfutils linux-perf golang-go gcc-aarch64-linux-gnu
-gcc-arm-linux-gnueabihf qemu-user.
+The output depends on compilers. The pages show the output on Debian 12 with these packages: gcc
+binutils gdb linux-perf.
 """
 import argparse
 import functools

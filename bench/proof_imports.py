@@ -4,8 +4,8 @@ is covered by a law.
 
 A proof file can't call a function, so where it needs a law of another crate, it imports the lemma
 that proves the law. For each imported lemma this prints the law whose proof imports it too, or says
-that docs/DECISIONS.md lists it under "Lemmas without a law". The exit status is 1 if neither is
-true of a lemma, or if that list has a lemma that has a law or that no other crate's proof imports.
+that WITHOUT_LAW below lists it. The exit status is 1 if neither is true of a lemma, or if that list
+has a lemma that has a law or that no other crate's proof imports.
 
 usage: bench/proof_imports.py [REPOSITORY]
 """
@@ -14,8 +14,48 @@ import re
 import sys
 
 USE = re.compile(r"^use Rattle\.(dw_\w+)\.proofs\.(\S+?)\.\{(.*)\}$", re.MULTILINE)
-HEADING = "## Lemmas without a law"
-LISTED = re.compile(r"^\| `(dw_\w+)\.(\w+)` \| ([^|]*) \|", re.MULTILINE)
+# Lemmas and definitions of one crate's proofs that another's use and no law states: they are about any
+# type, any reader or any grammar of fields, which no clause can say, or they are plain logic.
+WITHOUT_LAW = {
+    # any reader; equal parts make equal records; laws that are stated of `Cursor`, for any position
+    "dw_bytes.Readers": "ExactAt bind-ok leaves-suffix ok-is one-encoding same-reading length-exact take-exact",
+    # any reader of items, one after the other
+    "dw_bytes.Sequences":
+        "ReadsEach Forward forward goes-on stops ends all-read located-exact sequence-exact exactly-exact "
+        "exactly-more exactly-stops",
+    # any table of codes
+    "dw_bytes.Codes": "coded-exact coded-some",
+    # any table of codes
+    "dw_bytes.CodeBounds": "coded-stays",
+    # any reader; a name for a sum; where initial lengths and bytes end
+    "dw_bytes.Bounds": "Stays AlwaysStays each-along located-stays end-of length-stays take-stays",
+    # any grammar of fields; a test that is no fault is true
+    "dw_bytes.FieldsOf": "fields-exact fields-stay passed",
+    # any result
+    "dw_bytes.Bodies": "bind-err not-err",
+    # any list
+    "dw_loclists.Search": "contains-map",
+    # any bytes: whether there are too many
+    "dw_sections.Lengths": "short_length long_length short_fault long_fault no_fault",
+    # any list of effects: no instruction is refused exactly if the list is good
+    "dw_rows.Goods": "Fine FineCie fine-iff fine-cie-iff",
+    # an expression without a fault is good
+    "dw_rows.Programs": "located-good",
+    # no fault, no reason for one
+    "dw_rows.RowCursors": "standing_at-none",
+    # any program of `.eh_frame`, read at another offset
+    "dw_eh_frame.Shifted": "shift item-by instruction-by eh-instruction-by eh-instructions-shifted",
+    # what is read of any program and of what is written for it; what `dw_eh_rows` says of faults is made of it
+    "dw_eh_frame.ReadTwice": "Items EhItems Silent ReadTwice read-alike eh-programs-are-instructions",
+    # what is written for a program has its length
+    "dw_eh_frame.PastInstructions": "silenced-long",
+    # what is read of any section from an offset on
+    "dw_eh_frame.Steps": "at-record at-end",
+    # where the records of any section begin; any result
+    "dw_eh_frame.RecordOrder": "records-rise kept-rise cie-starts fde-of ok-bind same-given",
+    # any list of records, without its exact copies
+    "dw_eh_frame.CopiesFound": "copy-of distinct-cies distinct-rise distinct-within first-more",
+}
 
 
 def imports(crate):
@@ -39,20 +79,16 @@ def laws(crates):
     return found
 
 
-def listed(text):
-    """The names of the lemmas that docs/DECISIONS.md lists, by crate and module."""
-    section = text.split(HEADING, 1)[1].split("\n## ", 1)[0] if HEADING in text else ""
-    found = {}
-    for crate, module, names in LISTED.findall(section):
-        found.setdefault((crate, module), []).extend(re.findall(r"`([^`]+)`", names))
-    return found
+def listed():
+    """The names of the lemmas that WITHOUT_LAW lists, by crate and module."""
+    return {tuple(module.split(".")): names.split() for module, names in WITHOUT_LAW.items()}
 
 
 def main():
     top = pathlib.Path(sys.argv[1] if len(sys.argv) > 1 else ".")
     crates = [path for path in sorted((top / "crates").iterdir()) if (path / "proofs").is_dir()]
     by_law = laws(crates)
-    by_reason = listed((top / "docs" / "DECISIONS.md").read_text())
+    by_reason = listed()
     users, missing = {}, []
     for crate in crates:
         for _, owner, module, name in imports(crate):
@@ -64,7 +100,7 @@ def main():
         if law:
             rests_on = f"law {law}"
         elif name in by_reason.get((owner, module), []):
-            rests_on = "docs/DECISIONS.md"
+            rests_on = "WITHOUT_LAW"
             unused.discard(((owner, module), name))
         else:
             rests_on = "NOTHING"

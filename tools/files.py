@@ -1,37 +1,31 @@
 #!/usr/bin/env python3
-"""Writes docs/FILES.md: what each file of the crates holds, by the first sentence of its head.
+"""Prints what each file of the crates holds: the first sentence of its head.
 
-    tools/files.py            writes the page
-    tools/files.py --check    prints `ok docs/FILES.md` if the page is what would be written, else the difference
+    tools/files.py             src/ and specs/ of all crates, the lowest first
+    tools/files.py CRATE..     src/, specs/ and proofs/ of these crates
+    tools/files.py --check     prints `ok heads of files` if each file begins with a sentence, else the others
 """
 import argparse
-import difflib
 import pathlib
 import re
 import sys
 
 TOP = pathlib.Path(__file__).resolve().parent.parent
-PAGE = TOP / "docs" / "FILES.md"
-HEAD = """# The files
-
-What each file of the crates holds, the lowest crate first. `tools/files.py` writes this page from
-the first sentence of each file, and the gate checks it. Files of `proofs/` begin with such a
-sentence too. docs/MAP.md says what the folders are.
-"""
-FOLDERS = {"src": ".rt", "specs": ".antt"}
+ENDINGS = {"src": ".rt", "specs": ".antt", "proofs": ".antt"}
+ROOTS = ("lib", "main", "Lib")
 
 
 def first_sentence(file):
-    """The first sentence of the comment with which a file begins."""
+    """The first sentence of the comment with which a file begins, or nothing."""
     lines = []
     for line in file.read_text(encoding="utf-8").splitlines():
-        comment = re.match(r"(?://!|--) ?(?!----)(.*)", line)
+        comment = re.match(r"(?://!?|--) ?(?!----)(.*)", line)
         if comment is None or not comment[1]:
             break
         lines.append(comment[1])
     text = " ".join(lines)
-    ends = re.search(r"\.(?= [A-Z`])", text)
-    return text[:ends.end()] if ends else text
+    ends = re.search(r"\.(?= |$)(?! [a-z])", text)
+    return text[:ends.end()] if ends else ""
 
 
 def crates():
@@ -40,46 +34,50 @@ def crates():
     return [re.match(r"\w+", line)[0] for line in lines if not line.startswith("#")]
 
 
-def rows(folder, ending):
-    """A line of the table for each file of a folder but its root, which says what the crate is."""
-    files = sorted(folder.rglob("*" + ending))
-    names = [file.relative_to(folder).with_suffix("").as_posix() for file in files]
-    return [f"| `{name}` | {first_sentence(file)} |" for name, file in zip(names, files) if name not in ("lib", "main", "Lib")]
+def files(crate, folder):
+    """The files of one folder of a crate, but for the proof of each function: its name says what it is."""
+    all_files = sorted((TOP / "crates" / crate / folder).rglob("*" + ENDINGS[folder]))
+    return [file for file in all_files if file.stem not in ("Answers", "Invariants")]
 
 
-def section(crate):
-    """The part of the page about a crate."""
-    folder = TOP / "crates" / crate
-    root = next(file for file in (folder / "src" / "lib.rt", folder / "src" / "main.rt") if file.exists())
-    parts = [f"## `{crate}`", first_sentence(root)]
-    for name, ending in FOLDERS.items():
-        lines = rows(folder / name, ending)
-        if lines:
-            parts.append("\n".join([f"| `{name}/` | |", "|---|---|", *lines]))
-    return "\n\n".join(parts)
+def root(crate):
+    """The file that says what a crate is."""
+    return next(file for file in files(crate, "src") if file.stem in ROOTS)
 
 
-def page():
-    return "\n\n".join([HEAD.rstrip("\n"), *map(section, crates())]) + "\n"
+def show(crate, folders):
+    """Prints a line for the crate, and one for each of its files."""
+    print(f"{crate}: {first_sentence(root(crate))}")
+    for folder in folders:
+        for file in files(crate, folder):
+            if file.stem not in ROOTS:
+                name = file.relative_to(TOP / "crates" / crate).with_suffix("").as_posix()
+                print(f"    {name}: {first_sentence(file)}")
+    print()
 
 
-def check():
-    """Whether the page is there as it would be written."""
-    written = PAGE.read_text(encoding="utf-8") if PAGE.exists() else ""
-    if written == page():
-        print("ok docs/FILES.md")
-        return True
-    print(*difflib.unified_diff(written.splitlines(), page().splitlines(), "docs/FILES.md", "the files", lineterm=""), sep="\n")
-    print("FAILED docs/FILES.md isn't what tools/files.py writes")
-    return False
+def check(names):
+    """Whether each file of these crates begins with a sentence."""
+    all_files = [file for name in names for folder in ENDINGS for file in files(name, folder)]
+    headless = [file for file in all_files if file.stem != "Lib" and not first_sentence(file)]
+    for file in headless:
+        print(f"FAILED {file.relative_to(TOP)} has no head of one sentence")
+    if not headless:
+        print("ok heads of files")
+    return not headless
 
 
 def main():
     parser = argparse.ArgumentParser(description=__doc__, formatter_class=argparse.RawDescriptionHelpFormatter)
+    parser.add_argument("crates", nargs="*", metavar="CRATE")
     parser.add_argument("--check", action="store_true")
-    if parser.parse_args().check:
-        return 0 if check() else 1
-    PAGE.write_text(page(), encoding="utf-8")
+    words = parser.parse_args()
+    for name in set(words.crates) - set(crates()):
+        parser.error(f"there is no crate {name}")
+    if words.check:
+        return 0 if check(words.crates or crates()) else 1
+    for crate in words.crates or crates():
+        show(crate, ENDINGS if words.crates else ("src", "specs"))
     return 0
 
 

@@ -130,7 +130,7 @@ STAGES = [
           environment={"LIBRARY": str(BUILD / "libdwcheck.a")}),
     Stage("examples", "frames of the examples beside those of gdb and eu-stack", "examples/run.sh", counted_lines,
           progress="^(ok .*)", environment=RUST),
-    Stage("lint", "clippy, rustfmt and docs/FILES.md", "rust/lint.sh; tools/files.py --check", counted_lines, progress="^(ok .*)", environment=RUST),
+    Stage("lint", "clippy, rustfmt and the heads of files", "rust/lint.sh; tools/files.py --check", counted_lines, progress="^(ok .*)", environment=RUST),
 ]
 
 

@@ -1,6 +1,5 @@
 #!/usr/bin/env python3
-"""Times dwcheck on generated sections and expressions, and prints the tables of
-docs/PERFORMANCE.md.
+"""Times dwcheck on generated sections and expressions, and prints tables of the times.
 
     bench/times/times.py DWCHECK [BESIDE]        15 s without BESIDE
 

@@ -1,3 +1,5 @@
+//! The bytes of records and their programs, and the first field that is cut off or out of range.
+
 ghost use Rattle.std.specs.Prelude.{◌<◌, ◌^◌, length};
 
 use crate::inputs::{BIG_FUNCTION, BIG_SHORT, FUNCTION, LITTLE, bytes_of};
