@@ -37,6 +37,32 @@ WITHOUT_LAW = {
     "dw_loclists.Search": "contains-map",
     # any bytes: whether there are too many
     "dw_sections.Lengths": "short_length long_length short_fault long_fault no_fault",
+    # any list: elements of mapped lists, places in lists in ascending order
+    "dw_rules.Elements": "placed-map contains-map contained-map ascending-back",
+    "dw_rules.Search": "ascending-at ascending-same searched-found searched-none squeeze three_ways",
+    # any list of expressions, found by where they begin
+    "dw_rules.ExpressionsByOffset": "at-offset found-in-parts no-expression",
+    # any list of rules
+    "dw_rules.Tables": "rule_list-same rule_list-changed",
+    "dw_rules.RulesWithExpressions": "length-with",
+    # any effects: which expressions the rules name that they leave
+    "dw_rules.NamedExpressions": "cfa-has listed-have rules-have",
+    # any state: only two instructions use the remembered rules
+    "dw_rules.StepsInCode": "IsPlain steps-memory",
+    # any list of CIEs, and what is stored of each
+    "dw_rules.Initials": "left-at left-count left-one",
+    # an ABI's numbers, one after the other
+    "dw_rules.AbiRules": "abi-stands",
+    # any list of rows without gaps
+    "dw_rows.Covering": "cover-after find-above find-below find-some found-by here not-here-above not-here-below",
+    # any rows, before and after expressions are put in place of their offsets
+    "dw_rows.RowsWithExpressions": "find-with",
+    # any section: where a row is found, if one FDE covers the address
+    "dw_rows.Lookups": "row-found",
+    # any index of FDEs
+    "dw_rows.Indexes": "AreDistinct entry-placed",
+    # any run of a program: the rules that it leaves name expressions of the section
+    "dw_rows.Lending": "lends-kept",
     # any list of effects: no instruction is refused exactly if the list is good
     "dw_rows.Goods": "Fine FineCie fine-iff fine-cie-iff",
     # an expression without a fault is good

@@ -16,7 +16,8 @@ use Rattle.dw_rows.specs.Overlap.{fde_offset, initial_of, IsIndexOf, IsOrdered, 
 use Rattle.dw_rows.specs.declared.index.IndexEntry.{IndexEntry}
 use Rattle.dw_frame.specs.Views.{fde_of}
 use Rattle.dw_frame.specs.declared.entry.FrameDescriptionEntry.{FrameDescriptionEntry}
-use Rattle.dw_rules.proofs.Elements.{placed-map, sorted-map, sorted-back, some-element}
+use Rattle.dw_rules.proofs.Elements.{placed-map}
+use Rattle.dw_rows.proofs.Elements.{sorted-map, sorted-back, some-element}
 use Rattle.dw_frame.specs.Bounds.{Ascends}
 use Rattle.dw_frame.specs.Records.{Fde}
 use Rattle.dw_rules.proofs.Search.{ascending-at, squeeze, three_ways}

@@ -24,7 +24,7 @@ use Rattle.dw_rows.specs.Clauses.{IsRowAt, start_in, program_in}
 use Rattle.dw_rows.specs.Section.{FrameSection, IsChecked, frame_of}
 use Rattle.dw_rows.specs.RowCursors.{RowCursor, StandsAfter, LendsTo, Lends}
 use Rattle.dw_rules.proofs.NamedExpressions.{rules-have, cfa-has, listed-have}
-use Rattle.dw_rules.proofs.ExpressionsAmong.{of-instruction, of-effect, of-frame-cie, of-frame-fde}
+use Rattle.dw_rows.proofs.ExpressionsAmong.{of-instruction, of-effect, of-frame-cie, of-frame-fde}
 use Rattle.dw_rows.proofs.ExpressionOrder.{expression-found, cie-expressions-ascend, fde-expressions-ascend}
 use Rattle.dw_rows.proofs.Programs.{effects-good, good-read-fde, start-same}
 use Rattle.dw_rules.proofs.Tables.{rule_list-table, rule_list-same}

@@ -1,3 +1,6 @@
+pub mod Search
+pub mod Elements
+pub mod Effects
 pub mod Running
 pub mod QuickChecks
 pub mod Sweeps
@@ -7,6 +10,7 @@ pub mod Clashes
 pub mod Parts
 pub mod SectionOrder
 pub mod ExpressionOrder
+pub mod Checking
 pub mod RowCursors
 pub mod Coming
 pub mod Covering
@@ -19,13 +23,14 @@ pub mod RowsOf
 pub mod WellFormedSections
 pub mod Standing
 pub mod CheckedSections
+pub mod FdesOfSections
 pub mod Lookups
 pub mod OneMatch
 pub mod OneRow
+pub mod ExpressionsAmong
 pub mod Lending
 pub mod RowsWithExpressions
 pub mod GoodExpressions
 pub mod GoodRows
 pub mod CheckedInPlace
-pub mod AbiFaults
 pub mod RowsUnder

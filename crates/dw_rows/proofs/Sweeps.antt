@@ -5,7 +5,8 @@ use Rattle.dw_rows.specs.Section.{Covers, SharesAddress, CoversOnce}
 use Rattle.dw_rows.specs.Overlap.{fde_offset, Overlaps, AreApart, IsFirstOverlap, ClashWithin, ApartWithin, IsOrdered, IsIndexOf}
 use Rattle.dw_frame.specs.Bounds.{Ascends}
 use Rattle.dw_frame.specs.Records.{Fde}
-use Rattle.dw_rules.proofs.Search.{ascending-at, ascending-place, ascending-same, three_ways, before_or_at}
+use Rattle.dw_rules.proofs.Search.{ascending-at, ascending-same, three_ways}
+use Rattle.dw_rows.proofs.Search.{ascending-place, before_or_at}
 
 -- What holds after a pass over the first i FDEs of `xs`, which is in order of address. Among those
 -- of them whose offset is at most `last`, no two share an address, and the greatest end of a range

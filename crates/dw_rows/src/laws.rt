@@ -2,15 +2,12 @@
 //! of a function that does nothing.
 
 ghost use Rattle.std.specs.Prelude.{◌≡◌, ◌⊎◌, false, ℕ, ◌+◌, ◌<◌, ◌≤◌, ◌↔◌, List, length, Option, Some, None, slice_get, filter, [], ◌∷◌};
-ghost use Rattle.std.specs.Prelude.{Err, All, Contains, IfSome, map, ◌++◌};
+ghost use Rattle.std.specs.Prelude.{Err, Contains, map};
 ghost use Rattle.dw_rules.specs.RowsWithExpressions.{row_with_expressions};
-ghost use Rattle.dw_frame.specs.Sections.{top_of};
 ghost use Rattle.dw_rows.specs.RowLookups.{IsRowUnder};
 ghost use Rattle.dw_frame.specs.Records.{Cie, Fde};
-ghost use Rattle.std.specs.Option.{option_to_list};
-ghost use Rattle.dw_bytes.specs.declared.fault.FaultKind.TheVariants.{AbiTwice};
-ghost use Rattle.dw_rules.specs.Abi.{Abi, CanBeAbi, StandsAgain, abi_fault, no_abi, rule_under, rules_under};
-ghost use Rattle.dw_rules.specs.Rules.{Rule, PlacedRule, PlacedCfa, PlacedRow, Row, IsTable, rule_in, rule_list};
+ghost use Rattle.dw_rules.specs.Abi.{abi_fault};
+ghost use Rattle.dw_rules.specs.Rules.{PlacedRule, PlacedCfa, PlacedRow, Row};
 ghost use Rattle.dw_bytes.specs.declared.fault.FaultKind.{FaultKind};
 ghost use Rattle.dw_frame.specs.Instructions.{Instruction};
 ghost use Rattle.dw_rules.specs.Effects.{Effect, restores_state, effect_of, is_barred};
@@ -27,11 +24,13 @@ ghost use Rattle.dw_stack.specs.Expressions.{IsGoodExpression};
 ghost use Rattle.dw_stack.specs.Located.{LocatedExpression};
 ghost use Rattle.dw_rows.specs.GoodRows.{HasGoodExpressions};
 ghost use Rattle.dw_rows.specs.ExactRows.{HasOneRow};
-ghost use Rattle.dw_rows.specs.Section.{FrameSection, Covers, rows_in, row_of, IsChecked, section_fault};
+ghost use Rattle.dw_rows.specs.Section.{FrameSection, Covers, CoversOnce, cie_in, rows_in, row_of, IsChecked, section_fault};
 ghost use Rattle.dw_rows.specs.WellFormed.{IsWellFormed};
 ghost use Rattle.dw_rules.specs.declared.abi.TheConstants.{MAX_KEPT};
 ghost use Rattle.dw_rules.specs.declared.register_rules.TheConstants.{MAX_RULES};
 ghost use Rattle.dw_rules.specs.declared.remember_stack.TheConstants.{MAX_REMEMBERED};
+
+pub use dw_rules::laws::{abis_without_fault_are_distinct, rule_lists_are_rules, rules_under_abis};
 
 /// The rules after the first k + 1 instructions (`rule_after` and `cfa_after`, Good.antt) follow
 /// from the rules after fewer instructions, as the standard says for each kind of instruction
@@ -93,41 +92,6 @@ pub fn rows_cover()
         → Cover from rows to → Cover from (map (row_with_expressions es) rows) to }
 {}
 
-/// A list of rules in ascending order of registers, and the function from registers to rules that
-/// it stands for, can be converted into each other without loss (`rule_in` and `rule_list`,
-/// Rules.antt).
-pub fn rule_lists_are_rules()
-    ensures list { (entries : List (ℕ × PlacedRule)) → IsTable 0 entries
-        → rule_list (rule_in entries) ≡ entries }
-    ensures rules { (rules : ℕ → PlacedRule) (r : ℕ) → r < 65536
-        → rule_in (rule_list rules) r ≡ rules r }
-    ensures table { (rules : ℕ → PlacedRule) → IsTable 0 (rule_list rules) }
-{}
-
-/// The rules of a row under an ABI are a list in ascending order of registers. Each register's rule
-/// in the list is the row's rule, or, if the row has none, the ABI's. Under an ABI that says
-/// nothing, a row's rules are unchanged.
-pub fn rules_under_abis()
-    ensures each { (abi : Abi) (rules : List (ℕ × Rule))
-        → All (λ entry. entry.1 ≡ rule_under abi rules entry.0) (rules_under abi rules) }
-    ensures all { (abi : Abi) (rules : List (ℕ × Rule)) (r : ℕ) → r < 65536
-        → rule_in (rules_under abi rules) r ≡ rule_under abi rules r }
-    ensures table { (abi : Abi) (rules : List (ℕ × Rule)) → IsTable 0 (rules_under abi rules) }
-    ensures none { (rules : List (ℕ × Rule)) → IsTable 0 rules → rules_under no_abi rules ≡ rules }
-{}
-
-/// The register numbers of an ABI have no fault if and only if there are at most `MAX_KEPT`
-/// callee-saved registers, and no number occurs twice among them and the stack pointer. If the
-/// fault is `AbiTwice`, its index is the index of the first number that repeats an earlier one in
-/// the list of the callee-saved registers followed by the stack pointer.
-pub fn abis_without_fault_are_distinct()
-    ensures good { (registers : List ℕ) (pointer : Option ℕ)
-        → (abi_fault registers pointer ≡ None) ↔ CanBeAbi registers pointer }
-    ensures twice { (registers : List ℕ) (pointer : Option ℕ) (place : ℕ)
-        → abi_fault registers pointer ≡ Some (record { kind = AbiTwice; at = place })
-        → StandsAgain (registers ++ option_to_list pointer) place }
-{}
-
 /// A section has no fault if and only if it is well formed: it is a sequence of CIEs and FDEs
 /// without gaps, each CIE_pointer is the offset of a CIE, all programs are good, and no address is
 /// covered by two FDEs.
@@ -145,6 +109,14 @@ pub fn exact_rows()
         → Covers f a → HasOneRow s a }
     ensures others { (s : FrameSection) (a : ℕ) → ((f : Fde) → Contains s.fdes f → ¬ Covers f a)
         → row_of s a ≡ None }
+{}
+
+/// In an accepted section, each FDE has a CIE, and neither's program has a fault. No address is
+/// covered by two FDEs.
+pub fn fdes_of_checked_sections()
+    ensures cie { (s : FrameSection) → IsChecked s → (f : Fde) → Contains s.fdes f
+        → (c : Cie) × (cie_in s f ≡ Some c) × (cie_fault c ≡ None) × (fde_fault c f ≡ None) }
+    ensures once { (s : FrameSection) → IsChecked s → CoversOnce s.fdes }
 {}
 
 /// An accepted section is well formed. Its CIEs and its FDEs are each in ascending order of offset,

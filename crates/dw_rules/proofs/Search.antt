@@ -1,5 +1,5 @@
 -- Lists in ascending order of offset: a higher index has the higher offset.
-use Rattle.std.proofs.Common.{◌≡◌, ◌≢◌, ℕ, zero, suc, ◌+◌, ◌<◌, ◌≤◌, List, [], ◌∷◌, length, get_or, Ok, Err, Contains, sym, ap, subst}
+use Rattle.std.proofs.Common.{◌≡◌, ◌≢◌, ℕ, zero, suc, ◌<◌, ◌≤◌, List, [], ◌∷◌, length, get_or, Ok, Err, Contains, sym, ap, subst}
 use Rattle.std.proofs.Common.{◌∙◌, arith, inl, inr, ◌⊎◌}
 use Rattle.std.specs.List.Sorted.{IsBinarySearchResult, IsNonDecreasingBy}
 use Rattle.std.specs.Ordering.{nat_cmp, ordering_index}
@@ -18,10 +18,6 @@ three_ways i j = elim (cases_lt i j) [
       (cases_lt j i) [ inl lt ↦ inr (inr lt) | inr ge ↦ inr (inl (omega arith)) ]
 ]
 
--- a number that is less than i + 1 is less than i or equal to i
-pub before_or_at : (k i : ℕ) → k < i + 1 → (k < i) ⊎ (k ≡ i)
-before_or_at k i lt = elim (cases_lt k i) [ inl low ↦ inl low | inr le ↦ inr (omega arith) ]
-
 -- if i is neither less nor greater than j, i and j are equal
 pub squeeze : (i j : ℕ) → ¬ (i < j) → ¬ (j < i) → i ≡ j
 squeeze i j low high = elim (three_ways i j) [ inl lt ↦ absurd (low lt) | inr rest ↦ elim rest [ inl e ↦ e | inr lt ↦ absurd (high lt) ] ]
@@ -34,12 +30,6 @@ ascending-at at (x ∷ xs) up zero zero d lt in_range = absurd (omega arith)
 ascending-at at (x ∷ xs) up zero (suc j) d lt in_range = All-from_recursion (λ y. at x < at y) xs up.0 j d (omega arith)
 ascending-at at (x ∷ xs) up (suc i) zero d lt in_range = absurd (omega arith)
 ascending-at at (x ∷ xs) up (suc i) (suc j) d lt in_range = ascending-at at xs up.1 i j d (omega arith) (omega arith)
-
--- of two elements, the one with the lower offset is at the lower index
-pub ascending-place : {X : Type 0} (at : X → ℕ) (xs : List X) → Ascends at xs → (i j : ℕ) (d : X) → i < length xs → j < length xs
-    → at (get_or xs i d) < at (get_or xs j d) → i < j
-ascending-place at xs up i j d i_in j_in lt =
-    grind (arith, ascending-at at xs up j i d, λ (same : i ≡ j). ap (λ k. at (get_or xs k d)) same)
 
 -- two elements with the same offset are the same
 pub ascending-same : {X : Type 0} (at : X → ℕ) (xs : List X) → Ascends at xs → (x y : X) → Contains xs x → Contains xs y → at x ≡ at y

@@ -6,6 +6,7 @@ mod abi;
 mod borrowed_expressions;
 mod effect;
 mod initial_rules;
+pub mod laws;
 mod owned_expressions;
 mod plain_rules;
 mod register_rules;

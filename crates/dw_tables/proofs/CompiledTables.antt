@@ -30,8 +30,8 @@ use Rattle.dw_tables.specs.CompiledTable.{IsEntryCount, ArePlacedRows}
 use Rattle.dw_rows.proofs.Covering.{found-by, cover-rows, here}
 use Rattle.dw_rows.proofs.Lookups.{row-found, row-none}
 use Rattle.dw_rows.proofs.RowsWithExpressions.{find-with}
-use Rattle.dw_rows.proofs.Parts.{pointed-in, good-past}
-use Rattle.dw_rows.proofs.CheckedSections.{checked-parts, checked-once, checked-fits}
+use Rattle.dw_rows.proofs.FdesOfSections.{fde-good}
+use Rattle.dw_rows.proofs.CheckedSections.{checked-once, checked-fdes-sound}
 use Rattle.dw_rows.proofs.OneRow.{has-one-row}
 use Rattle.dw_rows.proofs.GoodExpressions.{checked-expressions}
 use Rattle.dw_frame.specs.Sections.{top_of}
@@ -61,10 +61,9 @@ row-fits s a row checked found =
     let f = here.0 in
     let among = here.1 in
     let covered = here.2 in
-    let parts = checked-parts s checked in
-    let pointed = pointed-in s.cies s.fdes parts f among in
+    let pointed = fde-good s checked f among in
     let c = pointed.0 in
-    let none = (good-past s.cies s.fdes parts f among c pointed.1).1 in
+    let none = pointed.3 in
     let is : rows_by_cie (cie_in s f) f ≡ rows_of c f = ap (λ o. rows_by_cie o f) pointed.1 in
     let has_row = covered-has s checked f among a covered in
     let placed : PlacedRow = has_row.1 in
@@ -76,7 +75,7 @@ row-fits s a row checked found =
     let end : row.end ≡ placed.end = cc in
     let by = found-by (has_address a) f.initial_location (f.initial_location + f.address_range) (rows_of c f) placed (cover-rows c f none)
     (sym (ap (find (has_address a)) is) ∙ has_row.3) in
-    let fits = checked-fits s checked f among in
+    let fits = (checked-fdes-sound s checked f among).range in
     (omega (arith, by.0), omega (arith, by.1))
 
 -- ---- what looking up an address in a table gives

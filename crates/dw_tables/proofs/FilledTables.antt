@@ -26,8 +26,8 @@ use Rattle.dw_tables.specs.CompiledTable.{IsTableUpTo, IsClosedAt, IsFilled, Are
 use Rattle.dw_rows.proofs.Covering.{cover-rows, here, find-below, find-above, find-some}
 use Rattle.dw_rows.proofs.Lookups.{row-found, row-none}
 use Rattle.dw_rows.proofs.RowsWithExpressions.{find-with}
-use Rattle.dw_rows.proofs.Parts.{pointed-in, good-past}
-use Rattle.dw_rows.proofs.CheckedSections.{checked-parts, checked-once}
+use Rattle.dw_rows.proofs.FdesOfSections.{fde-good}
+use Rattle.dw_rows.proofs.CheckedSections.{checked-once}
 use Rattle.dw_tables.proofs.TableRows.{filled, find-past, find-first}
 
 -- ---- the rows of all FDEs
@@ -55,11 +55,10 @@ pub covered-has : (s : FrameSection) → IsChecked s → (f : Fde) → Contains 
     → (c : Cie) × (row : PlacedRow) × (cie_in s f ≡ Some c) × (find (has_address a) (rows_by_cie (cie_in s f) f) ≡ Some row)
     × (find (has a) (placed_rows s f) ≡ Some (row, c.return_address_register))
 covered-has s checked f among a covered =
-    let parts = checked-parts s checked in
-    let pointed = pointed-in s.cies s.fdes parts f among in
+    let pointed = fde-good s checked f among in
     let c = pointed.0 in
     let r = c.return_address_register in
-    let none = (good-past s.cies s.fdes parts f among c pointed.1).1 in
+    let none = pointed.3 in
     let is : rows_by_cie (cie_in s f) f ≡ rows_of c f = ap (λ o. rows_by_cie o f) pointed.1 in
     let is_returning : placed_rows s f ≡ returning r (rows_of c f) = ap (λ o. returning_by_cie o f) pointed.1 in
     let found = some-is (find (has_address a) (rows_of c f))
@@ -80,11 +79,10 @@ covered-has s checked f among a covered =
 uncovered-none : (s : FrameSection) → IsChecked s → (f : Fde) → Contains s.fdes f → (a : ℕ) → (Covers f a → ⊥)
     → find (has a) (placed_rows s f) ≡ None
 uncovered-none s checked f among a not_here =
-    let parts = checked-parts s checked in
-    let pointed = pointed-in s.cies s.fdes parts f among in
+    let pointed = fde-good s checked f among in
     let c = pointed.0 in
     let r = c.return_address_register in
-    let none = (good-past s.cies s.fdes parts f among c pointed.1).1 in
+    let none = pointed.3 in
     let is : placed_rows s f ≡ returning r (rows_of c f) = ap (λ o. returning_by_cie o f) pointed.1 in
     let cover = cover-rows c f none in
     let end = f.initial_location + f.address_range in

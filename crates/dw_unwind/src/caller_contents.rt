@@ -269,7 +269,7 @@ pub(crate) fn contents_by<T: UnwindRows, R: Registers, M: Memory>(
         (over_rows (T.target_of rows.now) (T.finds rows.now) (abi_of kept.now stack_pointer)
         (M.bytes memory.now)) (R.contents registers.now) (Some address)) }
 {
-    dw_rows::laws::rules_under_abis();
+    dw_rules::laws::rules_under_abis();
     let mut slot = rows.slot();
     let Some((row, number)) = rows.find_row(address, &mut slot) else {
         return Ok(None);

@@ -206,7 +206,7 @@ pub(crate) fn step_in_place<T: UnwindRows, M: Memory>(
     ensures known { IfSome result (λ unwound. (next : ℕ)
         × (answer_in unwound.return_address ≡ value next)) }
 {
-    dw_rows::laws::rules_under_abis();
+    dw_rules::laws::rules_under_abis();
     if !is_little_64(rows.rows_target()) || !has_place(stack_pointer) {
         return None;
     }

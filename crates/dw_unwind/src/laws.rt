@@ -28,7 +28,7 @@ pub fn one_caller()
         → Unwinds e abi frame address d → c ≡ d }
 {
     dw_rows::laws::rows_have_good_expressions();
-    dw_rows::laws::rules_under_abis();
+    dw_rules::laws::rules_under_abis();
     dw_eval::laws::evaluations_are_determined();
 }
 
@@ -40,7 +40,7 @@ pub fn each_row_has_a_caller()
         → (c : Caller) × IsCaller e abi column row c }
 {
     dw_rows::laws::rows_have_good_expressions();
-    dw_rows::laws::rules_under_abis();
+    dw_rules::laws::rules_under_abis();
     dw_stack::laws::each_has_a_depth();
     dw_eval::laws::each_has_an_evaluation();
 }
@@ -240,7 +240,7 @@ pub fn one_module_is_its_section()
         ↔ Walks (over_section frame abi memory) (first_place address registers) limit xs stop }
 {
     dw_rows::laws::rows_have_good_expressions();
-    dw_rows::laws::rules_under_abis();
+    dw_rules::laws::rules_under_abis();
     dw_eval::laws::numbers_of_evaluations_fit();
 }
 

@@ -88,7 +88,7 @@ fn return_address<R: Registers, M: Memory, L: RegisterList>(
     ensures { IsRegister (machine_in R.contents M.bytes present.now) (answer_in cfa) number
         (rule_under (roles_of abi.now) row.now.rules number) (answer_in result) }
 {
-    dw_rows::laws::rules_under_abis();
+    dw_rules::laws::rules_under_abis();
     match found.answer(number) {
         Some(answer) => answer,
         None => present.register(cfa, number, row.register_with(abi, number)),
@@ -114,7 +114,7 @@ pub(crate) fn unwind_into<T: UnwindRows, R: Registers, M: Memory, L: RegisterLis
         (CallerFits (2 ^ width_of (T.target_of rows.now).address_size)) }
 {
     // These laws are needed to show that all numbers of the caller are below 2^w.
-    dw_rows::laws::rules_under_abis();
+    dw_rules::laws::rules_under_abis();
     dw_eval::laws::numbers_of_evaluations_fit();
     let mut slot = rows.slot();
     let Some((row, number)) = rows.find_row(address, &mut slot) else {

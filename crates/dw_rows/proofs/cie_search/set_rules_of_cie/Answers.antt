@@ -1,7 +1,7 @@
 use Rattle.std.proofs.Common.{sym, ◌∙◌, arith, map}
 use Rattle.std.proofs.lemmas.List.{length-map}
 use Rattle.dw_frame.specs.Views.{cie_of}
-use Rattle.dw_rules.proofs.Elements.{read-map}
+use Rattle.dw_rows.proofs.Elements.{read-map}
 use Rattle.dw_rules.proofs.Initials.{left-count, left-at}
 use Rattle.dw_rows.proofs.cie_search.set_rules_of_cie.Goals as goal
 

@@ -3,7 +3,8 @@ use Rattle.std.proofs.lemmas.List.{length-map}
 use Rattle.dw_frame.specs.Views.{fde_of}
 use Rattle.dw_rows.specs.Overlap.{fde_at, ApartWithin, ClashWithin}
 use Rattle.dw_rows.proofs.Sweeps.{first-clash, none-clash, none-apart, apart-below}
-use Rattle.dw_rules.proofs.Elements.{placed-map, offset-at}
+use Rattle.dw_rules.proofs.Elements.{placed-map}
+use Rattle.dw_rows.proofs.Elements.{offset-at}
 use Rattle.dw_rows.proofs.index.first_overlap.Goals as goal
 use Rattle.dw_rows.proofs.index.first_overlap.Goals.{then-high-eq0-via-then-high-eq0, then-high-eq0-via-else-high-eq0+then-not-overlaps}
 

@@ -5,7 +5,7 @@ use Rattle.dw_frame.specs.declared.entry.CommonInformationEntry.{CommonInformati
 use Rattle.dw_frame.specs.Records.{Fde}
 use Rattle.dw_frame.specs.Views.{cie_of, fde_of}
 use Rattle.dw_rows.specs.Section.{cie_at, pointer_fault}
-use Rattle.dw_rules.proofs.Elements.{read-map, some-element}
+use Rattle.dw_rows.proofs.Elements.{read-map, some-element}
 use Rattle.dw_rows.proofs.Faults.{passed}
 use Rattle.dw_rows.proofs.record_checks.check_pointers.Goals as goal
 

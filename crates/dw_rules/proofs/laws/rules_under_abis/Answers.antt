@@ -1,7 +1,7 @@
 use Rattle.dw_rules.specs.Abi.{rule_under}
 use Rattle.dw_rules.proofs.Tables.{rule_list-each, rule_in-rule_list, IsTable-rule_list}
 use Rattle.dw_rules.proofs.Under.{either-alone}
-use Rattle.dw_rows.proofs.laws.rules_under_abis.Goals as goal
+use Rattle.dw_rules.proofs.laws.rules_under_abis.Goals as goal
 
 pub returns : goal.returns
 returns c = record {

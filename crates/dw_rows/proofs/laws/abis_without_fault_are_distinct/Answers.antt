@@ -1,5 +1,0 @@
-use Rattle.dw_rows.proofs.AbiFaults.{no-fault-is, twice-is}
-use Rattle.dw_rows.proofs.laws.abis_without_fault_are_distinct.Goals as goal
-
-pub returns : goal.returns
-returns c = record { good = no-fault-is; twice = twice-is }
