@@ -6,7 +6,7 @@ use Rattle.std.proofs.lemmas.List.{drop-take, take_at as taken}
 use Rattle.dw_bytes.specs.declared.target.Target.{Target}
 use Rattle.dw_bytes.specs.declared.target.Format.{Format}
 use Rattle.dw_bytes.specs.declared.fault.Fault.{Fault}
-use Rattle.dw_bytes.specs.Encoding.{Bytes, Length}
+use Rattle.dw_bytes.specs.Encoding.{Bytes, InitialLengthPair}
 use Rattle.dw_bytes.specs.Reading.{ReadPosition, ◌>>=◌, section_from, take_at, initial_length_at}
 use Rattle.dw_bytes.specs.Bodies.{body_of, framed_at, IsFramed}
 use Rattle.dw_bytes.proofs.Readers.{bind-ok, ok-is, same-reading, length-exact, take-exact, leaves-suffix}
@@ -29,7 +29,7 @@ framed-parts r mid after format n bytes first second =
     let count : length bytes ≡ n = ap length value ∙ body.encoded.count in
     record {
       front = size.bytes;
-      length_is = subst (λ k. Length r.target.order size.bytes (format, k)) (sym count) size.encoded;
+      length_is = subst (λ k. InitialLengthPair r.target.order size.bytes (format, k)) (sym count) size.encoded;
       parts = size.parts ∙ ap (λ (t : List ℕ). size.bytes ++ t) (body.parts ∙ ap (λ (t : List ℕ). t ++ after.rest) (sym value));
       body_position = size.position;
       body_target = size.target;
@@ -84,7 +84,7 @@ pub framed-window : (target : Target) (section : List ℕ) (at : ℕ) (format : 
     )
 unfolding framed_at
 framed-window target section at format n mid bytes after inside first second mid_inside =
-    let mid_is : mid ≡ section_from target section mid.position = leaves-suffix target initial_length_at (λ here. Length target.order)
+    let mid_is : mid ≡ section_from target section mid.position = leaves-suffix target initial_length_at (λ here. InitialLengthPair target.order)
     (length-exact target) section at (format, n) mid inside first in
     let from_mid : take_at n (section_from target section mid.position) ≡ Ok (bytes, after) = ap (take_at n) (sym mid_is) ∙ second in
     let next = (take-exact target n (section_from target section mid.position) refl).found bytes after from_mid in

@@ -8,7 +8,7 @@ use Rattle.std.proofs.lemmas.List.{length-append}
 use Rattle.std.proofs.lemmas.List.Elements.{All-from_recursion}
 use Rattle.dw_bytes.specs.declared.fault.Fault.{Fault}
 use Rattle.dw_bytes.specs.declared.fault.FaultKind.TheVariants.{Truncated}
-use Rattle.dw_bytes.specs.Encoding.{Bytes, Fixed, Length, Uleb, Sleb, bytes_of_address}
+use Rattle.dw_bytes.specs.Encoding.{Bytes, Fixed, InitialLengthPair, Uleb, Sleb, bytes_of_address}
 use Rattle.dw_bytes.specs.Reading.{ReadPosition, IsExact, IsRefusedAt, ◌>>=◌, past_field, take_at, fixed_at, address_at}
 use Rattle.dw_bytes.specs.Reading.{initial_length_at, uleb_at, sleb_at}
 use Rattle.dw_bytes.specs.Sequence.{located_read, and_then, at_most_of, sequence_of}
@@ -70,7 +70,7 @@ pub address-stays : (from : ℕ) → AlwaysStays from address_at
 address-stays from r h = fixed-stays from (bytes_of_address r.target.address_size) r h
 
 pub length-stays : (from : ℕ) → AlwaysStays from initial_length_at
-length-stays from r h = field-stays from initial_length_at (Length r.target.order) r (initial_length_exact r) (initial_length_at r) refl
+length-stays from r h = field-stays from initial_length_at (InitialLengthPair r.target.order) r (initial_length_exact r) (initial_length_at r) refl
     (initial_length_refused r) h
 
 pub uleb-stays : (from : ℕ) → AlwaysStays from uleb_at

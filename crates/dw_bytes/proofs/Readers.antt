@@ -6,7 +6,7 @@ use Rattle.std.proofs.lemmas.List.{length-take, take-append-drop, take_at}
 use Rattle.dw_bytes.specs.declared.target.Target.{Target}
 use Rattle.dw_bytes.specs.declared.target.Format.{Format}
 use Rattle.dw_bytes.specs.declared.fault.Fault.{Fault}
-use Rattle.dw_bytes.specs.Encoding.{Bytes, Fixed, Offset, Address, Length, Uleb, Sleb, bytes_of_address, bytes_of_offset}
+use Rattle.dw_bytes.specs.Encoding.{Bytes, Fixed, Offset, Address, InitialLengthPair, Uleb, Sleb, bytes_of_address, bytes_of_offset}
 use Rattle.dw_bytes.specs.Reading.{ReadPosition, Next, IsExact, ◌>>=◌, take_at as taken_at, fixed_at, offset_at, address_at}
 use Rattle.dw_bytes.specs.Reading.{initial_length_at, uleb_at, sleb_at}
 use Rattle.dw_bytes.proofs.Fields.{take_exact, fixed_exact, initial_length_exact, uleb_exact, sleb_exact}
@@ -65,8 +65,8 @@ offset-exact target format r same =
     let own : IsExact (offset_at format) (Offset r.target.order format) r = record { found = here.found; only = here.only } in
     subst (λ (t : Target). IsExact (offset_at format) (Offset t.order format) r) same own
 
-pub length-exact : (target : Target) → Exact target initial_length_at (Length target.order)
-length-exact target r same = subst (λ (t : Target). IsExact initial_length_at (Length t.order) r) same (initial_length_exact r)
+pub length-exact : (target : Target) → Exact target initial_length_at (InitialLengthPair target.order)
+length-exact target r same = subst (λ (t : Target). IsExact initial_length_at (InitialLengthPair t.order) r) same (initial_length_exact r)
 
 -- ---- no encoding is a proper prefix of another encoding
 

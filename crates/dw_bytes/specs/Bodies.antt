@@ -3,7 +3,7 @@ use Rattle.std.specs.Prelude.{◌≡◌, ℕ, ◌+◌, List, ◌++◌, length, t
 use Rattle.dw_bytes.specs.declared.target.Target.{Target}
 use Rattle.dw_bytes.specs.declared.target.Format.{Format}
 use Rattle.dw_bytes.specs.declared.fault.Fault.{Fault}
-use Rattle.dw_bytes.specs.Encoding.{Length}
+use Rattle.dw_bytes.specs.Encoding.{InitialLengthPair}
 use Rattle.dw_bytes.specs.Reading.{ReadPosition, ◌>>=◌, section_from, take_at, initial_length_at}
 
 -- the given bytes as all that is left to read, beginning at the position of r
@@ -22,7 +22,7 @@ framed_at r = do
 -- left at `after`.
 pub record IsFramed (r : ReadPosition) (format : Format) (body after : ReadPosition) : Type 0 where
   pub front : List ℕ
-  pub length_is : Length r.target.order front (format, length body.rest)
+  pub length_is : InitialLengthPair r.target.order front (format, length body.rest)
   pub parts : r.rest ≡ front ++ (body.rest ++ after.rest)
   pub body_position : body.position ≡ r.position + length front
   pub body_target : body.target ≡ r.target

@@ -82,10 +82,10 @@ Sleb bytes v = Leb signed_groups (FitsSigned w64) bytes v
 
 -- The initial length of a record or table: four bytes that make a number below 0xfffffff0, or four
 -- bytes that make 0xffffffff and then a length of eight bytes.
-abbrev pub Len : Order → List ℕ → Format → ℕ → Type 0
-Len order bytes Dwarf32 v = Fixed order 4 bytes v × (v < 0xfffffff0)
-Len order bytes Dwarf64 v = (mark rest : List ℕ) × (bytes ≡ mark ++ rest) × Fixed order 4 mark 0xffffffff × Fixed order 8 rest v
+abbrev pub InitialLength : Order → List ℕ → Format → ℕ → Type 0
+InitialLength order bytes Dwarf32 v = Fixed order 4 bytes v × (v < 0xfffffff0)
+InitialLength order bytes Dwarf64 v = (mark rest : List ℕ) × (bytes ≡ mark ++ rest) × Fixed order 4 mark 0xffffffff × Fixed order 8 rest v
 
 -- the initial length of a record or table, with the format and the length as one pair
-abbrev pub Length : Order → List ℕ → Format × ℕ → Type 0
-Length order bytes v = Len order bytes v.0 v.1
+abbrev pub InitialLengthPair : Order → List ℕ → Format × ℕ → Type 0
+InitialLengthPair order bytes v = InitialLength order bytes v.0 v.1

@@ -5,7 +5,7 @@ use Rattle.std.specs.List.{AllByRecursion}
 use Rattle.std.proofs.lemmas.Bool.{lt-ltb, le-ltb, cases_lt}
 use Rattle.std.proofs.lemmas.List.{length-append}
 use Rattle.dw_bytes.specs.declared.target.Target.{Target}
-use Rattle.dw_bytes.specs.Encoding.{Len}
+use Rattle.dw_bytes.specs.Encoding.{InitialLength}
 use Rattle.dw_bytes.specs.declared.target.Format.TheVariants.{Dwarf32, Dwarf64}
 use Rattle.dw_bytes.specs.declared.target.Order.{Order}
 use Rattle.dw_bytes.specs.declared.target.Format.{Format}
@@ -22,7 +22,7 @@ use Rattle.dw_eh_frame.specs.Pointers.{pointer_at, range_at}
 use Rattle.dw_eh_frame.specs.Places.{source_start}
 use Rattle.dw_eh_frame.specs.Rewriting.{says_something}
 
-pub length-some : (order : Order) (bytes : List ℕ) (format : Format) (v : ℕ) → Len order bytes format v → 0 < length bytes
+pub length-some : (order : Order) (bytes : List ℕ) (format : Format) (v : ℕ) → InitialLength order bytes format v → 0 < length bytes
 length-some order bytes Dwarf32 v h = omega (arith, h.0.count)
 length-some order bytes Dwarf64 v (mark, rest, parts, first, second) = omega (arith, first.count, ap length parts, length-append mark rest)
 

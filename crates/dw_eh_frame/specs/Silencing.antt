@@ -49,8 +49,8 @@ silenced_up_to dialect zero r = r.rest
 silenced_up_to dialect (suc n) r = silenced_then dialect (silenced_up_to dialect n) r (past_instruction dialect r)
 
 -- whether an instruction with this code is written in another way
-abbrev pub is_changed : Dialect → ℕ → Bool
-is_changed dialect code = code == 0x2e || is_negation dialect code || is_unread dialect code
+abbrev pub is_silenced_or_unread : Dialect → ℕ → Bool
+is_silenced_or_unread dialect code = code == 0x2e || is_negation dialect code || is_unread dialect code
 
 unfoldable pub silenced : Dialect → ReadPosition → List ℕ
 silenced dialect r = silenced_up_to dialect (length r.rest) r

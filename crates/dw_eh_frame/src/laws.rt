@@ -10,7 +10,7 @@ ghost use Rattle.dw_bytes.specs.declared.target.Target.{Target};
 ghost use Rattle.dw_bytes.specs.Reading.{ReadPosition};
 ghost use Rattle.dw_frame.specs.Instructions.{Instruction};
 ghost use Rattle.dw_frame.specs.Codes.{AreInstructions};
-ghost use Rattle.dw_frame.specs.Sections.{AreRecords, entries_of};
+ghost use Rattle.dw_frame.specs.Sections.{AreRecords, records_of};
 ghost use Rattle.dw_eh_frame.specs.Instructions.{EhInstruction, AreEhInstructions};
 ghost use Rattle.dw_eh_frame.specs.declared.dialect.Dialect.{Dialect};
 ghost use Rattle.dw_eh_frame.specs.Records.{EhRecord};
@@ -42,7 +42,7 @@ pub fn programs_say_the_same()
 pub fn rewritten_sections_are_read()
     ensures { (is_aarch64 : Bool) (target : Target) (records : List EhRecord) (made : List ℕ)
         → (rewriting : IsRewriting is_aarch64 target records made)
-        → entries_of target made ≡ map Ok (map (λ (p : Pair). p.1) rewriting.pairs) }
+        → records_of target made ≡ map Ok (map (λ (p : Pair). p.1) rewriting.pairs) }
 {}
 
 /// A fault that is in the program of a written record, or at its end, is at the same place of the

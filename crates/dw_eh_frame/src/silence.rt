@@ -5,7 +5,7 @@ ghost use Rattle.std.specs.List.{list_any};
 ghost use Rattle.dw_bytes.specs.Reading.{MovesForward};
 ghost use Rattle.dw_bytes.specs.Readers.{ParsesBy};
 ghost use Rattle.dw_frame.specs.Codes.{extended_line, line_of};
-ghost use Rattle.dw_eh_frame.specs.Silencing.{is_changed, past_instruction, past_operands, silenced, unread};
+ghost use Rattle.dw_eh_frame.specs.Silencing.{is_silenced_or_unread, past_instruction, past_operands, silenced, unread};
 
 use crate::dialect::Dialect;
 use dw_bytes::{Cursor, Fault, FaultKind, Target, operands};
@@ -179,8 +179,8 @@ fn push_rest(
 
 /// Whether an instruction with this code is written in another way.
 #[inline(always)]
-fn is_changed_code(code: u8, dialect: Dialect) -> bool
-    ensures { result ≡ is_changed dialect code }
+fn is_silenced_or_unread_code(code: u8, dialect: Dialect) -> bool
+    ensures { result ≡ is_silenced_or_unread dialect code }
 {
     code == 0x2e
         || (dialect.is_aarch64 && (code == 0x2d || code == 0x2c))
@@ -190,12 +190,12 @@ fn is_changed_code(code: u8, dialect: Dialect) -> bool
 /// Whether one of the bytes, if it were a code, would be written in another way. In most programs none
 /// would, so these needn't be read. All bytes are looked at, also after the first such byte: without
 /// an early exit the processor compares many bytes at once.
-fn has_changed_code(bytes: &[u8], dialect: Dialect) -> bool
-    ensures { result ≡ list_any (is_changed dialect) bytes.now }
+fn has_silenced_or_unread(bytes: &[u8], dialect: Dialect) -> bool
+    ensures { result ≡ list_any (is_silenced_or_unread dialect) bytes.now }
 {
     let mut any = false;
     for code in bytes {
-        any |= is_changed_code(*code, dialect);
+        any |= is_silenced_or_unread_code(*code, dialect);
     }
     any
 }
@@ -213,7 +213,7 @@ pub(crate) fn push_program(
     ensures { OnOk result (out.new.items ≡ out.old.items
         ++ silenced dialect (record { target = target; position = 0; rest = bytes.now })) }
 {
-    if has_changed_code(bytes, dialect) {
+    if has_silenced_or_unread(bytes, dialect) {
         push_silenced(out, bytes, target, dialect)
     } else {
         out.extend_from_slice(bytes)

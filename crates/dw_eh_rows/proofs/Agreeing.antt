@@ -14,7 +14,7 @@ use Rattle.dw_rules.specs.RowsWithExpressions.{or_nowhere}
 use Rattle.dw_eh_frame.specs.Instructions.{EhInstruction, plain, args_size, negate_ra_state}
 use Rattle.dw_eh_frame.specs.SameInstructions.{unplaced, IsMoved, AreNops, SayTheSame}
 use Rattle.dw_eh_rows.specs.Meaning.{numbered, eh_effects_from, eh_expression_in, expression_number}
-use Rattle.dw_eh_rows.specs.Named.{Names, content}
+use Rattle.dw_eh_rows.specs.RowsWithoutPlaces.{Names, content}
 use Rattle.dw_eh_rows.proofs.Alike.{Naming, rule_to, cfa_to, effect_to, Fits, Step, left, right, both, lefts, rights, AllFit}
 
 -- ---- one instruction

@@ -12,7 +12,7 @@ use Rattle.dw_rules.specs.Effects.{Effect, stays, advances_loc, sets_loc, define
 use Rattle.dw_rules.specs.Effects.{remembers_state, restores_state}
 use Rattle.dw_rules.specs.InForce.{Start, location_of, rule_at, cfa_at, with_register, with_offset, cie_start, start_after_cie}
 use Rattle.dw_rows.specs.UnwindRows.{row_up_to, rows_up_to, rows_after}
-use Rattle.dw_eh_rows.specs.Named.{rule_with, cfa_with, entry_with, row_with, rows_with}
+use Rattle.dw_eh_rows.specs.RowsWithoutPlaces.{rule_with, cfa_with, entry_with, row_with, rows_with}
 
 -- how expressions are named: by numbers on one side, and by offsets on the other
 abbrev pub Naming : Type 0

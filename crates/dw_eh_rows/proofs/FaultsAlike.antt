@@ -27,7 +27,7 @@ use Rattle.dw_eh_frame.specs.SameInstructions.{unplaced, AreNops}
 use Rattle.dw_eh_frame.proofs.Shifted.{item-by, instruction-by, eh-instruction-by}
 use Rattle.dw_eh_frame.proofs.ReadTwice.{Items, EhItems, Silent, ReadTwice}
 use Rattle.dw_eh_rows.specs.Meaning.{numbered}
-use Rattle.dw_eh_rows.specs.Named.{rule_with, cfa_with, entry_with}
+use Rattle.dw_eh_rows.specs.RowsWithoutPlaces.{rule_with, cfa_with, entry_with}
 use Rattle.dw_eh_rows.specs.Faults.{eh_fault_from}
 use Rattle.dw_eh_rows.proofs.Alike.{Naming, effect_to, Fits, FitsRule, FitsCfa, Alike, alike-next, alike-left, alike-right, list-alike}
 use Rattle.dw_eh_rows.proofs.Agreeing.{place-in, moved-effect}

@@ -12,7 +12,7 @@ use Rattle.dw_stack.specs.Located.{LocatedExpression}
 use Rattle.dw_rules.specs.Rules.{PlacedRow, Row}
 use Rattle.dw_rules.specs.RowsWithExpressions.{row_with_expressions, located_at}
 use Rattle.dw_rows.specs.UnwindRows.{rows_of, has_address}
-use Rattle.dw_rows.specs.Good.{IsGoodFdeProgram}
+use Rattle.dw_rows.specs.GoodPrograms.{IsGoodFdeProgram}
 use Rattle.dw_rows.specs.ExactRows.{HasOneRow}
 use Rattle.dw_rows.specs.Section.{FrameSection, Covers, IsCoverOf, IsChecked, cies_among, fdes_among, cie_at, rows_in, rows_by_cie, row_of}
 use Rattle.dw_rows.proofs.CheckedSections.{checked-cies-ascend}
@@ -26,7 +26,7 @@ use Rattle.dw_eh_rows.proofs.CopiesKept.{kept-or-copy}
 use Rattle.dw_eh_frame.specs.Records.{EhFde, EhRecord, eh_cie, eh_fde, eh_nothing}
 use Rattle.dw_eh_frame.specs.Rewriting.{Pair, SaysTheSame, says_something, IsRewriting, IsRewritten}
 use Rattle.dw_eh_rows.specs.Meaning.{EhCovers, eh_fdes, expression_number}
-use Rattle.dw_eh_rows.specs.Named.{content, row_with, rows_with}
+use Rattle.dw_eh_rows.specs.RowsWithoutPlaces.{content, row_with, rows_with}
 use Rattle.dw_eh_rows.specs.OneRow.{HasOneEhRow}
 use Rattle.dw_eh_rows.proofs.RowsKept.{rows-kept}
 use Rattle.dw_eh_rows.proofs.NamesFound.{names-of-cie, names-of-fde}

@@ -13,9 +13,9 @@ use Rattle.dw_frame.proofs.EachInstruction.{programs-are-instructions}
 use Rattle.dw_stack.specs.Located.{LocatedExpression}
 use Rattle.dw_rules.specs.Expressions.{expression_in, expressions_in, expressions_of, cie_expressions, fde_expressions, frame_expressions, expression_at}
 use Rattle.dw_rules.specs.RowsWithExpressions.{or_nowhere, located_at}
-use Rattle.dw_rows.specs.Good.{IsGoodCieProgram, IsGoodFdeProgram}
+use Rattle.dw_rows.specs.GoodPrograms.{IsGoodCieProgram, IsGoodFdeProgram}
 use Rattle.dw_rows.specs.Section.{FrameSection, IsChecked, frame_of}
-use Rattle.dw_eh_rows.specs.Named.{Names}
+use Rattle.dw_eh_rows.specs.RowsWithoutPlaces.{Names}
 use Rattle.dw_eh_rows.proofs.RowsKept.{values-read}
 
 -- ---- where a section has the expressions of a program

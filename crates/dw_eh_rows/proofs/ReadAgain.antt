@@ -7,7 +7,7 @@ use Rattle.dw_bytes.specs.declared.target.Target.{Target}
 use Rattle.dw_bytes.specs.declared.target.Format.{Format}
 use Rattle.dw_bytes.specs.declared.fault.Fault.{Fault}
 use Rattle.dw_bytes.specs.declared.fault.FaultKind.TheVariants.{NoSuchCie}
-use Rattle.dw_bytes.specs.Encoding.{Bytes, Length}
+use Rattle.dw_bytes.specs.Encoding.{Bytes, InitialLengthPair}
 use Rattle.dw_bytes.specs.Reading.{ReadPosition, ◌>>=◌, section_from, fixed_at, take_at, initial_length_at}
 use Rattle.dw_bytes.specs.Bodies.{body_of, framed_at}
 use Rattle.dw_bytes.proofs.Bounds.{Stays, end-of, each-along, length-stays, take-stays}
@@ -37,7 +37,7 @@ framed-inside target section at framed inside is =
     let second = subst (Stays {X = List ℕ} mid.position mid) b.1 (take-stays mid.position n mid (omega arith)) in
     let mid_inside : mid.position ≤ length section = omega (arith, first.1, whole) in
     let mid_is : mid ≡ section_from target section mid.position =
-    leaves-suffix target initial_length_at (λ here. Length target.order) (length-exact target) section at a.0.0 mid inside a.1 in
+    leaves-suffix target initial_length_at (λ here. InitialLengthPair target.order) (length-exact target) section at a.0.0 mid inside a.1 in
     let from_mid : take_at n (section_from target section mid.position) ≡ Ok b.0 = ap (take_at n) (sym mid_is) ∙ b.1 in
     let after_is : b.0.1 ≡ section_from target section b.0.1.position =
     leaves-suffix target (take_at n) (λ here. Bytes n) (take-exact target n) section mid.position b.0.0 b.0.1 mid_inside from_mid in

@@ -9,7 +9,7 @@ use Rattle.dw_frame.specs.Instructions.{Instruction}
 use Rattle.dw_frame.specs.Codes.{AreInstructions, instructions_of}
 use Rattle.dw_rules.specs.Effects.{Effect, effects_by, effects_of}
 use Rattle.dw_rules.specs.InForce.{Start, start_after_cie, rule_at, cfa_at, cie_start}
-use Rattle.dw_rows.specs.Good.{IsGoodFdeProgram}
+use Rattle.dw_rows.specs.GoodPrograms.{IsGoodFdeProgram}
 use Rattle.dw_rows.specs.UnwindRows.{rows_after, rows_of}
 use Rattle.dw_frame.proofs.EachInstruction.{programs-are-instructions}
 use Rattle.dw_eh_frame.specs.Records.{EhFde, EhRecord, eh_cie, eh_fde}
@@ -17,7 +17,7 @@ use Rattle.dw_eh_frame.specs.Rewriting.{IsRewriting}
 use Rattle.dw_eh_frame.proofs.ReadBack.{programs-read-back}
 use Rattle.dw_eh_frame.specs.Instructions.{EhInstruction}
 use Rattle.dw_eh_rows.specs.Meaning.{as_fde, dialect_in, eh_effects_from, eh_rows_by, expression_number}
-use Rattle.dw_eh_rows.specs.Named.{content, rows_with}
+use Rattle.dw_eh_rows.specs.RowsWithoutPlaces.{content, rows_with}
 use Rattle.dw_eh_rows.specs.RewrittenRows.{KeepsRows}
 use Rattle.dw_eh_rows.proofs.Alike.{Naming, lefts, rights, rows-alike}
 use Rattle.dw_eh_rows.proofs.Agreeing.{Agreeing, agreeing, made-named, own-named, own-named-first}

@@ -10,7 +10,7 @@ use Rattle.dw_bytes.specs.declared.fault.FaultKind.{FaultKind}
 use Rattle.dw_bytes.specs.Answers.{values_in, fault_in}
 use Rattle.dw_frame.specs.Bounds.{Ascends, offset_of}
 use Rattle.dw_frame.specs.Records.{Cie, Fde, Record, cie_record, fde_record}
-use Rattle.dw_frame.specs.Sections.{AreRecords, entries_of}
+use Rattle.dw_frame.specs.Sections.{AreRecords, records_of}
 use Rattle.dw_frame.proofs.EachRecord.{sections-are-records}
 use Rattle.dw_frame.proofs.RecordBounds.{records-ascend}
 use Rattle.dw_rules.specs.ProgramFault.{cie_fault, fde_fault}
@@ -321,9 +321,9 @@ made-fault : (a : Bool) (target : Target) (made : List ℕ) (pairs : List Pair) 
 unfolding section_fault parts_fault
 made-fault a target made pairs places parts =
     let rs = made-records pairs in
-    let read : entries_of target made ≡ map Ok rs = (sections-are-records target made rs).1 parts.encoded in
-    let values : values_in (entries_of target made) ≡ rs = ap (λ items. values_in {X = Record} items) read ∙ values-read rs in
-    let none : fault_in (entries_of target made) ≡ None = ap (λ items. fault_in {X = Record} items) read ∙ all-read rs in
+    let read : records_of target made ≡ map Ok rs = (sections-are-records target made rs).1 parts.encoded in
+    let values : values_in (records_of target made) ≡ rs = ap (λ items. values_in {X = Record} items) read ∙ values-read rs in
+    let none : fault_in (records_of target made) ≡ None = ap (λ items. fault_in {X = Record} items) read ∙ all-read rs in
     ap (λ o. option_or o (option_or (programs_fault (frame_of target made).cies (frame_of target made).fdes)
     (first_fault (overlap_fault (frame_of target made).fdes) (frame_of target made).fdes))) none
     ∙ (ap (λ (l : List Record). option_or (programs_fault (cies_among l) (fdes_among l)) (first_fault (overlap_fault (fdes_among l)) (fdes_among l))) values

@@ -9,7 +9,7 @@ pub mod OneRow
 -- which addresses are those of signal frames
 pub mod Signals
 -- rows with their expressions
-pub mod Named
+pub mod RowsWithoutPlaces
 -- ---- The first fault, computed from the records and their instructions. A law ties it to when a
 -- section is well formed.
 pub mod Faults

@@ -7,7 +7,7 @@ use Rattle.dw_rows.specs.UnwindRows.{has_address}
 use Rattle.dw_rows.specs.Section.{FrameSection, IsReturnRegister, row_of}
 use Rattle.dw_eh_frame.specs.Records.{EhFde, EhRecord}
 use Rattle.dw_eh_rows.specs.Meaning.{numbers_of, expression_number, AreEhRows, IsEhCoverOf, eh_fdes}
-use Rattle.dw_eh_rows.specs.Named.{content, row_with}
+use Rattle.dw_eh_rows.specs.RowsWithoutPlaces.{content, row_with}
 
 -- The address has exactly one row among the records of an `.eh_frame` section. In `s`, the section
 -- that was written for them, a look-up finds this row.

@@ -3,12 +3,12 @@ use Rattle.std.specs.Prelude.{◌≡◌, ℕ, Bool, List, ◌++◌, Contains}
 use Rattle.dw_frame.specs.Records.{Cie, Fde, cie_record}
 use Rattle.dw_stack.specs.Located.{LocatedExpression}
 use Rattle.dw_rules.specs.Rules.{PlacedRow}
-use Rattle.dw_rows.specs.Good.{IsGoodFdeProgram}
+use Rattle.dw_rows.specs.GoodPrograms.{IsGoodFdeProgram}
 use Rattle.dw_rows.specs.UnwindRows.{rows_of}
 use Rattle.dw_eh_frame.specs.Records.{EhFde, eh_cie}
 use Rattle.dw_eh_frame.specs.Rewriting.{Pair}
 use Rattle.dw_eh_rows.specs.Meaning.{AreEhRows, expression_number}
-use Rattle.dw_eh_rows.specs.Named.{Names, content, rows_with}
+use Rattle.dw_eh_rows.specs.RowsWithoutPlaces.{Names, content, rows_with}
 
 -- The FDE `e` of `.eh_frame` has rows, and they are the rows of the FDE `f`, whose CIE is `c`. The
 -- expressions in them are the same, except for where they lie.

@@ -3,7 +3,7 @@ use Rattle.std.specs.Prelude.{◌≡◌, ℕ, Bool, List, ◌∷◌, ◌++◌, l
 use Rattle.dw_bytes.specs.declared.target.Target.{Target}
 use Rattle.dw_stack.specs.Expressions.{IsGoodExpression}
 use Rattle.dw_stack.specs.Located.{LocatedExpression}
-use Rattle.dw_rows.specs.Good.{IsGood, IsGoodCie}
+use Rattle.dw_rows.specs.GoodPrograms.{IsGood, IsGoodCie}
 use Rattle.dw_eh_frame.specs.declared.pointer.Bases.{Bases}
 use Rattle.dw_eh_frame.specs.Copies.{distinct}
 use Rattle.dw_eh_frame.specs.Records.{EhCie, EhFde, EhRecord, eh_cie, eh_fde, eh_entries_of}

@@ -7,14 +7,14 @@ use Rattle.dw_bytes.specs.declared.target.Order.{Order}
 use Rattle.dw_bytes.specs.declared.target.Format.{Format}
 use Rattle.dw_bytes.specs.declared.target.Format.TheVariants.{Dwarf32, Dwarf64}
 use Rattle.dw_bytes.specs.declared.fault.Fault.{Fault}
-use Rattle.dw_bytes.specs.Encoding.{Len, Length}
+use Rattle.dw_bytes.specs.Encoding.{InitialLength, InitialLengthPair}
 use Rattle.dw_bytes.specs.Reading.{ReadPosition, Next, IsExact, ◌>>=◌, section_from}
 use Rattle.dw_bytes.specs.Bodies.{framed_at, IsFramed}
 use Rattle.dw_bytes.proofs.Readers.{bind-ok, ok-is, same-reading, leaves-suffix}
 use Rattle.dw_bytes.proofs.Bodies.{framed-found, framed-only}
 use Rattle.dw_bytes.proofs.Sequences.{ReadsEach, Forward, forward, goes-on, stops, ends, all-read, sequence-exact}
 use Rattle.dw_frame.specs.Records.{Record}
-use Rattle.dw_frame.specs.Sections.{Header, IsHeader, IsRecord, AreRecords, record_from, header_at, record_at, entries_from, entries_of}
+use Rattle.dw_frame.specs.Sections.{Header, IsHeader, IsRecord, AreRecords, record_from, header_at, record_at, records_from, records_of}
 use Rattle.dw_frame.specs.Bounds.{IsAfter}
 use Rattle.dw_frame.proofs.Headers.{header-exact}
 
@@ -51,7 +51,7 @@ record-parts r body program after format h frame read =
         fields = header.bytes;
         program = program.rest;
         parts = ap (λ (t : List ℕ). frame.front ++ t) header.parts;
-        length_is = subst (λ (t : List ℕ). Length r.target.order frame.front (format, length t)) header.parts frame.length_is;
+        length_is = subst (λ (t : List ℕ). InitialLengthPair r.target.order frame.front (format, length t)) header.parts frame.length_is;
         header_is = subst (λ p. IsHeader r.target format p header.bytes h) frame.body_position header.encoded;
         record_is = ap (λ n. record_from r.position format n h program) frame.body_position
             ∙ ap (λ (p : ReadPosition). record_from r.position format (r.position + length frame.front) h p) program_is;
@@ -94,7 +94,7 @@ record-only r x after next =
     rw (one, two) (ap (λ (y : Record). finish (y, after)) (sym s.record_is))
 
 -- the encoding of a length isn't empty
-pub some-length : (order : Order) (bytes : List ℕ) (format : Format) (v : ℕ) → Len order bytes format v → 0 < length bytes
+pub some-length : (order : Order) (bytes : List ℕ) (format : Format) (v : ℕ) → InitialLength order bytes format v → 0 < length bytes
 some-length order bytes Dwarf32 v h = omega (arith, h.0.count)
 some-length order bytes Dwarf64 v (mark, rest, parts, first, second) = omega (arith, first.count, ap length parts, length-append mark rest)
 
@@ -120,26 +120,26 @@ pub record-exact : (r : ReadPosition) → IsExact record_at (IsRecord r.target r
 record-exact r = (each-record r.target).exact r refl
 
 pub sections-are-records : (target : Target) (section : List ℕ) (records : List Record)
-    → (entries_of target section ≡ all-read records) ↔ AreRecords target 0 section records
-unfolding entries_from
+    → (records_of target section ≡ all-read records) ↔ AreRecords target 0 section records
+unfolding records_from
 sections-are-records target section records = sequence-exact target record_at (IsRecord target) (each-record target)
     (section_from target section 0) records refl
 
 -- ---- reading a section from an offset on
 
-pub at-end : (target : Target) (section : List ℕ) (at : ℕ) → length section ≤ at → entries_from target section at ≡ []
-unfolding entries_from
+pub at-end : (target : Target) (section : List ℕ) (at : ℕ) → length section ≤ at → records_from target section at ≡ []
+unfolding records_from
 at-end target section at h = ends record_at (section_from target section at) (omega (arith, length-drop at section))
 
 pub at-fault : (target : Target) (section : List ℕ) (at : ℕ) (fault : Fault) → at < length section
-    → record_at (section_from target section at) ≡ Err fault → entries_from target section at ≡ Err fault ∷ []
-unfolding entries_from
+    → record_at (section_from target section at) ≡ Err fault → records_from target section at ≡ Err fault ∷ []
+unfolding records_from
 at-fault target section at fault h is = stops record_at (section_from target section at) fault (omega (arith, length-drop at section)) is
 
 pub at-record : (target : Target) (section : List ℕ) (at next : ℕ) (x : Record)
     → record_at (section_from target section at) ≡ Ok (x, section_from target section next)
-    → entries_from target section at ≡ Ok x ∷ entries_from target section next
-unfolding entries_from
+    → records_from target section at ≡ Ok x ∷ records_from target section next
+unfolding records_from
 at-record target section at next x is = goes-on record_at records-forward (section_from target section at) x
     (section_from target section next) is
 

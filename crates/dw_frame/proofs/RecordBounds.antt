@@ -23,8 +23,8 @@ use Rattle.dw_bytes.proofs.Bodies.{bind-err, not-err, framed-found, framed-refus
 use Rattle.dw_frame.specs.Records.{is_version, Record}
 use Rattle.dw_frame.specs.Sections.{Header, cie_header, fde_header, cie_id, top_of, ends_by, is_register, column_fault, factors}
 use Rattle.dw_frame.specs.Sections.{cie_fields, fde_fields}
-use Rattle.dw_frame.specs.Sections.{header_fields, header_at, IsHeader, record_from, IsRecord, AreRecords, record_at, entries_from}
-use Rattle.dw_frame.specs.Sections.{entries_of, cie_among}
+use Rattle.dw_frame.specs.Sections.{header_fields, header_at, IsHeader, record_from, IsRecord, AreRecords, record_at, records_from}
+use Rattle.dw_frame.specs.Sections.{records_of, cie_among}
 use Rattle.dw_frame.specs.Bounds.{IsSoundRecord, IsSound, offset_of, Ascends}
 use Rattle.dw_frame.proofs.CieAmong.{cie-fault}
 use Rattle.dw_frame.proofs.EachRecord.{record-found, some-bytes, some-length}
@@ -145,9 +145,9 @@ pub record IsOn (target : Target) (size : ℕ) (r : ReadPosition) : Type 0 where
   pub same_target : r.target ≡ target
   pub same_end : end-of r ≡ size
 
-pub entries-sound : (target : Target) (section : List ℕ) (item : Result Record Fault) → Contains (entries_of target section) item
+pub entries-sound : (target : Target) (section : List ℕ) (item : Result Record Fault) → Contains (records_of target section) item
     → IsSound target (length section) item
-unfolding entries_from
+unfolding records_from
 entries-sound target section item h =
     each-along record_at (IsOn target (length section)) (IsSound target (length section))
     (λ r x after on is.
@@ -163,8 +163,8 @@ entries-sound target section item h =
 
 -- the fault that a search for a CIE gives is inside the section or at its end
 pub cie-inside : (target : Target) (section : List ℕ) (offset : ℕ) (fault : Fault)
-    → cie_among offset (entries_of target section) ≡ Err fault → fault.at ≤ length section
-cie-inside target section offset fault is = entries-sound target section (Err fault) (cie-fault offset (entries_of target section) fault is)
+    → cie_among offset (records_of target section) ≡ Err fault → fault.at ≤ length section
+cie-inside target section offset fault is = entries-sound target section (Err fault) (cie-fault offset (records_of target section) fault is)
 
 pub ruleset cie_laws = (cie-inside)
 

@@ -9,7 +9,7 @@ use Rattle.dw_bytes.specs.declared.fault.Fault.{Fault}
 use Rattle.dw_bytes.specs.declared.fault.FaultKind.{FaultKind}
 use Rattle.dw_bytes.specs.declared.fault.FaultKind.TheVariants.{Version, Augmentation, AddressSize, SegmentSize, RegisterNumber}
 use Rattle.dw_bytes.specs.declared.fault.FaultKind.TheVariants.{RangePastTop}
-use Rattle.dw_bytes.specs.Encoding.{max_address, Length, bytes_of_address, bytes_of_offset}
+use Rattle.dw_bytes.specs.Encoding.{max_address, InitialLengthPair, bytes_of_address, bytes_of_offset}
 use Rattle.dw_bytes.specs.Reading.{ReadPosition, ◌>>=◌, section_from}
 use Rattle.dw_bytes.specs.Operands.{address, fixed, unsigned, signed}
 use Rattle.dw_bytes.specs.Bodies.{framed_at}
@@ -145,7 +145,7 @@ pub record IsRecord (target : Target) (at : ℕ) (bytes : List ℕ) (r : Record)
   pub fields : List ℕ
   pub program : List ℕ
   pub parts : bytes ≡ front ++ (fields ++ program)
-  pub length_is : Length target.order front (format, length (fields ++ program))
+  pub length_is : InitialLengthPair target.order front (format, length (fields ++ program))
   pub header_is : IsHeader target format (at + length front) fields header
   pub record_is : r ≡ record_from at format (at + length front) header
       (record { target = target; position = at + length front + length fields; rest = program })
@@ -162,12 +162,12 @@ record_at r = do
   Ok (record_from r.position framed.0.0 framed.0.1.position header.0 header.1, framed.1)
 
 -- reading the records of a section from an offset on
-unfoldable pub entries_from : Target → List ℕ → ℕ → List (Result Record Fault)
-entries_from target section at = sequence_of record_at (section_from target section at)
+unfoldable pub records_from : Target → List ℕ → ℕ → List (Result Record Fault)
+records_from target section at = sequence_of record_at (section_from target section at)
 
 -- Reading the records of a section from left to right, up to the section's end or the first fault.
-abbrev pub entries_of : Target → List ℕ → List (Result Record Fault)
-entries_of target section = entries_from target section 0
+abbrev pub records_of : Target → List ℕ → List (Result Record Fault)
+records_of target section = records_from target section 0
 
 -- Searches the records in order for a CIE at the given offset. Gives that CIE, or the first fault
 -- before it. If there is no such CIE, gives the first fault, or None if there is no fault.

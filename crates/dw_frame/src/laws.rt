@@ -7,7 +7,7 @@ ghost use Rattle.dw_bytes.specs.Reading.{ReadPosition, IsExact, section_from};
 ghost use Rattle.dw_frame.specs.Instructions.{Instruction};
 ghost use Rattle.dw_frame.specs.Records.{Cie, Record, cie_record};
 ghost use Rattle.dw_frame.specs.Codes.{EncodesInstruction, AreInstructions, instruction_at, instructions_of};
-ghost use Rattle.dw_frame.specs.Sections.{IsRecord, AreRecords, record_at, entries_from, entries_of, cie_among};
+ghost use Rattle.dw_frame.specs.Sections.{IsRecord, AreRecords, record_at, records_from, records_of, cie_among};
 ghost use Rattle.dw_frame.specs.Bounds.{StandsIn, EndsWithItsBlock, IsAfter, offset_of, Ascends, IsSound, IsSoundRecord};
 
 /// No instruction's encoding is a proper prefix of another encoding, and the same bytes encode only
@@ -58,7 +58,7 @@ pub fn records_are_exact()
 /// another. Reading then gives these records.
 pub fn sections_are_records()
     ensures { (target : Target) (section : List ℕ) (records : List Record)
-        → (entries_of target section ≡ map Ok records) ↔ AreRecords target 0 section records }
+        → (records_of target section ≡ map Ok records) ↔ AreRecords target 0 section records }
 {}
 
 /// If an instruction has an expression, the expression begins after the instruction's first byte,
@@ -74,12 +74,12 @@ pub fn instructions_end_with_their_expressions()
 pub fn records_come_in_order()
     ensures entry { (target : Target) (section : List ℕ) (at next : ℕ) (x : Record)
         → record_at (section_from target section at) ≡ Ok (x, section_from target section next)
-        → entries_from target section at ≡ Ok x ∷ entries_from target section next }
+        → records_from target section at ≡ Ok x ∷ records_from target section next }
     ensures fault { (target : Target) (section : List ℕ) (at : ℕ) (fault : Fault)
         → at < length section → record_at (section_from target section at) ≡ Err fault
-        → entries_from target section at ≡ Err fault ∷ [] }
+        → records_from target section at ≡ Err fault ∷ [] }
     ensures nothing { (target : Target) (section : List ℕ) (at : ℕ) → length section ≤ at
-        → entries_from target section at ≡ [] }
+        → records_from target section at ≡ [] }
 {}
 
 /// After a record is read, what is left to read is the section from a later offset on. That offset
@@ -110,7 +110,7 @@ pub fn programs_lie_in_their_records()
 /// at most the target's highest address. A fault is reported inside the section or at its end.
 pub fn records_are_sound()
     ensures { (target : Target) (section : List ℕ) (item : Result Record Fault)
-        → Contains (entries_of target section) item → IsSound target (length section) item }
+        → Contains (records_of target section) item → IsSound target (length section) item }
 {}
 
 /// If `cie_among` finds a CIE, that CIE is one of the records and begins at the given offset. If it

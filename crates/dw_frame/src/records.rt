@@ -2,7 +2,7 @@
 
 ghost use Rattle.std.specs.Prelude.{◌≡◌, ◌<◌, ◌^◌, length};
 ghost use Rattle.std.specs.Iterator.{YieldsFirstBy, item_count};
-ghost use Rattle.dw_frame.specs.Sections.{entries_of};
+ghost use Rattle.dw_frame.specs.Sections.{records_of};
 ghost use Rattle.dw_frame.specs.Views.{entry_of};
 
 use crate::entry::Entry;
@@ -43,9 +43,9 @@ impl<'a> Model for Entries<'a> {
 
     ghost Value = { List (Result Record Fault) };
 
-    ghost use Rattle.dw_frame.specs.Sections.{entries_from};
+    ghost use Rattle.dw_frame.specs.Sections.{records_from};
 
-    ghost view = { λ it. entries_from it.target it.section.now it.at };
+    ghost view = { λ it. records_from it.target it.section.now it.at };
 
     ghost invariant = { λ it. (it.at ≤ length it.section.now) × (length it.section.now < 2 ^ 32) };
 }
@@ -54,7 +54,7 @@ impl<'a> Entries<'a> {
     /// An iterator that begins at the first byte of a section of fewer than 2^32 bytes.
     pub(crate) fn new(section: &'a [u8], target: Target) -> Self
         requires { length section.now < 2 ^ 32 }
-        ensures { result ≡ entries_of target section.now }
+        ensures { result ≡ records_of target section.now }
     {
         Entries {
             section,

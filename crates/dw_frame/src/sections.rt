@@ -4,7 +4,7 @@ ghost use Rattle.std.specs.Prelude.{◌≡◌, ◌≤◌, ◌<◌, ◌^◌, leng
 ghost use Rattle.dw_bytes.specs.Readers.{ReadsFrom};
 ghost use Rattle.dw_bytes.specs.Reading.{section_from};
 ghost use Rattle.dw_bytes.specs.Bodies.{framed_at};
-ghost use Rattle.dw_frame.specs.Sections.{record_at, record_from, entries_of, cie_among};
+ghost use Rattle.dw_frame.specs.Sections.{record_at, record_from, records_of, cie_among};
 ghost use Rattle.dw_frame.specs.Headers.{head_of};
 ghost use Rattle.dw_frame.specs.Views.{reading_of, reading_from, record_of, found_cie};
 
@@ -106,7 +106,7 @@ pub fn entry<'a>(section: &'a [u8], target: Target, at: u32) -> Result<(Entry<'a
 /// no memory.
 pub fn entries<'a>(section: &'a [u8], target: Target) -> Entries<'a>
     requires { length section.now < 2 ^ 32 }
-    ensures { result ≡ entries_of target section.now }
+    ensures { result ≡ records_of target section.now }
 {
     Entries::new(section, target)
 }
@@ -122,7 +122,7 @@ pub fn cie_at<'a>(
     offset: u64,
 ) -> Result<Option<CommonInformationEntry<'a>>, Fault>
     requires { length section.now < 2 ^ 32 }
-    ensures found { found_cie result ≡ cie_among offset (entries_of target section.now) }
+    ensures found { found_cie result ≡ cie_among offset (records_of target section.now) }
     ensures inside { IfErr result (λ fault. fault.at ≤ length section.now) }
 {
     for entry in entries(section, target) {

@@ -10,7 +10,7 @@ use Rattle.dw_bytes.specs.declared.target.Format.{Format}
 use Rattle.dw_bytes.specs.declared.target.Format.TheVariants.{Dwarf32, Dwarf64}
 use Rattle.dw_bytes.specs.declared.fault.Fault.{Fault}
 use Rattle.dw_bytes.specs.declared.fault.FaultKind.TheVariants.{BadOffsetEntry}
-use Rattle.dw_bytes.specs.Encoding.{Len, Length, Offset}
+use Rattle.dw_bytes.specs.Encoding.{InitialLength, InitialLengthPair, Offset}
 use Rattle.dw_bytes.specs.Reading.{ReadPosition, Next, IsExact, ◌>>=◌, section_from, offset_at}
 use Rattle.dw_bytes.specs.Fields.{Encodes, unless, ok_unless, fields_at}
 use Rattle.dw_bytes.specs.Bodies.{framed_at, IsFramed}
@@ -259,7 +259,7 @@ table-parts r after mid end format body count os ls frame header_is named_is lis
         lists = end.rest;
         parts = ap (λ (t : List ℕ). frame.front ++ t) body_is;
         offset_is = refl;
-        length_is = subst (λ (t : List ℕ). Length r.target.order frame.front (format, length t)) body_is frame.length_is;
+        length_is = subst (λ (t : List ℕ). InitialLengthPair r.target.order frame.front (format, length t)) body_is frame.length_is;
         header_is = subst (λ n. Encodes r.target (table_header r.target) (r.position + length frame.front) header.bytes n)
             (sym named.encoded.1) (subst (λ p. Encodes r.target (table_header r.target) p header.bytes count) frame.body_position
             header.encoded);
@@ -348,7 +348,7 @@ table-only r t after next =
     ∙ ap (λ n. done (table-of t.offset t.format n t.offsets t.lists) after) (sym array))))))
 
 -- an encoded initial length has at least one byte
-pub some-length : (order : Order) (bytes : List ℕ) (format : Format) (v : ℕ) → Len order bytes format v → 0 < length bytes
+pub some-length : (order : Order) (bytes : List ℕ) (format : Format) (v : ℕ) → InitialLength order bytes format v → 0 < length bytes
 some-length order bytes Dwarf32 v h = omega (arith, h.0.count)
 some-length order bytes Dwarf64 v (mark, rest, parts, first, second) = omega (arith, first.count, ap length parts, length-append mark rest)
 

@@ -5,7 +5,7 @@ use Rattle.std.specs.List.{AllByRecursion, flat_map}
 use Rattle.dw_bytes.specs.declared.target.Target.{Target}
 use Rattle.dw_bytes.specs.declared.target.Format.{Format}
 use Rattle.dw_bytes.specs.declared.fault.FaultKind.TheVariants.{ListVersion, AddressSize, SegmentSize}
-use Rattle.dw_bytes.specs.Encoding.{Offset, Length, bytes_of_address}
+use Rattle.dw_bytes.specs.Encoding.{Offset, InitialLengthPair, bytes_of_address}
 use Rattle.dw_bytes.specs.Operands.{fixed}
 use Rattle.dw_bytes.specs.Fields.{Fields, made, field, any, byte, unless, Encodes}
 use Rattle.dw_bytes.specs.Sequence.{Sequence}
@@ -69,7 +69,7 @@ pub record IsTable (target : Target) (at : ℕ) (bytes : List ℕ) (t : Table) :
   pub lists : List ℕ
   pub parts : bytes ≡ front ++ (header ++ (offsets ++ lists))
   pub offset_is : t.offset ≡ at
-  pub length_is : Length target.order front (t.format, length (header ++ (offsets ++ lists)))
+  pub length_is : InitialLengthPair target.order front (t.format, length (header ++ (offsets ++ lists)))
   pub header_is : Encodes target (table_header target) (at + length front) header (length t.offsets)
   pub array_is : t.array ≡ at + length front + length header
   pub offsets_are : Sequence (IsListOffset target t.format t.array (starts_of t.lists)) t.array offsets t.offsets

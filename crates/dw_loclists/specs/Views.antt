@@ -4,7 +4,7 @@ use Rattle.std.specs.Prelude.{ℕ}
 use Rattle.dw_bytes.specs.Operands.{block_of}
 use Rattle.dw_loclists.specs.declared.stored_lists.StoredExpression.{StoredExpression}
 use Rattle.dw_loclists.specs.declared.entry.Entry as declared
-use Rattle.dw_loclists.specs.declared.contents.LocationList as declared_list
+use Rattle.dw_loclists.specs.declared.stored_section.LocationList as declared_list
 use Rattle.dw_loclists.specs.declared.entry.Entry.TheVariants as entries
 use Rattle.dw_loclists.specs.Entries.{Entry}
 

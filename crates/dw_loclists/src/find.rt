@@ -8,8 +8,8 @@ ghost use Rattle.dw_loclists.specs.Views.{start_of, offset_of};
 ghost use Rattle.dw_loclists.specs.Stored.{IsAmong};
 ghost use Rattle.dw_stack.specs.Located.{located_of};
 
-use crate::contents::LocationList;
 use crate::stored_lists::StoredExpression;
+use crate::stored_section::LocationList;
 use dw_bytes::Block;
 use dw_stack::CheckedExpression;
 

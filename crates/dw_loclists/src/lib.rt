@@ -1,7 +1,6 @@
 //! The location lists of a `.debug_loclists` section (DWARF 5, sections 2.6.2, 7.7.3 and 7.29).
 #![tactic(auto)]
 
-mod contents;
 mod entry;
 mod expressions;
 mod find;
@@ -11,11 +10,12 @@ mod lists;
 mod locations;
 mod one_list;
 mod stored_lists;
+mod stored_section;
 mod table;
 mod walk;
 
-pub use contents::LocationList;
 pub use expressions::Expressions;
 pub use lists::{CheckedLists, check_lists};
 pub use locations::LocationsAt;
 pub use one_list::{CheckedList, check_list};
+pub use stored_section::LocationList;

@@ -7,10 +7,10 @@ ghost use Rattle.dw_loclists.specs.Locations.{locations_of};
 ghost use Rattle.dw_loclists.specs.Reading.{lists_fault, IsChecked, tables_in, lists_in, located_in};
 ghost use Rattle.dw_loclists.specs.Views.{start_of};
 
-use crate::contents::{Contents, LocationList};
 use crate::expressions::Expressions;
 use crate::find::find_list;
 use crate::locations::LocationsAt;
+use crate::stored_section::{Contents, LocationList};
 use crate::table::read_table;
 use crate::walk::ListWalk;
 use dw_bytes::{Cursor, Fault, Target};

@@ -12,9 +12,9 @@ ghost use Rattle.dw_loclists.specs.Reading.{lists_at, list_offset_at, table_at};
 ghost use Rattle.dw_loclists.specs.Stored.{KeepsLists, KeepsTable};
 ghost use Rattle.dw_loclists.specs.Views.{start_of};
 
-use crate::contents::{Contents, LocationList};
 use crate::find::find_list;
 use crate::list::read_list;
+use crate::stored_section::{Contents, LocationList};
 use dw_bytes::{Body, Cursor, Fault, FaultKind, Format, Target};
 use std::alloc::Global;
 

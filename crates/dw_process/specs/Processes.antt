@@ -104,12 +104,12 @@ abbrev pub row_in : ProcessState → ℕ → Option (Row × ℕ)
 row_in p address = option_and_then (λ m. row_of_module m address) (module_at p.modules address)
 
 -- whether an address as loaded is one of a signal frame of the module whose range contains it
-abbrev pub signal_in : Option LoadedModule → ℕ → Bool
-signal_in None address = false
-signal_in (Some m) address = is_signal_at m.signals (as_linked m.rows.target m.load_address address)
+abbrev pub is_signal_in_module : Option LoadedModule → ℕ → Bool
+is_signal_in_module None address = false
+is_signal_in_module (Some m) address = is_signal_at m.signals (as_linked m.rows.target m.load_address address)
 
 abbrev pub is_signal_in : ProcessState → ℕ → Bool
-is_signal_in p address = signal_in (module_at p.modules address) address
+is_signal_in p address = is_signal_in_module (module_at p.modules address) address
 
 -- a row and its return address register, with what is known of their module, whose target is given
 abbrev pub found_with : Target → LoadedModule → Row × ℕ → FoundRow

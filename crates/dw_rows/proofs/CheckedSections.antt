@@ -5,7 +5,7 @@ use Rattle.std.specs.List.{flat_map}
 use Rattle.dw_bytes.specs.declared.target.Target.{Target}
 use Rattle.dw_bytes.specs.Answers.{fault_in}
 use Rattle.dw_frame.specs.Records.{Cie, Fde}
-use Rattle.dw_frame.specs.Sections.{entries_of, top_of}
+use Rattle.dw_frame.specs.Sections.{records_of, top_of}
 use Rattle.dw_frame.specs.Bounds.{Ascends, IsSoundCie, IsSoundFde}
 use Rattle.dw_stack.specs.Located.{LocatedExpression}
 use Rattle.dw_rules.specs.Expressions.{cie_expressions, frame_expressions}
@@ -21,18 +21,18 @@ use Rattle.dw_rows.proofs.Parts.{parts-pass, covers-once-in}
 use Rattle.dw_rows.proofs.SectionOrder.{cies-ascend, fdes-ascend, cies-sound, fdes-sound}
 
 -- the CIEs and FDEs of a section that passed the check were read without a fault
-pub checked-read : (s : FrameSection) → IsChecked s → fault_in (entries_of s.target s.section) ≡ None
+pub checked-read : (s : FrameSection) → IsChecked s → fault_in (records_of s.target s.section) ≡ None
 unfolding section_fault
 checked-read s k =
     let frame = frame_of s.target s.section in
-    (option_or-none (fault_in (entries_of s.target s.section)) (parts_fault frame.cies frame.fdes) k.faultless).0
+    (option_or-none (fault_in (records_of s.target s.section)) (parts_fault frame.cies frame.fdes) k.faultless).0
 
 -- checking the CIEs and FDEs of a section that passed the check found no fault in them
 pub checked-parts : (s : FrameSection) → IsChecked s → parts_fault s.cies s.fdes ≡ None
 unfolding section_fault
 checked-parts s k =
     let frame = frame_of s.target s.section in
-    let none = (option_or-none (fault_in (entries_of s.target s.section)) (parts_fault frame.cies frame.fdes) k.faultless).1 in
+    let none = (option_or-none (fault_in (records_of s.target s.section)) (parts_fault frame.cies frame.fdes) k.faultless).1 in
     subst (λ (t : FrameSection). parts_fault t.cies t.fdes ≡ None) (sym k.whole) none
 
 pub checked-cies-ascend : (s : FrameSection) → IsChecked s → Ascends cie_offset s.cies
@@ -83,7 +83,7 @@ count-given s (f ∷ fdes) =
 -- if reading a section and checking its CIEs and FDEs finds no fault, what the code stores about
 -- the section meets `IsKept`
 pub kept : (target : Target) (section : List ℕ) (cies : List Cie) (left : List StoredRules) (fdes : List Fde) (index : List IndexEntry)
-    → fault_in (entries_of target section) ≡ None → cies ≡ (frame_of target section).cies → fdes ≡ (frame_of target section).fdes
+    → fault_in (records_of target section) ≡ None → cies ≡ (frame_of target section).cies → fdes ≡ (frame_of target section).fdes
     → parts_fault cies fdes ≡ None → AreLeftBy cies left → IsAddressIndex fdes index → (expressions : List LocatedExpression)
     → expressions ≡ frame_expressions cies fdes → (count : ℕ) → count ≡ length (cie_expressions cies)
     → (rows : ℕ) → rows ≡ length (flat_map (placed_rows cies) fdes)

@@ -14,7 +14,7 @@ use Rattle.dw_bytes.proofs.Bounds.{end-of}
 use Rattle.dw_frame.specs.Instructions.{Instruction}
 use Rattle.dw_frame.specs.Records.{Record, cie_record, fde_record}
 use Rattle.dw_frame.specs.Codes.{instruction_at, instructions_of}
-use Rattle.dw_frame.specs.Sections.{entries_of, AreRecords}
+use Rattle.dw_frame.specs.Sections.{records_of, AreRecords}
 use Rattle.dw_frame.specs.Bounds.{Ascends, EndsWithItsBlock, LiesIn}
 use Rattle.dw_frame.proofs.Exact.{some-bytes}
 use Rattle.dw_frame.proofs.EachInstruction.{exact-instruction, next-instruction, next-fault, no-instruction}
@@ -212,37 +212,37 @@ apart target at bytes (fde_record f ∷ records) (first, rest, parts, here, othe
 -- ---- sections that are read without a fault
 
 abbrev records-in : Target → List ℕ → List Record
-records-in target section = values_in (entries_of target section)
+records-in target section = values_in (records_of target section)
 
-pub cie-expressions-rise : (target : Target) (section : List ℕ) → fault_in (entries_of target section) ≡ None
+pub cie-expressions-rise : (target : Target) (section : List ℕ) → fault_in (records_of target section) ≡ None
     → Rise target 0 (length section) (cie_expressions (frame_of target section).cies)
 cie-expressions-rise target section none =
     rise-later target 0 (0 + length section) (length section) (cie_expressions (frame_of target section).cies) (omega arith)
     (cies-rise target 0 section (records-in target section) (are-records target section none))
 
-pub fde-expressions-rise : (target : Target) (section : List ℕ) → fault_in (entries_of target section) ≡ None
+pub fde-expressions-rise : (target : Target) (section : List ℕ) → fault_in (records_of target section) ≡ None
     → Rise target 0 (length section) (fde_expressions (frame_of target section).fdes)
 fde-expressions-rise target section none =
     rise-later target 0 (0 + length section) (length section) (fde_expressions (frame_of target section).fdes) (omega arith)
     (fdes-rise target 0 section (records-in target section) (are-records target section none))
 
-pub cie-expressions-ascend : (target : Target) (section : List ℕ) → fault_in (entries_of target section) ≡ None
+pub cie-expressions-ascend : (target : Target) (section : List ℕ) → fault_in (records_of target section) ≡ None
     → Ascends at-offset (cie_expressions (frame_of target section).cies)
 cie-expressions-ascend target section none =
     rise-ascends target 0 (length section) (cie_expressions (frame_of target section).cies) (cie-expressions-rise target section none)
 
-pub fde-expressions-ascend : (target : Target) (section : List ℕ) → fault_in (entries_of target section) ≡ None
+pub fde-expressions-ascend : (target : Target) (section : List ℕ) → fault_in (records_of target section) ≡ None
     → Ascends at-offset (fde_expressions (frame_of target section).fdes)
 fde-expressions-ascend target section none =
     rise-ascends target 0 (length section) (fde_expressions (frame_of target section).fdes) (fde-expressions-rise target section none)
 
-pub expressions-apart : (target : Target) (section : List ℕ) → fault_in (entries_of target section) ≡ None → (e g : LocatedExpression)
+pub expressions-apart : (target : Target) (section : List ℕ) → fault_in (records_of target section) ≡ None → (e g : LocatedExpression)
     → Contains (cie_expressions (frame_of target section).cies) e → Contains (fde_expressions (frame_of target section).fdes) g
     → e.offset ≢ g.offset
 expressions-apart target section none = apart target 0 section (records-in target section) (are-records target section none)
 
 -- the bytes of each expression of a section are inside the section
-pub expression-inside : (target : Target) (section : List ℕ) → fault_in (entries_of target section) ≡ None → (e : LocatedExpression)
+pub expression-inside : (target : Target) (section : List ℕ) → fault_in (records_of target section) ≡ None → (e : LocatedExpression)
     → Contains (frame_expressions (frame_of target section).cies (frame_of target section).fdes) e → IsInside target 0 (length section) e
 expression-inside target section none e among =
     let s = frame_of target section in
@@ -252,7 +252,7 @@ expression-inside target section none e among =
     ]
 
 -- each expression of a section is found at its offset
-pub expression-found : (target : Target) (section : List ℕ) → fault_in (entries_of target section) ≡ None → (e : LocatedExpression)
+pub expression-found : (target : Target) (section : List ℕ) → fault_in (records_of target section) ≡ None → (e : LocatedExpression)
     → Contains (frame_expressions (frame_of target section).cies (frame_of target section).fdes) e
     → expression_at (frame_expressions (frame_of target section).cies (frame_of target section).fdes) e.offset ≡ Some e
 expression-found target section none e among =

@@ -19,7 +19,7 @@ use Rattle.dw_rules.specs.ExpressionOrder.{expression_offset}
 use Rattle.dw_rules.specs.InForce.{Start, rule_at, cie_start, effects_of_cie, fde_start}
 use Rattle.dw_rules.specs.RuleSet.{LendsRules}
 use Rattle.dw_rules.specs.RowsWithExpressions.{LendsRule, LendsCfa, LendsEach}
-use Rattle.dw_rows.specs.Good.{prefix, rule_after, IsGoodFdeProgram}
+use Rattle.dw_rows.specs.GoodPrograms.{prefix, rule_after, IsGoodFdeProgram}
 use Rattle.dw_rows.specs.Clauses.{IsRowAt, start_in, program_in}
 use Rattle.dw_rows.specs.Section.{FrameSection, IsChecked, frame_of}
 use Rattle.dw_rows.specs.RowCursors.{RowCursor, StandsAfter, LendsTo, Lends}

@@ -4,7 +4,7 @@ use Rattle.std.proofs.Common.{◌≡◌, ℕ, ◌+◌, ◌<◌, ◌≤◌, List,
 use Rattle.std.proofs.Common.{length-append}
 use Rattle.std.proofs.lemmas.Bool.{cases_lt}
 use Rattle.dw_rules.specs.Effects.{Effect, remembers_state, restores_state}
-use Rattle.dw_rows.specs.Good.{remembers, restores_in, IsBalanced, Match}
+use Rattle.dw_rows.specs.GoodPrograms.{remembers, restores_in, IsBalanced, Match}
 use Rattle.dw_rows.proofs.Matching.{remembers-append, restores-append}
 
 -- if a list is split in two ways, the longer front begins with the shorter one

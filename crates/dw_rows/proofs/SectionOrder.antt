@@ -6,7 +6,7 @@ use Rattle.dw_bytes.specs.declared.target.Target.{Target}
 use Rattle.dw_bytes.specs.declared.fault.Fault.{Fault}
 use Rattle.dw_bytes.specs.Answers.{values_in, fault_in}
 use Rattle.dw_frame.specs.Records.{Cie, Fde, Record, cie_record, fde_record}
-use Rattle.dw_frame.specs.Sections.{entries_of, AreRecords}
+use Rattle.dw_frame.specs.Sections.{records_of, AreRecords}
 use Rattle.dw_frame.specs.Bounds.{Ascends, offset_of, IsSoundCie, IsSoundFde}
 use Rattle.dw_frame.proofs.EachRecord.{sections-are-records}
 use Rattle.dw_frame.proofs.RecordBounds.{records-ascend, entries-sound}
@@ -42,22 +42,22 @@ ascending-fdes (cie_record c ∷ records) up = ascending-fdes records up.1
 ascending-fdes (fde_record f ∷ records) up = (all-fdes f.offset records up.0, ascending-fdes records up.1)
 
 -- if all records of a section can be read without a fault, the section's bytes encode these records
-pub are-records : (target : Target) (section : List ℕ) → fault_in (entries_of target section) ≡ None
-    → AreRecords target 0 section (values_in (entries_of target section))
-are-records target section none = (sections-are-records target section (values_in (entries_of target section))).0
-    (read-whole (entries_of target section) none)
+pub are-records : (target : Target) (section : List ℕ) → fault_in (records_of target section) ≡ None
+    → AreRecords target 0 section (values_in (records_of target section))
+are-records target section none = (sections-are-records target section (values_in (records_of target section))).0
+    (read-whole (records_of target section) none)
 
-ascends : (target : Target) (section : List ℕ) → fault_in (entries_of target section) ≡ None
-    → Ascends offset_of (values_in (entries_of target section))
-ascends target section none = records-ascend target 0 section (values_in (entries_of target section)) (are-records target section none)
+ascends : (target : Target) (section : List ℕ) → fault_in (records_of target section) ≡ None
+    → Ascends offset_of (values_in (records_of target section))
+ascends target section none = records-ascend target 0 section (values_in (records_of target section)) (are-records target section none)
 
-pub cies-ascend : (target : Target) (section : List ℕ) → fault_in (entries_of target section) ≡ None
+pub cies-ascend : (target : Target) (section : List ℕ) → fault_in (records_of target section) ≡ None
     → Ascends cie_offset (frame_of target section).cies
-cies-ascend target section none = ascending-cies (values_in (entries_of target section)) (ascends target section none)
+cies-ascend target section none = ascending-cies (values_in (records_of target section)) (ascends target section none)
 
-pub fdes-ascend : (target : Target) (section : List ℕ) → fault_in (entries_of target section) ≡ None
+pub fdes-ascend : (target : Target) (section : List ℕ) → fault_in (records_of target section) ≡ None
     → Ascends fde_offset (frame_of target section).fdes
-fdes-ascend target section none = ascending-fdes (values_in (entries_of target section)) (ascends target section none)
+fdes-ascend target section none = ascending-fdes (values_in (records_of target section)) (ascends target section none)
 
 -- if a list contains y, it still does with x in front
 Contains-cons : {X : Type 0} (x y : X) (xs : List X) → Contains xs y → Contains (x ∷ xs) y
@@ -86,10 +86,10 @@ cie_record-among (Ok (cie_record d) ∷ items) c (suc k, lt, is) =
 
 pub cies-sound : (target : Target) (section : List ℕ) (c : Cie) → Contains (frame_of target section).cies c
     → IsSoundCie target (length section) c
-cies-sound target section c among = entries-sound target section (Ok (cie_record c)) (cie_record-among (entries_of target section) c among)
+cies-sound target section c among = entries-sound target section (Ok (cie_record c)) (cie_record-among (records_of target section) c among)
 
 -- the FDEs of a section cover only addresses that its target has, and their programs are in the
 -- section
 pub fdes-sound : (target : Target) (section : List ℕ) (f : Fde) → Contains (frame_of target section).fdes f
     → IsSoundFde target (length section) f
-fdes-sound target section f among = entries-sound target section (Ok (fde_record f)) (fde-among (entries_of target section) f among)
+fdes-sound target section f among = entries-sound target section (Ok (fde_record f)) (fde-among (records_of target section) f among)

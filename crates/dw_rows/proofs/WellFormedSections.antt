@@ -3,10 +3,10 @@ use Rattle.std.proofs.Common.{◌≡◌, ℕ, ◌↔◌, List, [], ◌∷◌, ma
 use Rattle.dw_bytes.specs.declared.target.Target.{Target}
 use Rattle.dw_bytes.specs.Answers.{values_in, fault_in}
 use Rattle.dw_frame.specs.Records.{Cie, Fde, Record}
-use Rattle.dw_frame.specs.Sections.{entries_of}
+use Rattle.dw_frame.specs.Sections.{records_of}
 use Rattle.dw_frame.proofs.EachRecord.{sections-are-records}
 use Rattle.dw_rules.specs.ProgramFault.{cie_fault, fde_fault}
-use Rattle.dw_rows.specs.Good.{IsGoodCieProgram, IsGoodFdeProgram}
+use Rattle.dw_rows.specs.GoodPrograms.{IsGoodCieProgram, IsGoodFdeProgram}
 use Rattle.dw_rows.specs.Section.{cie_at, pointer_fault, program_fault, fault_by_cie, parts_fault, section_fault, frame_of, CoversOnce}
 use Rattle.dw_rows.specs.Section.{cies_among, fdes_among}
 use Rattle.dw_rows.specs.WellFormed.{IsWellFormed}
@@ -26,9 +26,9 @@ record ProgramLaws : Type 0 where
 well-formed : ProgramLaws → (target : Target) (section : List ℕ) → section_fault target section ≡ None → IsWellFormed target section
 unfolding section_fault
 well-formed laws target section none =
-    let split = option_or-none (fault_in (entries_of target section))
+    let split = option_or-none (fault_in (records_of target section))
     (parts_fault (frame_of target section).cies (frame_of target section).fdes) none in
-    let records = values_in (entries_of target section) in
+    let records = values_in (records_of target section) in
     let cies = cies_among records in
     let fdes = fdes_among records in
     let parts = parts-pass cies fdes split.1 in
@@ -79,9 +79,9 @@ passes laws cies fdes up pointers cie_programs fde_programs once = record {
 no-fault : ProgramLaws → (target : Target) (section : List ℕ) → IsWellFormed target section → section_fault target section ≡ None
 unfolding section_fault
 no-fault laws target section w =
-    let read : entries_of target section ≡ map Ok w.records = (sections-are-records target section w.records).1 w.encoded in
-    let none : fault_in (entries_of target section) ≡ None = ap fault_in read ∙ all-read-fault w.records in
-    let values : values_in (entries_of target section) ≡ w.records = ap values_in read ∙ all-read-values w.records in
+    let read : records_of target section ≡ map Ok w.records = (sections-are-records target section w.records).1 w.encoded in
+    let none : fault_in (records_of target section) ≡ None = ap fault_in read ∙ all-read-fault w.records in
+    let values : values_in (records_of target section) ≡ w.records = ap values_in read ∙ all-read-values w.records in
     let up : Ascends cie_offset (cies_among w.records) =
     subst (λ l. Ascends cie_offset (cies_among l)) values (cies-ascend target section none) in
     let parts : parts_fault (cies_among w.records) (fdes_among w.records) ≡ None =

@@ -5,7 +5,7 @@ use Rattle.dw_frame.specs.Records.{Cie, Fde}
 use Rattle.dw_rules.specs.Rules.{PlacedRow, Row}
 use Rattle.dw_rules.specs.RowsWithExpressions.{row_with_expressions, LendsCfa, LendsEach}
 use Rattle.dw_rows.specs.UnwindRows.{has_address}
-use Rattle.dw_rows.specs.Good.{IsLast, IsGoodFdeProgram}
+use Rattle.dw_rows.specs.GoodPrograms.{IsLast, IsGoodFdeProgram}
 use Rattle.dw_rows.specs.Clauses.{IsRowAt, start_in, program_in}
 use Rattle.dw_rows.specs.Section.{FrameSection, IsCoverOf, rows_in, row_of}
 

@@ -7,7 +7,7 @@ pub mod UnwindRows
 pub mod Clauses
 -- when a program is good: remember_states and restore_states match, locations never go back, rows
 -- have CFA rules (6.4.1, 6.4.2)
-pub mod Good
+pub mod GoodPrograms
 -- whole sections: when one is accepted, its first fault, the row of an address (6.4.1)
 pub mod Section
 -- when a section is well formed (6.4.1)

@@ -9,7 +9,7 @@ use Rattle.dw_bytes.specs.declared.fault.Fault.{Fault}
 use Rattle.dw_bytes.specs.declared.fault.FaultKind.TheVariants.{NoSuchCie, Overlap}
 use Rattle.dw_bytes.specs.Answers.{values_in, fault_in}
 use Rattle.dw_frame.specs.Records.{Cie, Fde, Record, cie_record, fde_record}
-use Rattle.dw_frame.specs.Sections.{entries_of}
+use Rattle.dw_frame.specs.Sections.{records_of}
 use Rattle.dw_rules.specs.Rules.{PlacedRow, Row}
 use Rattle.dw_stack.specs.Located.{LocatedExpression}
 use Rattle.dw_rules.specs.Expressions.{frame_expressions}
@@ -42,7 +42,7 @@ fdes_among records = filter_map fde_in_record records
 
 abbrev pub frame_of : Target → List ℕ → FrameSection
 frame_of target section =
-    let records = values_in (entries_of target section) in
+    let records = values_in (records_of target section) in
     record {
       target = target;
       section = section;
@@ -115,7 +115,7 @@ parts_fault cies fdes = option_or (programs_fault cies fdes) (first_fault (overl
 -- the first fault of a section: the first fault in reading its CIEs and FDEs, or else the first
 -- fault of their pointers, programs and addresses
 unfoldable pub section_fault : Target → List ℕ → Option Fault
-section_fault target section = option_or (fault_in (entries_of target section))
+section_fault target section = option_or (fault_in (records_of target section))
     (parts_fault (frame_of target section).cies (frame_of target section).fdes)
 
 -- A section that is accepted: its CIEs, FDEs and expressions are what is read from its bytes, and

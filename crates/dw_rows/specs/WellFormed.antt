@@ -3,7 +3,7 @@ use Rattle.std.specs.Prelude.{◌≡◌, ℕ, List, Contains}
 use Rattle.dw_bytes.specs.declared.target.Target.{Target}
 use Rattle.dw_frame.specs.Records.{Cie, Fde, Record}
 use Rattle.dw_frame.specs.Sections.{AreRecords}
-use Rattle.dw_rows.specs.Good.{IsGoodCieProgram, IsGoodFdeProgram}
+use Rattle.dw_rows.specs.GoodPrograms.{IsGoodCieProgram, IsGoodFdeProgram}
 use Rattle.dw_rows.specs.Section.{cies_among, fdes_among, CoversOnce}
 
 -- The section's bytes are the encodings of CIEs and FDEs, without gaps. Each CIE_pointer is the

@@ -4,7 +4,7 @@ ghost use Rattle.std.specs.Prelude.{◌≡◌, ◌+◌, ◌*◌, ◌<◌, ◌≤
 ghost use Rattle.std.specs.Prelude.{find};
 ghost use Rattle.dw_rows.specs.UnwindRows.{has_address};
 ghost use Rattle.dw_frame.specs.Records.{Cie, Fde};
-ghost use Rattle.dw_frame.specs.Sections.{entries_of, top_of};
+ghost use Rattle.dw_frame.specs.Sections.{records_of, top_of};
 ghost use Rattle.dw_frame.specs.Views.{cie_of, fde_of};
 ghost use Rattle.dw_bytes.specs.Answers.{Checks, Answers, fault_in};
 ghost use Rattle.dw_rules.specs.ProgramFault.{cie_fault, fde_fault};
@@ -117,7 +117,7 @@ fn records_of<'a>(
     Fault,
 >
     requires { length section.now < 2 ^ 32 }
-    ensures read { Answers (fault_in (entries_of target section.now)) result }
+    ensures read { Answers (fault_in (records_of target section.now)) result }
     ensures cies { IfOk result (λ records. map cie_of records.0.items ≡
         (frame_of target section.now).cies) }
     ensures fdes { IfOk result (λ records. map fde_of records.1.items ≡

@@ -15,7 +15,7 @@ ghost use Rattle.dw_rules.specs.Expressions.{expression_in};
 ghost use Rattle.dw_rules.specs.InForce.{Start, location_of};
 ghost use Rattle.dw_rules.specs.ProgramFault.{cie_fault, fde_fault, refusal_at};
 ghost use Rattle.dw_rows.specs.UnwindRows.{rows_of, has_address, Cover};
-ghost use Rattle.dw_rows.specs.Good.{rule_after, cfa_after, Match, IsGoodCieProgram, IsGoodFdeProgram};
+ghost use Rattle.dw_rows.specs.GoodPrograms.{rule_after, cfa_after, Match, IsGoodCieProgram, IsGoodFdeProgram};
 ghost use Rattle.dw_rows.specs.Clauses.{AreRules, AreRowsOf};
 ghost use Rattle.dw_bytes.specs.declared.target.Target.{Target};
 ghost use Rattle.dw_bytes.specs.declared.fault.Fault.{Fault};
@@ -32,7 +32,7 @@ ghost use Rattle.dw_rules.specs.declared.remember_stack.TheConstants.{MAX_REMEMB
 
 pub use dw_rules::laws::{abis_without_fault_are_distinct, rule_lists_are_rules, rules_under_abis};
 
-/// The rules after the first k + 1 instructions (`rule_after` and `cfa_after`, Good.antt) follow
+/// The rules after the first k + 1 instructions (`rule_after` and `cfa_after`, GoodPrograms.antt) follow
 /// from the rules after fewer instructions, as the standard says for each kind of instruction
 /// (`AreRules`, Clauses.antt). For example, the rules after a restore_state are the rules before
 /// the matching remember_state. If each restore_state has a match, no other rules meet these

@@ -32,7 +32,9 @@ pub mod RowExpressions
 
 -- rule sets: the rules of a row, as they are stored
 pub mod RuleSet
--- the index of a register in a table of rules, and the stack of remembered rules
+-- the index of a register's rule in a list of rules
+pub mod RegisterRules
+-- the stack of remembered rules
 pub mod RememberStack
 -- the state of a running program
 pub mod ProgramState

@@ -6,7 +6,7 @@ ghost use Rattle.dw_bytes.specs.declared.fault.FaultKind.{FaultKind};
 ghost use Rattle.std.specs.Bool.{OnTrue, OnFalse};
 ghost use Rattle.dw_rules.specs.Rules.{PlacedRule, RuleOver, IsTable, rule_in, rule_list, rule_count, changed_at};
 ghost use Rattle.dw_rules.specs.Views.{stored_rule_of, rule_by, entry_of, entries_of};
-ghost use Rattle.dw_rules.specs.RememberStack.{place_in};
+ghost use Rattle.dw_rules.specs.RegisterRules.{rule_index};
 
 use crate::stored_rule::StoredRule;
 use dw_bytes::FaultKind;
@@ -348,7 +348,7 @@ pub fn rule_of_register(entries: &[RuleEntry], register: u16) -> StoredRule
 /// inserted. This is the number of entries with a lower register.
 #[inline(always)]
 fn place_of_register(entries: &[RuleEntry], register: u16) -> usize
-    ensures value { result ≡ place_in register (entries_of entries.now) }
+    ensures value { result ≡ rule_index register (entries_of entries.now) }
     ensures within { result ≤ length entries.now }
 {
     for (place, entry) in entries.iter().enumerate() {
@@ -367,7 +367,7 @@ fn clear_rule(table: &mut EntryTable, register: u16) -> usize
     ensures table { IsTable 0 (entries_of table.new.items) }
     ensures rules { entries_of table.new.items ≡ rule_list
         (changed_at (rule_in (entries_of table.old.items)) register RuleOver.default) }
-    ensures value { result ≡ place_in register (entries_of table.new.items) }
+    ensures value { result ≡ rule_index register (entries_of table.new.items) }
     ensures within { result ≤ length table.new.items }
 {
     let place = place_of_register(table.as_slice(), register);

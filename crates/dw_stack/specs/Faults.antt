@@ -98,14 +98,14 @@ rank fault.TargetNotStart = 9
 rank fault.EndsEmpty = 10
 rank _ = 11
 
-abbrev pub Precedes : ℕ → FaultKind → ℕ → FaultKind → Type 0
-Precedes a f b g = (a < b) ⊎ ((a ≡ b) × (rank f < rank g))
+abbrev pub FaultPrecedes : ℕ → FaultKind → ℕ → FaultKind → Type 0
+FaultPrecedes a f b g = (a < b) ⊎ ((a ≡ b) × (rank f < rank g))
 
 -- The check f refuses at offset `at`, and no check refuses at a lower offset or comes before f at
 -- the same offset.
 pub record IsFirstFault (kind : Kind) (ops : List Placed) (len : ℕ) (given : Option (List State)) (f : FaultKind) (at : ℕ) : Type 0 where
   pub refuses : Refuses kind ops len given f at
-  pub first : (g : FaultKind) (a : ℕ) → Precedes a g at f → ¬ Refuses kind ops len given g a
+  pub first : (g : FaultKind) (a : ℕ) → FaultPrecedes a g at f → ¬ Refuses kind ops len given g a
 
 -- the states in `given`, if any are passed, are those that the paths have
 pub record KnowsOnly (kind : Kind) (ops : List Placed) (len : ℕ) (given : Option (List State)) : Type 0 where

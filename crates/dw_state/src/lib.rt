@@ -5,7 +5,7 @@
 mod abi_registers;
 mod addresses;
 mod machine_state;
-mod parts;
+mod split;
 mod state_fault;
 mod state_line;
 

@@ -12,7 +12,7 @@ ghost use Rattle.dw_state.specs.StateFile.{facts_of_lines, is_line, go_together,
 ghost use Rattle.dw_state.specs.StateViews.{fact_of, known_state_of, IsBadState, IsStateOf};
 
 use crate::abi_registers::AbiRegisters;
-use crate::parts::Parts;
+use crate::split::Parts;
 use crate::state_fault::StateFault;
 use crate::state_line::{StateLine, parse_line};
 use byteorder::{BigEndian, ByteOrder, LittleEndian};

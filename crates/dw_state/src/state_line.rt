@@ -6,7 +6,7 @@ ghost use Rattle.dw_state.specs.StateFile.{fact_of_three_words, fact_of_two_word
 ghost use Rattle.dw_state.specs.StateViews.{fact_of};
 
 use crate::addresses::{parse_address, parse_short};
-use crate::parts::Parts;
+use crate::split::Parts;
 use dw_bytes::Target;
 use hex::FromHexError;
 use std::alloc::{AllocError, Global};

@@ -2,10 +2,10 @@
 //! kind of work, and its result depends on all of that work.
 #![tactic(auto)]
 
-mod answers;
+mod checksum;
 mod machine;
 mod meaning;
-mod mixed;
+mod reading_checksum;
 mod tables;
 mod walks;
 

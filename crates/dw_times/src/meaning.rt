@@ -1,8 +1,8 @@
 //! A checksum of what an expression means: of its operations, and of its outcome on a machine whose
 //! registers and memory all have known contents.
 
+use crate::checksum::Mixed;
 use crate::machine::{CONTEXT, Known};
-use crate::mixed::Mixed;
 use dw_eval::{Location, Outcome, PieceSize, evaluate};
 use dw_ops::{Expression, Operation, operations};
 use dw_stack::CheckedExpression;

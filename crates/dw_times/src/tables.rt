@@ -1,8 +1,8 @@
 //! Exports for `bench/beside_gimli` that time compiled tables, or return a checksum of their rows.
 
-use crate::answers::{add_cfa, add_rule, target_of};
+use crate::checksum::Mixed;
 use crate::machine::Known;
-use crate::mixed::Mixed;
+use crate::reading_checksum::{add_cfa, add_rule, target_of};
 use crate::{TARGET, number_of};
 use dw_bytes::Target;
 use dw_check::unwind_by;

@@ -13,7 +13,7 @@ use Rattle.dw_rules.specs.Rules.{val_expression}
 use Rattle.dw_unwind.specs.declared.register_file.TheConstants.{PLACES}
 use Rattle.dw_unwind.specs.Caller.{Answer, AreRegisters, Caller, IsCaller, IsCfa}
 use Rattle.dw_unwind.specs.Contents.{HasContents, Overlays, abi_rules, content_changed}
-use Rattle.dw_unwind.specs.Places.{HasFarRule, Writes}
+use Rattle.dw_unwind.specs.MissingPlaces.{HasFarRule, Writes}
 use Rattle.dw_unwind.specs.Walks.{content_of}
 use Rattle.dw_unwind.proofs.Contents.{listed, or-some}
 

@@ -4,7 +4,7 @@ use Rattle.dw_eval.specs.World.{World}
 use Rattle.dw_unwind.specs.declared.unwinding.Answer as declared_answer
 use Rattle.dw_unwind.specs.declared.unwinding.Answer.TheVariants as answers
 use Rattle.dw_unwind.specs.declared.unwinding.Caller as declared_caller
-use Rattle.dw_unwind.specs.declared.present.Present.{Present}
+use Rattle.dw_unwind.specs.declared.rule_answers.Present.{Present}
 use Rattle.dw_unwind.specs.Caller.{Answer, value, undefined, unreadable, division_by_zero, Caller, machine}
 
 abbrev pub answer_in : declared_answer.Answer → Answer

@@ -24,7 +24,7 @@ pub mod PackedRegisters
 -- the contents of registers by number, for walks that give no registers
 pub mod Contents
 -- which registers have no place among those contents
-pub mod Places
+pub mod MissingPlaces
 -- callee-saved registers that are marked by number
 pub mod KeptRegisters
 -- translates the code's frames and walks

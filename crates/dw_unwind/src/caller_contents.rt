@@ -8,11 +8,11 @@ ghost use Rattle.dw_rules.specs.RowsWithExpressions.{IsEntryOfKind, IsRuleOfKind
 ghost use Rattle.dw_unwind.specs.Caller.{IsRegister, if_value, number_plus, word};
 ghost use Rattle.dw_unwind.specs.CallerViews.{answer_in, machine_in};
 ghost use Rattle.dw_unwind.specs.Contents.{HasContents, Keeps, Overlays, UnwindsTo, abi_rules, contents_in};
-ghost use Rattle.dw_unwind.specs.Places.{Fills, LacksPlace};
+ghost use Rattle.dw_unwind.specs.MissingPlaces.{Fills, LacksPlace};
 ghost use Rattle.dw_unwind.specs.Walks.{content_of, over_rows};
 
-use crate::present::Present;
 use crate::register_file::RegisterFile;
+use crate::rule_answers::Present;
 use crate::unwinding::{Answer, Unwound};
 use dw_eval::{Memory, Registers};
 use dw_rows::{RegisterRule, RegisterRules, UnwindRow, UnwindRows};

@@ -15,8 +15,8 @@ ghost use Rattle.dw_unwind.specs.Walks.{over_rows};
 
 use crate::caller_contents::{content_of, pointed, saved};
 use crate::kept_registers::KeptRegisters;
-use crate::present::Present;
 use crate::register_file::{PLACES, RegisterFile};
+use crate::rule_answers::Present;
 use crate::unwinding::{Answer, Unwound};
 use dw_bytes::{AddressSize, Order, Target};
 use dw_eval::{Memory, Registers, Width};

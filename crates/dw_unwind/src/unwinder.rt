@@ -7,7 +7,7 @@ ghost use Rattle.dw_unwind.specs.Caller.{value};
 ghost use Rattle.dw_unwind.specs.CallerFits.{CallerFits};
 ghost use Rattle.dw_unwind.specs.CallerViews.{answer_in};
 ghost use Rattle.dw_unwind.specs.Contents.{UnwindsTo, contents_in};
-ghost use Rattle.dw_unwind.specs.Places.{LacksPlace};
+ghost use Rattle.dw_unwind.specs.MissingPlaces.{LacksPlace};
 ghost use Rattle.dw_unwind.specs.UnwoundViews.{caller_with};
 
 use crate::caller_contents::{NoPlace, contents_by};

@@ -13,8 +13,8 @@ ghost use Rattle.dw_unwind.specs.Walks.{over_rows};
 
 use crate::laws::unwinding_by_what_is_found;
 use crate::packed_registers::PackedRegisters;
-use crate::present::Present;
 use crate::register_list::RegisterList;
+use crate::rule_answers::Present;
 use crate::unwinder::Unwinder;
 use arrayvec::ArrayVec;
 use dw_eval::{Memory, Registers};

@@ -3,7 +3,7 @@
 ghost use Rattle.std.specs.Prelude.{◌≡◌, ℕ, IfErr, IfOk, MatchOption, OnErr, None, Some};
 ghost use Rattle.dw_rules.specs.Abi.{abi_of};
 ghost use Rattle.dw_unwind.specs.Contents.{UnwindsTo, contents_in};
-ghost use Rattle.dw_unwind.specs.Places.{LacksPlace};
+ghost use Rattle.dw_unwind.specs.MissingPlaces.{LacksPlace};
 ghost use Rattle.dw_unwind.specs.Walks.{address_before};
 
 use crate::caller_contents::NoPlace;

@@ -2,7 +2,7 @@
 use Rattle.std.specs.Prelude.{◌≡◌, ℕ, ◌+◌, ◌≤◌, ◌==◌, if◌then◌else◌, IfSome, List, [], ◌∷◌, length, map, Option, Some}
 use Rattle.dw_rules.specs.Abi.{Abi}
 use Rattle.dw_unwind.specs.Contents.{contents_in}
-use Rattle.dw_unwind.specs.Places.{LacksPlace}
+use Rattle.dw_unwind.specs.MissingPlaces.{LacksPlace}
 use Rattle.dw_unwind.specs.Walks.{IsFrameAt, Place, WalkedFrame, address_before, stop_after, stop_of_caller}
 use Rattle.dw_unwind.specs.declared.frames.Stop.{Stop}
 use Rattle.dw_process.specs.Processes.{ProcessState}

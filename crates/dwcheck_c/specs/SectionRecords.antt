@@ -4,7 +4,7 @@ use Rattle.dw_bytes.specs.declared.fault.Fault.{Fault}
 use Rattle.dw_bytes.specs.declared.target.Target.{Target}
 use Rattle.dw_bytes.specs.Reading.{ReadPosition, section_from}
 use Rattle.dw_frame.specs.Records.{Cie, Fde, Record, cie_record, fde_record}
-use Rattle.dw_frame.specs.Sections.{entries_of}
+use Rattle.dw_frame.specs.Sections.{records_of}
 use Rattle.dw_eh_frame.specs.Records.{EhRecord, eh_cie, eh_fde, eh_nothing, eh_record_at}
 use Rattle.dw_eh_rows.specs.Faults.{as_cie}
 use Rattle.dw_eh_rows.specs.Meaning.{as_fde}
@@ -91,14 +91,14 @@ eh_record_shown (eh_nothing at) next = begun RECORD_EMPTY at false next
 pub record IsRecord (section : List ℕ) (target : Target) (at : ℕ) (out : CRecord) : Type 0 where
   pub found : Record
   pub others : List (Result Record Fault)
-  pub read : entries_of target (drop at section) ≡ Ok found ∷ others
+  pub read : records_of target (drop at section) ≡ Ok found ∷ others
   pub shown : out ≡ record_shown at found
 
 -- it doesn't: what is read there first is this fault, at an offset that counts from `at`
 pub record IsNoRecord (section : List ℕ) (target : Target) (at : ℕ) (fault : Fault) : Type 0 where
   pub found : Fault
   pub others : List (Result Record Fault)
-  pub read : entries_of target (drop at section) ≡ Err found ∷ others
+  pub read : records_of target (drop at section) ≡ Err found ∷ others
   pub moved : fault ≡ record { kind = found.kind; at = at + found.at }
 
 -- a record of `.eh_frame` begins at the offset `at`, and `out` is C's struct for it

@@ -5,7 +5,7 @@ ghost use Rattle.std.specs.Bool.{OnTrue, OnFalse};
 ghost use Rattle.dw_process.specs.Processes.{ProcessState, is_signal_in};
 ghost use Rattle.dw_rules.specs.Abi.{Abi, abi_of};
 ghost use Rattle.dw_unwind.specs.Contents.{contents_in};
-ghost use Rattle.dw_unwind.specs.Places.{LacksPlace};
+ghost use Rattle.dw_unwind.specs.MissingPlaces.{LacksPlace};
 ghost use Rattle.dw_unwind.specs.Walks.{first_place};
 ghost use Rattle.dw_unwind.specs.declared.frames.Stop.{Stop as Why};
 ghost use Rattle.dwcheck_c.specs.declared.answer.CFrame.{CFrame as Slot};

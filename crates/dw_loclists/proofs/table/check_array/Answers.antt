@@ -4,7 +4,7 @@ use Rattle.dw_bytes.specs.declared.fault.Fault.{Fault}
 use Rattle.dw_bytes.specs.declared.fault.FaultKind.TheVariants.{BadOffsetEntry}
 use Rattle.dw_bytes.specs.Sequence.{exactly_of}
 use Rattle.dw_bytes.proofs.Sequences.{exactly-more, exactly-stops}
-use Rattle.dw_loclists.specs.declared.contents.LocationList.{LocationList}
+use Rattle.dw_loclists.specs.declared.stored_section.LocationList.{LocationList}
 use Rattle.dw_loclists.specs.Reading.{list_offset_at}
 use Rattle.dw_loclists.specs.Views.{start_of}
 use Rattle.dw_loclists.proofs.EachTable.{offset-bad, offset-good, offset-refused}

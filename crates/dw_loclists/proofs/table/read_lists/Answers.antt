@@ -3,7 +3,7 @@ use Rattle.std.specs.Prelude.{◌⊎◌}
 use Rattle.std.proofs.lemmas.Grind.{common_steps}
 use Rattle.std.proofs.lemmas.List.{map-append}
 use Rattle.dw_bytes.specs.Answers.{memory}
-use Rattle.dw_loclists.specs.declared.contents.LocationList.{LocationList}
+use Rattle.dw_loclists.specs.declared.stored_section.LocationList.{LocationList}
 use Rattle.dw_loclists.specs.Reading.{lists_at}
 use Rattle.dw_loclists.specs.Stored.{stored_of}
 use Rattle.dw_loclists.specs.Views.{start_of}

@@ -5,7 +5,7 @@ use Rattle.std.proofs.lemmas.List.{length-take}
 use Rattle.dw_bytes.specs.Reading.{ReadPosition, section_from}
 use Rattle.dw_bytes.specs.Fields.{fields_at}
 use Rattle.dw_bytes.specs.Sequence.{exactly_of}
-use Rattle.dw_loclists.specs.declared.contents.LocationList.{LocationList}
+use Rattle.dw_loclists.specs.declared.stored_section.LocationList.{LocationList}
 use Rattle.dw_loclists.specs.Lists.{table_header, starts_of}
 use Rattle.dw_loclists.specs.Bounds.{Ascends}
 use Rattle.dw_loclists.specs.Reading.{list_offset_at, table_at}

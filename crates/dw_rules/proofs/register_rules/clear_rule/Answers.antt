@@ -1,5 +1,5 @@
 use Rattle.std.proofs.Common.{arith, ◌≡◌}
-use Rattle.dw_rules.specs.RememberStack.{place_in}
+use Rattle.dw_rules.specs.RegisterRules.{rule_index}
 use Rattle.dw_rules.specs.Views.{entries_of}
 use Rattle.dw_rules.proofs.Edits.{clears-removed, removed-place, clears-nothing, clears-end}
 use Rattle.dw_rules.proofs.register_rules.clear_rule.Goals as goal
@@ -7,7 +7,7 @@ use Rattle.dw_rules.proofs.register_rules.clear_rule.Goals.{else-place-len-via-t
 
 pub returns-then-as_slice-place : goal.returns-then-as_slice-place
 returns-then-as_slice-place c =
-    let place : c.place_of_register-place.result ≡ place_in c.args.register (entries_of c.args.table.now.items) = cc in
+    let place : c.place_of_register-place.result ≡ rule_index c.args.register (entries_of c.args.table.now.items) = cc in
     let k = clears-removed c.args.table.now.items _ c.remove.new.self.items c.args.register _ _ c.as_slice-then-place-len.ensures.value
     place (omega arith) c.if-as_slice-place.true c.remove.ensures.items c.requires in
     record {
@@ -20,7 +20,7 @@ returns-then-as_slice-place c =
 
 pub returns-else-place-len-clause-rules : goal.returns-else-place-len-clause-rules
 returns-else-place-len-clause-rules c =
-    let place : c.place_of_register-place.result ≡ place_in c.args.register (entries_of c.args.table.now.items) = cc in
+    let place : c.place_of_register-place.result ≡ rule_index c.args.register (entries_of c.args.table.now.items) = cc in
     elim c.else-place-len.branch [
       | else-place-len-via-then-place-len+else-as_slice-place w ↦
           (clears-nothing c.args.table.now.items _ c.args.register _ _ w.as_slice-then-place-len.ensures.value place

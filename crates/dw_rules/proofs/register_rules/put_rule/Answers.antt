@@ -1,6 +1,6 @@
 use Rattle.std.proofs.Common.{arith, ◌≡◌, ◌<◌, length}
 use Rattle.std.proofs.lemmas.Grind.{common_steps}
-use Rattle.dw_rules.specs.RememberStack.{place_in}
+use Rattle.dw_rules.specs.RegisterRules.{rule_index}
 use Rattle.dw_rules.specs.Views.{stored_rule_of, entries_of}
 use Rattle.dw_rules.proofs.Tables.{inserted, Clears, puts-inserted, full-count}
 use Rattle.dw_rules.proofs.Edits.{insert-place, stored_rule_of-some, length-entries_of}
@@ -27,7 +27,7 @@ pub returns : goal.returns
 returns c =
     let old = entries_of c.args.table.now.items in
     let mid = entries_of c.clear_rule-place.new.table.items in
-    let place : c.clear_rule-place.result ≡ place_in c.args.register mid = c.clear_rule-place.ensures.value in
+    let place : c.clear_rule-place.result ≡ rule_index c.args.register mid = c.clear_rule-place.ensures.value in
     let clears : Clears old c.args.register mid = record { table = c.clear_rule-place.ensures.table; rules = c.clear_rule-place.ensures.rules } in
     let new : entries_of c.insert.new.self.items ≡ inserted c.args.register (stored_rule_of c.args.rule) mid =
     rw (c.insert.ensures.items, place) (insert-place c.clear_rule-place.new.table.items c.args.register

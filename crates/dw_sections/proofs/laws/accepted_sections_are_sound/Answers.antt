@@ -1,5 +1,5 @@
 use Rattle.std.proofs.Common.{refl}
-use Rattle.dw_frame.specs.Sections.{entries_of}
+use Rattle.dw_frame.specs.Sections.{records_of}
 use Rattle.dw_rows.specs.Section.{IsChecked, frame_of, cies_among, fdes_among}
 use Rattle.dw_loclists.specs.Reading.{ListSection}
 use Rattle.dw_sections.specs.Headline.{list_section}
@@ -16,8 +16,8 @@ returns c = λ target frame lists none.
     record {
       records = formed.records;
       encoded = formed.encoded;
-      cies = made_of cies_among (entries_of target frame) formed.records read;
-      fdes = made_of fdes_among (entries_of target frame) formed.records read;
+      cies = made_of cies_among (records_of target frame) formed.records read;
+      fdes = made_of fdes_among (records_of target frame) formed.records read;
       tables = c.checked_list_sections.ensures.tables (list_section target lists) each.1;
       rows = λ a f inside covers. c.exact_rows.ensures.covered (frame_of target frame) a checked f inside covers;
       others = λ a free. c.exact_rows.ensures.others (frame_of target frame) a free;

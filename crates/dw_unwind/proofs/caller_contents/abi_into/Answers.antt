@@ -2,7 +2,7 @@ use Rattle.std.proofs.Common.{◌&&◌, ℕ, None, Option, Some, arith, refl, sy
 use Rattle.dw_rules.specs.Abi.{abi_of}
 use Rattle.dw_unwind.specs.CallerViews.{answer_in, machine_in}
 use Rattle.dw_unwind.specs.Contents.{HasContents, abi_rules, content_changed, contents_in}
-use Rattle.dw_unwind.specs.Places.{Fills}
+use Rattle.dw_unwind.specs.MissingPlaces.{Fills}
 use Rattle.dw_unwind.proofs.Contents.{kept-has, pointer-has}
 use Rattle.dw_unwind.proofs.Places.{far-beside-pointer, far-pointer, writes-by, writes-next}
 use Rattle.dw_unwind.proofs.caller_contents.abi_into.Goals as goal

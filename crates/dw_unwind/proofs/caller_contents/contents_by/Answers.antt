@@ -5,7 +5,7 @@ use Rattle.dw_rules.specs.Rules.{Rule}
 use Rattle.dw_unwind.specs.Caller.{IsCaller, machine}
 use Rattle.dw_unwind.specs.CallerViews.{answer_in}
 use Rattle.dw_unwind.specs.Contents.{HasContents, contents_in}
-use Rattle.dw_unwind.specs.Places.{HasFarRule}
+use Rattle.dw_unwind.specs.MissingPlaces.{HasFarRule}
 use Rattle.dw_unwind.proofs.Contents.{by_contents}
 use Rattle.dw_unwind.proofs.Places.{caller-with-far}
 use Rattle.dw_unwind.proofs.caller_contents.contents_by.Goals as goal

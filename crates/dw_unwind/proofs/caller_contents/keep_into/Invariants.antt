@@ -2,7 +2,7 @@ use Rattle.std.proofs.Common.{ℕ, Option, None, drop}
 use Rattle.dw_rules.specs.Abi.{abi_of}
 use Rattle.dw_unwind.specs.CallerViews.{machine_in}
 use Rattle.dw_unwind.specs.Contents.{Keeps, abi_rules, contents_in}
-use Rattle.dw_unwind.specs.Places.{Writes}
+use Rattle.dw_unwind.specs.MissingPlaces.{Writes}
 use Rattle.dw_unwind.proofs.caller_contents.keep_into.Given as goal
 
 -- what the remaining registers make of the contents that are wanted so far is what all make of the

@@ -3,7 +3,7 @@ use Rattle.dw_rules.specs.Rules.{rule_in}
 use Rattle.dw_rules.specs.Views.{numbered_rule_of}
 use Rattle.dw_unwind.specs.CallerViews.{answer_in, machine_in}
 use Rattle.dw_unwind.specs.Contents.{Overlays, contents_in}
-use Rattle.dw_unwind.specs.Places.{Writes}
+use Rattle.dw_unwind.specs.MissingPlaces.{Writes}
 use Rattle.dw_unwind.proofs.caller_contents.overlay_into.Given as goal
 
 -- what the remaining rules make of the contents that are wanted so far is what all make of the first

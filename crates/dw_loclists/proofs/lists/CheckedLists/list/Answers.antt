@@ -1,6 +1,6 @@
 use Rattle.std.proofs.Common.{◌≡◌, ℕ, List, map, Contains, sym, ap, subst, ◌∙◌}
 use Rattle.std.specs.Prelude.{MatchOption}
-use Rattle.dw_loclists.specs.declared.contents.LocationList.{LocationList}
+use Rattle.dw_loclists.specs.declared.stored_section.LocationList.{LocationList}
 use Rattle.dw_loclists.specs.Bounds.{Ascends}
 use Rattle.dw_loclists.specs.Lists.{starts_of}
 use Rattle.dw_loclists.specs.Reading.{ListSection, lists_in}

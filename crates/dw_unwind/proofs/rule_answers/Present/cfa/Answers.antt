@@ -3,7 +3,7 @@ use Rattle.dw_stack.specs.declared.state.Kind.TheVariants.{FrameCfa}
 use Rattle.dw_stack.specs.Located.{located_of}
 use Rattle.dw_unwind.specs.CallerViews.{answer_in, machine_in, with_optional_cfa}
 use Rattle.dw_unwind.proofs.Callers.{as_kind}
-use Rattle.dw_unwind.proofs.present.Present.cfa.Goals as goal
+use Rattle.dw_unwind.proofs.rule_answers.Present.cfa.Goals as goal
 
 pub returns-in-Expression : goal.returns-in-Expression
 returns-in-Expression g c =

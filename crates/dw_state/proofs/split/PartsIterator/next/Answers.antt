@@ -1,7 +1,7 @@
 use Rattle.std.proofs.Common.{rules, arith, ap, take, drop, length, ◌≡◌, ◌+◌, ◌∷◌}
 use Rattle.dw_state.specs.Parts.{parts_of}
 use Rattle.dw_state.proofs.Separated.{cut_at, uncut, all_past}
-use Rattle.dw_state.proofs.parts.PartsIterator.next.Goals as goal
+use Rattle.dw_state.proofs.split.PartsIterator.next.Goals as goal
 
 pub returns-in-Some-clause-steps : goal.returns-in-Some-clause-steps
 returns-in-Some-clause-steps c =

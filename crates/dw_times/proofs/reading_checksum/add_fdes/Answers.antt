@@ -2,7 +2,7 @@ use Rattle.std.proofs.Common.{◌∙◌, ◌<◌, ap, length, map, subst, sym}
 use Rattle.std.specs.List.{Contains}
 use Rattle.std.proofs.lemmas.List.{get_or-map, length-map}
 use Rattle.dw_frame.specs.Views.{fde_of}
-use Rattle.dw_times.proofs.answers.add_fdes.Goals as goal
+use Rattle.dw_times.proofs.reading_checksum.add_fdes.Goals as goal
 
 -- `rows_into` requires an FDE of the section, and the loop takes its FDEs from the section
 pub rows_into-requires : goal.rows_into-requires

@@ -4,7 +4,7 @@ use Rattle.dw_rules.specs.RowsWithExpressions.{IsEntryOfKind}
 use Rattle.dw_rules.specs.Views.{numbered_rule_of}
 use Rattle.dw_unwind.specs.CallerViews.{answer_in, machine_in}
 use Rattle.dw_unwind.proofs.Callers.{has_room, of_next, one_more, comes}
-use Rattle.dw_unwind.proofs.present.Present.registers_into.Goals as goal
+use Rattle.dw_unwind.proofs.rule_answers.Present.registers_into.Goals as goal
 
 pub register-requires : goal.register-requires
 register-requires g c =

@@ -2,7 +2,7 @@ use Rattle.std.proofs.Common.{◌≡◌, ◌++◌, map}
 use Rattle.dw_rules.specs.Views.{numbered_rule_of}
 use Rattle.dw_unwind.specs.Caller.{AreRegisters}
 use Rattle.dw_unwind.specs.CallerViews.{answer_in, machine_in}
-use Rattle.dw_unwind.proofs.present.Present.registers_into.Given as goal
+use Rattle.dw_unwind.proofs.rule_answers.Present.registers_into.Given as goal
 
 abbrev pub invariant-loop-number : goal.invariant-loop-number
 invariant-loop-number g l = record {

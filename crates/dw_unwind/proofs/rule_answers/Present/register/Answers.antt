@@ -6,7 +6,7 @@ use Rattle.dw_stack.specs.Located.{located_of}
 use Rattle.dw_unwind.specs.Caller.{Answer, if_value, word, with_cfa}
 use Rattle.dw_unwind.specs.CallerViews.{answer_in, machine_in}
 use Rattle.dw_unwind.proofs.Callers.{as_kind}
-use Rattle.dw_unwind.proofs.present.Present.register.Goals as goal
+use Rattle.dw_unwind.proofs.rule_answers.Present.register.Goals as goal
 
 -- `if_value` leaves an answer without a value unchanged
 if_value_other : (a : declared.Answer) (f : ℕ → Answer) → ((n : ℕ) → a ≡ answers.Value n → ⊥) → answer_in a ≡ if_value (answer_in a) f

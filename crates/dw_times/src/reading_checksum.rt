@@ -1,8 +1,8 @@
 //! A checksum of what is read from a section or an expression, for comparisons with gimli. If the
 //! input is refused, the result is the number of its first fault instead.
 
+use crate::checksum::Mixed;
 use crate::meaning::add_expression;
-use crate::mixed::Mixed;
 use dw_bytes::{AddressSize, Fault, FaultKind, Order, Target};
 use dw_frame::{CommonInformationEntry, FrameDescriptionEntry};
 use dw_loclists::{CheckedLists, check_lists};
