@@ -9,8 +9,8 @@ use Rattle.std_heap.specs.contracts.GlobalAllocator.TheImpl.{ghosts, dict}
 use Rattle.std_heap.proofs.Global.TheLaws as heap
 use Rattle.dw_process.proofs.process.Process.TheLaws as process
 use Rattle.dwcheck_c.specs.Held.{the_process}
-use Rattle.dwcheck_c.specs.contracts.held.parts.Parts as Parts
-use Rattle.dwcheck_c.specs.contracts.held.Held as Held
+use Rattle.dwcheck_c.specs.contracts.modules_pointer.parts.Parts as Parts
+use Rattle.dwcheck_c.specs.contracts.modules_pointer.Held as Held
 
 abbrev pub E : Bx
 E = record { row = the_process; laws = process.the_row_laws; al = record { row = Heap.the_row; laws = heap.the_row_laws; g = ghosts; d = dict; drops = impl [] tnil dnil } }

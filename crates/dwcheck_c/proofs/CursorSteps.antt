@@ -10,11 +10,11 @@ use Rattle.dw_unwind.specs.Walks.{Place, UnwindsAt, content_of, contents_of, sto
 use Rattle.dw_unwind.specs.declared.frames.Stop.{Stop}
 use Rattle.dw_unwind.specs.declared.frames.Stop.TheVariants.{NotCovered}
 use Rattle.dw_unwind.specs.declared.unwinding.Unwound.{Unwound}
-use Rattle.dwcheck_c.specs.declared.answer.CFrame.{CFrame}
+use Rattle.dw_c_types.specs.declared.answer.CFrame.{CFrame}
+use Rattle.dw_c_types.specs.Frames.{cframe_of, stop_number}
+use Rattle.dw_c_types.specs.ProcessWalks.{Unwinding, looked_up_after, place_after, place_at, signal_at, without_bits}
 use Rattle.dwcheck_c.specs.declared.cursor.CCursor.{CCursor}
-use Rattle.dwcheck_c.specs.Cursors.{IsStepBy, looked_up_by, place_of, registers_in}
-use Rattle.dwcheck_c.specs.Frames.{cframe_of, stop_number}
-use Rattle.dwcheck_c.specs.ProcessWalks.{Unwinding, looked_up_after, place_after, place_at, signal_at, without_bits}
+use Rattle.dwcheck_c.specs.WalkCursors.{IsStepBy, looked_up_by, place_of, registers_in}
 
 abbrev pub place-by : Option ℕ → ℕ → (ℕ → Option ℕ) → Place
 place-by looked_up address registers = record { address = address; looked_up = looked_up; registers = registers }

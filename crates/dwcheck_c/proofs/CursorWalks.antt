@@ -8,12 +8,12 @@ use Rattle.dw_unwind.specs.Walks.{Place, WalkedFrame, content_of, first_place, s
 use Rattle.dw_unwind.specs.declared.frames.Stop.{Stop}
 use Rattle.dw_unwind.specs.declared.frames.Stop.TheVariants.{Limit, NotCovered, ReturnUndefined, ReturnUnreadable, ReturnDivisionByZero}
 use Rattle.dw_process.specs.Processes.{ProcessState}
-use Rattle.dwcheck_c.specs.declared.answer.CFrame.{CFrame}
+use Rattle.dw_c_types.specs.declared.answer.CFrame.{CFrame}
+use Rattle.dw_c_types.specs.Frames.{IsBacktrace, cframe_of, stop_number}
+use Rattle.dw_c_types.specs.ProcessWalks.{AreFramesBy, Unwinding, place_after, through_held}
+use Rattle.dw_c_types.specs.Slots.{put_into}
 use Rattle.dwcheck_c.specs.declared.cursor.CCursor.{CCursor}
-use Rattle.dwcheck_c.specs.Cursors.{AreFramesOfSteps, AreSteps, HasEnded, IsStepBy, looked_up_by, place_of, registers_in}
-use Rattle.dwcheck_c.specs.Frames.{IsBacktrace, cframe_of, stop_number}
-use Rattle.dwcheck_c.specs.ProcessWalks.{AreFramesBy, Unwinding, place_after, through_held}
-use Rattle.dwcheck_c.specs.Slots.{put_into}
+use Rattle.dwcheck_c.specs.WalkCursors.{AreFramesOfSteps, AreSteps, WalkHasEnded, IsStepBy, looked_up_by, place_of, registers_in}
 use Rattle.dwcheck_c.proofs.CursorSteps.{next-place}
 use Rattle.dwcheck_c.proofs.WrittenFrames.{no-frames, walks-to-end, walks-to-limit}
 
@@ -83,7 +83,7 @@ step-place u old new f h le =
     at.1 ∙ ap (λ (p : Place). Some p) (sym here.1)
 
 -- the walk ends with a step
-pub step-stop : (u : Unwinding) (old new : CCursor) (f : CFrame) (h : IsStepBy u old new f) (why : Stop) → HasEnded new why
+pub step-stop : (u : Unwinding) (old new : CCursor) (f : CFrame) (h : IsStepBy u old new f) (why : Stop) → WalkHasEnded new why
     → stop_of_caller h.walked.caller ≡ Some why
 step-stop u old new f h why over =
     ended u (looked_up_by old.stage old.address) h.walked.caller new.stage why
@@ -118,7 +118,7 @@ last u from to f step = record {
 
 join : (u : Unwinding) (from next to : CCursor) (f g : CFrame) (frames : List CFrame) → IsStepBy u from next f → next.stage ≤ 1
     → (ws : List WalkedFrame) → AreFramesBy u (Some (place_of next)) ws → g ∷ frames ≡ map cframe_of ws
-    → ((why : Stop) → HasEnded to why → 1 ≤ length (g ∷ frames) → stop_after ws ≡ Some why)
+    → ((why : Stop) → WalkHasEnded to why → 1 ≤ length (g ∷ frames) → stop_after ws ≡ Some why)
     → AreFramesOfSteps u (place_of from) (f ∷ g ∷ frames) to
 join u from next to f g frames step le [] are shown ends = absurd (none shown)
   where
@@ -163,7 +163,7 @@ fills held abi memory registers bits address from to frames old at are le long =
 
 pub ends : (held : Option ProcessState) (abi : Abi) (memory registers : ℕ → Option ℕ) (bits address : ℕ) (from to : CCursor) (frames old : List CFrame)
     (why : Stop) → place_of from ≡ first_place address registers → AreSteps (through_held abi memory bits held) from frames to
-    → 1 ≤ length frames → length frames < length old → HasEnded to why
+    → 1 ≤ length frames → length frames < length old → WalkHasEnded to why
     → IsBacktrace held abi memory bits registers address old (put_into frames old) (length frames) (stop_number why)
 ends held abi memory registers bits address from to frames old why at are le long over =
     let u : Unwinding = through_held abi memory bits held in

@@ -1,14 +1,10 @@
 mod AsBox
-mod Assembled
 mod CursorSteps
 mod CursorWalks
-mod FirstBlock
 mod FirstEntries
-mod FirstTwice
 mod ContentAt
 mod NameLengths
 mod PartFields
-mod Putting
 mod Tops
 mod Uncovered
 mod RightFields

@@ -13,7 +13,7 @@ use denote.Shadow.{makes_shadow}
 use denote.Struct.Laws.{RawPtr-copy}
 use denote.Struct.Struct.{Struct}
 use denote.Struct.Owning.{shape}
-use Rattle.dwcheck_c.specs.contracts.part.Part as part
+use Rattle.dwcheck_c.specs.contracts.right_part.Part as part
 
 abbrev pub word : Ptr → Val
 word p = vstruct (vcons (ptr_val p) vnil)

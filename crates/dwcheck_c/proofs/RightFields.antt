@@ -9,7 +9,7 @@ use denote.Laws.{Is}
 use denote.Shadow.{makes_shadow}
 use denote.Struct.Struct.{Struct}
 use denote.Struct.Owning.{shape}
-use Rattle.dwcheck_c.specs.contracts.right.Right as right
+use Rattle.dwcheck_c.specs.contracts.read_right.Right as right
 
 abbrev pub mark : Val
 mark = vstruct vnil

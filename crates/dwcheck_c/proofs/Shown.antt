@@ -5,10 +5,10 @@ use Rattle.std.proofs.Math.Seq.{take-suc}
 use Rattle.std.proofs.lemmas.List.{length-map, length-take-le, map-append}
 use Rattle.dw_stack.specs.Located.{LocatedExpression, all_located, located_of}
 use Rattle.dw_stack.specs.declared.checked.CheckedExpression.{CheckedExpression}
+use Rattle.dw_c_types.specs.Slots.{put_into}
+use Rattle.dw_c_types.proofs.Putting.{puts-length, puts_next, puts_no_more}
 use Rattle.dwcheck_c.specs.declared.reports.CExpression.{CExpression}
 use Rattle.dwcheck_c.specs.Reports.{AreShown, ShowsExpression}
-use Rattle.dwcheck_c.specs.Slots.{put_into}
-use Rattle.dwcheck_c.proofs.Putting.{puts-length, puts_next, puts_no_more}
 
 -- one more expression
 pub shown-next : (within : ℕ) (xs : List LocatedExpression) (outs : List CExpression) (x : LocatedExpression) (out : CExpression)

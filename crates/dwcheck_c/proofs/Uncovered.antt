@@ -4,8 +4,8 @@ use Rattle.std.specs.Prelude.{slice_set}
 use Rattle.dw_rules.specs.Abi.{Abi}
 use Rattle.dw_unwind.specs.Walks.{WalkedFrame}
 use Rattle.dw_unwind.specs.declared.frames.Stop.TheVariants.{Limit, NotCovered}
-use Rattle.dwcheck_c.specs.declared.answer.CFrame.{CFrame}
-use Rattle.dwcheck_c.specs.Frames.{IsBacktrace, cframe_of, stop_number}
+use Rattle.dw_c_types.specs.declared.answer.CFrame.{CFrame}
+use Rattle.dw_c_types.specs.Frames.{IsBacktrace, cframe_of, stop_number}
 
 module _ (abi : Abi) (memory registers : ℕ → Option ℕ) (bits address : ℕ) where
   abbrev only : WalkedFrame

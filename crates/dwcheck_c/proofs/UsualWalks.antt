@@ -8,7 +8,7 @@ use Rattle.dw_unwind.specs.Caller.{Caller}
 use Rattle.dw_unwind.specs.Walks.{AreFrames, Place, WalkedFrame, Walks, content_of, next_place, place_of_caller}
 use Rattle.dw_unwind.specs.declared.frames.Stop.{Stop}
 use Rattle.dw_process.specs.Processes.{ProcessState, is_signal_in}
-use Rattle.dwcheck_c.specs.ProcessWalks.{AreFramesBy, Unwinding, WalksBy, over_process, place_after, place_at, signal_at, through_process, without_bits}
+use Rattle.dw_c_types.specs.ProcessWalks.{AreFramesBy, Unwinding, WalksBy, over_process, place_after, place_at, signal_at, through_process, without_bits}
 
 no-bits : (n : ℕ) → without_bits 0 n ≡ n
 no-bits n = ap (λ (m : ℕ). n - m) (and_zero_r n) ∙ sub-zero n

@@ -6,11 +6,11 @@ use Rattle.std.proofs.lemmas.List.{length-map, length-set}
 use Rattle.dw_unwind.specs.Walks.{IsFrameAt, Place, WalkedFrame, stop_after, stop_of_caller}
 use Rattle.dw_unwind.specs.declared.frames.Stop.{Stop}
 use Rattle.dw_unwind.specs.declared.frames.Stop.TheVariants.{Limit}
-use Rattle.dwcheck_c.specs.declared.answer.CFrame.{CFrame}
-use Rattle.dwcheck_c.proofs.Putting.{puts_shown}
-use Rattle.dwcheck_c.specs.Frames.{AreWritten, IsLeftAt, cframe_of, stop_number}
-use Rattle.dwcheck_c.specs.ProcessWalks.{AreFramesBy, Unwinding, WalksBy, place_after, place_after_frames}
-use Rattle.dwcheck_c.specs.Slots.{put_into}
+use Rattle.dw_c_types.specs.declared.answer.CFrame.{CFrame}
+use Rattle.dw_c_types.proofs.Putting.{puts_shown}
+use Rattle.dw_c_types.specs.Frames.{AreWritten, IsLeftAt, cframe_of, stop_number}
+use Rattle.dw_c_types.specs.ProcessWalks.{AreFramesBy, Unwinding, WalksBy, place_after, place_after_frames}
+use Rattle.dw_c_types.specs.Slots.{put_into}
 
 -- ---- walks that go on
 

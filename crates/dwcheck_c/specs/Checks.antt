@@ -3,9 +3,9 @@ use Rattle.std.specs.Prelude.{◌≡◌, ℕ, Option, Some}
 use Rattle.dw_sections.specs.declared.section.Section.{Section}
 use Rattle.dw_sections.specs.declared.section.Section.TheVariants.{Frame, Lists, Expression}
 use Rattle.dw_sections.specs.declared.whole_check.CheckFault.{CheckFault}
-use Rattle.dwcheck_c.specs.declared.fault.CFault.{CFault}
-use Rattle.dwcheck_c.specs.declared.fault.TheConstants.{IN_FRAME, IN_LISTS, IN_EXPRESSION}
-use Rattle.dwcheck_c.specs.Faults.{cfault_of}
+use Rattle.dw_c_types.specs.declared.fault.CFault.{CFault}
+use Rattle.dw_c_types.specs.declared.fault.TheConstants.{IN_FRAME, IN_LISTS, IN_EXPRESSION}
+use Rattle.dw_c_types.specs.Faults.{cfault_of}
 
 -- the number that tells C which input the offset of a fault refers to: the frame section, the
 -- location lists, or the expression

@@ -2,9 +2,9 @@
 use Rattle.std.specs.Prelude.{◌≡◌, ◌↔◌, ℕ, Option, Some, IsTrue, IsSome}
 use denote.RawPtr.{Ptr}
 use Rattle.dw_process.specs.Processes.{ProcessState}
-use Rattle.dwcheck_c.specs.declared.part.Part.{Part}
-use Rattle.dwcheck_c.specs.declared.right.Right.{Right}
-use Rattle.dwcheck_c.specs.declared.lent.LentProcess.{LentProcess}
+use Rattle.dwcheck_c.specs.declared.right_part.Part.{Part}
+use Rattle.dwcheck_c.specs.declared.read_right.Right.{Right}
+use Rattle.dwcheck_c.specs.declared.process_reader.LentProcess.{LentProcess}
 
 -- what tells one right from another
 pub record Loan : Type 0 where

@@ -10,8 +10,8 @@ use Rattle.dw_process.specs.Refusals.{IsRefused}
 use Rattle.dw_process.specs.declared.address_range.AddressRange.{AddressRange}
 use Rattle.dw_process.specs.declared.loaded_module.LoadedModule.{LoadedModule}
 use Rattle.dw_process.specs.declared.refusal.Refusal.{Refusal}
+use Rattle.dw_c_types.specs.Targets.{target_by}
 use Rattle.dwcheck_c.specs.Handles.{modules_of, opened_for}
-use Rattle.dwcheck_c.specs.Targets.{target_by}
 use Rattle.dwcheck_c.specs.declared.module.CModule.{CModule}
 use Rattle.dwcheck_c.specs.declared.module.SectionKind.{SectionKind}
 use Rattle.dwcheck_c.specs.declared.module.SectionKind.TheVariants.{DebugFrame, EhFrame, EhFrameAarch64}

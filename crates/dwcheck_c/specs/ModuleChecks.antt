@@ -4,9 +4,9 @@ use Rattle.dw_bytes.specs.declared.target.Target.{Target}
 use Rattle.dw_rows.specs.Section.{FrameSection, frame_of, section_fault}
 use Rattle.dw_process.specs.EhModules.{IsFrameOf}
 use Rattle.dw_process.specs.declared.eh_frame.EhSection.{EhSection}
+use Rattle.dw_c_types.specs.Targets.{target_by}
 use Rattle.dwcheck_c.specs.LoadedModules.{eh_section_in, kind_by}
 use Rattle.dwcheck_c.specs.Reports.{frame_counts}
-use Rattle.dwcheck_c.specs.Targets.{target_by}
 use Rattle.dwcheck_c.specs.declared.module.CModule.{CModule}
 use Rattle.dwcheck_c.specs.declared.module.SectionKind.{SectionKind}
 use Rattle.dwcheck_c.specs.declared.module.SectionKind.TheVariants.{DebugFrame, EhFrame, EhFrameAarch64}

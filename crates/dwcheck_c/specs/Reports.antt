@@ -6,10 +6,10 @@ use Rattle.dw_stack.specs.Expressions.{IsDepthOf, operations_in}
 use Rattle.dw_stack.specs.Located.{LocatedExpression}
 use Rattle.dw_stack.specs.declared.state.Kind.{Kind}
 use Rattle.dw_stack.specs.declared.state.Kind.TheVariants.{FrameCfa, FrameRegister, Location}
-use Rattle.dwcheck_c.specs.declared.fault.TheConstants.{IN_FRAME, IN_LISTS}
+use Rattle.dw_c_types.specs.declared.fault.TheConstants.{IN_FRAME, IN_LISTS}
+use Rattle.dw_c_types.specs.Slots.{put_into}
 use Rattle.dwcheck_c.specs.declared.reports.CCounts.{CCounts}
 use Rattle.dwcheck_c.specs.declared.reports.CExpression.{CExpression}
-use Rattle.dwcheck_c.specs.Slots.{put_into}
 
 -- C's struct for what a frame section contains; a number of rows of 2^64 or more is shown as 2^64 - 1
 abbrev pub frame_counts : FrameSection → CCounts

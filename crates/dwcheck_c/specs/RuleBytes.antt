@@ -3,7 +3,7 @@ use Rattle.std.specs.Prelude.{ℕ, ◌==◌, if◌then◌else◌, nat_le, List, 
 use Rattle.std.specs.Option.{option_and_then}
 use Rattle.dw_rules.specs.Rules.{Rule, Cfa, Row, cfa_expression, expression, rule_in, val_expression}
 use Rattle.dw_process.specs.Processes.{ProcessState}
-use Rattle.dwcheck_c.specs.Rows.{found_in}
+use Rattle.dw_c_types.specs.Rows.{found_in}
 
 -- the bytes of the expression that a register's rule has
 abbrev pub rule_bytes : Rule → Option (List ℕ)

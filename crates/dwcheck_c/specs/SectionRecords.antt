@@ -9,8 +9,8 @@ use Rattle.dw_eh_frame.specs.Records.{EhRecord, eh_cie, eh_fde, eh_nothing, eh_r
 use Rattle.dw_eh_rows.specs.Faults.{as_cie}
 use Rattle.dw_eh_rows.specs.Meaning.{as_fde}
 use Rattle.dw_process.specs.declared.eh_frame.EhSection.{EhSection}
+use Rattle.dw_c_types.specs.Targets.{target_by}
 use Rattle.dwcheck_c.specs.LoadedModules.{eh_section_in, kind_by}
-use Rattle.dwcheck_c.specs.Targets.{target_by}
 use Rattle.dwcheck_c.specs.declared.module.CModule.{CModule}
 use Rattle.dwcheck_c.specs.declared.module.SectionKind.{SectionKind}
 use Rattle.dwcheck_c.specs.declared.module.SectionKind.TheVariants.{DebugFrame, EhFrame, EhFrameAarch64}

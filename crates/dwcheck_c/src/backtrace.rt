@@ -9,17 +9,17 @@ ghost use Rattle.dw_unwind.specs.WalkViews.{brief_in, brief_of};
 ghost use Rattle.dw_process.specs.Processes.{ProcessState, is_signal_in};
 ghost use Rattle.dw_unwind.specs.Walks.{Place, WalkedFrame, Walks};
 ghost use Rattle.dw_unwind.specs.declared.frames.Stop.{Stop as Why};
-ghost use Rattle.dwcheck_c.specs.Cursors.{place_of};
-ghost use Rattle.dwcheck_c.specs.Frames.{AreWritten, IsBacktrace, IsLeftAt, stop_number};
-ghost use Rattle.dwcheck_c.specs.Machine.{register_in};
-ghost use Rattle.dwcheck_c.specs.ProcessWalks.{WalksBy, over_process, through_process};
-ghost use Rattle.dwcheck_c.specs.declared.answer.CFrame.{CFrame as Slot};
+ghost use Rattle.dw_c_types.specs.Frames.{AreWritten, IsBacktrace, IsLeftAt, stop_number};
+ghost use Rattle.dw_c_types.specs.Machine.{register_in};
+ghost use Rattle.dw_c_types.specs.ProcessWalks.{WalksBy, over_process, through_process};
+ghost use Rattle.dw_c_types.specs.declared.answer.CFrame.{CFrame as Slot};
+ghost use Rattle.dwcheck_c.specs.WalkCursors.{place_of};
 
-use crate::answer::{CFrame, shown_frame};
 use crate::cursor::{CALLER, CCursor, EXACT, fill, has_places, step_by, without_bits};
-use crate::listed::{ListedRegisters, looked_up_after};
-use crate::state::Contents;
-use crate::status::DONE;
+use crate::listed_registers::{ListedRegisters, looked_up_after};
+use dw_c_types::answer::{CFrame, c_frame_of};
+use dw_c_types::state::Contents;
+use dw_c_types::status::DONE;
 use dw_eval::{Memory, Registers};
 use dw_process::Process;
 use dw_rows::Abi;
@@ -55,7 +55,7 @@ fn write_rest<R: Registers, M: Memory>(
     let mut place = looked_up;
     let mut count = from;
     while count < slots.len() {
-        slots[count] = shown_frame(brief(at, unwound));
+        slots[count] = c_frame_of(brief(at, unwound));
         count += 1;
         if count == slots.len() {
             return (count, Stop::Limit);
@@ -183,7 +183,7 @@ pub(crate) fn write_uncovered(address: u64, slots: &mut [CFrame]) -> (usize, Sto
         → IsBacktrace None abi memory bits registers address slots.old slots.new result.0
         (stop_number result.1) }
 {
-    let only = shown_frame(brief(address, None));
+    let only = c_frame_of(brief(address, None));
     match slots.len() {
         0 => (0, Stop::Limit),
         1 => {

@@ -3,13 +3,13 @@
 ghost use Rattle.std.specs.Prelude.{◌≡◌, ◌≢◌, ◌⊎◌, None};
 ghost use Rattle.std.specs.Option.{IsSomeAnd};
 ghost use Rattle.dw_sections.specs.Checked.{AreWellFormed, check_fault};
+ghost use Rattle.dw_c_types.specs.Targets.{target_by};
 ghost use Rattle.dwcheck_c.specs.Checks.{ReportsOf, section_number};
-ghost use Rattle.dwcheck_c.specs.Targets.{target_by};
 
-use crate::fault::{CFault, IN_EXPRESSION, IN_FRAME, IN_LISTS, report};
-use crate::status::{BAD_TARGET, DONE, NO_MEMORY, REFUSED};
-use crate::target::target;
 use dw_bytes::FaultKind;
+use dw_c_types::fault::{CFault, IN_EXPRESSION, IN_FRAME, IN_LISTS, report};
+use dw_c_types::status::{BAD_TARGET, DONE, NO_MEMORY, REFUSED};
+use dw_c_types::target::target;
 use dw_sections::{Section, check};
 use std::alloc::Global;
 

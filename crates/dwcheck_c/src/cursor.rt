@@ -8,23 +8,23 @@ ghost use Rattle.dw_unwind.specs.Contents.{contents_in};
 ghost use Rattle.dw_unwind.specs.MissingPlaces.{LacksPlace};
 ghost use Rattle.dw_unwind.specs.Walks.{first_place};
 ghost use Rattle.dw_unwind.specs.declared.frames.Stop.{Stop as Why};
-ghost use Rattle.dwcheck_c.specs.declared.answer.CFrame.{CFrame as Slot};
+ghost use Rattle.dw_c_types.specs.declared.answer.CFrame.{CFrame as Slot};
+ghost use Rattle.dw_c_types.specs.Slots.{put_into};
+ghost use Rattle.dw_c_types.specs.Faults.{Reports};
+ghost use Rattle.dw_c_types.specs.Frames.{IsBacktrace, cframe_of, stop_number};
+ghost use Rattle.dw_c_types.specs.Machine.{abi_fault_of, abi_in, is_known, memory_of, register_in, registers_of};
+ghost use Rattle.dw_c_types.specs.ProcessWalks.{over_process, through_held, through_process, without_bits};
 ghost use Rattle.dwcheck_c.specs.declared.cursor.CCursor.{CCursor as Cursor};
-ghost use Rattle.dwcheck_c.specs.Slots.{put_into};
-ghost use Rattle.dwcheck_c.specs.Cursors.{AreSteps, HasEnded, IsStep, IsStepBy, LacksPlaceIn, looked_up_by, place_from, place_of, registers_in};
-ghost use Rattle.dwcheck_c.specs.Faults.{Reports};
-ghost use Rattle.dwcheck_c.specs.Frames.{IsBacktrace, cframe_of, stop_number};
+ghost use Rattle.dwcheck_c.specs.WalkCursors.{AreSteps, WalkHasEnded, IsStep, IsStepBy, LacksPlaceIn, looked_up_by, place_from, place_of, registers_in};
 ghost use Rattle.dwcheck_c.specs.Lent.{Reads, loan_of, read_by};
-ghost use Rattle.dwcheck_c.specs.Machine.{abi_fault_of, abi_in, is_known, memory_of, register_in, registers_of};
-ghost use Rattle.dwcheck_c.specs.ProcessWalks.{over_process, through_held, through_process, without_bits};
 
-use crate::answer::{CFrame, shown_frame};
 use crate::backtrace::brief;
-use crate::fault::{CFault, IN_ABI, report};
-use crate::lent::{LentProcess, put};
-use crate::right::Right;
-use crate::state::{CState, Contents};
-use crate::status::{DONE, NO_PLACE, NONE, REFUSED};
+use crate::process_reader::{LentProcess, put};
+use crate::read_right::Right;
+use dw_c_types::answer::{CFrame, c_frame_of};
+use dw_c_types::fault::{CFault, IN_ABI, report};
+use dw_c_types::state::{CState, Contents};
+use dw_c_types::status::{DONE, NO_PLACE, NONE, REFUSED};
 use dw_eval::{Memory, Registers};
 use dw_process::Process;
 use dw_unwind::{KeptRegisters, PLACES, RegisterFile, Stop, Unwinder, return_address};
@@ -201,7 +201,7 @@ fn step_by_copy<M: Memory>(
     ) else {
         return NO_PLACE;
     };
-    *out = shown_frame(brief(cursor.address, unwound));
+    *out = c_frame_of(brief(cursor.address, unwound));
     match return_address(unwound) {
         Ok(next) => {
             cursor.registers = into;
@@ -223,7 +223,7 @@ fn end_uncovered(cursor: &mut CCursor, out: &mut CFrame)
     } }
     ensures frame { out.new ≡ cframe_of (record { address = cursor.old.address; caller = None }) }
 {
-    *out = shown_frame(brief(cursor.address, None));
+    *out = c_frame_of(brief(cursor.address, None));
     cursor.stage = stage_after(Stop::NotCovered);
 }
 
@@ -255,7 +255,7 @@ pub(crate) fn step_by<M: Memory>(
     match process.contents_in_place(kept, stack_pointer, address, memory, file) {
         Some(unwound) => match return_address(Some(unwound)) {
             Ok(next) => {
-                *out = shown_frame(brief(cursor.address, Some(unwound)));
+                *out = c_frame_of(brief(cursor.address, Some(unwound)));
                 cursor.address = without_bits(bits, next);
                 cursor.stage = stage_of_caller(process, address);
                 DONE
@@ -401,7 +401,7 @@ pub fn steps_are_a_backtrace()
         (bits address : ℕ) (from to : Cursor) (frames old : List Slot) (why : Why)
         → place_of from ≡ first_place address registers
         → AreSteps (through_held abi memory bits held) from frames to → 1 ≤ length frames
-        → length frames < length old → HasEnded to why
+        → length frames < length old → WalkHasEnded to why
         → IsBacktrace held abi memory bits registers address old (put_into frames old)
         (length frames) (stop_number why) }
 {}

@@ -2,7 +2,7 @@
 
 ghost use Rattle.std.specs.Prelude.{◌≡◌, ◌↔◌, IsTrue, IsSome, None, Some, MatchOption};
 
-use crate::held::Held;
+use crate::modules_pointer::Held;
 use dw_process::Process;
 use std::alloc::Global;
 use std::mem::replace;

@@ -2,36 +2,24 @@
 //! call them.
 #![tactic(auto)]
 
-mod answer;
 mod backtrace;
-mod callers;
 mod checks;
-mod context;
 mod cursor;
 mod expressions;
-mod fault;
 mod handle;
-mod held;
-mod lent;
-mod listed;
+mod listed_registers;
 mod lists;
-mod location;
-mod memory;
 mod module;
 mod module_check;
+mod modules_pointer;
 mod names;
 mod one_list;
-mod part;
+mod process_reader;
 mod processes;
+mod read_right;
 mod records;
 mod reports;
-mod right;
-mod row;
+mod right_part;
 mod rule_bytes;
 mod signals;
-mod slots;
 mod stacks;
-mod state;
-mod status;
-mod target;
-mod value;

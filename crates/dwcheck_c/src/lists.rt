@@ -3,15 +3,15 @@
 ghost use Rattle.std.specs.Prelude.{◌≡◌, ◌≢◌, ◌≤◌, ◌<◌, ◌^◌, ◌⊎◌, None, length};
 ghost use Rattle.std.specs.Option.{IsSomeAnd};
 ghost use Rattle.dw_loclists.specs.Reading.{lists_fault};
-ghost use Rattle.dwcheck_c.specs.Faults.{Reports};
-ghost use Rattle.dwcheck_c.specs.Locations.{AreLocated, HasLocations, HasNoList};
-ghost use Rattle.dwcheck_c.specs.Targets.{target_by};
+ghost use Rattle.dw_c_types.specs.Faults.{Reports};
+ghost use Rattle.dw_c_types.specs.Locations.{AreLocated, HasLocations, HasNoList};
+ghost use Rattle.dw_c_types.specs.Targets.{target_by};
 
-use crate::fault::{CFault, IN_LISTS, report};
-use crate::location::{CLocation, write_locations};
-use crate::status::{BAD_TARGET, DONE, NO_MEMORY, NONE, REFUSED, TOO_LONG};
-use crate::target::target;
 use dw_bytes::FaultKind;
+use dw_c_types::fault::{CFault, IN_LISTS, report};
+use dw_c_types::location::{CLocation, write_locations};
+use dw_c_types::status::{BAD_TARGET, DONE, NO_MEMORY, NONE, REFUSED, TOO_LONG};
+use dw_c_types::target::target;
 use dw_loclists::{CheckedLists, check_lists};
 use std::alloc::Global;
 

@@ -7,9 +7,9 @@ ghost use Rattle.dwcheck_c.specs.Handles.{modules_of};
 ghost use Rattle.dwcheck_c.specs.Lent.{Reads, loan_of, read_by};
 ghost use Rattle.dwcheck_c.specs.LoadedModules.{eh_section_in, kind_by, known_by, loaded_of, range_in};
 
-use crate::lent::{LentProcess, put};
-use crate::right::Right;
-use crate::status::{DONE, NONE};
+use crate::process_reader::{LentProcess, put};
+use crate::read_right::Right;
+use dw_c_types::status::{DONE, NONE};
 use dw_eh_frame::Bases;
 use dw_process::{AddressRange, EhSection, LoadedModule};
 
@@ -121,7 +121,7 @@ pub struct CLoaded {
 }
 
 /// Converts a module to C's struct.
-pub(crate) fn shown_module(module: &LoadedModule) -> CLoaded
+pub(crate) fn c_module_of(module: &LoadedModule) -> CLoaded
     ensures { result ≡ loaded_of module.now }
 {
     CLoaded {
@@ -166,7 +166,7 @@ pub extern "C" fn dwcheck_module_at(
     };
     let status = match part.get().module_at(address) {
         Some(found) => {
-            module.module = shown_module(found);
+            module.module = c_module_of(found);
             DONE
         }
         None => NONE,

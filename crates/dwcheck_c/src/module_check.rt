@@ -3,18 +3,18 @@
 ghost use Rattle.std.specs.Prelude.{◌≡◌, ◌≢◌, ◌≤◌, ◌<◌, ◌^◌, ◌⊎◌, IfErr, IfOk, IsSome, None, length};
 ghost use Rattle.dw_bytes.specs.Answers.{memory};
 ghost use Rattle.dw_bytes.specs.declared.fault.Fault.{Fault};
-ghost use Rattle.dwcheck_c.specs.Faults.{cfault_of};
+ghost use Rattle.dw_c_types.specs.Faults.{cfault_of};
+ghost use Rattle.dw_c_types.specs.Targets.{target_by};
 ghost use Rattle.dwcheck_c.specs.LoadedModules.{HasFault, IsFaultBy, kind_by};
 ghost use Rattle.dwcheck_c.specs.ModuleChecks.{AreCountsBy, AreCountsOf, IsEhAccepted};
-ghost use Rattle.dwcheck_c.specs.Targets.{target_by};
 ghost use Rattle.dw_process.specs.EhModules.{IsEhFault};
 
-use crate::fault::{CFault, IN_FRAME, report};
 use crate::module::{CModule, SectionKind, section_kind};
 use crate::reports::{CCounts, frame_counted};
-use crate::status::{BAD_KIND, BAD_TARGET, DONE, NO_MEMORY, REFUSED, TOO_LONG};
-use crate::target::target;
 use dw_bytes::{Fault, FaultKind, Target};
+use dw_c_types::fault::{CFault, IN_FRAME, report};
+use dw_c_types::status::{BAD_KIND, BAD_TARGET, DONE, NO_MEMORY, REFUSED, TOO_LONG};
+use dw_c_types::target::target;
 use dw_eh_rows::check_eh_frame;
 use dw_process::EhSection;
 use dw_rows::check_frame;

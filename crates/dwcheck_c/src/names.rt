@@ -5,11 +5,11 @@ ghost use Rattle.std.specs.Option.{IsSomeAnd};
 ghost use Rattle.dw_bytes.specs.Faults.{number_of};
 ghost use Rattle.dw_bytes.specs.Names.{name_of};
 ghost use Rattle.dw_bytes.specs.declared.fault.FaultKind.{FaultKind as OfKind};
-ghost use Rattle.dwcheck_c.specs.Slots.{put_into};
+ghost use Rattle.dw_c_types.specs.Slots.{put_into};
 
-use crate::slots::write_all;
-use crate::status::{DONE, NONE};
 use dw_bytes::FaultKind;
+use dw_c_types::slots::write_all;
+use dw_c_types::status::{DONE, NONE};
 
 /// The version of this interface: 65536 times the major version, plus the minor version. As long as
 /// the major version stays the same, existing programs keep working.

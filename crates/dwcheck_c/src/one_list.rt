@@ -3,16 +3,16 @@
 ghost use Rattle.std.specs.Prelude.{◌≡◌, ◌≢◌, ◌≤◌, ◌<◌, ◌^◌, ◌⊎◌, None, length};
 ghost use Rattle.std.specs.Option.{IsSomeAnd};
 ghost use Rattle.dw_bytes.specs.declared.fault.Fault.{Fault};
-ghost use Rattle.dwcheck_c.specs.Faults.{cfault_of};
-ghost use Rattle.dwcheck_c.specs.Locations.{AreLocatedAlone, IsNoListAt};
-ghost use Rattle.dwcheck_c.specs.Targets.{target_by};
+ghost use Rattle.dw_c_types.specs.Faults.{cfault_of};
+ghost use Rattle.dw_c_types.specs.Locations.{AreLocatedAlone, IsNoListAt};
+ghost use Rattle.dw_c_types.specs.Targets.{target_by};
 
-use crate::fault::{CFault, IN_LISTS, report};
 use crate::lists::CLookup;
-use crate::location::{CLocation, write_locations};
-use crate::status::{BAD_TARGET, DONE, NO_MEMORY, NONE, REFUSED, TOO_LONG};
-use crate::target::target;
 use dw_bytes::FaultKind;
+use dw_c_types::fault::{CFault, IN_LISTS, report};
+use dw_c_types::location::{CLocation, write_locations};
+use dw_c_types::status::{BAD_TARGET, DONE, NO_MEMORY, NONE, REFUSED, TOO_LONG};
+use dw_c_types::target::target;
 use dw_loclists::check_list;
 use std::alloc::Global;
 

@@ -6,24 +6,24 @@ ghost use Rattle.std.specs.List.{list_any};
 ghost use Rattle.dw_bytes.specs.declared.fault.Fault.{Fault};
 ghost use Rattle.dw_bytes.specs.declared.target.Target.{Target};
 ghost use Rattle.dw_process.specs.Processes.{removed};
-ghost use Rattle.dwcheck_c.specs.Faults.{cfault_of};
+ghost use Rattle.dw_c_types.specs.Faults.{cfault_of};
+ghost use Rattle.dw_c_types.specs.Targets.{target_by};
 ghost use Rattle.dwcheck_c.specs.Handles.{held_in, modules_of};
 ghost use Rattle.dwcheck_c.specs.Lent.{Reads, loan_of};
 ghost use Rattle.dwcheck_c.specs.LoadedModules.{HasFault, IsAddedBy, IsModuleAdded, IsModuleRefused, IsRefusedBy, IsTargetFor, kind_by};
 ghost use Rattle.dwcheck_c.specs.NotAdded.{IsNotAdded, IsNotAddedTo};
-ghost use Rattle.dwcheck_c.specs.Targets.{target_by};
 ghost use Rattle.dw_process.specs.declared.refusal.Refusal.TheVariants as refusal;
 
-use crate::fault::{CFault, IN_FRAME, report};
 use crate::handle::CProcess;
-use crate::lent::{LentProcess, put};
 use crate::module::{CModule, SectionKind, section_kind};
-use crate::right::Right;
-use crate::status::{
+use crate::process_reader::{LentProcess, put};
+use crate::read_right::Right;
+use dw_bytes::{FaultKind, OUT_OF_MEMORY, Target};
+use dw_c_types::fault::{CFault, IN_FRAME, report};
+use dw_c_types::status::{
     BAD_KIND, BAD_RANGE, BAD_TARGET, DONE, NO_MEMORY, NO_ROOM, NONE, OVERLAPS, REFUSED, TOO_LONG,
 };
-use crate::target::target;
-use dw_bytes::{FaultKind, OUT_OF_MEMORY, Target};
+use dw_c_types::target::target;
 use dw_process::{Process, Refusal};
 use std::alloc::Global;
 

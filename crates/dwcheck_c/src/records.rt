@@ -7,16 +7,16 @@ ghost use Rattle.dw_eh_frame.specs.Records.{eh_cie, eh_fde};
 ghost use Rattle.dw_eh_frame.specs.Views.{eh_cie_of, eh_fde_of};
 ghost use Rattle.dw_frame.specs.Records.{cie_record, fde_record};
 ghost use Rattle.dw_frame.specs.Views.{cie_of, fde_of};
-ghost use Rattle.dwcheck_c.specs.Faults.{cfault_of};
+ghost use Rattle.dw_c_types.specs.Faults.{cfault_of};
+ghost use Rattle.dw_c_types.specs.Targets.{target_by};
 ghost use Rattle.dwcheck_c.specs.LoadedModules.{kind_by};
 ghost use Rattle.dwcheck_c.specs.SectionRecords.{HasUnread, IsEhRecord, IsNoEhRecord, IsNoRecord, IsReadBy, IsRecord, IsUnreadBy, ShowsRecord, begun, eh_record_shown, record_shown};
-ghost use Rattle.dwcheck_c.specs.Targets.{target_by};
 
-use crate::fault::{CFault, IN_FRAME, report};
 use crate::module::{CModule, SectionKind, section_kind};
-use crate::status::{BAD_KIND, BAD_TARGET, DONE, NONE, REFUSED, TOO_LONG};
-use crate::target::target;
 use dw_bytes::{Fault, Target};
+use dw_c_types::fault::{CFault, IN_FRAME, report};
+use dw_c_types::status::{BAD_KIND, BAD_TARGET, DONE, NONE, REFUSED, TOO_LONG};
+use dw_c_types::target::target;
 use dw_eh_frame::{EhCie, EhFde, EhRecord, eh_record};
 use dw_frame::{CommonInformationEntry, Entry, FrameDescriptionEntry, entries};
 use dw_process::EhSection;
@@ -80,7 +80,7 @@ fn record_of_kind(kind: u32, program: u64, is_signal_frame: bool, next: u64) -> 
 }
 
 /// Converts a CIE of `.debug_frame` to C's struct. Its offsets count from the offset `at`.
-fn shown_cie(cie: &CommonInformationEntry<'_>, at: u32) -> CRecord
+fn c_cie_of(cie: &CommonInformationEntry<'_>, at: u32) -> CRecord
     ensures { result ≡ record_shown at (cie_record (cie_of cie.now)) }
 {
     let (program, end) = (cie.program.start(), cie.program.end());
@@ -94,7 +94,7 @@ fn shown_cie(cie: &CommonInformationEntry<'_>, at: u32) -> CRecord
 }
 
 /// Converts an FDE of `.debug_frame` to C's struct. Its offsets count from the offset `at`.
-fn shown_fde(fde: &FrameDescriptionEntry<'_>, at: u32) -> CRecord
+fn c_fde_of(fde: &FrameDescriptionEntry<'_>, at: u32) -> CRecord
     ensures { result ≡ record_shown at (fde_record (fde_of fde.now)) }
 {
     let (program, end) = (fde.program.start(), fde.program.end());
@@ -107,7 +107,7 @@ fn shown_fde(fde: &FrameDescriptionEntry<'_>, at: u32) -> CRecord
 }
 
 /// Converts a CIE of `.eh_frame` to C's struct. Its record ends at the offset `next`.
-fn shown_eh_cie(cie: &EhCie<'_>, next: u32) -> CRecord
+fn c_eh_cie_of(cie: &EhCie<'_>, next: u32) -> CRecord
     ensures { result ≡ eh_record_shown (eh_cie (eh_cie_of cie.now)) next }
 {
     let factors = cie.head.factors;
@@ -123,7 +123,7 @@ fn shown_eh_cie(cie: &EhCie<'_>, next: u32) -> CRecord
 
 /// Converts an FDE of `.eh_frame` to C's struct. Its record ends at the offset `next`.
 #[tactic(auto, using(crate::proofs::Tops::below_all))]
-fn shown_eh_fde(fde: &EhFde<'_>, target: Target, next: u32) -> CRecord
+fn c_eh_fde_of(fde: &EhFde<'_>, target: Target, next: u32) -> CRecord
     requires { fde.now.initial_location + fde.now.address_range ≤ max_address target.address_size }
     ensures { result ≡ eh_record_shown (eh_fde (eh_fde_of fde.now)) next }
 {
@@ -147,8 +147,8 @@ fn debug_frame_record(frame: &[u8], target: Target, at: u32) -> Result<CRecord, 
     dw_frame::laws::records_follow_each_other();
     let left = &frame[at as usize..];
     match entries(left, target).next() {
-        Some(Ok(Entry::Cie(cie))) => Ok(shown_cie(&cie, at)),
-        Some(Ok(Entry::Fde(fde))) => Ok(shown_fde(&fde, at)),
+        Some(Ok(Entry::Cie(cie))) => Ok(c_cie_of(&cie, at)),
+        Some(Ok(Entry::Fde(fde))) => Ok(c_fde_of(&fde, at)),
         Some(Err(why)) => Err(Fault {
             kind: why.kind,
             at: at + why.at,
@@ -166,8 +166,8 @@ fn eh_frame_record(section: EhSection<'_>, target: Target, at: u32) -> Result<CR
 {
     let (found, next) = eh_record(section.bytes, target, section.bases, at)?;
     match found {
-        EhRecord::Cie(cie) => Ok(shown_eh_cie(&cie, next)),
-        EhRecord::Fde(fde) => Ok(shown_eh_fde(&fde, target, next)),
+        EhRecord::Cie(cie) => Ok(c_eh_cie_of(&cie, next)),
+        EhRecord::Fde(fde) => Ok(c_eh_fde_of(&fde, target, next)),
         EhRecord::Nothing(at) => Ok(record_of_kind(
             RECORD_EMPTY,
             u64::from(at),

@@ -6,18 +6,18 @@ ghost use Rattle.dw_sections.specs.Checked.{AreWellFormed, check_fault};
 ghost use Rattle.dw_loclists.specs.Reading.{located_in};
 ghost use Rattle.dw_rows.specs.Section.{frame_of};
 ghost use Rattle.dw_stack.specs.Located.{all_located, located_of};
+ghost use Rattle.dw_c_types.specs.Slots.{put_into};
+ghost use Rattle.dw_c_types.specs.Targets.{target_by};
 ghost use Rattle.dwcheck_c.specs.Checks.{ReportsOf};
 ghost use Rattle.dwcheck_c.specs.Reports.{AreReported, AreShown, ShowsExpression, counts_of, frame_counts, kind_number};
-ghost use Rattle.dwcheck_c.specs.Slots.{put_into};
-ghost use Rattle.dwcheck_c.specs.Targets.{target_by};
 ghost use Rattle.dwcheck_c.specs.declared.reports.CExpression.{CExpression as Slot};
 
 use crate::checks::within;
-use crate::fault::{CFault, IN_FRAME, IN_LISTS, report};
-use crate::slots::put;
-use crate::status::{BAD_TARGET, DONE, NO_MEMORY, REFUSED};
-use crate::target::target;
 use dw_bytes::FaultKind;
+use dw_c_types::fault::{CFault, IN_FRAME, IN_LISTS, report};
+use dw_c_types::slots::put;
+use dw_c_types::status::{BAD_TARGET, DONE, NO_MEMORY, REFUSED};
+use dw_c_types::target::target;
 use dw_loclists::Expressions;
 use dw_rows::CheckedFrame;
 use dw_sections::{Checked, check};
@@ -62,7 +62,7 @@ fn kind_code(kind: Kind) -> u32
 }
 
 /// Converts an expression that begins at `offset` in a section to C's struct.
-fn shown_expression(section: u32, offset: u32, checked: &CheckedExpression<'_>) -> CExpression
+fn c_expression_of(section: u32, offset: u32, checked: &CheckedExpression<'_>) -> CExpression
     ensures { ShowsExpression section (located_of (offset, checked.now)) result }
 {
     CExpression {
@@ -84,7 +84,7 @@ fn write_frame_expressions(expressions: &[(u32, CheckedExpression<'_>)], slots: 
         put(
             slots,
             index,
-            shown_expression(IN_FRAME, located.0, &located.1),
+            c_expression_of(IN_FRAME, located.0, &located.1),
         );
     }
 }
@@ -98,7 +98,7 @@ fn write_list_expressions(expressions: Expressions<'_, '_>, slots: &mut [CExpres
 {
     let mut count = from;
     for (offset, checked) in expressions {
-        let shown = shown_expression(IN_LISTS, offset, &checked);
+        let shown = c_expression_of(IN_LISTS, offset, &checked);
         if count < slots.len() {
             slots[count] = shown;
             count += 1;

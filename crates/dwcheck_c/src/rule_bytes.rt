@@ -3,14 +3,14 @@
 ghost use Rattle.std.specs.Option.{IsSomeAnd};
 ghost use Rattle.std.specs.Prelude.{◌≡◌, ◌⊎◌, None, Some, length, option_map};
 ghost use Rattle.dw_rules.specs.Views.{cfa_rule_of, rule_of};
+ghost use Rattle.dw_c_types.specs.Slots.{put_into};
 ghost use Rattle.dwcheck_c.specs.Lent.{Reads, loan_of, read_by};
 ghost use Rattle.dwcheck_c.specs.RuleBytes.{bytes_at, bytes_in_row, cfa_bytes, rule_bytes};
-ghost use Rattle.dwcheck_c.specs.Slots.{put_into};
 
-use crate::lent::{LentProcess, put};
-use crate::right::Right;
-use crate::slots::write_all;
-use crate::status::{DONE, NONE};
+use crate::process_reader::{LentProcess, put};
+use crate::read_right::Right;
+use dw_c_types::slots::write_all;
+use dw_c_types::status::{DONE, NONE};
 use dw_rows::{CfaRule, RegisterRule, UnwindRow};
 
 /// The number that stands for the rule of the CFA. No register has it.

@@ -4,9 +4,9 @@ ghost use Rattle.std.specs.Prelude.{◌≡◌};
 ghost use Rattle.dwcheck_c.specs.Lent.{Reads, loan_of, read_by};
 ghost use Rattle.dwcheck_c.specs.SignalFrames.{flag_at};
 
-use crate::lent::{LentProcess, put};
-use crate::right::Right;
-use crate::status::DONE;
+use crate::process_reader::{LentProcess, put};
+use crate::read_right::Right;
+use dw_c_types::status::DONE;
 
 /// Where a flag is written, with a part of the right to read the process, which takes no bytes: C
 /// passes a pointer to a number.

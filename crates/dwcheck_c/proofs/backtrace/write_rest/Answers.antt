@@ -4,8 +4,8 @@ use Rattle.std.proofs.lemmas.List.{length-set}
 use Rattle.dw_rules.specs.AbiViews.{roles_of}
 use Rattle.dw_unwind.specs.UnwoundViews.{caller_with}
 use Rattle.dw_unwind.specs.Walks.{Place, WalkedFrame, contents_of}
-use Rattle.dwcheck_c.specs.Frames.{cframe_by, cframe_of}
-use Rattle.dwcheck_c.specs.ProcessWalks.{Unwinding, signal_at, through_process}
+use Rattle.dw_c_types.specs.Frames.{cframe_by, cframe_of}
+use Rattle.dw_c_types.specs.ProcessWalks.{Unwinding, signal_at, through_process}
 use Rattle.dwcheck_c.proofs.CursorSteps.{caller-place, ends-with, next-is, place-by, same-contents}
 use Rattle.dwcheck_c.proofs.WrittenFrames.{ends, fills, full, gives, left-at}
 use Rattle.dwcheck_c.proofs.backtrace.write_rest.Goals as goal
@@ -14,9 +14,9 @@ pub returns-then-count-slots : goal.returns-then-count-slots
 returns-then-count-slots g c =
     let u : Unwinding =
     through_process (roles_of c.args.abi.now) (g.M.Memory.bytes c.args.memory.now) c.args.bits c.args.process.now in
-    let slots = c.loop-count.slots in let count = c.loop-count.count in let out = c.shown_frame.result in
+    let slots = c.loop-count.slots in let count = c.loop-count.count in let out = c.c_frame_of.result in
     let f : WalkedFrame = record { address = c.loop-count.at; caller = option_map (caller_with c.loop-count.found) c.loop-count.unwound } in
-    let shown : out ≡ cframe_of f = c.shown_frame.ensures ∙ ap cframe_by (c.brief.ensures c.loop-count.found) in
+    let shown : out ≡ cframe_of f = c.c_frame_of.ensures ∙ ap cframe_by (c.brief.ensures c.loop-count.found) in
     λ first old h.
     let k = c.loop-count.invariant.left first old h in
     let p : Place = record { address = c.loop-count.at; looked_up = c.loop-count.place; registers = k.0 } in
@@ -27,9 +27,9 @@ pub returns-in-Err : goal.returns-in-Err
 returns-in-Err g c =
     let u : Unwinding =
     through_process (roles_of c.args.abi.now) (g.M.Memory.bytes c.args.memory.now) c.args.bits c.args.process.now in
-    let slots = c.loop-count.slots in let count = c.loop-count.count in let out = c.shown_frame.result in
+    let slots = c.loop-count.slots in let count = c.loop-count.count in let out = c.c_frame_of.result in
     let f : WalkedFrame = record { address = c.loop-count.at; caller = option_map (caller_with c.loop-count.found) c.loop-count.unwound } in
-    let shown : out ≡ cframe_of f = c.shown_frame.ensures ∙ ap cframe_by (c.brief.ensures c.loop-count.found) in
+    let shown : out ≡ cframe_of f = c.c_frame_of.ensures ∙ ap cframe_by (c.brief.ensures c.loop-count.found) in
     λ first old h.
     let k = c.loop-count.invariant.left first old h in
     let p : Place = record { address = c.loop-count.at; looked_up = c.loop-count.place; registers = k.0 } in
@@ -41,10 +41,10 @@ pub loop-count-preserved : goal.loop-count-preserved
 loop-count-preserved g c =
     let u : Unwinding =
     through_process (roles_of c.args.abi.now) (g.M.Memory.bytes c.args.memory.now) c.args.bits c.args.process.now in
-    let slots = c.loop-count.slots in let count = c.loop-count.count in let out = c.shown_frame.result in
+    let slots = c.loop-count.slots in let count = c.loop-count.count in let out = c.c_frame_of.result in
     let found = c.loop-count.found in let unwound = c.loop-count.unwound in
     let f : WalkedFrame = record { address = c.loop-count.at; caller = option_map (caller_with found) unwound } in
-    let shown : out ≡ cframe_of f = c.shown_frame.ensures ∙ ap cframe_by (c.brief.ensures found) in
+    let shown : out ≡ cframe_of f = c.c_frame_of.ensures ∙ ap cframe_by (c.brief.ensures found) in
     let at = c.without_bits-at.result in
     let is_signal = signal_at u.is_signal c.loop-count.place in
     let q : Place = record { address = at; looked_up = c.looked_up_after-place.result; registers = contents_of found } in

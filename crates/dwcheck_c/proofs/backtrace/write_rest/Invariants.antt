@@ -3,9 +3,9 @@ use Rattle.std.specs.Prelude.{option_map}
 use Rattle.dw_rules.specs.AbiViews.{roles_of}
 use Rattle.dw_unwind.specs.UnwoundViews.{caller_with}
 use Rattle.dw_unwind.specs.Walks.{Place, UnwindsAt}
-use Rattle.dwcheck_c.specs.Frames.{IsLeftAt}
-use Rattle.dwcheck_c.specs.ProcessWalks.{over_process, through_process}
-use Rattle.dwcheck_c.specs.declared.answer.CFrame.{CFrame}
+use Rattle.dw_c_types.specs.Frames.{IsLeftAt}
+use Rattle.dw_c_types.specs.ProcessWalks.{over_process, through_process}
+use Rattle.dw_c_types.specs.declared.answer.CFrame.{CFrame}
 use Rattle.dwcheck_c.proofs.backtrace.write_rest.Given as goal
 
 abbrev pub invariant-loop-count : goal.invariant-loop-count

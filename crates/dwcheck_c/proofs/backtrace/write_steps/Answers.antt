@@ -4,9 +4,9 @@ use Rattle.std.proofs.lemmas.List.{length-set}
 use Rattle.dw_rules.specs.Abi.{abi_of}
 use Rattle.dw_unwind.specs.Walks.{Place}
 use Rattle.dw_unwind.specs.declared.frames.Stop.{Stop}
-use Rattle.dwcheck_c.specs.Cursors.{IsStepBy, place_of}
-use Rattle.dwcheck_c.specs.Frames.{stop_number}
-use Rattle.dwcheck_c.specs.ProcessWalks.{Unwinding, through_process}
+use Rattle.dw_c_types.specs.Frames.{stop_number}
+use Rattle.dw_c_types.specs.ProcessWalks.{Unwinding, through_process}
+use Rattle.dwcheck_c.specs.WalkCursors.{IsStepBy, place_of}
 use Rattle.dwcheck_c.proofs.CursorWalks.{step-place, step-stop, step-why}
 use Rattle.dwcheck_c.proofs.WrittenFrames.{ends, fills, gives, left-at}
 use Rattle.dwcheck_c.proofs.backtrace.write_steps.Goals as goal

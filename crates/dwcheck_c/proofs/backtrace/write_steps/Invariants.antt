@@ -1,8 +1,8 @@
 use Rattle.std.proofs.Common.{◌-◌, ◌≤◌, length}
 use Rattle.dw_rules.specs.Abi.{abi_of}
-use Rattle.dwcheck_c.specs.Cursors.{place_of}
-use Rattle.dwcheck_c.specs.Frames.{IsLeftAt}
-use Rattle.dwcheck_c.specs.ProcessWalks.{through_process}
+use Rattle.dw_c_types.specs.Frames.{IsLeftAt}
+use Rattle.dw_c_types.specs.ProcessWalks.{through_process}
+use Rattle.dwcheck_c.specs.WalkCursors.{place_of}
 use Rattle.dwcheck_c.proofs.backtrace.write_steps.Given as goal
 
 abbrev pub invariant-loop-count : goal.invariant-loop-count

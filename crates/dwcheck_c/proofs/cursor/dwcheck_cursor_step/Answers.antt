@@ -1,9 +1,9 @@
 use Rattle.std.proofs.Common.{subst, sym}
 use Rattle.std.specs.Prelude.{Option}
 use Rattle.dw_process.specs.Processes.{ProcessState}
-use Rattle.dwcheck_c.specs.Cursors.{IsStepBy}
-use Rattle.dwcheck_c.specs.ProcessWalks.{through_held}
-use Rattle.dwcheck_c.specs.Machine.{abi_in, memory_of}
+use Rattle.dw_c_types.specs.ProcessWalks.{through_held}
+use Rattle.dw_c_types.specs.Machine.{abi_in, memory_of}
+use Rattle.dwcheck_c.specs.WalkCursors.{IsStepBy}
 use Rattle.dwcheck_c.proofs.cursor.dwcheck_cursor_step.Goals as goal
 
 pub returns-in_default-clause-done : goal.returns-in_default-clause-done

@@ -1,7 +1,7 @@
 use Rattle.std.proofs.Common.{◌≡◌, ◌≤◌, ◌<◌, ◌-◌, ℕ}
 use Rattle.std.specs.Prelude.{None}
 use Rattle.dw_unwind.specs.Contents.{contents_in}
-use Rattle.dwcheck_c.specs.Machine.{register_in}
+use Rattle.dw_c_types.specs.Machine.{register_in}
 use Rattle.dwcheck_c.proofs.cursor.fill.Given as goal
 
 abbrev pub invariant-loop-number : goal.invariant-loop-number

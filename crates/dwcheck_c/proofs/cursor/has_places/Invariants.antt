@@ -1,6 +1,6 @@
 use Rattle.std.proofs.Common.{◌≡◌, ◌≤◌, ◌<◌, ◌-◌, ℕ, length}
 use Rattle.std.specs.Prelude.{None}
-use Rattle.dwcheck_c.specs.Machine.{register_in}
+use Rattle.dw_c_types.specs.Machine.{register_in}
 use Rattle.dwcheck_c.proofs.cursor.has_places.Given as goal
 
 abbrev pub invariant-loop-number : goal.invariant-loop-number

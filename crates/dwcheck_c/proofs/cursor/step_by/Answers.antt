@@ -4,10 +4,10 @@ use Rattle.dw_rules.specs.Abi.{abi_of}
 use Rattle.dw_unwind.specs.Contents.{UnwindsTo, contents_in}
 use Rattle.dw_unwind.specs.UnwoundViews.{caller_with}
 use Rattle.dw_unwind.specs.Walks.{UnwindsAt, WalkedFrame}
+use Rattle.dw_c_types.specs.Frames.{cframe_by, cframe_of}
+use Rattle.dw_c_types.specs.ProcessWalks.{Unwinding, through_process}
 use Rattle.dwcheck_c.specs.declared.cursor.CCursor.{CCursor}
-use Rattle.dwcheck_c.specs.Cursors.{registers_in}
-use Rattle.dwcheck_c.specs.Frames.{cframe_by, cframe_of}
-use Rattle.dwcheck_c.specs.ProcessWalks.{Unwinding, through_process}
+use Rattle.dwcheck_c.specs.WalkCursors.{registers_in}
 use Rattle.dwcheck_c.proofs.CursorSteps.{step-goes, step-uncovered}
 use Rattle.dwcheck_c.proofs.cursor.step_by.Goals as goal
 
@@ -37,6 +37,6 @@ returns-in-Ok-clause-done g c = λ _.
       reserved = old.reserved;
     } in
     let f : WalkedFrame = record { address = old.address; caller = option_map (caller_with h.found) (Some w) } in
-    let shown : c.shown_frame.result ≡ cframe_of f = c.shown_frame.ensures ∙ ap cframe_by (c.brief.ensures h.found) in
-    step-goes u old new c.shown_frame.result (Some w) to c.in-Some.address c.in-Ok.next h (sym (sym c.in-Some.is ∙ c.looked_up.ensures)) shown c.in-Ok.ensures
+    let shown : c.c_frame_of.result ≡ cframe_of f = c.c_frame_of.ensures ∙ ap cframe_by (c.brief.ensures h.found) in
+    step-goes u old new c.c_frame_of.result (Some w) to c.in-Some.address c.in-Ok.next h (sym (sym c.in-Some.is ∙ c.looked_up.ensures)) shown c.in-Ok.ensures
     c.stage_of_caller-cursor.ensures c.without_bits-cursor.ensures refl

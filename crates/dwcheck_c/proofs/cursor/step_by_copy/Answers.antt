@@ -4,10 +4,10 @@ use Rattle.dw_rules.specs.Abi.{abi_of}
 use Rattle.dw_unwind.specs.Contents.{UnwindsTo, contents_in}
 use Rattle.dw_unwind.specs.UnwoundViews.{caller_with}
 use Rattle.dw_unwind.specs.Walks.{WalkedFrame}
+use Rattle.dw_c_types.specs.Frames.{cframe_by, cframe_of}
+use Rattle.dw_c_types.specs.ProcessWalks.{Unwinding, through_process}
 use Rattle.dwcheck_c.specs.declared.cursor.CCursor.{CCursor}
-use Rattle.dwcheck_c.specs.Cursors.{registers_in}
-use Rattle.dwcheck_c.specs.Frames.{cframe_by, cframe_of}
-use Rattle.dwcheck_c.specs.ProcessWalks.{Unwinding, through_process}
+use Rattle.dwcheck_c.specs.WalkCursors.{registers_in}
 use Rattle.dwcheck_c.proofs.CursorSteps.{step-ends, step-goes}
 use Rattle.dwcheck_c.proofs.cursor.step_by_copy.Goals as goal
 
@@ -25,8 +25,8 @@ returns-in-Ok-return_address-clause-done g c = λ _.
       reserved = old.reserved;
     } in
     let f : WalkedFrame = record { address = old.address; caller = option_map (caller_with h.found) c.in-Ok.unwound } in
-    let shown : c.shown_frame.result ≡ cframe_of f = c.shown_frame.ensures ∙ ap cframe_by (c.brief.ensures h.found) in
-    step-goes u old new c.shown_frame.result c.in-Ok.unwound (contents_in c.contents_into.new.into) c.args.address
+    let shown : c.c_frame_of.result ≡ cframe_of f = c.c_frame_of.ensures ∙ ap cframe_by (c.brief.ensures h.found) in
+    step-goes u old new c.c_frame_of.result c.in-Ok.unwound (contents_in c.contents_into.new.into) c.args.address
     c.in-Ok-return_address.next h c.requires shown c.in-Ok-return_address.ensures c.stage_of_caller-cursor.ensures c.without_bits-cursor.ensures refl
 
 pub returns-in-Err-clause-done : goal.returns-in-Err-clause-done
@@ -43,6 +43,6 @@ returns-in-Err-clause-done g c = λ _.
       reserved = old.reserved;
     } in
     let f : WalkedFrame = record { address = old.address; caller = option_map (caller_with h.found) c.in-Ok.unwound } in
-    let shown : c.shown_frame.result ≡ cframe_of f = c.shown_frame.ensures ∙ ap cframe_by (c.brief.ensures h.found) in
-    step-ends u old new c.shown_frame.result c.in-Ok.unwound (contents_in c.contents_into.new.into) c.in-Err.stop h shown c.in-Err.ensures
+    let shown : c.c_frame_of.result ≡ cframe_of f = c.c_frame_of.ensures ∙ ap cframe_by (c.brief.ensures h.found) in
+    step-ends u old new c.c_frame_of.result c.in-Ok.unwound (contents_in c.contents_into.new.into) c.in-Err.stop h shown c.in-Err.ensures
     c.stage_after-cursor.ensures refl refl

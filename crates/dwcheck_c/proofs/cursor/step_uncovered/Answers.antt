@@ -1,6 +1,6 @@
 use Rattle.std.specs.Prelude.{None}
-use Rattle.dwcheck_c.specs.Cursors.{looked_up_by, registers_in}
-use Rattle.dwcheck_c.specs.ProcessWalks.{through_held}
+use Rattle.dw_c_types.specs.ProcessWalks.{through_held}
+use Rattle.dwcheck_c.specs.WalkCursors.{looked_up_by, registers_in}
 use Rattle.dwcheck_c.proofs.CursorSteps.{none-held, step-uncovered}
 use Rattle.dwcheck_c.proofs.cursor.step_uncovered.Goals as goal
 

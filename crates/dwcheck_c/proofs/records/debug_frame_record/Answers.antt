@@ -34,7 +34,7 @@ returns-in-Some-Ok-Cie c = record {
     others = c.next.new.self;
     read = left-of c.args.target c.args.frame.now c.args.at c.entries.result c.entries.ensures ∙ c.in-Some-Ok-Cie.ensures.steps
         ∙ ap (λ (i : Item). i ∷ c.next.new.self) (ap entry_of c.in-Some-Ok-Cie.field-0-is ∙ ap (λ (e : Entry). entry_of (Ok e)) c.in-Some-Ok-Cie.field-0-0-is);
-    shown = c.shown_cie.ensures;
+    shown = c.c_cie_of.ensures;
   };
 }
 
@@ -45,7 +45,7 @@ returns-in-Some-Ok-Fde c = record {
     others = c.next.new.self;
     read = left-of c.args.target c.args.frame.now c.args.at c.entries.result c.entries.ensures ∙ c.in-Some-Ok-Fde.ensures.steps
         ∙ ap (λ (i : Item). i ∷ c.next.new.self) (ap entry_of c.in-Some-Ok-Fde.field-0-is ∙ ap (λ (e : Entry). entry_of (Ok e)) c.in-Some-Ok-Fde.field-0-0-is);
-    shown = c.shown_fde.ensures;
+    shown = c.c_fde_of.ensures;
   };
 }
 

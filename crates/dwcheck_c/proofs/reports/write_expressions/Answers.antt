@@ -3,7 +3,7 @@ use Rattle.std.proofs.lemmas.List.{length-map}
 use Rattle.dw_loclists.specs.Reading.{ListSection, located_in}
 use Rattle.dw_rows.specs.Section.{FrameSection}
 use Rattle.dw_stack.specs.Located.{LocatedExpression, all_located, located_of}
-use Rattle.dwcheck_c.specs.declared.fault.TheConstants.{IN_FRAME, IN_LISTS}
+use Rattle.dw_c_types.specs.declared.fault.TheConstants.{IN_FRAME, IN_LISTS}
 use Rattle.dwcheck_c.specs.Reports.{AreShown}
 use Rattle.dwcheck_c.proofs.Shown.{shown-length}
 use Rattle.dwcheck_c.proofs.reports.write_expressions.Goals as goal

@@ -1,9 +1,9 @@
 use Rattle.std.proofs.Common.{◌≡◌, ◌++◌, ◌⊎◌, ◌≤◌, List, length, map}
 use Rattle.dw_stack.specs.Located.{located_of}
-use Rattle.dwcheck_c.specs.declared.fault.TheConstants.{IN_LISTS}
+use Rattle.dw_c_types.specs.declared.fault.TheConstants.{IN_LISTS}
+use Rattle.dw_c_types.specs.Slots.{put_into}
 use Rattle.dwcheck_c.specs.declared.reports.CExpression.{CExpression}
 use Rattle.dwcheck_c.specs.Reports.{AreShown}
-use Rattle.dwcheck_c.specs.Slots.{put_into}
 use Rattle.dwcheck_c.proofs.reports.write_list_expressions.Given as goal
 
 abbrev pub invariant-loop-offset : goal.invariant-loop-offset

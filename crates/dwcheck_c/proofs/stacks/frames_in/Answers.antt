@@ -1,7 +1,7 @@
 use Rattle.std.proofs.Common.{Option, subst, sym}
 use Rattle.dw_process.specs.Processes.{ProcessState}
-use Rattle.dwcheck_c.specs.Frames.{IsBacktrace, stop_number}
-use Rattle.dwcheck_c.specs.Machine.{abi_in, memory_of, registers_of}
+use Rattle.dw_c_types.specs.Frames.{IsBacktrace, stop_number}
+use Rattle.dw_c_types.specs.Machine.{abi_in, memory_of, registers_of}
 use Rattle.dwcheck_c.proofs.stacks.frames_in.Goals as goal
 
 pub returns-in-None-clause-frames : goal.returns-in-None-clause-frames

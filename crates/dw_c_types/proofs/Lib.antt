@@ -1,0 +1,4 @@
+mod Assembled
+mod FirstBlock
+mod FirstTwice
+pub mod Putting

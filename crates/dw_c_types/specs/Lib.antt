@@ -1,0 +1,10 @@
+pub mod Callers
+pub mod Evaluated
+pub mod Faults
+pub mod Frames
+pub mod Locations
+pub mod Machine
+pub mod ProcessWalks
+pub mod Rows
+pub mod Slots
+pub mod Targets

@@ -1,7 +1,0 @@
-use Rattle.std.proofs.Common.{◌≡◌, map, take}
-use Rattle.dwcheck_c.specs.Callers.{cregister_of}
-use Rattle.dwcheck_c.specs.Slots.{put_into}
-use Rattle.dwcheck_c.proofs.callers.write_registers.Given as goal
-
-abbrev pub invariant-loop-index : goal.invariant-loop-index
-invariant-loop-index l = l.slots ≡ put_into (map cregister_of (take l.index l.found)) l.initial.slots

@@ -1,7 +1,0 @@
-use Rattle.std.proofs.Common.{◌≡◌, drop}
-use Rattle.dwcheck_c.specs.Machine.{byte_in}
-use Rattle.dwcheck_c.proofs.memory.Blocks.byte.Given as goal
-
-abbrev pub invariant-loop-block : goal.invariant-loop-block
-invariant-loop-block l =
-    byte_in l.self.blocks.now l.address ≡ byte_in (drop l.block-index l.self.blocks.now) l.address

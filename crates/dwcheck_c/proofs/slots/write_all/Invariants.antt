@@ -1,6 +1,0 @@
-use Rattle.std.proofs.Common.{◌≡◌, take}
-use Rattle.dwcheck_c.specs.Slots.{put_into}
-use Rattle.dwcheck_c.proofs.slots.write_all.Given as goal
-
-abbrev pub invariant-loop-index : goal.invariant-loop-index
-invariant-loop-index l = l.slots ≡ put_into (take l.index l.bytes) l.initial.slots
