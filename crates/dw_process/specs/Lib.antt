@@ -10,3 +10,5 @@ pub mod FirstRows
 pub mod Refusals
 -- modules whose rows come from an `.eh_frame` section
 pub mod EhModules
+-- a cache of hints
+pub mod RowCaches

@@ -10,6 +10,7 @@ mod module_map;
 mod process;
 mod ranges;
 mod refusal;
+mod row_cache;
 mod shared_signals;
 mod shared_table;
 
@@ -19,5 +20,6 @@ pub use found_row::FoundRow;
 pub use loaded_module::LoadedModule;
 pub use process::Process;
 pub use refusal::Refusal;
+pub use row_cache::{NoHints, RowCache, RowHint, RowHints};
 pub use shared_signals::SharedSignals;
 pub use shared_table::SharedTable;

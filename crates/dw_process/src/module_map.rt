@@ -8,6 +8,7 @@ ghost use Rattle.dw_process.specs.ModuleMaps.{AreInOrder, IsPlaceFor, IsProper, 
 
 use crate::address_range::AddressRange;
 use crate::loaded_module::LoadedModule;
+use crate::row_cache::NO_HINT;
 use std::alloc::{AllocError, Global};
 use std::marker::Model;
 
@@ -93,12 +94,30 @@ impl ModuleMap {
     pub fn at(&self, address: u64) -> Option<&LoadedModule>
         ensures { option_map (λ m. m.now) result ≡ module_at self.now address }
     {
+        let mut hint = NO_HINT;
+        self.at_near(address, &mut hint)
+    }
+
+    /// What `at` returns. `hint` is a guess of the module's index. If it is wrong, a search
+    /// follows, and `hint` becomes the index of the module, if there is one.
+    #[inline(always)]
+    pub fn at_near(&self, address: u64, hint: &mut u32) -> Option<&LoadedModule>
+        ensures { option_map (λ m. m.now) result ≡ module_at self.now address }
+    {
+        let guess = *hint as usize;
+        if guess < self.modules.len() {
+            let near = &self.modules[guess];
+            if near.range.first <= address && address <= near.range.last {
+                return Some(near);
+            }
+        }
         let after = count_up_to(self.firsts.as_slice(), address);
         if after == 0 {
             return None;
         }
         let module = &self.modules[after - 1];
         if address <= module.range.last {
+            *hint = u32::try_from(after - 1).unwrap_or(NO_HINT);
             return Some(module);
         }
         None

@@ -13,6 +13,7 @@ use crate::loaded_module::LoadedModule;
 use crate::module_map::ModuleMap;
 use crate::ranges::range_for;
 use crate::refusal::Refusal;
+use crate::row_cache::RowHint;
 use crate::shared_signals::SharedSignals;
 use crate::shared_table::SharedTable;
 use dw_bytes::{OUT_OF_MEMORY, Target};
@@ -237,11 +238,27 @@ impl Process {
         ensures row { result ≡ found_at self.now address }
         ensures found { IfSome result (IsFoundIn self.now address) }
     {
-        let Some(found) = self.modules.at(address) else {
+        let mut hint = RowHint::none();
+        self.row_for_address_near(address, &mut hint)
+    }
+
+    /// What `row_for_address` returns. `hint` says where the row may be: it is what an earlier
+    /// look-up left there, in this process or in another one, or any other hint. If it is right, as
+    /// it usually is for an address that was looked up before, no search is needed. If not, it is
+    /// set.
+    #[inline(always)]
+    pub fn row_for_address_near(&self, address: u64, hint: &mut RowHint) -> Option<FoundRow<'_>>
+        ensures row { result ≡ found_at self.now address }
+        ensures found { IfSome result (IsFoundIn self.now address) }
+    {
+        let Some(found) = self.modules.at_near(address, &mut hint.module_index) else {
             return None;
         };
         let linked = as_linked(self.target, found.load_address, address);
-        match found.rows.row_and_return_register(linked) {
+        match found
+            .rows
+            .row_and_return_register_near(linked, &mut hint.entry_count)
+        {
             Some((row, return_register)) => Some(FoundRow {
                 id: found.id,
                 cookie: found.cookie,
@@ -260,7 +277,16 @@ impl Process {
     pub fn is_signal_frame(&self, address: u64) -> bool
         ensures { result ≡ is_signal_in self.now address }
     {
-        match self.modules.at(address) {
+        let mut hint = RowHint::none();
+        self.is_signal_frame_near(address, &mut hint)
+    }
+
+    /// What `is_signal_frame` returns. `hint` is that of `row_for_address_near`.
+    #[inline(always)]
+    pub fn is_signal_frame_near(&self, address: u64, hint: &mut RowHint) -> bool
+        ensures { result ≡ is_signal_in self.now address }
+    {
+        match self.modules.at_near(address, &mut hint.module_index) {
             Some(found) => {
                 let target = found.rows.rows_target();
                 let linked = as_linked(target, found.load_address, address);
@@ -286,9 +312,9 @@ impl Process {
     }
 }
 
-/// Looks rows up in the module whose range contains the address.
+/// Looks rows up in the module whose range contains the address. A slot says where the row may be.
 impl UnwindRows for Process {
-    type Slot = ();
+    type Slot = RowHint;
 
     ghost use Rattle.std.specs.Prelude.{◌≡◌};
     ghost use Rattle.dw_process.specs.Processes.{row_in};
@@ -303,14 +329,22 @@ impl UnwindRows for Process {
     }
 
     #[inline(always)]
-    fn slot(&self) -> () {}
+    fn slot(&self) -> RowHint {
+        RowHint::none()
+    }
 
     #[inline(always)]
-    fn find_row<'p>(&'p self, address: u64, _slot: &'p mut ()) -> Option<(UnwindRow<'p, 'p>, u16)> {
-        let Some(found) = self.modules.at(address) else {
+    fn find_row<'p>(
+        &'p self,
+        address: u64,
+        slot: &'p mut RowHint,
+    ) -> Option<(UnwindRow<'p, 'p>, u16)> {
+        let Some(found) = self.modules.at_near(address, &mut slot.module_index) else {
             return None;
         };
         let linked = as_linked(self.target, found.load_address, address);
-        found.rows.row_and_return_register(linked)
+        found
+            .rows
+            .row_and_return_register_near(linked, &mut slot.entry_count)
     }
 }

@@ -56,6 +56,19 @@ impl SharedTable {
     {
         self.table.row_and_return_register(address)
     }
+
+    /// What `row_and_return_register` returns. `hint` is that of the table's call of this name.
+    #[inline(always)]
+    pub fn row_and_return_register_near(
+        &self,
+        address: u64,
+        hint: &mut u32,
+    ) -> Option<(UnwindRow<'_, '_>, u16)>
+        ensures row { result ≡ row_at self.now address }
+        ensures under { IfSome result (λ found. IsRowUnder self.now.target found.0) }
+    {
+        self.table.row_and_return_register_near(address, hint)
+    }
 }
 
 /// Looks rows up in the table.

@@ -205,18 +205,20 @@ impl StoredTable {
     }
 
     /// The row of an address and its return address register, or `None` if no row covers the
-    /// address. The row's rules and expressions are borrowed.
+    /// address. The row's rules and expressions are borrowed. `hint` is that of
+    /// `TableEntries::count_up_to_near`.
     #[inline(always)]
     pub fn find<'t, 'a>(
         &'t self,
         address: u64,
+        hint: &mut u32,
         expressions: RowExpressions<'t, 'a>,
     ) -> Option<(UnwindRow<'t, 'a>, u16)>
         requires { All (LendsFound (row_expressions expressions)) self.now.rows }
         ensures { result ≡ option_map (found_with_expressions (row_expressions expressions.entry))
             (find (has address) self.now.rows) }
     {
-        let after = self.entries.count_up_to(address);
+        let after = self.entries.count_up_to_near(address, hint);
         if after == 0 || after == self.entries.count() {
             return None;
         }

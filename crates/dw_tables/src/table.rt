@@ -10,6 +10,7 @@ ghost use Rattle.dw_tables.specs.CompiledTable.{LacksRoom};
 
 use crate::expression_copies::copy_expressions;
 use crate::stored_table::StoredTable;
+use crate::table_entries::NO_HINT;
 use crate::table_room::Unmade;
 use dw_bytes::{Fault, OUT_OF_MEMORY, Target};
 use dw_rows::{CheckedFrame, UnwindRows};
@@ -141,8 +142,26 @@ impl UnwindTable {
         // The row's expressions have the table's target.
         ensures under { IfSome result (λ found. IsRowUnder self.now.target found.0) }
     {
-        self.placed
-            .find(address, RowExpressions::Owned(&self.expressions))
+        let mut hint = NO_HINT;
+        self.row_and_return_register_near(address, &mut hint)
+    }
+
+    /// What `row_and_return_register` returns. `hint` says where the table may have the row: it is
+    /// what an earlier look-up left there, or any other number. If it is right, as it usually is
+    /// for an address that was looked up before, no search is needed. If not, `hint` is set.
+    #[inline(always)]
+    pub fn row_and_return_register_near(
+        &self,
+        address: u64,
+        hint: &mut u32,
+    ) -> Option<(UnwindRow<'_, '_>, u16)>
+        ensures row { result ≡ row_at self.now address }
+
+        // The row's expressions have the table's target.
+        ensures under { IfSome result (λ found. IsRowUnder self.now.target found.0) }
+    {
+        let expressions = RowExpressions::Owned(&self.expressions);
+        self.placed.find(address, hint, expressions)
     }
 
     /// The row of an address, or `None` if no FDE covers the address. The row's rules and

@@ -28,6 +28,9 @@ struct Blocks {
     counts: Vec<u32>,
 }
 
+/// A hint that is no count of entries, or is so for a table with 2^32 - 1 entries or more.
+pub const NO_HINT: u32 = u32::MAX;
+
 /// About how many starts a block has on average.
 const USUAL_BLOCK: usize = 16;
 
@@ -303,6 +306,23 @@ impl TableEntries {
             return guess;
         }
         count_up_to(&self.starts, address)
+    }
+
+    /// How many entries begin at or below `address`. `hint` is a guess of this count. If it is
+    /// wrong, a search follows, and `hint` becomes the count.
+    #[inline(always)]
+    pub fn count_up_to_near(&self, address: u64, hint: &mut u32) -> usize
+        requires { IsNonDecreasingBy entry_start self.now }
+        ensures { IsEntryCount self.now address result }
+    {
+        let near = *hint as usize;
+        if is_count(&self.starts, near, address) {
+            return near;
+        }
+        let count = self.count_up_to(address);
+        // A count with more than 32 bits can't be a hint.
+        *hint = u32::try_from(count).unwrap_or(NO_HINT);
+        count
     }
 
     /// The entry at index `place`.

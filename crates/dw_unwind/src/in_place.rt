@@ -189,10 +189,12 @@ fn saved_number<M: Memory>(memory: &M, cfa: u64, offset: i64) -> Option<u64>
 /// CFA is a register and an offset; and each rule says that a register is saved relative to the
 /// CFA, the return address among them, which is known. Nearly all rows that compilers write for
 /// x86-64 are so. If the step isn't a usual one, or there is no caller, the result is none and
-/// nothing has changed.
+/// no content has changed. The row is looked up with `slot`, which may be one that an earlier
+/// look-up wrote.
 #[inline(always)]
-pub(crate) fn step_in_place<T: UnwindRows, M: Memory>(
+pub fn step_in_place<T: UnwindRows, M: Memory>(
     rows: &T,
+    slot: &mut T::Slot,
     kept: &KeptRegisters<'_>,
     stack_pointer: Option<u16>,
     address: u64,
@@ -210,8 +212,7 @@ pub(crate) fn step_in_place<T: UnwindRows, M: Memory>(
     if !is_little_64(rows.rows_target()) || !has_place(stack_pointer) {
         return None;
     }
-    let mut slot = rows.slot();
-    let (row, number) = rows.find_row(address, &mut slot)?;
+    let (row, number) = rows.find_row(address, slot)?;
     let cfa = plain_cfa(row.cfa(), file)?;
     let rules = row.plain_rules(PLACES as u16)?;
     let offset = offset_of(rules.again(), number)?;

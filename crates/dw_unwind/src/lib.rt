@@ -23,6 +23,7 @@ pub use backtraces::{backtrace_by, backtrace_by_section, backtrace_in};
 pub use caller_contents::NoPlace;
 pub use frame_registers::FrameRegisters;
 pub use frames::{Backtrace, BriefFrame, Frame, Stop};
+pub use in_place::step_in_place;
 pub use kept_registers::KeptRegisters;
 pub use modules::{Module, as_linked, unwind_in};
 pub use packed_registers::PackedRegisters;

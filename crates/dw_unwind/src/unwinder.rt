@@ -136,6 +136,7 @@ impl<'r, T: UnwindRows> Unwinder for &'r T {
         memory: &M,
         file: &mut RegisterFile,
     ) -> Option<Unwound> {
-        step_in_place(*self, kept, stack_pointer, address, memory, file)
+        let mut slot = self.slot();
+        step_in_place(*self, &mut slot, kept, stack_pointer, address, memory, file)
     }
 }

@@ -3,7 +3,7 @@ use Rattle.dw_rules.specs.Rules.{Row}
 use Rattle.dw_tables.specs.UnwindTables.{RowTable}
 use Rattle.dw_rows.specs.RowLookups.{IsRowUnder}
 use Rattle.dw_tables.proofs.CompiledTables.{table-finds, finds-under}
-use Rattle.dw_tables.proofs.table.UnwindTable.row_and_return_register.Goals as goal
+use Rattle.dw_tables.proofs.table.UnwindTable.row_and_return_register_near.Goals as goal
 
 pub returns-clause-row : goal.returns-clause-row
 returns-clause-row c =
