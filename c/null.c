@@ -102,6 +102,17 @@ uint32_t dwcheck_backtrace(const dwcheck_process *process, uint64_t address, con
     return proved_dwcheck_backtrace(process, address, &copy, frames, frames_length, count, stop, fault);
 }
 
+PROVED(dwcheck_backtrace_cached);
+uint32_t dwcheck_backtrace_cached(const dwcheck_process *process, uint64_t address, const dwcheck_state *state,
+                                  dwcheck_frame *frames, size_t frames_length, size_t *count, uint32_t *stop,
+                                  dwcheck_cache *cache, dwcheck_fault *fault) {
+    frames = OR_NO_PLACE(frames);
+    if (has_all(state))
+        return proved_dwcheck_backtrace_cached(process, address, state, frames, frames_length, count, stop, cache, fault);
+    const dwcheck_state copy = with_all(state);
+    return proved_dwcheck_backtrace_cached(process, address, &copy, frames, frames_length, count, stop, cache, fault);
+}
+
 PROVED(dwcheck_cursor_init);
 uint32_t dwcheck_cursor_init(dwcheck_cursor *cursor, uint64_t address, const dwcheck_state *state, uint32_t exact,
                              dwcheck_fault *fault) {

@@ -1,8 +1,8 @@
 /* Times the look-ups of a process that has many modules: the module of an address, the row of an
-   address, and a frame of a walk, also by a cursor. Each module has the same section of 64 functions with three rows
-   each. Addresses are in the last module alone, so that its table is in the processor's caches, or in
-   all modules in random order. Then it times walks of a few frames, their start included. Prints
-   nanoseconds, the least of five passes.
+   address, and a frame of a walk, also with a cache and by a cursor. Each module has the same section of
+   64 functions with three rows each. Addresses are in the last module alone, so that its table is in the
+   processor's caches, or in all modules in random order. Then it times walks of a few frames, their
+   start included. Prints nanoseconds, the least of five passes.
 
      gcc -std=gnu11 -O2 -Wall -Wextra bench/times/modules.c $(pkg-config --cflags --libs dwcheck) -o modules && ./modules */
 #include <dwcheck.h>
@@ -84,6 +84,18 @@ static void walk(void) {
     if (status != DWCHECK_DONE || count != limit) exit(1);
 }
 
+/* The same walk with a cache, which the walks before it filled. */
+static dwcheck_cache cache;
+
+static void walk_cached(void) {
+    static dwcheck_frame frames[FRAMES];
+    size_t count;
+    uint32_t stop;
+    dwcheck_fault fault;
+    uint32_t status = dwcheck_backtrace_cached(&process, addresses[0], &state, frames, limit, &count, &stop, &cache, &fault);
+    if (status != DWCHECK_DONE || count != limit) exit(1);
+}
+
 /* The same walk by a cursor. */
 static void step(void) {
     dwcheck_cursor cursor;
@@ -137,15 +149,19 @@ int main(void) {
         for (int in_all = 0; in_all < 2; in_all++) {
             choose(in_all ? 0 : count - 1, in_all ? count : 1);
             double module = least(find_modules, TIMES, ADDRESSES), row = least(find_rows, TIMES, ADDRESSES);
-            double frame = least(walk, TIMES * 4, FRAMES), stepped = least(step, TIMES * 4, FRAMES);
-            printf("%s module_at %.1f, row_at %.1f, a frame %.1f, by a cursor %.1f", in_all ? "; in all" : " in the last", module, row, frame, stepped);
+            double frame = least(walk, TIMES * 4, FRAMES), cached = least(walk_cached, TIMES * 4, FRAMES);
+            double stepped = least(step, TIMES * 4, FRAMES);
+            printf("%s module_at %.1f, row_at %.1f, a frame %.1f, with a cache %.1f, by a cursor %.1f", in_all ? "; in all" : " in the last",
+                   module, row, frame, cached, stepped);
         }
         printf("\n");
         dwcheck_process_close(&process);
     }
     if (!add_modules(1)) return 1;
     choose(0, 1);
-    for (limit = 4; limit <= 25; limit += 21) printf("walks of %zu frames: %.1f a frame\n", limit, least(walk, TIMES * 100, (double)limit));
+    for (limit = 4; limit <= 25; limit += 21)
+        printf("walks of %zu frames: %.1f a frame, with a cache %.1f\n", limit, least(walk, TIMES * 100, (double)limit),
+               least(walk_cached, TIMES * 100, (double)limit));
     dwcheck_process_close(&process);
     return 0;
 }

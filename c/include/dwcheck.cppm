@@ -13,7 +13,7 @@ export module dwcheck;
 export using ::dwcheck_fault, ::dwcheck_counts, ::dwcheck_expression, ::dwcheck_process,
     ::dwcheck_module, ::dwcheck_loaded, ::dwcheck_record, ::dwcheck_rule, ::dwcheck_row,
     ::dwcheck_block, ::dwcheck_state, ::dwcheck_answer, ::dwcheck_register, ::dwcheck_caller,
-    ::dwcheck_frame, ::dwcheck_cursor, ::dwcheck_reader, ::dwcheck_context, ::dwcheck_value,
+    ::dwcheck_frame, ::dwcheck_cache, ::dwcheck_cursor, ::dwcheck_reader, ::dwcheck_context, ::dwcheck_value,
     ::dwcheck_piece, ::dwcheck_lookup, ::dwcheck_location;
 
 // Calls.
@@ -21,7 +21,8 @@ export using ::dwcheck_version, ::dwcheck_fault_name, ::dwcheck_fault_text, ::dw
     ::dwcheck_stop_text, ::dwcheck_check, ::dwcheck_report, ::dwcheck_process_add,
     ::dwcheck_process_remove, ::dwcheck_process_share, ::dwcheck_process_close, ::dwcheck_module_at,
     ::dwcheck_module_check, ::dwcheck_record_at, ::dwcheck_row_at, ::dwcheck_is_signal_frame,
-    ::dwcheck_rule_bytes, ::dwcheck_unwind, ::dwcheck_backtrace, ::dwcheck_cursor_init,
+    ::dwcheck_rule_bytes, ::dwcheck_unwind, ::dwcheck_backtrace,
+    ::dwcheck_backtrace_cached, ::dwcheck_cursor_init,
     ::dwcheck_cursor_step, ::dwcheck_cursor_step_with, ::dwcheck_evaluate, ::dwcheck_locations,
     ::dwcheck_list_locations;
 

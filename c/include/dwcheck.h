@@ -332,6 +332,19 @@ enum {
 uint32_t dwcheck_backtrace(const dwcheck_process *process, uint64_t address, const dwcheck_state *state, dwcheck_frame *frames,
                            size_t frames_length, size_t *count, uint32_t *stop, dwcheck_fault *fault);
 
+/* Where rows were that walks looked up lately, for dwcheck_backtrace_cached. It is plain data of the caller's, with
+   nothing to free. It may be copied, changed and dropped at any time. Any bytes are a cache; a new one is bytes of 0.
+   Nothing has to be done when modules are added or removed, or when another process is walked: a cache of an older
+   process only costs time. Two calls never use one cache at once, so each thread has its own. */
+typedef struct dwcheck_cache { uint32_t hints[1024]; } dwcheck_cache;
+
+/* Does what dwcheck_backtrace does, with the same results, whatever `cache` holds. If the cache says where the row of
+   a frame is, it isn't searched for; otherwise that is written to the cache. So a walk is faster if the same functions
+   were on a stack before, as in a profiler. `cache` is never NULL. */
+uint32_t dwcheck_backtrace_cached(const dwcheck_process *process, uint64_t address, const dwcheck_state *state,
+                                  dwcheck_frame *frames, size_t frames_length, size_t *count, uint32_t *stop,
+                                  dwcheck_cache *cache, dwcheck_fault *fault);
+
 /* The stages of a cursor: the frame is looked up at its address, as it was interrupted or is the first; or at its
    address minus 1, inside of the call. A greater stage, minus 1, is the reason why the walk has ended. */
 enum { DWCHECK_CURSOR_EXACT = 0, DWCHECK_CURSOR_CALLER = 1 };

@@ -1,6 +1,6 @@
 #!/bin/bash
 # Builds the tests with the static library build/libdwcheck.a, or the one that LIBRARY names, and runs
-# them: those of readers.c, frozen.c, cursor.c and dl.c; those of wrapper.cc, as C++17, as C++20 and over
+# them: those of readers.c, frozen.c, cursor.c, cache.c and dl.c; those of wrapper.cc, as C++17, as C++20 and over
 # the module; and those of cases.c while allocations fail in turn, with sanitizers, and under valgrind. Before that,
 # the headers are compiled as C11, C17 and C++17; passing a pointer of a wrong type must be an error.
 # Prints a line `ok NAME` or `FAILED NAME` for each, and ends with status 1 if one failed.
@@ -79,6 +79,7 @@ test_of "pointers of wrong types in C++" refuses_wrong_pointers c++
 test_of "calls that read one process at once" readers readers
 test_of "the same with the process in memory that can't be written" readers frozen
 test_of "steps of a cursor" readers cursor
+test_of "walks with a cache" readers cache
 test_of "stacks of dwcheck-dl are glibc's, while libraries come and go" dl
 test_of "the header for C++ as C++17, beside that for C" wrapper c++17
 test_of "the header for C++ as C++20, whose frames are a range" wrapper c++20

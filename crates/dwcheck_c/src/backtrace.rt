@@ -21,7 +21,7 @@ use dw_c_types::answer::{CFrame, c_frame_of};
 use dw_c_types::state::Contents;
 use dw_c_types::status::DONE;
 use dw_eval::{Memory, Registers};
-use dw_process::Process;
+use dw_process::{Process, RowHints};
 use dw_rows::Abi;
 use dw_unwind::{BriefFrame, KeptRegisters, RegisterFile, Stop, Unwound, return_address};
 
@@ -122,8 +122,9 @@ pub(crate) fn brief(address: u64, unwound: Option<Unwound>) -> BriefFrame
 /// Walks up a stack from where `cursor` is, and writes its frames to `slots`, as many as fit.
 /// Returns the number of frames written, and why there are no more. If a register has no place in
 /// the cursor, `write_more` walks on.
-fn write_steps<M: Memory>(
+fn write_steps<H: RowHints, M: Memory>(
     process: &Process,
+    hints: &mut H,
     kept: &KeptRegisters<'_>,
     pointer: Option<u16>,
     bits: u64,
@@ -139,7 +140,7 @@ fn write_steps<M: Memory>(
     let mut count = 0;
     while count < slots.len() {
         let slot = &mut slots[count];
-        if step_by(process, kept, pointer, bits, cursor, memory, slot) != DONE {
+        if step_by(process, hints, kept, pointer, bits, cursor, memory, slot) != DONE {
             let looked_up = cursor.looked_up();
             let (numbers, file) = (kept.numbers(), &cursor.registers);
             return write_more(
@@ -199,9 +200,10 @@ pub(crate) fn write_uncovered(address: u64, slots: &mut [CFrame]) -> (usize, Sto
 
 /// Walks up a stack with the tables of a process's modules, and writes its frames to `slots`, as
 /// many as fit. Returns the number of frames written, and why there are no more. The ABI has the
-/// callee-saved registers `kept` and the stack pointer `pointer`.
-pub(crate) fn write_backtrace<M: Memory>(
+/// callee-saved registers `kept` and the stack pointer `pointer`. `hints` affects only the time.
+pub(crate) fn write_backtrace<H: RowHints, M: Memory>(
     process: &Process,
+    hints: &mut H,
     kept: &[u16],
     pointer: Option<u16>,
     bits: u64,
@@ -229,5 +231,14 @@ pub(crate) fn write_backtrace<M: Memory>(
     };
     fill(&mut cursor.registers, registers);
     let marked = KeptRegisters::new(kept);
-    write_steps(process, &marked, pointer, bits, &mut cursor, memory, slots)
+    write_steps(
+        process,
+        hints,
+        &marked,
+        pointer,
+        bits,
+        &mut cursor,
+        memory,
+        slots,
+    )
 }

@@ -26,8 +26,10 @@ use dw_c_types::fault::{CFault, IN_ABI, report};
 use dw_c_types::state::{CState, Contents};
 use dw_c_types::status::{DONE, NO_PLACE, NONE, REFUSED};
 use dw_eval::{Memory, Registers};
-use dw_process::Process;
-use dw_unwind::{KeptRegisters, PLACES, RegisterFile, Stop, Unwinder, return_address};
+use dw_process::{NoHints, Process, RowHint, RowHints};
+use dw_unwind::{
+    KeptRegisters, PLACES, RegisterFile, Stop, Unwinder, return_address, step_in_place,
+};
 
 /// The frame is looked up at its own address.
 pub const EXACT: u32 = 0;
@@ -145,10 +147,10 @@ pub(crate) fn without_bits(bits: u64, address: u64) -> u64
 
 /// The stage of a cursor at the caller of a frame that was looked up at `address`.
 #[inline(always)]
-fn stage_of_caller(process: &Process, address: u64) -> u32
+fn stage_of_caller(process: &Process, address: u64, hint: &mut RowHint) -> u32
     ensures { result ≡ (if is_signal_in process.now address then EXACT else CALLER) }
 {
-    if process.is_signal_frame(address) {
+    if process.is_signal_frame_near(address, hint) {
         EXACT
     } else {
         CALLER
@@ -206,7 +208,7 @@ fn step_by_copy<M: Memory>(
         Ok(next) => {
             cursor.registers = into;
             cursor.address = without_bits(bits, next);
-            cursor.stage = stage_of_caller(process, address);
+            cursor.stage = stage_of_caller(process, address, &mut RowHint::none());
         }
         Err(stop) => cursor.stage = stage_after(stop),
     }
@@ -227,10 +229,12 @@ fn end_uncovered(cursor: &mut CCursor, out: &mut CFrame)
     cursor.stage = stage_after(Stop::NotCovered);
 }
 
-/// Writes the frame that a cursor is at to `out`, and moves the cursor to the frame's caller.
+/// Writes the frame that a cursor is at to `out`, and moves the cursor to the frame's caller. The
+/// frame's row is looked up with the help of `hints`.
 #[inline(always)]
-pub(crate) fn step_by<M: Memory>(
+pub(crate) fn step_by<H: RowHints, M: Memory>(
     process: &Process,
+    hints: &mut H,
     kept: &KeptRegisters<'_>,
     stack_pointer: Option<u16>,
     bits: u64,
@@ -251,13 +255,24 @@ pub(crate) fn step_by<M: Memory>(
         end_uncovered(cursor, out);
         return DONE;
     };
+    let mut hint = hints.hint(address);
     let file = &mut cursor.registers;
-    match process.contents_in_place(kept, stack_pointer, address, memory, file) {
+    let unwound = step_in_place(
+        process,
+        &mut hint,
+        kept,
+        stack_pointer,
+        address,
+        memory,
+        file,
+    );
+    hints.set_hint(address, hint);
+    match unwound {
         Some(unwound) => match return_address(Some(unwound)) {
             Ok(next) => {
                 *out = c_frame_of(brief(cursor.address, Some(unwound)));
                 cursor.address = without_bits(bits, next);
-                cursor.stage = stage_of_caller(process, address);
+                cursor.stage = stage_of_caller(process, address, &mut hint);
                 DONE
             }
             Err(_) => unreachable!(),
@@ -296,6 +311,7 @@ fn step_of(process: &Process, cursor: &mut CCursor, state: &CState<'_>, out: &mu
     let marked = KeptRegisters::new(state.kept);
     step_by(
         process,
+        &mut NoHints,
         &marked,
         state.pointer(),
         state.signed_bits,

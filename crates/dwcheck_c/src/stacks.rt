@@ -20,7 +20,7 @@ use dw_c_types::fault::{CFault, IN_ABI, report};
 use dw_c_types::row::{CRow, CRule, write_row};
 use dw_c_types::state::CState;
 use dw_c_types::status::{DONE, NONE, REFUSED};
-use dw_process::Process;
+use dw_process::{NoHints, Process, RowCache, RowHints};
 use dw_rows::Abi;
 use dw_unwind::{PackedRegisters, Stop};
 
@@ -201,8 +201,9 @@ pub extern "C" fn dwcheck_unwind(
 /// Walks up a stack from the frame at `address` with the registers and the memory of `state`, and
 /// writes its frames to `frames`, as many as fit. Returns the number of frames written, and why
 /// there are no more.
-fn frames_of(
+fn frames_of<H: RowHints>(
     process: &Process,
+    hints: &mut H,
     address: u64,
     state: &CState<'_>,
     frames: &mut [CFrame],
@@ -214,6 +215,7 @@ fn frames_of(
 {
     write_backtrace(
         process,
+        hints,
         state.kept,
         state.pointer(),
         state.signed_bits,
@@ -225,9 +227,10 @@ fn frames_of(
 }
 
 /// Calls `frames_of` if `process` is open. A closed process has no modules.
-fn frames_in(
+fn frames_in<H: RowHints>(
     process: &LentProcess,
     right: &mut Right,
+    hints: &mut H,
     address: u64,
     state: &CState<'_>,
     frames: &mut [CFrame],
@@ -241,12 +244,46 @@ fn frames_in(
 {
     match process.take(right) {
         Some(part) => {
-            let written = frames_of(part.get(), address, state, frames);
+            let written = frames_of(part.get(), hints, address, state, frames);
             put(part, right);
             written
         }
         None => write_uncovered(address, frames),
     }
+}
+
+/// Walks up a stack as `dwcheck_backtrace` does. `hints` affects only the time.
+#[inline(always)]
+fn backtrace_by<H: RowHints>(
+    process: &LentProcess,
+    hints: &mut H,
+    address: u64,
+    state: &CState<'_>,
+    frames: &mut [CFrame],
+    count: &mut CountPlace,
+    stop: &mut u32,
+    fault: &mut CFault,
+) -> u32
+    requires { Reads count.old.right process.now }
+    ensures accepted { result ≢ REFUSED → abi_fault_of state.now ≡ None }
+    ensures done { result ≡ DONE → IsBacktrace (read_by count.old.right) (abi_in state.now)
+        (memory_of state.now) state.now.signed_bits (registers_of state.now) address frames.old
+        frames.new count.new.count stop.new }
+    ensures refused { result ≡ REFUSED → Reports IN_ABI (abi_fault_of state.now) fault.new }
+    ensures codes { (result ≡ DONE) ⊎ (result ≡ REFUSED) }
+    ensures unwritten { result ≡ REFUSED → (frames.new ≡ frames.old)
+        × (count.new.count ≡ count.old.count) × (stop.new ≡ stop.old) }
+    ensures unreported { result ≡ DONE → fault.new ≡ fault.old }
+    ensures same { loan_of count.new.right ≡ loan_of count.old.right }
+{
+    if let Some(why) = state.abi_fault() {
+        *fault = report(IN_ABI, why);
+        return REFUSED;
+    }
+    let (found, why) = frames_in(process, &mut count.right, hints, address, state, frames);
+    count.count = found;
+    *stop = stop_code(why);
+    DONE
 }
 
 /// Walks up a stack from the frame at `address`. Writes its frames to `frames`, as many as fit, the
@@ -273,12 +310,35 @@ pub extern "C" fn dwcheck_backtrace(
     ensures unreported { result ≡ DONE → fault.new ≡ fault.old }
     ensures same { loan_of count.new.right ≡ loan_of count.old.right }
 {
-    if let Some(why) = state.abi_fault() {
-        *fault = report(IN_ABI, why);
-        return REFUSED;
-    }
-    let (found, why) = frames_in(process, &mut count.right, address, state, frames);
-    count.count = found;
-    *stop = stop_code(why);
-    DONE
+    let hints = &mut NoHints;
+    backtrace_by(process, hints, address, state, frames, count, stop, fault)
+}
+
+/// Does what `dwcheck_backtrace` does, with the same results, whatever `cache` holds. Where the
+/// cache says where the row of an address is, it isn't searched for; where it doesn't, that is
+/// written to it.
+#[unsafe(no_mangle)]
+pub extern "C" fn dwcheck_backtrace_cached(
+    process: &LentProcess,
+    address: u64,
+    state: &CState<'_>,
+    frames: &mut [CFrame],
+    count: &mut CountPlace,
+    stop: &mut u32,
+    cache: &mut RowCache,
+    fault: &mut CFault,
+) -> u32
+    requires { Reads count.old.right process.now }
+    ensures accepted { result ≢ REFUSED → abi_fault_of state.now ≡ None }
+    ensures done { result ≡ DONE → IsBacktrace (read_by count.old.right) (abi_in state.now)
+        (memory_of state.now) state.now.signed_bits (registers_of state.now) address frames.old
+        frames.new count.new.count stop.new }
+    ensures refused { result ≡ REFUSED → Reports IN_ABI (abi_fault_of state.now) fault.new }
+    ensures codes { (result ≡ DONE) ⊎ (result ≡ REFUSED) }
+    ensures unwritten { result ≡ REFUSED → (frames.new ≡ frames.old)
+        × (count.new.count ≡ count.old.count) × (stop.new ≡ stop.old) }
+    ensures unreported { result ≡ DONE → fault.new ≡ fault.old }
+    ensures same { loan_of count.new.right ≡ loan_of count.old.right }
+{
+    backtrace_by(process, cache, address, state, frames, count, stop, fault)
 }

@@ -58,6 +58,7 @@ fn layouts() -> (String, String) {
         layout!(Register, "dwcheck_register": value kind number),
         layout!(Caller, "dwcheck_caller": cfa return_address count),
         layout!(Frame, "dwcheck_frame": address cfa),
+        layout!(Cache, "dwcheck_cache": hints),
         layout!(Cursor, "dwcheck_cursor": contents known address stage reserved),
         layout!(Reader, "dwcheck_reader": read data order address_size),
         layout!(Context, "dwcheck_context": cfa frame_base object has_cfa has_frame_base has_object

@@ -317,6 +317,19 @@ pub struct Frame {
     pub cfa: Answer,
 }
 
+/// Where rows were that walks looked up lately, for dwcheck_backtrace_cached. Any bytes are a cache, and
+/// affect only the time of a walk. Two calls never use one cache at once.
+#[repr(C)]
+#[derive(Clone, Copy)]
+pub struct Cache {
+    pub hints: [u32; 1024],
+}
+
+impl Cache {
+    /// Nothing was looked up yet.
+    pub const EMPTY: Cache = Cache { hints: [0; 1024] };
+}
+
 /// The frame of a cursor is looked up at its address. (At any stage but this one and the next, the
 /// walk has ended, and the stage minus 1 is the reason.)
 pub const CURSOR_EXACT: u32 = 0;
@@ -638,6 +651,21 @@ extern "C" {
         frames_length: usize,
         count: *mut usize,
         stop: *mut u32,
+        fault: *mut Fault,
+    ) -> u32;
+
+    /// Does what dwcheck_backtrace does, with the same results, whatever `cache` holds. If the cache
+    /// says where the row of a frame is, it isn't searched for; otherwise that is written to the
+    /// cache. `cache` is never null. The call neither allocates nor frees.
+    pub fn dwcheck_backtrace_cached(
+        process: *const Process,
+        address: u64,
+        state: *const State,
+        frames: *mut Frame,
+        frames_length: usize,
+        count: *mut usize,
+        stop: *mut u32,
+        cache: *mut Cache,
         fault: *mut Fault,
     ) -> u32;
 

@@ -43,6 +43,7 @@
 struct Readme;
 
 mod abi;
+mod cache;
 mod caller;
 mod cursor;
 mod expression;
@@ -65,6 +66,7 @@ mod target;
 mod walk;
 
 pub use abi::Abi;
+pub use cache::Cache;
 pub use caller::{Answer, Caller};
 pub use cursor::{Cursor, Frames};
 pub use expression::{

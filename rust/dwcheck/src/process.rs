@@ -1,5 +1,6 @@
 //! A process: its modules with their unwind tables, and look-ups in them.
 
+use crate::cache::Cache;
 use crate::caller::Caller;
 use crate::fault::Error;
 use crate::ffi;
@@ -463,6 +464,57 @@ impl Process {
     ) -> Result<(&'f [Frame], Stop), Error> {
         let (count, stop) = self.walk(address, state, slots)?;
         Ok((&slots[..count], stop))
+    }
+
+    /// Does what [`backtrace_into`](Process::backtrace_into) does, with the same results, and is
+    /// faster if rows that the walk needs are among those that earlier walks left in the cache, as
+    /// in a profiler.
+    ///
+    /// This allocates nothing.
+    ///
+    /// # Errors
+    ///
+    /// [`Error::Refused`] if the ABI names too many registers or a register twice.
+    ///
+    /// ```
+    /// use dwcheck::{Abi, Cache, Frame, Process, Registers, State, Stop, Target};
+    ///
+    /// let process = Process::new(Target::LITTLE_64);
+    /// let state = State { registers: &Registers::new(), memory: &[], abi: Abi::NONE };
+    /// let (mut slots, mut cache) = ([Frame::default(); 8], Cache::new());
+    /// let (frames, stop) = process.backtrace_cached(0x1010, &state, &mut slots, &mut cache)?;
+    /// assert_eq!((frames.len(), frames[0].address()), (1, 0x1010));
+    /// assert_eq!(stop, Stop::NotCovered);
+    /// # Ok::<(), dwcheck::Error>(())
+    /// ```
+    pub fn backtrace_cached<'f>(
+        &self,
+        address: u64,
+        state: &State<'_>,
+        slots: &'f mut [Frame],
+        cache: &mut Cache,
+    ) -> Result<(&'f [Frame], Stop), Error> {
+        let length = slots.len();
+        let mut count = 0;
+        let mut stop = ffi::STOP_LIMIT;
+        let mut fault = ffi::Fault::default();
+        // SAFETY: the process and what `state` borrows are only read, `slots` and `cache` are
+        // borrowed exclusively, and the other pointers are to locals.
+        let status = unsafe {
+            ffi::dwcheck_backtrace_cached(
+                &self.raw,
+                address,
+                &state.raw(),
+                Frame::raw_slots(slots),
+                length,
+                &mut count,
+                &mut stop,
+                cache.raw(),
+                &mut fault,
+            )
+        };
+        Error::check(status, fault)?;
+        Ok((&slots[..count.min(length)], Stop::of(stop)))
     }
 
     /// The process, as the type that the library takes. It may only be read.

@@ -5,8 +5,8 @@ mod common;
 
 use common::*;
 use dwcheck::{
-    Abi, Answer, Backtrace, Block, Cursor, Error, Frame, Process, Registers, Section, State, Step,
-    Stop, Target,
+    Abi, Answer, Backtrace, Block, Cache, Cursor, Error, Frame, Process, Registers, Section, State,
+    Step, Stop, Target,
 };
 
 fn words(words: &[u64]) -> Vec<u8> {
@@ -183,6 +183,35 @@ fn a_walk_and_its_ends() {
     let (found, stop) = walk(&only, 9);
     assert_eq!((&found[..1], found[1]), (&frames[..1], (0x1020, None)));
     assert_eq!(stop, Stop::ReturnUnreadable);
+}
+
+#[test]
+fn walks_with_a_cache() {
+    let (first, second) = (words(&[0x7f40, 0x1020]), words(&[0, 0x2000]));
+    let memory = [Block::new(0x7f00, &first), Block::new(0x7f40, &second)];
+    let registers = Registers::from([(6, 0x7f00)]);
+    let state = State {
+        registers: &registers,
+        memory: &memory,
+        abi: Abi::NONE,
+    };
+    let mut process = Process::new(Target::LITTLE_64);
+    let module = add(&mut process, &row_1(), 0).unwrap();
+    let other = process_at(&row_1(), 0x7000);
+    let mut cache = Cache::new();
+    let mut walk = |process: &Process| {
+        let mut slots = [Frame::default(); 9];
+        let whole = process.backtrace(0x1010, &state, 9).unwrap();
+        let (frames, stop) = process
+            .backtrace_cached(0x1010, &state, &mut slots, &mut cache)
+            .unwrap();
+        assert_eq!((frames, stop), (whole.frames.as_slice(), whole.stop));
+        frames.len()
+    };
+    assert_eq!([walk(&process), walk(&process)], [3, 3]);
+    assert_eq!([walk(&other), walk(&process)], [1, 3]);
+    assert!(process.remove(module));
+    assert_eq!(walk(&process), 1);
 }
 
 #[test]

@@ -25,13 +25,13 @@ returns-in-Ok-clause-done g c = λ _.
     let u : Unwinding =
     through_process (abi_of c.args.kept.now c.args.stack_pointer) (g.M.Memory.bytes c.args.memory.now) c.args.bits c.args.process.now in
     let old : CCursor = c.args.cursor.now in
-    let w = c.in-Some-contents_in_place.unwound in
-    let to = contents_in c.contents_in_place.new.file in
+    let w = c.in-Some-unwound.unwound in
+    let to = contents_in c.step_in_place-unwound.new.file in
     let here : UnwindsTo u.callers (registers_in old) (Some c.in-Some.address) (Some w) to =
-    c.in-Some-contents_in_place.ensures.steps in
+    rw c.in-Some-unwound.is at c.step_in_place-unwound.ensures.steps in
     let h = subst (λ (at : Option ℕ). UnwindsTo u.callers (registers_in old) at (Some w) to) (sym c.in-Some.is ∙ c.looked_up.ensures) here in
     let new : CCursor = record {
-      registers = c.contents_in_place.new.file;
+      registers = c.step_in_place-unwound.new.file;
       address = c.without_bits-cursor.result;
       stage = c.stage_of_caller-cursor.result;
       reserved = old.reserved;
