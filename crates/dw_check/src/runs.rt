@@ -39,7 +39,7 @@ use dw_unwind::laws::{
     one_caller_through_modules, one_walk_through_modules, sections_and_tables_always_unwind,
     unwindings_through_what_is_found, walks_through_what_is_found,
 };
-use dw_unwind::{Module, Walk, as_linked, unwind_in};
+use dw_unwind::{Module, Walk, as_linked, unwind};
 use std::alloc::Global;
 
 /// Checks `section` as a section of location lists. The error is the first fault of the section, or
@@ -247,7 +247,7 @@ fn unwind_and_write<S: Sink>(
     ensures stops { S.has_stopped out.new.sink.now ≡ is_write result }
 {
     unwindings_through_what_is_found();
-    let caller = unwind_in(modules, &state.abi(), address, state, state);
+    let caller = unwind(modules, &state.abi(), address, state, state);
     write_caller(out, caller.as_ref())
 }
 

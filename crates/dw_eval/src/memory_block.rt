@@ -17,7 +17,7 @@ use dw_bytes::Order;
 ///     base: 0x7fff_ffff_e000,
 ///     bytes: copied.as_slice(),
 /// };
-/// let caller = unwind_by(&table, &abi, address, &registers, &stack);
+/// let caller = unwind(&table, &abi, address, &registers, &stack);
 /// ```
 #[derive(Clone, Copy, Debug)]
 pub struct MemoryBlock<'a> {

@@ -30,7 +30,7 @@ use std::marker::Model;
 ///
 /// A `Process` borrows nothing: a module's section may be dropped once the module is added. `share`
 /// makes another `Process` with the same tables and doesn't copy them. A `&Process` is an
-/// `Unwinder`, so it can be passed to `Walk::new`, `unwind_by` and `backtrace_by`.
+/// `Unwinder`, so it can be passed to `Walk::new`, `unwind` and `backtrace`.
 #[derive(Drop)]
 pub struct Process {
     target: Target,

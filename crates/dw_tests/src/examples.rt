@@ -12,7 +12,7 @@ ghost use Rattle.dw_rows.specs.Section.{FrameSection, row_of};
 ghost use Rattle.dw_tables.specs.UnwindTables.{IsTableOf};
 ghost use Rattle.dw_stack.specs.Certificates.{checked_of};
 
-use dw_check::{Caller, unwind_by};
+use dw_check::Caller;
 use dw_eval::{Context, Memory, Outcome, Registers, evaluate};
 use dw_rows::{Abi, CheckedFrame, RegisterRule};
 use dw_stack::CheckedExpression;
@@ -82,5 +82,5 @@ pub fn caller_by_table<R: Registers, M: Memory>(
         (roles_of abi.now) frame address (option_map caller_in result) }
 {
     dw_unwind::laws::unwinding_by_what_is_found();
-    unwind_by(table, abi, address, registers, memory)
+    dw_unwind::unwind(table, abi, address, registers, memory)
 }

@@ -3,10 +3,11 @@
 ghost use Rattle.std.specs.Prelude.{◌==◌, if◌then◌else◌, Some, None};
 
 use crate::inputs::{EXPRESSIONS, FUNCTION, LITTLE};
-use dw_check::{Answer, BriefFrame, Module, Stop, Walk, backtrace_in, unwind_in};
+use dw_check::{Answer, BriefFrame, Module, Stop, Walk};
 use dw_eval::{MemoryBlock, Registers};
 use dw_rows::{Abi, CheckedFrame, check_frame};
 use dw_tables::UnwindTable;
+use dw_unwind::{backtrace, unwind};
 use std::alloc::Global;
 
 /// The registers of a frame where only register 6 is known. Its content is the address of the first
@@ -84,7 +85,13 @@ fn one_table_serves_processes_that_load_it_elsewhere(rt: HostRuntime) {
     for load_address in [0x10_0000, 0x7000_0000] {
         let process = [Module::new(table, load_address)];
         let address = load_address + 0x1010;
-        let caller = unwind_in(&process, &Abi::none(), address, &FramePointer {}, &STACK);
+        let caller = unwind(
+            &process[..],
+            &Abi::none(),
+            address,
+            &FramePointer {},
+            &STACK,
+        );
         assert_eq!(rt; caller.expect(&rt, "covered").cfa, Answer::Value(0x7010));
     }
 }
@@ -104,9 +111,9 @@ fn a_walk_lends_the_registers_of_the_caller(rt: HostRuntime) {
 fn a_backtrace_keeps_the_frames_of_the_walk(rt: HostRuntime) {
     let modules = program_and_library(rt.alloc()).expect(&rt, "there is memory");
     let abi = Abi::none();
-    let walk = backtrace_in(
+    let walk = backtrace(
         rt.alloc(),
-        &modules,
+        &modules[..],
         &abi,
         0x20_1010,
         &FramePointer {},
@@ -124,7 +131,7 @@ fn a_backtrace_keeps_the_frames_of_the_walk(rt: HostRuntime) {
 
 /// The CFA of the frame at `address`, or `None` if no module covers that address.
 fn cfa_in(modules: &[Module<&CheckedFrame<'_>>], address: u64) -> Option<Answer> {
-    match unwind_in(modules, &Abi::none(), address, &FramePointer {}, &STACK) {
+    match unwind(modules, &Abi::none(), address, &FramePointer {}, &STACK) {
         Some(caller) => Some(caller.cfa),
         None => None,
     }

@@ -3,7 +3,7 @@
 use crate::inputs::{FUNCTION, LITTLE};
 use crate::modules::{FRAMES, FramePointer, STACK};
 use dw_bytes::{Fault, FaultKind};
-use dw_check::{Stop, backtrace_by};
+use dw_check::Stop;
 use dw_process::{AddressRange, Process, Refusal};
 use dw_rows::Abi;
 use std::alloc::Global;
@@ -93,7 +93,7 @@ fn a_removed_module_leaves_the_other_module_and_what_was_shared(rt: HostRuntime)
 #[test]
 fn a_walk_over_a_process_gives_the_frames_of_its_modules(rt: HostRuntime) {
     let process = program_and_library(rt.alloc()).expect(&rt, "there is memory");
-    let walk = backtrace_by(
+    let walk = dw_unwind::backtrace(
         rt.alloc(),
         &process,
         &Abi::none(),

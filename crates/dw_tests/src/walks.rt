@@ -1,7 +1,7 @@
 //! Walks up the stack, by checked sections and by compiled tables, which must agree.
 
 use crate::inputs::{LITTLE, ROUND, Unknown};
-use dw_check::{Backtrace, Stop, backtrace, backtrace_by, backtrace_by_section, check};
+use dw_check::{Backtrace, Stop, backtrace, backtrace_by_section, check};
 use dw_rows::{Abi, check_frame};
 use dw_tables::UnwindTable;
 use std::alloc::Global;
@@ -23,7 +23,7 @@ fn walk_by_section(alloc: Global, limit: u32) -> Option<Backtrace> {
 fn walk_by_table(alloc: Global, limit: u32) -> Option<Backtrace> {
     let frame = check_frame(alloc, &ROUND, LITTLE).ok()?;
     let table = UnwindTable::compile(alloc, &frame, 1 << 20).ok()??;
-    backtrace_by(alloc, &table, &Abi::none(), 3, &Unknown, &Unknown, limit).ok()
+    dw_unwind::backtrace(alloc, &table, &Abi::none(), 3, &Unknown, &Unknown, limit).ok()
 }
 
 /// Whether `walk` is the endless walk, cut at two frames.

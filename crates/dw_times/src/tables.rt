@@ -5,7 +5,6 @@ use crate::machine::Known;
 use crate::reading_checksum::{add_cfa, add_rule, target_of};
 use crate::{TARGET, number_of};
 use dw_bytes::Target;
-use dw_check::unwind_by;
 use dw_rows::{Abi, RegisterRule, UnwindRow, check_frame};
 use dw_tables::UnwindTable;
 use std::alloc::Global;
@@ -100,7 +99,7 @@ fn callers_sum(table: &UnwindTable, addresses: &[u64], times: u32) -> u64 {
     let mut sum = 0u64;
     for _ in 0..times {
         for address in addresses {
-            if let Some(caller) = unwind_by(table, &abi, *address, &Known {}, &Known {}) {
+            if let Some(caller) = dw_unwind::unwind(table, &abi, *address, &Known {}, &Known {}) {
                 sum = sum
                     .wrapping_add(number_of(caller.cfa))
                     .wrapping_add(number_of(caller.return_address))

@@ -1,26 +1,33 @@
-//! Functions that walk up the stack and return the frames as a list.
+//! Walks up the stack, and returns the frames as a list.
 
 ghost use Rattle.std.specs.Prelude.{◌≡◌, ◌<◌, ◌^◌, ℕ, All, IfErr, IfOk, IsOk};
 ghost use Rattle.dw_bytes.specs.Answers.{memory as out_of_memory};
 ghost use Rattle.dw_eval.specs.Numbers.{width_of};
 ghost use Rattle.dw_rules.specs.AbiViews.{roles_of};
 ghost use Rattle.dw_unwind.specs.CallerFits.{FrameFits};
-ghost use Rattle.dw_unwind.specs.Modules.{AreBelow, over_modules_of_rows};
-ghost use Rattle.dw_unwind.specs.Walks.{Walks, over_rows, over_section, first_place};
+ghost use Rattle.dw_unwind.specs.Walks.{Walks, over_section, first_place};
 ghost use Rattle.dw_unwind.specs.WalkViews.{frames_in};
 
 use crate::frames::{Backtrace, Stop};
 use crate::laws::walks_over_what_is_found;
-use crate::modules::Module;
 use crate::unwinder::Unwinder;
 use crate::walk::Walk;
 use dw_bytes::Fault;
 use dw_eval::{Memory, Registers};
-use dw_rows::{Abi, CheckedFrame, UnwindRows};
+use dw_rows::{Abi, CheckedFrame};
 use std::alloc::Global;
 
-/// Walks up the stack with any unwinder. Returns at most `limit` frames, and why there are no more.
-fn backtrace_over<U: Unwinder + Drop, R: Registers, M: Memory>(
+/// Walks up the stack with an unwinder, which is a checked section, a compiled table, or the modules
+/// of a process: from the first frame, whose address, registers and memory are passed, to its caller,
+/// the caller's caller and so on. Returns at most `limit` frames, and why there are no more (DWARF 5,
+/// sections 6.4.1 and 6.4.4).
+///
+/// Frame 0 is looked up at its own address, each later frame at its address minus 1. After frame 0,
+/// a register has a value only if unwinding found a value for it. Each frame costs what `unwind`
+/// costs, and takes some 6 KB, since a caller has room for all registers that a row and an ABI can
+/// name. `Walk` gives the same frames one by one and allocates nothing. The only fault is `Memory`
+/// (out of memory), with offset 0.
+pub fn backtrace<U: Unwinder + Drop, R: Registers, M: Memory>(
     alloc: Global,
     unwinder: U,
     abi: &Abi,
@@ -35,6 +42,9 @@ fn backtrace_over<U: Unwinder + Drop, R: Registers, M: Memory>(
         (frames_in walk.frames.items) walk.stop) }
     ensures lacks { IfErr result (λ fault. fault ≡ out_of_memory) }
     ensures none { limit ≡ 0 → IsOk result }
+
+    // All numbers are below 2^w, w being the size of an address in bits, or the greatest size in a
+    // module, if the first frame's address is.
     ensures fits { IfOk result (λ walk. (bound : ℕ) → U.is_bound unwinder bound
         → address < bound → All (FrameFits bound) (frames_in walk.frames.items)) }
 {
@@ -52,79 +62,8 @@ fn backtrace_over<U: Unwinder + Drop, R: Registers, M: Memory>(
     })
 }
 
-/// Walks up the stack through the modules of a process: from the first frame, whose address,
-/// registers and memory are passed, to its caller, the caller's caller and so on. Returns at most
-/// `limit` frames, and why there are no more (DWARF 5, sections 6.4.1 and 6.4.4).
-///
-/// Frame 0 is looked up at its own address, each later frame at its address minus 1, in the first
-/// module that has a row for the address looked up. `address` and the addresses of the frames are
-/// as loaded: they are addresses in the running process. After frame 0, a register has a value only
-/// if unwinding found a value for it. Each frame costs what `unwind_in` costs, and takes some 6 KB,
-/// since a caller has room for all registers that a row and an ABI can name. `Walk` gives the same
-/// frames one by one and allocates nothing. The only fault is `Memory` (out of memory), with offset
-/// 0.
-pub fn backtrace_in<T: UnwindRows, R: Registers, M: Memory>(
-    alloc: Global,
-    modules: &[Module<T>],
-    abi: &Abi,
-    address: u64,
-    registers: &R,
-    memory: &M,
-    limit: u32,
-) -> Result<Backtrace, Fault>
-    ensures walks { IfOk result (λ walk.
-        Walks (over_modules_of_rows T.target_of T.finds (roles_of abi.now) (M.bytes memory.now)
-        modules.now) (first_place address (R.contents registers.now)) limit
-        (frames_in walk.frames.items) walk.stop) }
-    ensures lacks { IfErr result (λ fault. fault ≡ out_of_memory) }
-    ensures none { limit ≡ 0 → IsOk result }
-
-    // All numbers are below 2^w, w being the greatest address size of a module in bits, if the
-    // first frame's address is.
-    ensures fits { IfOk result (λ walk. (bound : ℕ) → AreBelow T.target_of modules.now bound
-        → address < bound → All (FrameFits bound) (frames_in walk.frames.items)) }
-{
-    backtrace_over(alloc, modules, abi, address, registers, memory, limit)
-}
-
-/// Walks up the stack with a checked section or a compiled table: from the first frame, whose
-/// address, registers and memory are passed, to its caller, the caller's caller and so on. Returns
-/// at most `limit` frames, and why there are no more (DWARF 5, sections 6.4.1 and 6.4.4).
-///
-/// Frame 0 is looked up at its own address, each later frame at its address minus 1. After frame 0,
-/// a register has a value only if unwinding found a value for it. Each frame costs what `unwind_by`
-/// costs, and takes some 6 KB, since a caller has room for all registers that a row and an ABI can
-/// name. `Walk` gives the same frames one by one and allocates nothing. The only fault is `Memory`
-/// (out of memory), with offset 0.
-pub fn backtrace_by<T: UnwindRows, R: Registers, M: Memory>(
-    alloc: Global,
-    rows: &T,
-    abi: &Abi,
-    address: u64,
-    registers: &R,
-    memory: &M,
-    limit: u32,
-) -> Result<Backtrace, Fault>
-    ensures walks { IfOk result (λ walk.
-        Walks (over_rows (T.target_of rows.now) (T.finds rows.now)
-        (roles_of abi.now) (M.bytes memory.now))
-        (first_place address (R.contents registers.now)) limit
-        (frames_in walk.frames.items) walk.stop) }
-    ensures lacks { IfErr result (λ fault. fault ≡ out_of_memory) }
-    ensures none { limit ≡ 0 → IsOk result }
-
-    // All numbers are below 2^w, w being the size of an address in bits, if the first frame's
-    // address is.
-    ensures fits { IfOk result (λ walk.
-        address < 2 ^ width_of (T.target_of rows.now).address_size
-        → All (FrameFits (2 ^ width_of (T.target_of rows.now).address_size))
-        (frames_in walk.frames.items)) }
-{
-    backtrace_over(alloc, rows, abi, address, registers, memory, limit)
-}
-
 /// Walks up the stack with a checked frame section alone: no location lists are needed. Returns the
-/// same frames as `backtrace_by`: at most `limit`, and why there are no more.
+/// same frames as `backtrace`: at most `limit`, and why there are no more.
 pub fn backtrace_by_section<R: Registers, M: Memory>(
     alloc: Global,
     frame: &CheckedFrame<'_>,
@@ -149,5 +88,5 @@ pub fn backtrace_by_section<R: Registers, M: Memory>(
         (frames_in walk.frames.items)) }
 {
     walks_over_what_is_found();
-    backtrace_by(alloc, &frame, abi, address, registers, memory, limit)
+    backtrace(alloc, &frame, abi, address, registers, memory, limit)
 }

@@ -19,19 +19,18 @@ mod unwinding;
 mod walk;
 mod walked_contents;
 
-pub use backtraces::{backtrace_by, backtrace_by_section, backtrace_in};
+pub use backtraces::{backtrace, backtrace_by_section};
 pub use caller_contents::NoPlace;
 pub use frame_registers::FrameRegisters;
 pub use frames::{Backtrace, BriefFrame, Frame, Stop};
 pub use in_place::step_in_place;
 pub use kept_registers::KeptRegisters;
-pub use modules::{Module, as_linked, unwind_in};
+pub use modules::{Module, as_linked};
 pub use packed_registers::PackedRegisters;
 pub use register_file::{PLACES, RegisterFile};
 pub use unwinder::Unwinder;
 pub use unwinding::{
-    Answer, Caller, FoundRegisters, MAX_FOUND, Unwound, unwind_by, unwind_by_section,
-    unwind_in_place,
+    Answer, Caller, FoundRegisters, MAX_FOUND, Unwound, unwind, unwind_by_section, unwind_in_place,
 };
 pub use walk::{Walk, return_address};
 pub use walked_contents::WalkedContents;

@@ -1,18 +1,14 @@
-//! The modules of a process, and the caller of a frame at an address in one of them.
+//! The modules of a process, as an unwinder.
 
-ghost use Rattle.std.specs.Prelude.{◌≡◌, ◌^◌, ℕ, IfSome, option_map};
-ghost use Rattle.dw_eval.specs.Numbers.{width_of};
-ghost use Rattle.dw_rules.specs.AbiViews.{roles_of};
-ghost use Rattle.dw_unwind.specs.CallerFits.{CallerFits};
-ghost use Rattle.dw_unwind.specs.CallerViews.{caller_in};
-ghost use Rattle.dw_unwind.specs.Modules.{AreBelow, as_linked, over_modules_of_rows};
+ghost use Rattle.std.specs.Prelude.{◌≡◌};
+ghost use Rattle.dw_unwind.specs.Modules.{as_linked};
 
 use crate::caller_contents::{NoPlace, contents_by};
 use crate::kept_registers::KeptRegisters;
 use crate::register_file::RegisterFile;
 use crate::register_list::RegisterList;
 use crate::unwinder::Unwinder;
-use crate::unwinding::{Caller, Unwound, unwind_into, unwind_over};
+use crate::unwinding::{Unwound, unwind_into};
 use dw_bytes::Target;
 use dw_eval::{Memory, Registers, Width};
 use dw_rows::{Abi, UnwindRows};
@@ -57,8 +53,10 @@ pub fn as_linked(target: Target, load_address: u64, address: u64) -> u64
     width.minus(address, load_address)
 }
 
-/// Unwinds through the modules of a process. Each module is asked for the address as linked in that
-/// module. The first module whose FDEs cover it gives the caller.
+/// Unwinds through the modules of a process. Addresses are as loaded, in the running process. Each
+/// module is asked for the address as linked in that module: the address minus its load address,
+/// modulo 2^w, w being the size of an address in bits. The first module whose FDEs cover it gives the
+/// caller. A module that doesn't cover the address costs one look-up.
 impl<'m, T: UnwindRows> Unwinder for &'m [Module<T>] {
     ghost use Rattle.dw_unwind.specs.Modules.{AreBelow, over_modules_of_rows};
 
@@ -125,35 +123,4 @@ impl<'m, T: UnwindRows> Unwinder for &'m [Module<T>] {
     ) -> Option<Unwound> {
         None
     }
-}
-
-/// The caller of the frame at `address`, computed from the frame's registers and memory. `address`
-/// is as loaded, in the running process. The first module that has a row for it is used. If no
-/// module has a row for it, the result is none (DWARF 5, section 6.4.1).
-///
-/// The result is what `unwind_by` returns for that module's rows at the address minus the module's
-/// load address, modulo 2^w, w being the size of an address in bits. A module that doesn't cover
-/// the address costs one look-up.
-///
-/// ```rust
-/// let modules = [Module::new(program, 0x5555_5555_4000), Module::new(library, 0x7fff_f7dc_3000)];
-/// let caller = unwind_in(&modules, &abi, address, &registers, &memory);
-/// ```
-pub fn unwind_in<T: UnwindRows, R: Registers, M: Memory>(
-    modules: &[Module<T>],
-    abi: &Abi,
-    address: u64,
-    registers: &R,
-    memory: &M,
-) -> Option<Caller>
-    ensures unwinds { over_modules_of_rows T.target_of T.finds (roles_of abi.now)
-        (M.bytes memory.now) modules.now (R.contents registers.now) address
-        (option_map caller_in result) }
-
-    // All numbers of the caller are below 2^w, w being the greatest address size of a module in
-    // bits.
-    ensures fits { (bound : ℕ) → AreBelow T.target_of modules.now bound
-        → IfSome (option_map caller_in result) (CallerFits bound) }
-{
-    unwind_over(&modules, abi, address, registers, memory)
 }

@@ -19,10 +19,10 @@ use crate::unwinding::{Unwound, unwind_into};
 use dw_eval::{Memory, Registers};
 use dw_rows::{Abi, UnwindRows};
 
-/// Finds the caller of a frame, for `Walk` and `WalkedContents`. It is implemented by a checked
-/// section (as `&&CheckedFrame`), by a compiled table (as `&UnwindTable`), and by the modules of a
-/// process (as `&[Module<T>]`). Other crates can't implement this trait: it writes registers to a
-/// `RegisterList`, which is private to this crate.
+/// Finds the caller of a frame, for `unwind`, `backtrace`, `Walk` and `WalkedContents`. It is
+/// implemented by a checked section (as `&&CheckedFrame`), by a compiled table or another source of
+/// rows (as `&UnwindTable`), and by the modules of a process (as `&[Module<T>]`). Other crates can't
+/// implement this trait: it writes registers to a `RegisterList`, which is private to this crate.
 pub trait Unwinder {
     ghost use Rattle.std.specs.Prelude.{ℕ, Option};
     ghost use Rattle.dw_rules.specs.Abi.{Abi};
@@ -92,7 +92,7 @@ pub trait Unwinder {
             × (answer_in unwound.return_address ≡ value next)) };
 }
 
-/// Unwinds with a checked section or a compiled table.
+/// Unwinds with a checked section, a compiled table, or anything else that can look up rows.
 impl<'r, T: UnwindRows> Unwinder for &'r T {
     ghost use Rattle.std.specs.Prelude.{◌≤◌, ◌^◌};
     ghost use Rattle.dw_eval.specs.Numbers.{width_of};

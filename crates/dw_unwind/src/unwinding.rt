@@ -1,11 +1,10 @@
 //! The caller of a frame: its CFA, its registers, and its return address.
 
-ghost use Rattle.std.specs.Prelude.{◌≡◌, ◌^◌, ℕ, IfSome, Option, option_map};
+ghost use Rattle.std.specs.Prelude.{◌≡◌, ◌^◌, ℕ, IfSome, option_map};
 ghost use Rattle.dw_eval.specs.Numbers.{width_of};
-ghost use Rattle.dw_rules.specs.Abi.{no_abi, rule_under, rules_under};
+ghost use Rattle.dw_rules.specs.Abi.{rule_under, rules_under};
 ghost use Rattle.dw_rules.specs.AbiViews.{roles_of};
-ghost use Rattle.dw_rules.specs.Rules.{Row};
-ghost use Rattle.dw_unwind.specs.Caller.{AreRegisters, IsRegister, Unwinds, UnwindsBy, machine};
+ghost use Rattle.dw_unwind.specs.Caller.{AreRegisters, IsRegister, Unwinds, machine};
 ghost use Rattle.dw_unwind.specs.CallerFits.{CallerFits};
 ghost use Rattle.dw_unwind.specs.CallerViews.{answer_in, caller_in, machine_in};
 ghost use Rattle.dw_unwind.specs.UnwoundViews.{caller_with};
@@ -95,9 +94,9 @@ fn return_address<R: Registers, M: Memory, L: RegisterList>(
     }
 }
 
-/// Finds the caller of the frame at `address` by the row of a section or a table, as `unwind_by`
-/// does, but writes the caller's registers to `into`, replacing what is there. If there is no
-/// caller, the contents of `into` are unspecified.
+/// Finds the caller of the frame at `address` by the row of a section or a table, as `unwind` does,
+/// but writes the caller's registers to `into`, replacing what is there. If there is no caller, the
+/// contents of `into` are unspecified.
 #[inline(always)]
 pub(crate) fn unwind_into<T: UnwindRows, R: Registers, M: Memory, L: RegisterList>(
     rows: &T,
@@ -133,17 +132,37 @@ pub(crate) fn unwind_into<T: UnwindRows, R: Registers, M: Memory, L: RegisterLis
     })
 }
 
-/// The caller of the frame at an address, found by any unwinder, or none.
-pub(crate) fn unwind_over<U: Unwinder, R: Registers, M: Memory>(
-    unwinder: &U,
+/// The caller of the frame at an address, computed from the frame's registers and memory with an
+/// unwinder: a checked section, a compiled table, or the modules of a process. None if it has no row
+/// at the address (DWARF 5, section 6.4.1). A register for which the row has no rule has the ABI's
+/// rule.
+///
+/// Contents and sums are taken modulo 2^w, w being the size of an address in bits. A saved value is
+/// an address-sized word in memory. If the CFA has no value, the answer of a rule that needs the
+/// CFA is the CFA's answer. The cost is the look-up and one evaluation for each expression of the
+/// row.
+///
+/// ```rust
+/// let Some(table) = frame.compile(alloc, 1 << 20)? else {
+///     return Ok(()); // its rows take more than that
+/// };
+/// let caller = unwind(&table, &abi, address, &registers, &memory);
+/// let modules = [Module::new(program, 0x5555_5555_4000), Module::new(library, 0x7fff_f7dc_3000)];
+/// let caller = unwind(&modules[..], &abi, address, &registers, &memory);
+/// ```
+pub fn unwind<U: Unwinder + Drop, R: Registers, M: Memory>(
+    unwinder: U,
     abi: &Abi,
     address: u64,
     registers: &R,
     memory: &M,
 ) -> Option<Caller>
-    ensures unwinds { U.unwinds unwinder.now (roles_of abi.now) (M.bytes memory.now)
+    ensures unwinds { U.unwinds unwinder (roles_of abi.now) (M.bytes memory.now)
         (R.contents registers.now) address (option_map caller_in result) }
-    ensures fits { (bound : ℕ) → U.is_bound unwinder.now bound
+
+    // All numbers of the caller are below 2^w, w being the size of an address in bits, or the
+    // greatest size in a module.
+    ensures fits { (bound : ℕ) → U.is_bound unwinder bound
         → IfSome (option_map caller_in result) (CallerFits bound) }
 {
     let mut caller = Caller {
@@ -176,41 +195,8 @@ pub fn unwind_in_place<U: Unwinder, R: Registers, M: Memory>(
     unwinder.unwind_into(abi, address, registers, memory, into)
 }
 
-/// The caller of the frame at an address, computed from the frame's registers and memory by the row
-/// of a checked section or a compiled table. None if the section or table has no row at the address
-/// (DWARF 5, section 6.4.1). A register for which the row has no rule has the ABI's rule.
-///
-/// Contents and sums are taken modulo 2^w, w being the size of an address in bits. A saved value is
-/// an address-sized word in memory. If the CFA has no value, the answer of a rule that needs the
-/// CFA is the CFA's answer. The cost is the look-up and one evaluation for each expression of the
-/// row.
-///
-/// ```rust
-/// let Some(table) = UnwindTable::compile(alloc, &frame, 1 << 20)? else {
-///     return Ok(()); // its rows take more than that
-/// };
-/// let caller = unwind_by(&table, &abi, address, &registers, &memory);
-/// ```
-pub fn unwind_by<T: UnwindRows, R: Registers, M: Memory>(
-    rows: &T,
-    abi: &Abi,
-    address: u64,
-    registers: &R,
-    memory: &M,
-) -> Option<Caller>
-    ensures unwinds { (found : Option (Row × ℕ)) × T.finds rows.now address found
-        × UnwindsBy (machine (T.target_of rows.now) (R.contents registers.now) (M.bytes memory.now))
-        (roles_of abi.now) found (option_map caller_in result) }
-
-    // All numbers of the caller are below 2^w, w being the size of an address in bits.
-    ensures fits { IfSome (option_map caller_in result)
-        (CallerFits (2 ^ width_of (T.target_of rows.now).address_size)) }
-{
-    unwind_over(&rows, abi, address, registers, memory)
-}
-
 /// The caller of the frame at an address, computed by the row of a checked frame section alone: no
-/// location lists are needed. Returns what `unwind_by` returns.
+/// location lists are needed. Returns what `unwind` returns.
 pub fn unwind_by_section<R: Registers, M: Memory>(
     frame: &CheckedFrame<'_>,
     abi: &Abi,
@@ -227,5 +213,5 @@ pub fn unwind_by_section<R: Registers, M: Memory>(
         (CallerFits (2 ^ width_of frame.now.target.address_size)) }
 {
     unwinding_by_what_is_found();
-    unwind_by(&frame, abi, address, registers, memory)
+    unwind(&frame, abi, address, registers, memory)
 }

@@ -29,7 +29,7 @@ use std::marker::Model;
 /// Moving a `Walk` copies all 12 KB, so keep it in one variable.
 ///
 /// Take only as many frames as you need: if the frames of a stack form a cycle, the walk never
-/// ends. For that reason `backtrace_in`, `backtrace_by` and `backtrace_by_section` take a limit.
+/// ends. For that reason `backtrace` takes a limit.
 ///
 /// ```rust
 /// let mut walk = Walk::new(modules.as_slice(), &abi, address, &registers, &memory);

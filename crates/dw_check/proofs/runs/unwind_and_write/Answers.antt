@@ -16,11 +16,11 @@ returns-clause-written g c = λ facts given.
     let size = c.args.out.now.size in
     let old = g.S.Sink.taken c.args.out.now.sink.now in
     let new = g.S.Sink.taken c.write_caller.new.out.sink.now in
-    let caller = option_map caller_in c.unwind_in-caller.result in
+    let caller = option_map caller_in c.unwind-caller.result in
     let known = known_state_of c.args.state.now in
     let abi = roles_of c.abi.result in
     let over = (c.unwindings_through_what_is_found.ensures.found modules abi known.memory known.registers c.args.address caller).0
-    c.unwind_in-caller.ensures.unwinds in
+    c.unwind-caller.ensures.unwinds in
     let unwinds = same_caller (unborrowed modules) abi known facts given c.abi.ensures c.args.address caller over in
     let written = subst (λ o. WritesWhole old new c.write_caller.result (caller_text size (option_map caller_in o)))
     c.as_ref.ensures.value c.write_caller.ensures.written

@@ -8,7 +8,7 @@ use Rattle.dw_unwind.specs.Walks.{Place, CallerRelation, WalkedFrame, first_plac
 use Rattle.dw_unwind.specs.WalkSteps.{Progress, WalkState, frame_at, has_given}
 use Rattle.dw_unwind.specs.WalkViews.{frame_in, frames_in}
 use Rattle.dw_unwind.proofs.Walking.{UnderWay, goes_on, one_more_holds}
-use Rattle.dw_unwind.proofs.backtraces.backtrace_over.Goals as goal
+use Rattle.dw_unwind.proofs.backtraces.backtrace.Goals as goal
 
 pub loop-walk-preserved : goal.loop-walk-preserved
 loop-walk-preserved g c =

@@ -5,7 +5,7 @@ use Rattle.dw_unwind.specs.CallerFits.{FrameFits, ProgressFits}
 use Rattle.dw_unwind.specs.Walks.{first_place}
 use Rattle.dw_unwind.specs.WalkViews.{frames_in}
 use Rattle.dw_unwind.proofs.Walking.{UnderWay}
-use Rattle.dw_unwind.proofs.backtraces.backtrace_over.Given as goal
+use Rattle.dw_unwind.proofs.backtraces.backtrace.Given as goal
 
 abbrev pub invariant-loop-walk : goal.invariant-loop-walk
 invariant-loop-walk g l = record {
