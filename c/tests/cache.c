@@ -81,8 +81,8 @@ int main(void) {
     }
     check_refusal(stacks[0]);
 
-    /* another process has a shorter section at the same place, and a module below it */
-    CHECK(add(&other, first_fde + (size - first_fde) / 2, load, 1, &other_id) == DWCHECK_DONE);
+    /* another process has the section at another place, and a module below it */
+    CHECK(add(&other, size, load + 3 * STEP, 1, &other_id) == DWCHECK_DONE);
     CHECK(add(&other, first_fde, second, 2, &second_id) == DWCHECK_DONE);
     check_stacks(&other, stacks, STACKS);
     check_stacks(&process, stacks, STACKS);

@@ -254,7 +254,7 @@ fn frames_in<H: RowHints>(
 
 /// Walks up a stack as `dwcheck_backtrace` does. `hints` affects only the time.
 #[inline(always)]
-fn backtrace_by<H: RowHints>(
+fn backtrace_with_hints<H: RowHints>(
     process: &LentProcess,
     hints: &mut H,
     address: u64,
@@ -311,7 +311,7 @@ pub extern "C" fn dwcheck_backtrace(
     ensures same { loan_of count.new.right ≡ loan_of count.old.right }
 {
     let hints = &mut NoHints;
-    backtrace_by(process, hints, address, state, frames, count, stop, fault)
+    backtrace_with_hints(process, hints, address, state, frames, count, stop, fault)
 }
 
 /// Does what `dwcheck_backtrace` does, with the same results, whatever `cache` holds. Where the
@@ -340,5 +340,5 @@ pub extern "C" fn dwcheck_backtrace_cached(
     ensures unreported { result ≡ DONE → fault.new ≡ fault.old }
     ensures same { loan_of count.new.right ≡ loan_of count.old.right }
 {
-    backtrace_by(process, cache, address, state, frames, count, stop, fault)
+    backtrace_with_hints(process, cache, address, state, frames, count, stop, fault)
 }
