@@ -23,7 +23,7 @@ pub use dw_requests::{End, ListLookup, Request, Task, Usage, request};
 pub use dw_sections::{CheckFault, Checked, Section, backtrace, check, unwind, unwind_with};
 pub use dw_unwind::{
     Answer, Backtrace, BriefFrame, Caller, FoundRegisters, Frame, FrameRegisters, MAX_FOUND,
-    Module, Stop, Unwinder, Walk, backtrace_by_section, unwind_by_section,
+    Module, Stop, Unwinder, Walk,
 };
 pub use reports::report;
 pub use runs::run;

@@ -18,9 +18,9 @@ use crate::shared_signals::SharedSignals;
 use crate::shared_table::SharedTable;
 use dw_bytes::{OUT_OF_MEMORY, Target};
 use dw_eh_rows::AddressRange as SignalRange;
-use dw_rows::{CheckedFrame, UnwindRow, UnwindRows, check_frame};
+use dw_rows::{CheckedFrame, UnwindRow, check_frame};
 use dw_tables::UnwindTable;
-use dw_unwind::as_linked;
+use dw_unwind::{UnwindRows, as_linked};
 use std::alloc::Global;
 use std::marker::Model;
 

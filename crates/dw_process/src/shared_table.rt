@@ -5,8 +5,9 @@ ghost use Rattle.dw_tables.specs.UnwindTables.{row_at};
 ghost use Rattle.dw_rows.specs.RowLookups.{IsRowUnder};
 
 use dw_bytes::Target;
-use dw_rows::{UnwindRow, UnwindRows};
+use dw_rows::UnwindRow;
 use dw_tables::UnwindTable;
+use dw_unwind::UnwindRows;
 use std::alloc::Global;
 use std::marker::Model;
 use std::sync::Arc;

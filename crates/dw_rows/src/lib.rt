@@ -13,7 +13,6 @@ mod quick_check;
 mod record_checks;
 mod row_cursor;
 mod row_iter;
-mod unwind_rows;
 
 pub use checked_frame::{CheckedFrame, check_frame};
 pub use dw_rules::{
@@ -24,4 +23,3 @@ pub use index::IndexEntry;
 pub use program_checks::{check_cie, check_fde};
 pub use row_cursor::{begin_rows, next_range};
 pub use row_iter::Rows;
-pub use unwind_rows::UnwindRows;

@@ -16,7 +16,7 @@ use crate::whole_check::Checked;
 use dw_bytes::Fault;
 use dw_eval::{Memory, Registers};
 use dw_rows::Abi;
-use dw_unwind::{Backtrace, Caller, backtrace_by_section, unwind_by_section};
+use dw_unwind::{Backtrace, Caller};
 use std::alloc::Global;
 
 /// The caller of the frame at an address, given the frame's registers and memory, or none if no FDE
@@ -44,7 +44,7 @@ pub fn unwind<R: Registers, M: Memory>(
 /// covers the address (DWARF 5, section 6.4.1). For a register to which no instruction has given a
 /// rule, `abi` supplies the rule.
 ///
-/// This is `unwind_by_section` with the checked frame section. One binary search finds the FDE,
+/// This is `dw_unwind::unwind` with the checked frame section. One binary search finds the FDE,
 /// another its CIE, and the FDE's program is run once, up to the row of the address.
 pub fn unwind_with<R: Registers, M: Memory>(
     checked: &Checked<'_>,
@@ -61,14 +61,14 @@ pub fn unwind_with<R: Registers, M: Memory>(
     ensures fits { IfSome (option_map caller_in result)
         (CallerFits (2 ^ width_of checked.now.frame.target.address_size)) }
 {
-    unwind_by_section(checked.frame(), abi, address, registers, memory)
+    dw_unwind::unwind(checked.frame(), abi, address, registers, memory)
 }
 
 /// Walks up the stack from a frame, given its address, registers and memory: the frame, its caller,
 /// that caller's caller and so on. Returns at most `limit` frames, and why there are no more (DWARF
 /// 5, sections 6.4.1 and 6.4.4).
 ///
-/// This is `backtrace_by_section` with the checked frame section.
+/// This is `dw_unwind::backtrace` with the checked frame section.
 pub fn backtrace<R: Registers, M: Memory>(
     alloc: Global,
     checked: &Checked<'_>,
@@ -92,7 +92,7 @@ pub fn backtrace<R: Registers, M: Memory>(
         → All (FrameFits (2 ^ width_of checked.now.frame.target.address_size))
         (frames_in walk.frames.items)) }
 {
-    backtrace_by_section(
+    dw_unwind::backtrace(
         alloc,
         checked.frame(),
         abi,

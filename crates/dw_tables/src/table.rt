@@ -13,7 +13,7 @@ use crate::stored_table::StoredTable;
 use crate::table_entries::NO_HINT;
 use crate::table_room::Unmade;
 use dw_bytes::{Fault, OUT_OF_MEMORY, Target};
-use dw_rows::{CheckedFrame, UnwindRows};
+use dw_rows::CheckedFrame;
 use dw_rules::{OwnedExpressions, RowExpressions, UnwindRow};
 use std::alloc::Global;
 use std::marker::Model;
@@ -174,47 +174,5 @@ impl UnwindTable {
             Some((row, _)) => Some(row),
             None => None,
         }
-    }
-}
-
-impl UnwindRows for UnwindTable {
-    type Slot = ();
-
-    ghost target_of = { λ t. t.target };
-
-    ghost finds = { λ t address found. found ≡ row_at t address };
-
-    #[inline(always)]
-    fn rows_target(&self) -> Target {
-        self.target()
-    }
-
-    #[inline(always)]
-    fn slot(&self) -> () {}
-
-    #[inline(always)]
-    fn find_row<'p>(&'p self, address: u64, _slot: &'p mut ()) -> Option<(UnwindRow<'p, 'p>, u16)> {
-        self.row_and_return_register(address)
-    }
-}
-
-impl<'f> UnwindRows for &'f UnwindTable {
-    type Slot = ();
-
-    ghost target_of = { λ t. t.now.target };
-
-    ghost finds = { λ t address found. found ≡ row_at t.now address };
-
-    #[inline(always)]
-    fn rows_target(&self) -> Target {
-        self.target()
-    }
-
-    #[inline(always)]
-    fn slot(&self) -> () {}
-
-    #[inline(always)]
-    fn find_row<'p>(&'p self, address: u64, _slot: &'p mut ()) -> Option<(UnwindRow<'p, 'p>, u16)> {
-        self.row_and_return_register(address)
     }
 }

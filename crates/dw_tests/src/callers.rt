@@ -1,7 +1,7 @@
 //! Callers of frames, found by three calls of the library that must agree.
 
 use crate::inputs::{FUNCTION, LITTLE, OneRegister, Unknown};
-use dw_check::{Answer, Caller, check, unwind, unwind_by_section};
+use dw_check::{Answer, Caller, check, unwind};
 use dw_rows::{Abi, check_frame};
 use dw_tables::UnwindTable;
 use std::alloc::Global;
@@ -33,7 +33,7 @@ fn callers(alloc: Global, address: u64) -> Option<[Option<Caller>; 3]> {
     let table = UnwindTable::compile(alloc, &frame, 1 << 20).ok()??;
     Some([
         unwind(&checked, address, &REGISTERS, &Unknown),
-        unwind_by_section(&frame, &Abi::none(), address, &REGISTERS, &Unknown),
+        dw_unwind::unwind(&frame, &Abi::none(), address, &REGISTERS, &Unknown),
         dw_unwind::unwind(&table, &Abi::none(), address, &REGISTERS, &Unknown),
     ])
 }

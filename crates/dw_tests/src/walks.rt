@@ -1,7 +1,7 @@
 //! Walks up the stack, by checked sections and by compiled tables, which must agree.
 
 use crate::inputs::{LITTLE, ROUND, Unknown};
-use dw_check::{Backtrace, Stop, backtrace, backtrace_by_section, check};
+use dw_check::{Backtrace, Stop, backtrace, check};
 use dw_rows::{Abi, check_frame};
 use dw_tables::UnwindTable;
 use std::alloc::Global;
@@ -16,7 +16,7 @@ fn walked(alloc: Global, limit: u32) -> Option<(usize, Stop)> {
 /// The endless walk by the frame section alone, up to `limit` frames.
 fn walk_by_section(alloc: Global, limit: u32) -> Option<Backtrace> {
     let frame = check_frame(alloc, &ROUND, LITTLE).ok()?;
-    backtrace_by_section(alloc, &frame, &Abi::none(), 3, &Unknown, &Unknown, limit).ok()
+    dw_unwind::backtrace(alloc, &frame, &Abi::none(), 3, &Unknown, &Unknown, limit).ok()
 }
 
 /// The endless walk by the compiled table, up to `limit` frames.

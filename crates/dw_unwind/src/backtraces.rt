@@ -1,20 +1,18 @@
 //! Walks up the stack, and returns the frames as a list.
 
-ghost use Rattle.std.specs.Prelude.{◌≡◌, ◌<◌, ◌^◌, ℕ, All, IfErr, IfOk, IsOk};
+ghost use Rattle.std.specs.Prelude.{◌≡◌, ◌<◌, ℕ, All, IfErr, IfOk, IsOk};
 ghost use Rattle.dw_bytes.specs.Answers.{memory as out_of_memory};
-ghost use Rattle.dw_eval.specs.Numbers.{width_of};
 ghost use Rattle.dw_rules.specs.AbiViews.{roles_of};
 ghost use Rattle.dw_unwind.specs.CallerFits.{FrameFits};
-ghost use Rattle.dw_unwind.specs.Walks.{Walks, over_section, first_place};
+ghost use Rattle.dw_unwind.specs.Walks.{Walks, first_place};
 ghost use Rattle.dw_unwind.specs.WalkViews.{frames_in};
 
 use crate::frames::{Backtrace, Stop};
-use crate::laws::walks_over_what_is_found;
 use crate::unwinder::Unwinder;
 use crate::walk::Walk;
 use dw_bytes::Fault;
 use dw_eval::{Memory, Registers};
-use dw_rows::{Abi, CheckedFrame};
+use dw_rows::Abi;
 use std::alloc::Global;
 
 /// Walks up the stack with an unwinder, which is a checked section, a compiled table, or the modules
@@ -60,33 +58,4 @@ pub fn backtrace<U: Unwinder + Drop, R: Registers, M: Memory>(
         frames,
         stop: Stop::Limit,
     })
-}
-
-/// Walks up the stack with a checked frame section alone: no location lists are needed. Returns the
-/// same frames as `backtrace`: at most `limit`, and why there are no more.
-pub fn backtrace_by_section<R: Registers, M: Memory>(
-    alloc: Global,
-    frame: &CheckedFrame<'_>,
-    abi: &Abi,
-    address: u64,
-    registers: &R,
-    memory: &M,
-    limit: u32,
-) -> Result<Backtrace, Fault>
-    ensures walks { IfOk result (λ walk.
-        Walks (over_section frame.now (roles_of abi.now) (M.bytes memory.now))
-        (first_place address (R.contents registers.now)) limit
-        (frames_in walk.frames.items) walk.stop) }
-    ensures lacks { IfErr result (λ fault. fault ≡ out_of_memory) }
-    ensures none { limit ≡ 0 → IsOk result }
-
-    // All numbers are below 2^w, w being the size of an address in bits, if the first frame's
-    // address is.
-    ensures fits { IfOk result (λ walk.
-        address < 2 ^ width_of frame.now.target.address_size
-        → All (FrameFits (2 ^ width_of frame.now.target.address_size))
-        (frames_in walk.frames.items)) }
-{
-    walks_over_what_is_found();
-    backtrace(alloc, &frame, abi, address, registers, memory, limit)
 }

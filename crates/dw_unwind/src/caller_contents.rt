@@ -13,9 +13,10 @@ ghost use Rattle.dw_unwind.specs.Walks.{content_of, over_rows};
 
 use crate::register_file::RegisterFile;
 use crate::rule_answers::Present;
+use crate::unwind_rows::UnwindRows;
 use crate::unwinding::{Answer, Unwound};
 use dw_eval::{Memory, Registers};
-use dw_rows::{RegisterRule, RegisterRules, UnwindRow, UnwindRows};
+use dw_rows::{RegisterRule, RegisterRules, UnwindRow};
 
 /// A `RegisterFile` has no place for one of a caller's registers, whose number is `PLACES` or more.
 #[derive(Clone, Copy, Debug, PartialEq, Eq)]

@@ -17,10 +17,11 @@ use crate::caller_contents::{content_of, pointed, saved};
 use crate::kept_registers::KeptRegisters;
 use crate::register_file::{PLACES, RegisterFile};
 use crate::rule_answers::Present;
+use crate::unwind_rows::UnwindRows;
 use crate::unwinding::{Answer, Unwound};
 use dw_bytes::{AddressSize, Order, Target};
 use dw_eval::{Memory, Registers, Width};
-use dw_rows::{CfaRule, PlainRules, UnwindRows};
+use dw_rows::{CfaRule, PlainRules};
 
 /// The registers of a frame of which none is known.
 #[derive(Drop)]

@@ -14,12 +14,14 @@ mod packed_registers;
 mod register_file;
 mod register_list;
 mod rule_answers;
+mod section_unwinder;
+mod unwind_rows;
 mod unwinder;
 mod unwinding;
 mod walk;
 mod walked_contents;
 
-pub use backtraces::{backtrace, backtrace_by_section};
+pub use backtraces::backtrace;
 pub use caller_contents::NoPlace;
 pub use frame_registers::FrameRegisters;
 pub use frames::{Backtrace, BriefFrame, Frame, Stop};
@@ -28,9 +30,8 @@ pub use kept_registers::KeptRegisters;
 pub use modules::{Module, as_linked};
 pub use packed_registers::PackedRegisters;
 pub use register_file::{PLACES, RegisterFile};
+pub use unwind_rows::UnwindRows;
 pub use unwinder::Unwinder;
-pub use unwinding::{
-    Answer, Caller, FoundRegisters, MAX_FOUND, Unwound, unwind, unwind_by_section, unwind_in_place,
-};
+pub use unwinding::{Answer, Caller, FoundRegisters, MAX_FOUND, Unwound, unwind, unwind_in_place};
 pub use walk::{Walk, return_address};
 pub use walked_contents::WalkedContents;

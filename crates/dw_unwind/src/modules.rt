@@ -7,11 +7,12 @@ use crate::caller_contents::{NoPlace, contents_by};
 use crate::kept_registers::KeptRegisters;
 use crate::register_file::RegisterFile;
 use crate::register_list::RegisterList;
+use crate::unwind_rows::UnwindRows;
 use crate::unwinder::Unwinder;
 use crate::unwinding::{Unwound, unwind_into};
 use dw_bytes::Target;
 use dw_eval::{Memory, Registers, Width};
-use dw_rows::{Abi, UnwindRows};
+use dw_rows::Abi;
 
 /// A module of a process, which is the executable or a library: the supplier of the module's rows
 /// (a checked section or a compiled table), and the module's load address. All modules of one

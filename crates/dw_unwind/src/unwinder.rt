@@ -15,12 +15,13 @@ use crate::in_place::step_in_place;
 use crate::kept_registers::KeptRegisters;
 use crate::register_file::RegisterFile;
 use crate::register_list::RegisterList;
+use crate::unwind_rows::UnwindRows;
 use crate::unwinding::{Unwound, unwind_into};
 use dw_eval::{Memory, Registers};
-use dw_rows::{Abi, UnwindRows};
+use dw_rows::Abi;
 
 /// Finds the caller of a frame, for `unwind`, `backtrace`, `Walk` and `WalkedContents`. It is
-/// implemented by a checked section (as `&&CheckedFrame`), by a compiled table or another source of
+/// implemented by a checked section (as `&CheckedFrame`), by a compiled table or another source of
 /// rows (as `&UnwindTable`), and by the modules of a process (as `&[Module<T>]`). Other crates can't
 /// implement this trait: it writes registers to a `RegisterList`, which is private to this crate.
 pub trait Unwinder {
@@ -92,7 +93,7 @@ pub trait Unwinder {
             × (answer_in unwound.return_address ≡ value next)) };
 }
 
-/// Unwinds with a checked section, a compiled table, or anything else that can look up rows.
+/// Unwinds with a compiled table, or anything else that can look up rows.
 impl<'r, T: UnwindRows> Unwinder for &'r T {
     ghost use Rattle.std.specs.Prelude.{◌≤◌, ◌^◌};
     ghost use Rattle.dw_eval.specs.Numbers.{width_of};

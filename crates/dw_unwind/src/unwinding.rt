@@ -4,20 +4,20 @@ ghost use Rattle.std.specs.Prelude.{◌≡◌, ◌^◌, ℕ, IfSome, option_map}
 ghost use Rattle.dw_eval.specs.Numbers.{width_of};
 ghost use Rattle.dw_rules.specs.Abi.{rule_under, rules_under};
 ghost use Rattle.dw_rules.specs.AbiViews.{roles_of};
-ghost use Rattle.dw_unwind.specs.Caller.{AreRegisters, IsRegister, Unwinds, machine};
+ghost use Rattle.dw_unwind.specs.Caller.{AreRegisters, IsRegister};
 ghost use Rattle.dw_unwind.specs.CallerFits.{CallerFits};
 ghost use Rattle.dw_unwind.specs.CallerViews.{answer_in, caller_in, machine_in};
 ghost use Rattle.dw_unwind.specs.UnwoundViews.{caller_with};
 ghost use Rattle.dw_unwind.specs.Walks.{over_rows};
 
-use crate::laws::unwinding_by_what_is_found;
 use crate::packed_registers::PackedRegisters;
 use crate::register_list::RegisterList;
 use crate::rule_answers::Present;
+use crate::unwind_rows::UnwindRows;
 use crate::unwinder::Unwinder;
 use arrayvec::ArrayVec;
 use dw_eval::{Memory, Registers};
-use dw_rows::{Abi, CheckedFrame, MAX_RULES, UnwindRow, UnwindRows};
+use dw_rows::{Abi, MAX_RULES, UnwindRow};
 
 /// What unwinding finds for a caller's register, CFA or return address.
 #[derive(Clone, Copy, Debug, PartialEq, Eq)]
@@ -193,25 +193,4 @@ pub fn unwind_in_place<U: Unwinder, R: Registers, M: Memory>(
         → IfSome (option_map (caller_with into.new) result) (CallerFits bound) }
 {
     unwinder.unwind_into(abi, address, registers, memory, into)
-}
-
-/// The caller of the frame at an address, computed by the row of a checked frame section alone: no
-/// location lists are needed. Returns what `unwind` returns.
-pub fn unwind_by_section<R: Registers, M: Memory>(
-    frame: &CheckedFrame<'_>,
-    abi: &Abi,
-    address: u64,
-    registers: &R,
-    memory: &M,
-) -> Option<Caller>
-    ensures unwinds { Unwinds
-        (machine frame.now.target (R.contents registers.now) (M.bytes memory.now))
-        (roles_of abi.now) frame.now address (option_map caller_in result) }
-
-    // All numbers of the caller are below 2^w, w being the size of an address in bits.
-    ensures fits { IfSome (option_map caller_in result)
-        (CallerFits (2 ^ width_of frame.now.target.address_size)) }
-{
-    unwinding_by_what_is_found();
-    unwind(&frame, abi, address, registers, memory)
 }

@@ -4,10 +4,12 @@ ghost use Rattle.std.specs.Prelude.{◌≡◌, ℕ, IfSome, Option};
 ghost use Rattle.dw_bytes.specs.declared.target.Target.{Target as OfTarget};
 ghost use Rattle.dw_rules.specs.Rules.{Row};
 ghost use Rattle.dw_rows.specs.RowLookups.{IsFoundAt, IsRowUnder};
+ghost use Rattle.dw_tables.specs.UnwindTables.{row_at};
 
-use crate::checked_frame::CheckedFrame;
 use dw_bytes::Target;
+use dw_rows::CheckedFrame;
 use dw_rules::{UnwindRow, UnwindTableRow};
+use dw_tables::UnwindTable;
 
 /// A source of rows: something that can look up the row of an address. It is either a borrowed
 /// checked section, which runs an FDE's program, or a compiled table, which searches arrays.
@@ -41,6 +43,48 @@ pub trait UnwindRows {
     ) -> Option<(UnwindRow<'p, 'p>, u16)>
         ensures found { finds self.now address result }
         ensures under { IfSome result (λ found. IsRowUnder (target_of self.now) found.0) };
+}
+
+impl UnwindRows for UnwindTable {
+    type Slot = ();
+
+    ghost target_of = { λ t. t.target };
+
+    ghost finds = { λ t address found. found ≡ row_at t address };
+
+    #[inline(always)]
+    fn rows_target(&self) -> Target {
+        self.target()
+    }
+
+    #[inline(always)]
+    fn slot(&self) -> () {}
+
+    #[inline(always)]
+    fn find_row<'p>(&'p self, address: u64, _slot: &'p mut ()) -> Option<(UnwindRow<'p, 'p>, u16)> {
+        self.row_and_return_register(address)
+    }
+}
+
+impl<'f> UnwindRows for &'f UnwindTable {
+    type Slot = ();
+
+    ghost target_of = { λ t. t.now.target };
+
+    ghost finds = { λ t address found. found ≡ row_at t.now address };
+
+    #[inline(always)]
+    fn rows_target(&self) -> Target {
+        self.target()
+    }
+
+    #[inline(always)]
+    fn slot(&self) -> () {}
+
+    #[inline(always)]
+    fn find_row<'p>(&'p self, address: u64, _slot: &'p mut ()) -> Option<(UnwindRow<'p, 'p>, u16)> {
+        self.row_and_return_register(address)
+    }
 }
 
 impl<'f, 'a> UnwindRows for &'f CheckedFrame<'a> {
