@@ -13,7 +13,7 @@ use Rattle.dw_unwind.specs.Caller.{Answer, IsRegister, content_plus, machine}
 use Rattle.dw_unwind.specs.Contents.{HasContents, Overlays, abi_rules, content_changed}
 use Rattle.dw_rules.specs.SavedRules.{Saved, as_saved}
 use Rattle.dw_unwind.specs.Walks.{content_of}
-use Rattle.dw_unwind.specs.declared.in_place.TheConstants.{LITTLE_64}
+use Rattle.dw_unwind.specs.declared.usual_step.TheConstants.{LITTLE_64}
 use Rattle.dw_unwind.specs.declared.register_file.TheConstants.{PLACES}
 use Rattle.dw_unwind.proofs.Contents.{role-content, role-is, role_answer}
 

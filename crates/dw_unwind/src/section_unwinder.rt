@@ -1,13 +1,13 @@
 //! A checked section as an unwinder.
 
 use crate::caller_contents::{NoPlace, contents_by};
-use crate::in_place::step_in_place;
 use crate::kept_registers::KeptRegisters;
 use crate::register_file::RegisterFile;
 use crate::register_list::RegisterList;
 use crate::unwind_rows::UnwindRows;
 use crate::unwinder::Unwinder;
 use crate::unwinding::{Unwound, unwind_into};
+use crate::usual_step::step_in_place;
 use dw_eval::{Memory, Registers};
 use dw_rows::{Abi, CheckedFrame};
 

@@ -11,12 +11,12 @@ ghost use Rattle.dw_unwind.specs.MissingPlaces.{LacksPlace};
 ghost use Rattle.dw_unwind.specs.UnwoundViews.{caller_with};
 
 use crate::caller_contents::{NoPlace, contents_by};
-use crate::in_place::step_in_place;
 use crate::kept_registers::KeptRegisters;
 use crate::register_file::RegisterFile;
 use crate::register_list::RegisterList;
 use crate::unwind_rows::UnwindRows;
 use crate::unwinding::{Unwound, unwind_into};
+use crate::usual_step::step_in_place;
 use dw_eval::{Memory, Registers};
 use dw_rows::Abi;
 

@@ -6,10 +6,10 @@ use Rattle.dw_rules.specs.Rules.{IsTable, Rule, offset, rule_in}
 use Rattle.dw_unwind.specs.Caller.{IsCaller, IsRegister, machine, value}
 use Rattle.dw_unwind.specs.Contents.{HasContents, contents_in}
 use Rattle.dw_rules.specs.SavedRules.{Saved, as_saved}
-use Rattle.dw_unwind.specs.declared.in_place.TheConstants.{LITTLE_64}
+use Rattle.dw_unwind.specs.declared.usual_step.TheConstants.{LITTLE_64}
 use Rattle.dw_unwind.proofs.Contents.{by_contents}
 use Rattle.dw_unwind.proofs.InPlace.{saved-under}
-use Rattle.dw_unwind.proofs.in_place.step_in_place.Goals as goal
+use Rattle.dw_unwind.proofs.usual_step.step_in_place.Goals as goal
 
 pub rules_in_place-requires-clause-table : goal.rules_in_place-requires-clause-table
 rules_in_place-requires-clause-table g c =

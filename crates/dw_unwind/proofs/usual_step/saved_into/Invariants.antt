@@ -2,7 +2,7 @@ use Rattle.std.proofs.Common.{◌≡◌, ◌++◌, ℕ, ℤ, Option, map}
 use Rattle.dw_rules.specs.SavedRules.{as_saved}
 use Rattle.dw_unwind.specs.CallerViews.{answer_in, machine_in}
 use Rattle.dw_unwind.specs.Contents.{Overlays, contents_in}
-use Rattle.dw_unwind.proofs.in_place.saved_into.Given as goal
+use Rattle.dw_unwind.proofs.usual_step.saved_into.Given as goal
 
 -- what the remaining rules make of the contents so far is what all make of the first contents
 abbrev pub invariant-loop-number : goal.invariant-loop-number

@@ -3,10 +3,10 @@ use Rattle.dw_rules.specs.Abi.{abi_of}
 use Rattle.dw_unwind.specs.Caller.{machine, value}
 use Rattle.dw_unwind.specs.CallerViews.{answer_in}
 use Rattle.dw_unwind.specs.Contents.{HasContents, abi_rules, contents_in}
-use Rattle.dw_unwind.specs.declared.in_place.TheConstants.{LITTLE_64}
+use Rattle.dw_unwind.specs.declared.usual_step.TheConstants.{LITTLE_64}
 use Rattle.dw_unwind.proofs.Contents.{pointer-has}
 use Rattle.dw_unwind.proofs.InPlace.{kept-in-place}
-use Rattle.dw_unwind.proofs.in_place.abi_in_place.Goals as goal
+use Rattle.dw_unwind.proofs.usual_step.abi_in_place.Goals as goal
 
 pub returns-in-Some : goal.returns-in-Some
 returns-in-Some g c =

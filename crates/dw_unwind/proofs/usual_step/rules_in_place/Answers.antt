@@ -4,10 +4,10 @@ use Rattle.dw_rules.specs.Abi.{abi_of}
 use Rattle.dw_rules.specs.SavedRules.{as_saved}
 use Rattle.dw_unwind.specs.Caller.{machine, value}
 use Rattle.dw_unwind.specs.Contents.{abi_rules, contents_in}
-use Rattle.dw_unwind.specs.declared.in_place.TheConstants.{LITTLE_64}
+use Rattle.dw_unwind.specs.declared.usual_step.TheConstants.{LITTLE_64}
 use Rattle.dw_unwind.proofs.Contents.{overlaid}
 use Rattle.dw_unwind.proofs.InPlace.{overlays-by}
-use Rattle.dw_unwind.proofs.in_place.rules_in_place.Goals as goal
+use Rattle.dw_unwind.proofs.usual_step.rules_in_place.Goals as goal
 
 pub returns : goal.returns
 returns g c =

@@ -7,7 +7,7 @@ use Rattle.dw_unwind.specs.CallerViews.{answer_in, machine_in}
 use Rattle.dw_unwind.specs.Contents.{contents_in}
 use Rattle.dw_unwind.proofs.Callers.{comes}
 use Rattle.dw_unwind.proofs.Contents.{overlays-next}
-use Rattle.dw_unwind.proofs.in_place.saved_into.Goals as goal
+use Rattle.dw_unwind.proofs.usual_step.saved_into.Goals as goal
 
 pub loop-number-preserved : goal.loop-number-preserved
 loop-number-preserved g c =
