@@ -146,8 +146,8 @@ fn saved_rule(register: u16, offset: i64) -> CRule
 }
 
 /// Writes rules that only say where registers are saved to `slots`, as many as fit. Returns the
-/// number of rules, as `write_rules` does. Nearly all rows that compilers write for x86-64 have only
-/// such rules, and none of them has to be matched.
+/// number of rules, as `write_rules` does. Nearly all rows that compilers write for x86-64 have
+/// only such rules, and none of them has to be matched.
 fn write_saved(rules: PlainRules<'_>, slots: &mut [CRule]) -> u32
     requires { length rules ≤ MAX_RULES }
     ensures written { slots.new ≡ put_into (map crule_of (map as_saved rules.entry)) slots.old }

@@ -56,7 +56,8 @@ pub(crate) struct Process<'a> {
 
 /// Reads the files of a process: FRAME, whose module is loaded at `load`; the files of `--module`,
 /// whose modules are loaded at `module_loads`; and the state file. The state file comes last, since
-/// a file that isn't hex text is reported before a bad line. The frame sections aren't checked here.
+/// a file that isn't hex text is reported before a bad line. The frame sections aren't checked
+/// here.
 pub(crate) fn read_process<'a>(
     alloc: Global,
     files: &Files<'a>,

@@ -366,10 +366,10 @@ fn show_reply<S: Sink>(
 /// Runs a request, given the contents of the files that `Request::files` names, in the same order.
 ///
 /// First the files are decoded. If one must be hex text and isn't, the run ends with `BadHex` for
-/// the first such file. Otherwise, if a line of the state file is bad, the run ends with `StateLine`
-/// for the first such line. Nothing is written in either case. Then sections and expressions are
-/// checked. If they have a fault, the line for the first one is written, and the run ends with
-/// `Refused`. Otherwise the whole text is written, and the run ends with `Done`.
+/// the first such file. Otherwise, if a line of the state file is bad, the run ends with
+/// `StateLine` for the first such line. Nothing is written in either case. Then sections and
+/// expressions are checked. If they have a fault, the line for the first one is written, and the
+/// run ends with `Refused`. Otherwise the whole text is written, and the run ends with `Done`.
 ///
 /// If memory runs out, the run ends with `Memory` instead: a beginning of the text may have been
 /// written, but no part of a refusal's line. If the sink stops, the run ends with `Output`:

@@ -11,13 +11,14 @@ use dw_eh_frame::{Bases, original_fault, rewrite};
 use dw_rows::{CheckedFrame, check_frame};
 use std::alloc::Global;
 
-/// Checks a section of fewer than 2^32 bytes: that its records can be read, and that the CIE of each FDE
-/// is one of the records before it; then the programs of the CIEs, those of the FDEs, and that no
-/// address is covered by two FDEs, except by exact copies of one. `bases` says where the section is, and `is_aarch64` whether its
-/// programs are for aarch64. What is looked up in the result is kept in `room`, whose bytes are replaced.
+/// Checks a section of fewer than 2^32 bytes: that its records can be read, and that the CIE of
+/// each FDE is one of the records before it; then the programs of the CIEs, those of the FDEs, and
+/// that no address is covered by two FDEs, except by exact copies of one. `bases` says where the
+/// section is, and `is_aarch64` whether its programs are for aarch64. What is looked up in the
+/// result is kept in `room`, whose bytes are replaced.
 ///
-/// The error is the first fault in that order, with its offset in the section. `SectionTooLong` (61) at 0
-/// is also possible for a section of more than 2^29 bytes. `Memory` (60) has offset 0.
+/// The error is the first fault in that order, with its offset in the section. `SectionTooLong`
+/// (61) at 0 is also possible for a section of more than 2^29 bytes. `Memory` (60) has offset 0.
 pub fn check_eh_frame<'a>(
     alloc: Global,
     section: &[u8],

@@ -28,8 +28,8 @@ pub fn rows_are_unambiguous()
         → AreEhRows is_aarch64 e others → rows ≡ others }
 {}
 
-/// The FDE that was written for an FDE of `.eh_frame` has the same addresses. If its programs are good, it
-/// has the same rows, with the same expressions, except for where these lie.
+/// The FDE that was written for an FDE of `.eh_frame` has the same addresses. If its programs are
+/// good, it has the same rows, with the same expressions, except for where these lie.
 pub fn rewriting_keeps_rows()
     ensures { (is_aarch64 : Bool) (target : Target) (records : List EhRecord) (made : List ℕ)
         → (rewriting : IsRewriting is_aarch64 target records made) → (e : EhFde) (f : Fde)
@@ -37,17 +37,17 @@ pub fn rewriting_keeps_rows()
         → KeepsRows is_aarch64 rewriting.pairs e f }
 {}
 
-/// A section has no fault if and only if it is well formed: it is read as records up to its end, the CIE
-/// of each FDE is one of the records before it, all programs are good, and no address is covered by two
-/// FDEs.
+/// A section has no fault if and only if it is well formed: it is read as records up to its end,
+/// the CIE of each FDE is one of the records before it, all programs are good, and no address is
+/// covered by two FDEs.
 pub fn sections_without_fault_are_well_formed()
     ensures { (is_aarch64 : Bool) (bases : Bases) (target : Target) (section : List ℕ)
         → (eh_section_fault is_aarch64 bases target section ≡ None) ↔ IsEhWellFormed is_aarch64 bases target section }
 {}
 
-/// The check of the section that was written for an `.eh_frame` section finds what the section itself
-/// has: no fault exactly if it has none, and otherwise its first fault, at the place that `original_of`
-/// gives. Each fault is one that `faults_keep_their_places` is about.
+/// The check of the section that was written for an `.eh_frame` section finds what the section
+/// itself has: no fault exactly if it has none, and otherwise its first fault, at the place that
+/// `original_of` gives. Each fault is one that `faults_keep_their_places` is about.
 pub fn written_faults_are_the_sections()
     ensures none { (is_aarch64 : Bool) (bases : Bases) (target : Target) (section made : List ℕ) (places : List RecordPlace)
         → IsRewrittenAt is_aarch64 bases target section made places → eh_reading_fault bases target section ≡ None
@@ -59,8 +59,8 @@ pub fn written_faults_are_the_sections()
         × IsFaultOf written.rewritten.rewriting.pairs fault }
 {}
 
-/// In a section without fault, an address that an FDE covers is one of a signal frame if and only if that
-/// FDE is a signal frame. An address that no FDE covers is none.
+/// In a section without fault, an address that an FDE covers is one of a signal frame if and only
+/// if that FDE is a signal frame. An address that no FDE covers is none.
 pub fn signal_frames_are_exact()
     ensures covered { (is_aarch64 : Bool) (bases : Bases) (target : Target) (section : List ℕ)
         → eh_section_fault is_aarch64 bases target section ≡ None
@@ -71,8 +71,8 @@ pub fn signal_frames_are_exact()
 {}
 
 /// If the section that was written for an `.eh_frame` section is accepted, each address that an FDE
-/// of `.eh_frame` covers has exactly one row, and a look-up finds it (`HasOneEhRow`, OneRow.antt). An
-/// address that no FDE covers has none.
+/// of `.eh_frame` covers has exactly one row, and a look-up finds it (`HasOneEhRow`, OneRow.antt).
+/// An address that no FDE covers has none.
 pub fn exact_eh_rows()
     ensures covered { (is_aarch64 : Bool) (bases : Bases) (section : List ℕ) (s : FrameSection)
         → (written : IsRewritten is_aarch64 bases s.target section s.section) → IsChecked s

@@ -33,8 +33,8 @@ fn push_signal_frame(ranges: &mut Vec<AddressRange>, record: &EhRecord<'_>) -> R
     Ok(())
 }
 
-/// The addresses of each FDE of a section of fewer than 2^32 bytes that is a signal frame, in the order of
-/// the section. O(records).
+/// The addresses of each FDE of a section of fewer than 2^32 bytes that is a signal frame, in the
+/// order of the section. O(records).
 pub fn signal_frames(
     alloc: Global,
     section: &[u8],

@@ -1,5 +1,5 @@
-//! Tests of the crates for `.eh_frame`, through their public functions alone. The sections lie at the
-//! address 0x2000.
+//! Tests of the crates for `.eh_frame`, through their public functions alone. The sections lie at
+//! the address 0x2000.
 #![tactic(auto)]
 
 #[cfg(test)]

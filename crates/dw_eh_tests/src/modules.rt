@@ -10,8 +10,8 @@ use std::process::Abort;
 /// A section of more room than any of these has.
 const AMPLE: usize = 1 << 16;
 
-/// Two functions, at 0x1000 and at 0x1009, by GNU as and ld, x86-64; the second is a signal frame whose
-/// CFA is an expression. Between them is a record of length 0.
+/// Two functions, at 0x1000 and at 0x1009, by GNU as and ld, x86-64; the second is a signal frame
+/// whose CFA is an expression. Between them is a record of length 0.
 const SECTION: &str = "\
 1c00000000000000017a504c5200017810079bed0f00001b1b0c0708900100002400000024000000d8efffff09000000\
 04cf1f0000410e108602430d06412e10410a410c0708410b00000000\

@@ -19,10 +19,10 @@ fn read_at(section: &[u8], bases: Bases, at: u32) -> Result<EhRecord<'_>, Fault>
     Ok(record)
 }
 
-/// Sections with a CIE of 24 bytes and an FDE of 0x1234 to 0x128a. The encodings of its addresses are
-/// DW_EH_PE_absptr, uleb128, udata2, udata4, udata8, sleb128, sdata2, sdata4 and sdata8, and with
-/// pcrel absptr, sleb128, sdata2, sdata4 and sdata8. readelf reads these addresses too, except for
-/// LEB128, which it doesn't know.
+/// Sections with a CIE of 24 bytes and an FDE of 0x1234 to 0x128a. The encodings of its addresses
+/// are DW_EH_PE_absptr, uleb128, udata2, udata4, udata8, sleb128, sdata2, sdata4 and sdata8, and
+/// with pcrel absptr, sleb128, sdata2, sdata4 and sdata8. readelf reads these addresses too, except
+/// for LEB128, which it doesn't know.
 const FORMATS: [&str; 14] = [
     "1400000000000000017a520001781001000c070890010000180000001c0000003412000000000000560000000000000000000000",
     "1400000000000000017a520001781001010c070890010000080000001c000000b4245600",
@@ -54,8 +54,8 @@ fn addresses_are_read_in_each_format(rt: HostRuntime) {
     }
 }
 
-/// The same FDE with addresses of four bytes relative to text and to data, and with an aligned address of
-/// eight bytes, which follows four bytes of padding.
+/// The same FDE with addresses of four bytes relative to text and to data, and with an aligned
+/// address of eight bytes, which follows four bytes of padding.
 const BASED: [(&str, Bases); 3] = [
     (
         "1400000000000000017a5200017810012b0c070890010000100000001c000000340200005600000000000000",
@@ -112,8 +112,8 @@ const RELATIVE: PointerEncoding = PointerEncoding {
     base: PointerBase::Place,
 };
 
-/// CIEs, and what their augmentations say: `eh`, `""`, `zR`, `zRS`, `zPLR`, `zRB`, `zG`, `zP` without a
-/// personality routine, and `zR` in a CIE of version 4.
+/// CIEs, and what their augmentations say: `eh`, `""`, `zR`, `zRS`, `zPLR`, `zRB`, `zG`, `zP`
+/// without a personality routine, and `zR` in a CIE of version 4.
 const LETTERS: [(&str, Augmentation); 9] = [
     (
         "180000000000000001656800aaaaaaaaaaaaaaaa0178100c07089001",
@@ -202,8 +202,8 @@ fn letters_say_what_the_lsb_says(rt: HostRuntime) {
 
 /// Records that are refused: where they begin, the fault, and its offset.
 const REFUSED: [(&str, u32, FaultKind, u32); 13] = [
-    // an unknown letter; addresses relative to a function, and to text that isn't known; a letter without
-    // its data; nine letters
+    // an unknown letter; addresses relative to a function, and to text that isn't known; a letter
+    // without its data; nine letters
     (
         "1100000000000000017a5800017810000c07089001",
         0,

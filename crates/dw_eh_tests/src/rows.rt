@@ -156,7 +156,8 @@ fn signal_frames_are_the_fdes_with_the_letter_s(rt: HostRuntime) -> Result<(), A
     Ok(())
 }
 
-/// A CIE whose addresses are plain, and an FDE whose program has set_loc 0x1240 and def_cfa_offset 16.
+/// A CIE whose addresses are plain, and an FDE whose program has set_loc 0x1240 and def_cfa_offset
+/// 16.
 const PLAIN_SET_LOC: &str = "\
 1400000000000000017a520001781001000c070890010000\
 200000001c00000034120000000000005600000000000000000140120000000000000e10";
@@ -167,8 +168,8 @@ fn set_loc_is_read_where_addresses_are_plain(rt: HostRuntime) -> Result<(), Allo
     has_rows(&rt, PLAIN_SET_LOC, LITTLE, false, &rows)
 }
 
-/// A CIE of 24 bytes whose program begins at 17. Its FDEs have addresses of four bytes that are relative
-/// to their own place.
+/// A CIE of 24 bytes whose program begins at 17. Its FDEs have addresses of four bytes that are
+/// relative to their own place.
 const CIE: &str = "1400000000000000017a5200017810011b0c070890010000";
 
 /// The same CIE, except that its program has advance_loc at 20.
@@ -199,7 +200,8 @@ fn exact_copies_are_one_fde(rt: HostRuntime) -> Result<(), AllocError> {
     has_rows(&rt, &empty, LITTLE, false, &[])
 }
 
-/// The same CIE, except that its program has def_cfa_register at 17 and an unknown instruction at 19.
+/// The same CIE, except that its program has def_cfa_register at 17 and an unknown instruction at
+/// 19.
 const REGISTER_CIE: &str = "1400000000000000017a5200017810011b0d073f00000000";
 
 /// What follows a CIE, and the fault with its offset in the section.

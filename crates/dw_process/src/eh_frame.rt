@@ -23,13 +23,13 @@ pub struct EhSection<'a> {
 }
 
 impl Process {
-    /// Checks an `.eh_frame` section of fewer than 2^32 bytes, compiles it, and adds it as a module,
-    /// as `add` does with a `.debug_frame` section. The section's addresses are as linked. The rows
-    /// are those of the section's own programs; instructions of vendors change no rule.
+    /// Checks an `.eh_frame` section of fewer than 2^32 bytes, compiles it, and adds it as a
+    /// module, as `add` does with a `.debug_frame` section. The section's addresses are as linked.
+    /// The rows are those of the section's own programs; instructions of vendors change no rule.
     ///
-    /// A fault has the offset that it has in this section. The call makes a `.debug_frame` section in
-    /// memory, of less than five times the section's length, and frees it. After an error the process
-    /// is unchanged.
+    /// A fault has the offset that it has in this section. The call makes a `.debug_frame` section
+    /// in memory, of less than five times the section's length, and frees it. After an error the
+    /// process is unchanged.
     pub fn add_eh_frame(
         &mut self,
         alloc: Global,

@@ -244,8 +244,8 @@ impl Process {
 
     /// What `row_for_address` returns. `hint` says where the row may be: it is what an earlier
     /// look-up left there, in this process or in another one, or any other hint. If it is right, as
-    /// it usually is for an address that was looked up before, no search is needed. If not, it is
-    /// set.
+    /// it usually is for an address that was looked up before, no search is needed. If not, a
+    /// search follows, and the hint is set if there is such a module.
     #[inline(always)]
     pub fn row_for_address_near(&self, address: u64, hint: &mut RowHint) -> Option<FoundRow<'_>>
         ensures row { result ≡ found_at self.now address }

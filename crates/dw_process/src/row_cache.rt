@@ -1,9 +1,9 @@
-//! Where the rows of addresses that were looked up before are.
+//! Hints: where the rows of addresses that were looked up earlier may be.
 
 ghost use Rattle.std.specs.Prelude.{◌≡◌, ◌<◌, replicate};
 ghost use Rattle.dw_process.specs.RowCaches.{hint_at, no_hint, place_of as its_place};
 
-/// An index that no module and no entry of a table has, or only one among 2^32 of them.
+/// Says nothing: only a process with 2^32 modules or more has a module with this index.
 pub(crate) const NO_HINT: u32 = u32::MAX;
 
 /// Where a process may have the row of an address: the index of a module, and how many entries of
@@ -41,7 +41,7 @@ pub trait RowHints {
     fn hint(&self, address: u64) -> RowHint
         ensures { result ≡ hint_for self.now address };
 
-    /// Says where the row of an address is.
+    /// Stores the hint for an address.
     fn set_hint(&mut self, address: u64, hint: RowHint);
 }
 
@@ -73,10 +73,10 @@ const SHIFT: u32 = 55;
 /// well over their highest bits.
 const MULTIPLIER: u64 = 0x9e37_79b9_7f4a_7c15;
 
-/// A hint for each of the addresses that were looked up last. Two addresses may share a place; then
-/// the later one has it. A cache is plain data: any bytes are one, with bytes of 0 it is a new one,
-/// and nothing has to be done when its process changes or another process is walked. Each thread
-/// has its own.
+/// Up to 512 hints, each at a place that its address determines; if two addresses share a place,
+/// the later one has it. A cache is plain data: any bytes are valid, and a new one is all zeros.
+/// Nothing has to be done when its process changes or another process is walked. Each thread has
+/// its own.
 #[repr(C)]
 #[derive(Drop)]
 pub struct RowCache {

@@ -8,7 +8,8 @@ use std::alloc::Global;
 use std::marker::Model;
 use std::sync::Arc;
 
-/// One of the owners that share the addresses of signal frames. They are freed with their last owner.
+/// One of the owners that share the addresses of signal frames. They are freed with their last
+/// owner.
 #[derive(Drop)]
 pub struct SharedSignals {
     ranges: Arc<Vec<AddressRange>>,
@@ -44,8 +45,8 @@ impl SharedSignals {
         }
     }
 
-    /// Whether an address, as linked, is one of a signal frame. O(signal frames), of which a library
-    /// has at most a few.
+    /// Whether an address, as linked, is one of a signal frame. O(signal frames), of which a
+    /// library has at most a few.
     pub fn has(&self, address: u64) -> bool
         ensures { result ≡ is_signal_at self.now address }
     {

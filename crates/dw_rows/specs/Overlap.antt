@@ -1,5 +1,4 @@
--- FDEs in order of offset and in order of address, and what a checked section stores. No contract
--- of a public call uses this file.
+-- FDEs in order of offset and in order of address, and what a checked section stores.
 use Rattle.std.specs.Prelude.{◌≡◌, ℕ, ◌+◌, ◌*◌, ◌<◌, ◌≤◌, List, [], length, map, All, Contains, slice_index_or}
 use Rattle.dw_bytes.specs.declared.target.Format.TheVariants.{Dwarf32}
 use Rattle.dw_bytes.specs.declared.target.Order.TheVariants.{Little}

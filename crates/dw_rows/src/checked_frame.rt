@@ -1,6 +1,6 @@
 //! A checked `.debug_frame` section: the check of the section, and look-ups of its FDEs and rows.
 
-ghost use Rattle.std.specs.Prelude.{◌≡◌, ◌+◌, ◌*◌, ◌<◌, ◌≤◌, ◌^◌, None, Some, Contains, length, map, option_map, IfOk, IfErr, IfSome, IfNone};
+ghost use Rattle.std.specs.Prelude.{◌≡◌, ◌+◌, ◌<◌, ◌≤◌, ◌^◌, None, Some, Contains, length, map, option_map, IfOk, IfErr, IfSome, IfNone};
 ghost use Rattle.std.specs.Prelude.{find};
 ghost use Rattle.dw_rows.specs.UnwindRows.{has_address};
 ghost use Rattle.dw_frame.specs.Records.{Cie, Fde};
@@ -10,7 +10,7 @@ ghost use Rattle.dw_bytes.specs.Answers.{Checks, Answers, fault_in};
 ghost use Rattle.dw_rules.specs.ProgramFault.{cie_fault, fde_fault};
 ghost use Rattle.dw_rows.specs.Section.{IsCoverOf, first_fault, overlap_fault, programs_fault, parts_fault, section_fault, IsChecked};
 ghost use Rattle.dw_rows.specs.Section.{frame_of, cie_in, placed_rows, rows_in, row_count, row_of};
-ghost use Rattle.std.specs.List.{flat_map, sum_by};
+ghost use Rattle.std.specs.List.{flat_map};
 ghost use Rattle.dw_rows.specs.Overlap.{cie_offset, fde_offset, IsAddressIndex};
 ghost use Rattle.dw_frame.specs.Bounds.{Ascends};
 ghost use Rattle.dw_rules.specs.ProgramState.{IsLeftBy};
@@ -27,7 +27,7 @@ use crate::index::{IndexEntry, covering, first_overlap, index_of};
 use crate::lookup::write_row_at;
 use crate::record_checks::{check_cies, check_fdes, check_pointers};
 use crate::row_iter::Rows;
-use dw_bytes::{Fault, FaultKind, OUT_OF_MEMORY, Target};
+use dw_bytes::{Fault, FaultKind, Target};
 use dw_frame::{CommonInformationEntry, Entry, FrameDescriptionEntry, entries};
 use dw_rules::{
     BorrowedExpressions, InitialRules, RowExpressions, UnwindContext, UnwindState, UnwindTableRow,

@@ -32,11 +32,11 @@ ghost use Rattle.dw_rules.specs.declared.remember_stack.TheConstants.{MAX_REMEMB
 
 pub use dw_rules::laws::{abis_without_fault_are_distinct, rule_lists_are_rules, rules_under_abis};
 
-/// The rules after the first k + 1 instructions (`rule_after` and `cfa_after`, GoodPrograms.antt) follow
-/// from the rules after fewer instructions, as the standard says for each kind of instruction
-/// (`AreRules`, Clauses.antt). For example, the rules after a restore_state are the rules before
-/// the matching remember_state. If each restore_state has a match, no other rules meet these
-/// conditions.
+/// The rules after the first k + 1 instructions (`rule_after` and `cfa_after`, GoodPrograms.antt)
+/// follow from the rules after fewer instructions, as the standard says for each kind of
+/// instruction (`AreRules`, Clauses.antt). For example, the rules after a restore_state are the
+/// rules before the matching remember_state. If each restore_state has a match, no other rules meet
+/// these conditions.
 pub fn rules_by_instruction()
     ensures meet { (s : Start) (program : List Effect)
         → AreRules s program (rule_after s program) (cfa_after s program) }
@@ -111,7 +111,7 @@ pub fn exact_rows()
         → row_of s a ≡ None }
 {}
 
-/// In an accepted section, each FDE has a CIE, and neither's program has a fault. No address is
+/// In an accepted section, each FDE has a CIE, and neither program has a fault. No address is
 /// covered by two FDEs.
 pub fn fdes_of_checked_sections()
     ensures cie { (s : FrameSection) → IsChecked s → (f : Fde) → Contains s.fdes f

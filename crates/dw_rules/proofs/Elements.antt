@@ -4,7 +4,6 @@ use Rattle.std.proofs.Common.{refl, ap, arith}
 use Rattle.std.specs.List.{AllByRecursion}
 use Rattle.dw_frame.specs.Bounds.{Ascends}
 use Rattle.std.proofs.lemmas.List.{length-map}
-use Rattle.std.proofs.Math.ListN.{get_or-map as at_default}
 
 -- the element of the mapped list at an index is f of the list's element there
 pub placed-map : {X Y : Type 0} (f : X → Y) (xs : List X) (i : ℕ) (x : X) → get_or xs i x ≡ x → get_or (map f xs) i (f x) ≡ f x

@@ -1,5 +1,4 @@
--- The rules that the initial instructions of CIEs leave, as a checked section stores them. No
--- contract of a public call uses this file.
+-- The rules that the initial instructions of CIEs leave, as a checked section stores them.
 use Rattle.std.specs.Prelude.{◌≡◌, ◌+◌, ◌≤◌, List, [], ◌∷◌, length, map, slice_range}
 use Rattle.std.specs.Option.{option_map}
 use Rattle.std.specs.List.{AllByRecursion, sum_by}

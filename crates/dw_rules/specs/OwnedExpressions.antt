@@ -1,5 +1,4 @@
--- Checked expressions, stored together with a copy of their bytes. No contract of a public call
--- uses this file.
+-- Checked expressions, stored together with a copy of their bytes.
 use Rattle.std.specs.Prelude.{◌≡◌, ◌≤◌, ℕ, ◌+◌, List, length, map, take, drop}
 use Rattle.std.specs.List.{AllByRecursion, sum_by}
 use Rattle.dw_stack.specs.Expressions.{IsChecked}

@@ -1,5 +1,5 @@
-//! The rules of unwind rows, and what call frame instructions do to them (DWARF 5, sections 6.4.1 and
-//! 6.4.2).
+//! The rules of unwind rows, and what call frame instructions do to them (DWARF 5, sections 6.4.1
+//! and 6.4.2).
 #![tactic(auto)]
 
 mod abi;
@@ -30,7 +30,7 @@ pub use remember_stack::MAX_REMEMBERED;
 pub use row::{CfaRule, RegisterRule, RegisterRules, UnwindTableRow};
 pub use row_expressions::RowExpressions;
 pub use rule_set::RuleSet;
-pub use stored_rule::{StoredCfa, StoredRule};
+pub use stored_rule::StoredCfa;
 pub use unwind_context::{UnwindContext, step_instruction, step_next};
 pub use unwind_row::UnwindRow;
 pub use unwind_state::UnwindState;

@@ -1,8 +1,8 @@
 //! Checked expressions, stored together with a copy of their bytes.
 
-ghost use Rattle.std.specs.Prelude.{◌≡◌, ◌+◌, ◌++◌, ◌∷◌, [], IfErr, IfOk, None, Some, MatchOption};
+ghost use Rattle.std.specs.Prelude.{◌≡◌, ◌+◌, ◌++◌, ◌∷◌, [], IfOk, None, Some, MatchOption};
 ghost use Rattle.dw_frame.specs.Bounds.{Ascends};
-ghost use Rattle.dw_stack.specs.Located.{all_located, located_of};
+ghost use Rattle.dw_stack.specs.Located.{located_of};
 ghost use Rattle.dw_rules.specs.Expressions.{expression_at};
 ghost use Rattle.dw_rules.specs.ExpressionOrder.{expression_offset};
 
@@ -20,11 +20,15 @@ pub struct OwnedExpression {
     pub offset: u32,
     /// The index of the expression's first byte in the array that has the bytes of all expressions.
     pub start: u32,
+    /// How many bytes the expression has.
     pub length: u32,
     /// The number of operations of the expression.
     pub count: u32,
+    /// The most entries that the stack has while the expression runs.
     pub depth: u8,
+    /// What the expression is for.
     pub kind: Kind,
+    /// The target that the expression was read with.
     pub target: Target,
 }
 

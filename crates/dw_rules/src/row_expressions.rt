@@ -12,7 +12,9 @@ use dw_stack::CheckedExpression;
 /// owned by a compiled table.
 #[derive(Clone, Copy, Debug)]
 pub enum RowExpressions<'f, 'a> {
+    /// Those of a checked section.
     Borrowed(BorrowedExpressions<'f, 'a>),
+    /// Those of a compiled table.
     Owned(&'a OwnedExpressions),
 }
 

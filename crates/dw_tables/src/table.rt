@@ -63,17 +63,17 @@ impl Model for UnwindTable {
 }
 
 impl UnwindTable {
-    /// Compiles the rows of all FDEs of a checked section into a table, which makes millions of look-ups cheap. The
-    /// table borrows nothing, so the section may be dropped.
+    /// Compiles the rows of all FDEs of a checked section into a table, which makes millions of
+    /// look-ups cheap. The table borrows nothing, so the section may be dropped.
     ///
     /// `room` bounds what the table stores, counted as 16 bytes for each entry (each row has one,
     /// and so has each gap after a row), 64 for each rule set and 16 for each of its register
-    /// rules, and 24 for each expression and its length (clause `stored`). Each row of the table and
-    /// each expression of the section is counted (clause `counted`). The arrays of the table hold
-    /// nothing else, except for 8 bytes: two counts of a look-up's search blocks. That they have no
-    /// spare capacity is tested, not proved. While the table is made, more memory is in use that
-    /// isn't counted: the spare capacity of arrays that grow, the copies that they are cut to, and
-    /// 16 KB by which equal rules are found again.
+    /// rules, and 24 for each expression and its length (clause `stored`). Each row of the table
+    /// and each expression of the section is counted (clause `counted`). The arrays of the table
+    /// hold nothing else, except for 8 bytes: two counts of a look-up's search blocks. That they
+    /// have no spare capacity is tested, not proved. While the table is made, more memory is in use
+    /// that isn't counted: the spare capacity of arrays that grow, the copies that they are cut to,
+    /// and 16 KB by which equal rules are found again.
     ///
     /// `Ok(None)` means that the sum would be more than `room`, and that no table was made. The
     /// rows of a section of N bytes may take 700 times N bytes. The result is never `Ok(None)` if
@@ -148,7 +148,8 @@ impl UnwindTable {
 
     /// What `row_and_return_register` returns. `hint` says where the table may have the row: it is
     /// what an earlier look-up left there, or any other number. If it is right, as it usually is
-    /// for an address that was looked up before, no search is needed. If not, `hint` is set.
+    /// for an address that was looked up before, no search is needed. If not, a search follows, and
+    /// `hint` becomes the right one.
     #[inline(always)]
     pub fn row_and_return_register_near(
         &self,

@@ -28,13 +28,14 @@ struct Blocks {
     counts: Vec<u32>,
 }
 
-/// A hint that is no count of entries, or is so for a table with 2^32 - 1 entries or more.
+/// A hint that says nothing. In a table with 2^32 - 1 entries it may be a count, and then it is a
+/// guess like any other.
 pub const NO_HINT: u32 = u32::MAX;
 
 /// About how many starts a block has on average.
 const USUAL_BLOCK: usize = 8;
 
-/// How many starts are counted one by one, which takes less time than strides among so few.
+/// Up to this many starts are counted one by one, which is faster than strides.
 const FEW_STARTS: usize = 8;
 
 /// By how many bits an offset is shifted to the right to give the number of its block. `span` is
@@ -88,9 +89,10 @@ fn blocks_of(alloc: Global, offsets: &[u32]) -> Result<Blocks, AllocError>
     Ok(Blocks { shift, counts })
 }
 
-/// One step of a search: how many starts to move up from index `low`, which is zero, one, two or three
-/// times `quarter`. The step adds results of comparisons instead of branching, since a branch would
-/// be mispredicted about half of the time. (A binary search becomes branches, whatever it says.)
+/// One step of a search: how many starts to move up from index `low`, which is zero, one, two or
+/// three times `quarter`. The step adds results of comparisons instead of branching, since a branch
+/// would be mispredicted about half of the time. (A binary search becomes branches, whatever it
+/// says.)
 #[inline(always)]
 fn stride(starts: &[u32], low: usize, quarter: usize, address: u32) -> usize
     requires inside { low + 3 * quarter ≤ length starts.now }

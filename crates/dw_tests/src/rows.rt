@@ -1,4 +1,5 @@
-//! Checks of frame sections and their rows by calls of the library, also of sections with many FDEs.
+//! Checks of frame sections and their rows by calls of the library, also of sections with many
+//! FDEs.
 
 ghost use Rattle.std.specs.Prelude.{◌<◌, ◌^◌, length};
 

@@ -15,10 +15,10 @@ use dw_eval::{Memory, Registers};
 use dw_rows::Abi;
 use std::alloc::Global;
 
-/// Walks up the stack with an unwinder, which is a checked section, a compiled table, or the modules
-/// of a process: from the first frame, whose address, registers and memory are passed, to its caller,
-/// the caller's caller and so on. Returns at most `limit` frames, and why there are no more (DWARF 5,
-/// sections 6.4.1 and 6.4.4).
+/// Walks up the stack with an unwinder, which is a checked section, a compiled table, or the
+/// modules of a process: from the first frame, whose address, registers and memory are passed, to
+/// its caller, the caller's caller and so on. Returns at most `limit` frames, and why there are no
+/// more (DWARF 5, sections 6.4.1 and 6.4.4).
 ///
 /// Frame 0 is looked up at its own address, each later frame at its address minus 1. After frame 0,
 /// a register has a value only if unwinding found a value for it. Each frame costs what `unwind`

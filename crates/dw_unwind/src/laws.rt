@@ -276,8 +276,8 @@ pub fn frames_that_are_given_are_a_walk<U: Unwinder>()
         × Walks (U.unwinds unwinder abi memory) first limit (xs ++ others) stop }
 {}
 
-/// With an accepted section, or with a table of one, unwinding has an answer at every address. So it
-/// has through modules with accepted sections, and through modules with tables of accepted
+/// With an accepted section, or with a table of one, unwinding has an answer at every address. So
+/// it has through modules with accepted sections, and through modules with tables of accepted
 /// sections. This is the premise of `begins` in `frames_that_are_given_are_a_walk`, for a `Walk`
 /// over a section, over a table, or over modules with sections or tables, owned or borrowed.
 pub fn sections_and_tables_always_unwind()

@@ -19,8 +19,9 @@ use dw_rows::Abi;
 /// process have the address size of the process.
 ///
 /// ```rust
-/// let sections = [Module::new(&program, 0x5555_5555_4000), Module::new(&library, 0x7fff_f7dc_3000)];
-/// let tables = [Module::new(&program_table, 0x5555_5555_4000), Module::new(&library_table, 0x7fff_f7dc_3000)];
+/// let sections = [Module::new(&program, 0x5555_5555_4000), Module::new(&library,
+/// 0x7fff_f7dc_3000)]; let tables = [Module::new(&program_table, 0x5555_5555_4000),
+/// Module::new(&library_table, 0x7fff_f7dc_3000)];
 /// ```
 #[derive(Clone, Copy, Debug, Drop)]
 pub struct Module<T> {
@@ -56,8 +57,8 @@ pub fn as_linked(target: Target, load_address: u64, address: u64) -> u64
 
 /// Unwinds through the modules of a process. Addresses are as loaded, in the running process. Each
 /// module is asked for the address as linked in that module: the address minus its load address,
-/// modulo 2^w, w being the size of an address in bits. The first module whose FDEs cover it gives the
-/// caller. A module that doesn't cover the address costs one look-up.
+/// modulo 2^w, w being the size of an address in bits. The first module whose FDEs cover it gives
+/// the caller. A module that doesn't cover the address costs one look-up.
 impl<'m, T: UnwindRows> Unwinder for &'m [Module<T>] {
     ghost use Rattle.dw_unwind.specs.Modules.{AreBelow, over_modules_of_rows};
 

@@ -39,8 +39,8 @@ impl Model for RegisterFile {
     ghost inverse = { λ f. record { contents = f.contents; known = f.known } };
 }
 
-/// Clears the flags that aren't marked. A flag is read whether it is marked or not, so that there is
-/// no branch, and many flags are done at once.
+/// Clears the flags that aren't marked. A flag is read whether it is marked or not, so that there
+/// is no branch, and many flags are done at once.
 #[inline(always)]
 fn keep_marked(flags: &mut [u8; PLACES], marks: &[bool; PLACES])
     ensures { ArePicked marks.now flags.old flags.new }

@@ -11,13 +11,13 @@ use dw_rows::CheckedFrame;
 use dw_rules::{UnwindRow, UnwindTableRow};
 use dw_tables::UnwindTable;
 
-/// A source of rows: something that can look up the row of an address. It is either a borrowed
-/// checked section, which runs an FDE's program, or a compiled table, which searches arrays.
-/// Unwinding and stack walks work over both. A table can also be borrowed, so that many processes
-/// can share it.
+/// A source of rows: something that can look up the row of an address. A borrowed checked section
+/// runs an FDE's program, a compiled table searches arrays, and a process of `dw_process` searches
+/// for a module and then the module's table. Unwinding and stack walks work over all of them.
 pub trait UnwindRows {
-    /// A buffer that a look-up may write the row into. A section writes the row there; a table
-    /// doesn't need a buffer, since it lends its own row.
+    /// Working memory of a look-up. A section writes the row there; a process reads and writes
+    /// where the row may be; a table needs none, since it lends its own row. Any slot will do,
+    /// whatever an earlier look-up left in it.
     type Slot: Drop;
 
     /// The target that the section was read with.
@@ -31,7 +31,7 @@ pub trait UnwindRows {
     fn rows_target(&self) -> Target
         ensures { result ≡ target_of self.now };
 
-    /// Makes a buffer for one row.
+    /// Makes a slot that no look-up has used.
     fn slot(&self) -> Self::Slot;
 
     /// The row of an address and the return address register that its CIE names, or `None` if no

@@ -22,8 +22,9 @@ use dw_rows::Abi;
 
 /// Finds the caller of a frame, for `unwind`, `backtrace`, `Walk` and `WalkedContents`. It is
 /// implemented by a checked section (as `&CheckedFrame`), by a compiled table or another source of
-/// rows (as `&UnwindTable`), and by the modules of a process (as `&[Module<T>]`). Other crates can't
-/// implement this trait: it writes registers to a `RegisterList`, which is private to this crate.
+/// rows (as `&UnwindTable`), and by the modules of a process (as `&[Module<T>]`). Other crates
+/// can't implement this trait: it writes registers to a `RegisterList`, which is private to this
+/// crate.
 pub trait Unwinder {
     ghost use Rattle.std.specs.Prelude.{ℕ, Option};
     ghost use Rattle.dw_rules.specs.Abi.{Abi};

@@ -133,9 +133,9 @@ pub(crate) fn unwind_into<T: UnwindRows, R: Registers, M: Memory, L: RegisterLis
 }
 
 /// The caller of the frame at an address, computed from the frame's registers and memory with an
-/// unwinder: a checked section, a compiled table, or the modules of a process. None if it has no row
-/// at the address (DWARF 5, section 6.4.1). A register for which the row has no rule has the ABI's
-/// rule.
+/// unwinder: a checked section, a compiled table, or the modules of a process. None if it has no
+/// row at the address (DWARF 5, section 6.4.1). A register for which the row has no rule has the
+/// ABI's rule.
 ///
 /// Contents and sums are taken modulo 2^w, w being the size of an address in bits. A saved value is
 /// an address-sized word in memory. If the CFA has no value, the answer of a rule that needs the
@@ -143,7 +143,7 @@ pub(crate) fn unwind_into<T: UnwindRows, R: Registers, M: Memory, L: RegisterLis
 /// row.
 ///
 /// ```rust
-/// let Some(table) = frame.compile(alloc, 1 << 20)? else {
+/// let Some(table) = UnwindTable::compile(alloc, &frame, 1 << 20)? else {
 ///     return Ok(()); // its rows take more than that
 /// };
 /// let caller = unwind(&table, &abi, address, &registers, &memory);
@@ -177,8 +177,8 @@ pub fn unwind<U: Unwinder + Drop, R: Registers, M: Memory>(
 }
 
 /// Finds the caller of the frame at `address` with any unwinder, and writes the caller's registers
-/// to `into`, replacing what is there. So no `Caller` of 6 KB is copied. If there is no caller, what
-/// is in `into` is unspecified.
+/// to `into`, replacing what is there. So no `Caller` of 6 KB is copied. If there is no caller,
+/// what is in `into` is unspecified.
 pub fn unwind_in_place<U: Unwinder, R: Registers, M: Memory>(
     unwinder: &U,
     abi: &Abi,

@@ -185,13 +185,13 @@ fn saved_number<M: Memory>(memory: &M, cfa: u64, offset: i64) -> Option<u64>
     }
 }
 
-/// Makes the contents of a frame's registers those of its caller's registers, as `contents_by`
-/// finds them, if this is a usual step: numbers have 8 bytes, the least significant one first; the
-/// CFA is a register and an offset; and each rule says that a register is saved relative to the
-/// CFA, the return address among them, which is known. Nearly all rows that compilers write for
-/// x86-64 are so. If the step isn't a usual one, or there is no caller, the result is none and
-/// no content has changed. The row is looked up with `slot`, which may be one that an earlier
-/// look-up wrote.
+/// Makes the contents of a frame's registers those of its caller's registers, as
+/// `Unwinder::contents_into` finds them, if this is a usual step: numbers have 8 bytes, the least
+/// significant one first; the CFA is a register and an offset; and each rule says that a register
+/// is saved relative to the CFA, the return address among them, which is known. Nearly all rows
+/// that compilers write for x86-64 are like this. If the step isn't a usual one, or there is no
+/// caller, the result is none and no content has changed. The row is looked up with `slot`, which
+/// may be one that an earlier look-up wrote.
 #[inline(always)]
 pub fn step_in_place<T: UnwindRows, M: Memory>(
     rows: &T,

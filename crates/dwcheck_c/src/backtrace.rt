@@ -70,8 +70,8 @@ fn write_rest<R: Registers, M: Memory>(
     (count, Stop::Limit)
 }
 
-/// Goes on with a walk as `write_rest` does, with the ABI that has the callee-saved registers `kept`
-/// and the stack pointer `pointer`.
+/// Goes on with a walk as `write_rest` does, with the ABI that has the callee-saved registers
+/// `kept` and the stack pointer `pointer`.
 #[inline(never)]
 fn write_more<R: Registers, M: Memory>(
     process: &Process,

@@ -403,8 +403,9 @@ pub extern "C" fn dwcheck_cursor_step(
     status
 }
 
-/// Steps of a cursor that begins as `dwcheck_backtrace` does give what that call writes to an array:
-/// with as many slots as there are steps, all of them; with more, if the cursor's walk has ended.
+/// Steps of a cursor that begins as `dwcheck_backtrace` does give what that call writes to an
+/// array: with as many slots as there are steps, all of them; with more, if the cursor's walk has
+/// ended.
 pub fn steps_are_a_backtrace()
     ensures fills { (held : Option ProcessState) (abi : Abi) (memory registers : ℕ → Option ℕ)
         (bits address : ℕ) (from to : Cursor) (frames old : List Slot)

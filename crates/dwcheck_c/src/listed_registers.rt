@@ -104,8 +104,9 @@ impl ListedRegisters {
         }
     }
 
-    /// Finds the caller of the frame with the registers `registers`, for which `looked_up` is looked
-    /// up, and makes its registers those of the caller. If there is no caller, they are unspecified.
+    /// Finds the caller of the frame with the registers `registers`, for which `looked_up` is
+    /// looked up, and makes its registers those of the caller. If there is no caller, they are
+    /// unspecified.
     pub fn begin<R: Registers, M: Memory>(
         &mut self,
         process: &Process,

@@ -16,9 +16,9 @@ use dw_c_types::target::target;
 use dw_loclists::check_list;
 use std::alloc::Global;
 
-/// Checks the list that begins at offset `lookup.list` of a section, and nothing else of the section,
-/// and writes its expressions that apply at an address to `locations`, as many as fit. Returns `NONE` if the section
-/// has no byte there.
+/// Checks the list that begins at offset `lookup.list` of a section, and nothing else of the
+/// section, and writes its expressions that apply at an address to `locations`, as many as fit.
+/// Returns `NONE` if the section has no byte there.
 #[unsafe(no_mangle)]
 pub extern "C" fn dwcheck_list_locations(
     alloc: Global,

@@ -121,9 +121,9 @@ fn add(
     }
 }
 
-/// Checks a module's frame section, compiles its rows, and adds them to a process as a module, whose
-/// id is written to `id`. If the module's range shares an address with the range of another module,
-/// that module's id is written to `id`.
+/// Checks a module's frame section, compiles its rows, and adds them to a process as a module,
+/// whose id is written to `id`. If the module's range shares an address with the range of another
+/// module, that module's id is written to `id`.
 #[unsafe(no_mangle)]
 pub extern "C" fn dwcheck_process_add(
     alloc: Global,

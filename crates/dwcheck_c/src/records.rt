@@ -136,7 +136,8 @@ fn c_eh_fde_of(fde: &EhFde<'_>, target: Target, next: u32) -> CRecord
     }
 }
 
-/// Reads the record at an offset of a `.debug_frame` section: the first one of what is left from there.
+/// Reads the record at an offset of a `.debug_frame` section: the first one of what is left from
+/// there.
 fn debug_frame_record(frame: &[u8], target: Target, at: u32) -> Result<CRecord, Fault>
     requires inside { at < length frame.now }
     requires short { length frame.now < 2 ^ 32 }
@@ -196,8 +197,9 @@ fn record_by(
     }
 }
 
-/// Reads the record that begins at `offset` in a module's section, and writes it to `record`. Returns
-/// `NONE` if the section has no byte there. Neither programs nor the CIE pointers of `.debug_frame` are looked at.
+/// Reads the record that begins at `offset` in a module's section, and writes it to `record`.
+/// Returns `NONE` if the section has no byte there. Neither programs nor the CIE pointers of
+/// `.debug_frame` are looked at.
 #[unsafe(no_mangle)]
 pub extern "C" fn dwcheck_record_at(
     module: &CModule<'_>,

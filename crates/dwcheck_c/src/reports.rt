@@ -1,4 +1,5 @@
-//! The C call that checks a frame section and a section of location lists, and says what they contain.
+//! The C call that checks a frame section and a section of location lists, and says what they
+//! contain.
 
 ghost use Rattle.std.specs.Prelude.{◌≡◌, ◌≢◌, ◌⊎◌, ◌++◌, ◌-◌, ◌^◌, List, None, length, min};
 ghost use Rattle.std.specs.Option.{IsSomeAnd};
@@ -154,8 +155,8 @@ fn counted(checked: &Checked<'_>) -> CCounts
     }
 }
 
-/// Checks a frame section and location lists, either of which may be empty. Writes what they contain
-/// to `counts`, and their expressions to `expressions`, as many as fit.
+/// Checks a frame section and location lists, either of which may be empty. Writes what they
+/// contain to `counts`, and their expressions to `expressions`, as many as fit.
 #[unsafe(no_mangle)]
 pub extern "C" fn dwcheck_report(
     alloc: Global,

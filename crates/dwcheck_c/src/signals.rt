@@ -18,7 +18,8 @@ pub struct FlagPlace {
 
 const _: () = prove!(size_of::<FlagPlace>() == size_of::<u32>());
 
-/// Writes 1 to `flag` if `address`, an address as loaded, is one of a signal frame, and 0 if it isn't.
+/// Writes 1 to `flag` if `address`, an address as loaded, is one of a signal frame, and 0 if it
+/// isn't.
 #[unsafe(no_mangle)]
 pub extern "C" fn dwcheck_is_signal_frame(
     process: &LentProcess,

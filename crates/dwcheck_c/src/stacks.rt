@@ -272,7 +272,8 @@ fn backtrace_with_hints<H: RowHints>(
     ensures refused { result ≡ REFUSED → Reports IN_ABI (abi_fault_of state.now) fault.new }
     ensures codes { (result ≡ DONE) ⊎ (result ≡ REFUSED) }
     ensures unwritten { result ≡ REFUSED → (frames.new ≡ frames.old)
-        × (count.new.count ≡ count.old.count) × (stop.new ≡ stop.old) }
+        × (count.new.count ≡ count.old.count) × (stop.new ≡ stop.old)
+        × (hints.new ≡ hints.old) }
     ensures unreported { result ≡ DONE → fault.new ≡ fault.old }
     ensures same { loan_of count.new.right ≡ loan_of count.old.right }
 {
@@ -314,9 +315,9 @@ pub extern "C" fn dwcheck_backtrace(
     backtrace_with_hints(process, hints, address, state, frames, count, stop, fault)
 }
 
-/// Does what `dwcheck_backtrace` does, with the same results, whatever `cache` holds. Where the
-/// cache says where the row of an address is, it isn't searched for; where it doesn't, that is
-/// written to it.
+/// Does what `dwcheck_backtrace` does, whatever `cache` holds. In a usual step, a row that the
+/// cache says where to find isn't searched for, and the place of one that was searched for is
+/// written to the cache.
 #[unsafe(no_mangle)]
 pub extern "C" fn dwcheck_backtrace_cached(
     process: &LentProcess,
@@ -336,7 +337,8 @@ pub extern "C" fn dwcheck_backtrace_cached(
     ensures refused { result ≡ REFUSED → Reports IN_ABI (abi_fault_of state.now) fault.new }
     ensures codes { (result ≡ DONE) ⊎ (result ≡ REFUSED) }
     ensures unwritten { result ≡ REFUSED → (frames.new ≡ frames.old)
-        × (count.new.count ≡ count.old.count) × (stop.new ≡ stop.old) }
+        × (count.new.count ≡ count.old.count) × (stop.new ≡ stop.old)
+        × (cache.new ≡ cache.old) }
     ensures unreported { result ≡ DONE → fault.new ≡ fault.old }
     ensures same { loan_of count.new.right ≡ loan_of count.old.right }
 {
