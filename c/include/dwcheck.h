@@ -30,9 +30,9 @@
    - The proofs cover calls in threads, but not a call in a signal handler that interrupts another one with the same
      process, nor in the child of a fork, nor one that is left, nor later changes of a process on which a call was
      left. c/tests/readers.c tests all of these.
-   - The stack is large enough. As measured on x86-64, dwcheck_backtrace takes 2.8 KB, dwcheck_unwind 7.1 KB and
-     dwcheck_cursor_step 0.6 KB; if a rule is an expression, 4.7, 8.7 and 3.8 KB; and dwcheck_backtrace takes 19 KB if
-     a register of 96 or more is known. dwcheck_process_add takes 84 KB, dwcheck_check and dwcheck_report 40 KB,
+   - The stack is large enough. As measured on x86-64, dwcheck_backtrace and dwcheck_backtrace_cached take 2.8 KB,
+     dwcheck_unwind 7.1 KB and dwcheck_cursor_step 0.6 KB; if a rule is an expression, 4.7, 8.7 and 3.8 KB; and the
+     first two take 19 KB if a register of 96 or more is known. dwcheck_process_add takes 84 KB, dwcheck_check and dwcheck_report 40 KB,
      dwcheck_cursor_step_with 21 KB, dwcheck_evaluate 12 KB, and every other call less than 4 KB.
    - Fields called `reserved` are set to 0. A later version may give them a meaning.
 
@@ -332,15 +332,17 @@ enum {
 uint32_t dwcheck_backtrace(const dwcheck_process *process, uint64_t address, const dwcheck_state *state, dwcheck_frame *frames,
                            size_t frames_length, size_t *count, uint32_t *stop, dwcheck_fault *fault);
 
-/* Where rows were that walks looked up lately, for dwcheck_backtrace_cached. It is plain data of the caller's, with
-   nothing to free. It may be copied, changed and dropped at any time. Any bytes are a cache; a new one is bytes of 0.
-   Nothing has to be done when modules are added or removed, or when another process is walked: a cache of an older
-   process only costs time. Two calls never use one cache at once, so each thread has its own. */
+/* Remembers where recent walks found their rows, for dwcheck_backtrace_cached. It is plain data that the caller owns,
+   with nothing to free, and may be copied, changed or dropped between calls. Any initialized bytes are a valid cache,
+   also what a call leaves that siglongjmp leaves; start with zeros. Nothing has to be done when modules change or
+   another process is walked: what is out of date only costs time. No two calls may use the same cache at once, so each
+   thread needs its own, and so does a signal handler that may interrupt such a call. */
 typedef struct dwcheck_cache { uint32_t hints[1024]; } dwcheck_cache;
 
-/* Does what dwcheck_backtrace does, with the same results, whatever `cache` holds. If the cache says where the row of
-   a frame is, it isn't searched for; otherwise that is written to the cache. So a walk is faster if the same functions
-   were on a stack before, as in a profiler. `cache` is never NULL. */
+/* Does what dwcheck_backtrace does, whatever `cache` holds, and is faster if the same functions were on a stack before,
+   as in a profiler. The cache saves the search for most rows of little-endian 64-bit targets: those whose CFA is a
+   register plus an offset, and that say only where registers are saved. Other rows are searched for each time.
+   `cache` is never NULL. */
 uint32_t dwcheck_backtrace_cached(const dwcheck_process *process, uint64_t address, const dwcheck_state *state,
                                   dwcheck_frame *frames, size_t frames_length, size_t *count, uint32_t *stop,
                                   dwcheck_cache *cache, dwcheck_fault *fault);

@@ -226,7 +226,7 @@ fn right_rows_are_quiet() {
     assert!(found.iter().all(|[kind, ..]| kind == "private"), "{}", traced.log);
 }
 
-/// What clang 14 does to two epilogues (docs/findings/llvm-moved-epilogue.md).
+/// What clang 14 does to two epilogues (docs/findings/moved-epilogue.md).
 const HOIST: &str = "
 #include <stdlib.h>
 struct S { long a, b; void *p; char inl[64]; int n; void **q; };

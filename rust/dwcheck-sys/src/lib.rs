@@ -317,8 +317,8 @@ pub struct Frame {
     pub cfa: Answer,
 }
 
-/// Where rows were that walks looked up lately, for dwcheck_backtrace_cached. Any bytes are a cache, and
-/// affect only the time of a walk. Two calls never use one cache at once.
+/// Remembers where recent walks found their rows, for dwcheck_backtrace_cached. Any bytes are a valid
+/// cache, and affect only the time of a walk. No two calls may use the same cache at once.
 #[repr(C)]
 #[derive(Clone, Copy)]
 pub struct Cache {

@@ -1,15 +1,15 @@
-//! A cache: where rows were that walks looked up lately.
+//! A cache, which remembers where recent walks found their rows.
 
 use crate::ffi;
 use std::fmt;
 
-/// Where rows were that walks looked up lately, for
+/// Remembers where recent walks found their rows, for
 /// [`Process::backtrace_cached`](crate::Process::backtrace_cached).
 ///
 /// It is plain data of 4,096 bytes, which borrows nothing. A walk gives the same frames whatever is
 /// in its cache: one from before modules were added or removed, or one of another process, only
-/// costs time. Each thread has its own. A box or a thread local has room for it where the stack
-/// hasn't.
+/// costs time. Each walk borrows it exclusively, so use one for each thread. If the stack is
+/// small, keep it in a `Box` or a thread-local.
 #[derive(Clone)]
 pub struct Cache {
     raw: ffi::Cache,

@@ -5,8 +5,8 @@
 //! - "Each pointer points to a whole, aligned value of its type. No other thread writes that value
 //!   during the call. A value that a pointer without const points to overlaps no other argument.
 //!   Values that pointers to const point to may overlap each other. A pointer that comes with a
-//!   length points to that many elements. If the length is 0, the pointer may be any address except
-//!   NULL .. No other pointer may be NULL." In this crate all pointers come from references and
+//!   length points to that many elements. If the length is 0, it may be NULL .. Pointers without
+//!   a length .. are never NULL." In this crate all pointers come from references and
 //!   slices. Two `const` pointers may be to the same slice, because the library takes them as
 //!   shared references, `&[u8]` or `&CState`.
 //! - "A call that takes a process by a pointer to const only reads it .. Any number of calls may read

@@ -73,8 +73,9 @@ unsafe impl Send for Process {}
 
 // SAFETY: the calls that this crate makes with a `&Process` only read: `dwcheck_module_at`,
 // `dwcheck_row_at`, `dwcheck_is_signal_frame`, `dwcheck_rule_bytes`, `dwcheck_unwind`,
-// `dwcheck_backtrace`, `dwcheck_cursor_step` and `dwcheck_process_share` take the process by a pointer to const, and the
-// library allows any number of them at once, in any threads. The calls that change a process,
+// `dwcheck_backtrace`, `dwcheck_backtrace_cached`, `dwcheck_cursor_step` and `dwcheck_process_share`
+// take the process by a pointer to const, and the library allows any number of them at once, in any
+// threads. The calls that change a process,
 // `dwcheck_process_add`, `_remove` and `_close`, are made with a `&mut Process`.
 unsafe impl Sync for Process {}
 
@@ -466,9 +467,8 @@ impl Process {
         Ok((&slots[..count], stop))
     }
 
-    /// Does what [`backtrace_into`](Process::backtrace_into) does, with the same results, and is
-    /// faster if rows that the walk needs are among those that earlier walks left in the cache, as
-    /// in a profiler.
+    /// Does what [`backtrace_into`](Process::backtrace_into) does, and is faster if the same
+    /// functions were on a stack that was walked before with this cache, as in a profiler.
     ///
     /// This allocates nothing.
     ///
