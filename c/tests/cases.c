@@ -113,11 +113,30 @@ static uint32_t add_within(dwcheck_process *p, dwcheck_module m, uint64_t first,
     return add_module(p, m);
 }
 
+/* Walks without a cache and with one that earlier walks filled, and compares all results. */
+static uint32_t walk_twice(const dwcheck_process *p, uint64_t at, const dwcheck_state *s, dwcheck_frame *out, size_t n, size_t *found,
+                           uint32_t *why, dwcheck_fault *refused) {
+    static dwcheck_cache cache;
+    static dwcheck_frame cached[512];
+    size_t cached_count = 0;
+    uint32_t cached_stop = 99, status = dwcheck_backtrace(p, at, s, out, n, found, why, refused);
+    dwcheck_fault cached_fault;
+    if (n > 512) return status;
+    IS(dwcheck_backtrace_cached(p, at, s, cached, n, &cached_count, &cached_stop, &cache, &cached_fault), status);
+    if (status == DWCHECK_DONE) {
+        IS(cached_count, *found); IS(cached_stop, *why);
+        for (size_t i = 0; i < *found; i++) {
+            IS(cached[i].address, out[i].address); IS(cached[i].cfa.kind, out[i].cfa.kind); IS(cached[i].cfa.value, out[i].cfa.value);
+        }
+    }
+    return status;
+}
+
 static size_t count;
 static uint32_t stop;
 static uint32_t walk(dwcheck_process *p, uint64_t at, size_t n, size_t keeps) {
     dwcheck_state s = state(keeps);
-    return dwcheck_backtrace(p, at, &s, frames, n, &count, &stop, &fault);
+    return walk_twice(p, at, &s, frames, n, &count, &stop, &fault);
 }
 
 static void closed(void) {
@@ -235,22 +254,22 @@ static void walks(void) {
     known[0] = 0x80;
     s = state(2);
     s.known_length = 0; /* `contents` has registers for which `known` has no bits */
-    IS(dwcheck_backtrace(&p, 0x810, &s, frames, 8, &count, &stop, &fault), DWCHECK_DONE); IS(count, 1); IS(stop, DWCHECK_STOP_RETURN_UNREADABLE);
+    IS(walk_twice(&p, 0x810, &s, frames, 8, &count, &stop, &fault), DWCHECK_DONE); IS(count, 1); IS(stop, DWCHECK_STOP_RETURN_UNREADABLE);
     s = state(2);
     s.contents_length = 7; /* `known` has bits for which `contents` has no registers */
-    IS(dwcheck_backtrace(&p, 0x810, &s, frames, 8, &count, &stop, &fault), DWCHECK_DONE); IS(count, 1);
+    IS(walk_twice(&p, 0x810, &s, frames, 8, &count, &stop, &fault), DWCHECK_DONE); IS(count, 1);
     blocks[0].length = 15; /* the last byte of the return address is missing */
     IS(walk(&p, 0x810, 8, 2), DWCHECK_DONE); IS(count, 1); IS(stop, DWCHECK_STOP_RETURN_UNREADABLE); IS(frames[0].cfa.kind, DWCHECK_ANSWER_VALUE);
     blocks[0].length = 12; /* a word whose bytes are in two blocks, which overlap */
     blocks[1].base = 0x7f0a; blocks[1].bytes = (uint8_t *)words + 10; blocks[1].length = 22;
     s = state(2);
     s.blocks_length = 2;
-    IS(dwcheck_backtrace(&p, 0x810, &s, frames, 8, &count, &stop, &fault), DWCHECK_DONE); IS(count, 3); IS(frames[1].address, 0x71f000001020);
+    IS(walk_twice(&p, 0x810, &s, frames, 8, &count, &stop, &fault), DWCHECK_DONE); IS(count, 3); IS(frames[1].address, 0x71f000001020);
     blocks[1].bytes = (uint8_t *)words; /* if two blocks have a byte, the first block counts */
     blocks[0].length = 32;
-    IS(dwcheck_backtrace(&p, 0x810, &s, frames, 8, &count, &stop, &fault), DWCHECK_DONE); IS(count, 3);
+    IS(walk_twice(&p, 0x810, &s, frames, 8, &count, &stop, &fault), DWCHECK_DONE); IS(count, 3);
     s.has_stack_pointer = 0; /* the second CFA needs the stack pointer */
-    IS(dwcheck_backtrace(&p, 0x810, &s, frames, 8, &count, &stop, &fault), DWCHECK_DONE); IS(count, 2); IS(frames[1].cfa.kind, DWCHECK_ANSWER_UNREADABLE);
+    IS(walk_twice(&p, 0x810, &s, frames, 8, &count, &stop, &fault), DWCHECK_DONE); IS(count, 2); IS(frames[1].cfa.kind, DWCHECK_ANSWER_UNREADABLE);
     before = asked; /* these calls don't allocate */
     s = state(2);
     IS(walk(&p, 0x810, 8, 2), DWCHECK_DONE);
@@ -512,7 +531,7 @@ static void signal_walks(size_t its_registers) {
     IS(add_module(&p, m), DWCHECK_DONE);
     IS(add(&p, 0x20000), DWCHECK_DONE);
     its_contents[7] = 0x7f00; its_known[12] = 1;
-    IS(dwcheck_backtrace(&p, 0x21010, &s, frames, 8, &count, &stop, &fault), DWCHECK_DONE);
+    IS(walk_twice(&p, 0x21010, &s, frames, 8, &count, &stop, &fault), DWCHECK_DONE);
     IS(count, 4); IS(stop, DWCHECK_STOP_RETURN_UNREADABLE);
     IS(frames[0].address, 0x21010); IS(frames[0].cfa.value, 0x7f08);
     IS(frames[1].address, 0x1100a); IS(frames[1].cfa.value, 0x7f20);
@@ -540,10 +559,10 @@ static void signed_walks(size_t its_registers) {
     dwcheck_process p = DWCHECK_CLOSED;
     IS(add(&p, 0x20000), DWCHECK_DONE);
     its_contents[7] = 0x7f00; its_known[12] = 1;
-    IS(dwcheck_backtrace(&p, 0x21000, &s, frames, 8, &count, &stop, &fault), DWCHECK_DONE);
+    IS(walk_twice(&p, 0x21000, &s, frames, 8, &count, &stop, &fault), DWCHECK_DONE);
     IS(count, 2); IS(stop, DWCHECK_STOP_NOT_COVERED); IS(frames[1].address, 0x7f000000021010);
     s.signed_bits = 0x7f000000000000;
-    IS(dwcheck_backtrace(&p, 0x21000, &s, frames, 8, &count, &stop, &fault), DWCHECK_DONE);
+    IS(walk_twice(&p, 0x21000, &s, frames, 8, &count, &stop, &fault), DWCHECK_DONE);
     IS(count, 3); IS(stop, DWCHECK_STOP_RETURN_UNREADABLE);
     IS(frames[1].address, 0x21010); IS(frames[2].address, 0x21020);
     dwcheck_process_close(&p);
@@ -598,11 +617,11 @@ static void high_registers(void) {
     IS(add(&p, 0x71f000000000), DWCHECK_DONE);
     IS(add(&p, (uint64_t)-0x800), DWCHECK_DONE);
     for (int pointer = 0; pointer < 2; pointer++) { /* at first the ABI keeps it; then it is the stack pointer, too */
-        IS(dwcheck_backtrace(&p, 0x810, &s, frames, 8, &count, &stop, &fault), DWCHECK_DONE); IS(count, pointer ? 2 : 3);
+        IS(walk_twice(&p, 0x810, &s, frames, 8, &count, &stop, &fault), DWCHECK_DONE); IS(count, pointer ? 2 : 3);
         IS(stop, pointer ? DWCHECK_STOP_RETURN_UNREADABLE : DWCHECK_STOP_NOT_COVERED); IS(frames[0].address, 0x810);
         IS(frames[0].cfa.value, 0x7f10); IS(frames[1].address, 0x71f000001020);
         if (!pointer) { IS(frames[1].cfa.value, 0x7f18); IS(frames[2].address, 0x55005); }
-        IS(dwcheck_backtrace(&p, 0x810, &s, frames, 1, &count, &stop, &fault), DWCHECK_DONE); IS(count, 1); IS(stop, DWCHECK_STOP_LIMIT);
+        IS(walk_twice(&p, 0x810, &s, frames, 1, &count, &stop, &fault), DWCHECK_DONE); IS(count, 1); IS(stop, DWCHECK_STOP_LIMIT);
         s.kept_length = 1; s.stack_pointer = 264;
     }
     s.kept_length = 2; s.stack_pointer = 7;
@@ -891,7 +910,7 @@ static void big_endian(void) {
     s.blocks = &stack;
     IS(add_for(&p, big, sizeof big, DWCHECK_BIG, 8, 0), DWCHECK_DONE);
     IS(dwcheck_row_at(&p, 0x10ff, &row, rules, 4), DWCHECK_DONE); IS(row.start, 0x1000); IS(row.end, 0x1100); IS(row.return_reg, 16);
-    IS(dwcheck_backtrace(&p, 0x1010, &s, frames, 8, &count, &stop, &fault), DWCHECK_DONE); IS(count, 2); IS(frames[1].address, 0x55005);
+    IS(walk_twice(&p, 0x1010, &s, frames, 8, &count, &stop, &fault), DWCHECK_DONE); IS(count, 2); IS(frames[1].address, 0x55005);
     dwcheck_process_close(&p);
 }
 
@@ -1034,7 +1053,7 @@ static void nothing(void) {
     IS(dwcheck_unwind(&p, 0x6010, &none, &caller, NULL, 0, &fault), DWCHECK_DONE);
     IS(caller.cfa.kind, DWCHECK_ANSWER_UNREADABLE);
     IS(caller.count, 1);
-    IS(dwcheck_backtrace(&p, 0x6010, &none, NULL, 0, &count, &stop, &fault), DWCHECK_DONE);
+    IS(walk_twice(&p, 0x6010, &none, NULL, 0, &count, &stop, &fault), DWCHECK_DONE);
     IS(count, 0);
     IS(stop, DWCHECK_STOP_LIMIT);
     IS(dwcheck_evaluate(NULL, 0, DWCHECK_LITTLE, 8, DWCHECK_EXPRESSION_LOCATION, &context, &none, 0, &value, NULL, 0, NULL, 0, &fault),
