@@ -4,46 +4,14 @@
    512 places can mostly hold. Prints nanoseconds a frame, the least of 30 passes.
 
      gcc -std=gnu11 -O2 -Wall -Wextra bench/times/cache.c $(pkg-config --cflags --libs dwcheck) -o cache && ./cache */
-#include <dwcheck.h>
 #include <stdint.h>
 #include <stdio.h>
 #include <stdlib.h>
-#include <string.h>
-#include <time.h>
 
 enum { FUNCTIONS = 2000, SIZE = 64, FRAMES = 32, STACKS = 256, MODULES = 30, PASSES = 30, WALKS = 20000 };
 static const uint64_t STEP = 0x1000000, START = 0x1000, STACK = 0x7ffc0000;
 
-static uint8_t section[32 + 48 * FUNCTIONS];
-static size_t length;
-
-static void put(const void *bytes, size_t count) {
-    memcpy(section + length, bytes, count);
-    length += count;
-}
-
-static void make_section(void) {
-    static const uint8_t cie[] = {0x14, 0, 0, 0, 0xff, 0xff, 0xff, 0xff, 4, 0, 8, 0, 1, 0x78, 16, 0x0c, 7, 8, 0x90, 1, 0, 0, 0, 0};
-    static const uint8_t program[] = {0x41, 0x0e, 16, 0x86, 2, 0x43, 0x0d, 6};
-    put(cie, sizeof cie);
-    for (uint64_t i = 0; i < FUNCTIONS; i++) {
-        uint64_t begin = START + i * SIZE, size = SIZE;
-        uint32_t head[2] = {4 + 8 + 8 + sizeof program, 0};
-        put(head, sizeof head), put(&begin, 8), put(&size, 8), put(program, sizeof program);
-    }
-}
-
-static uint64_t random_number(void) {
-    static uint64_t x = 88172645463325252u;
-    x ^= x << 13, x ^= x >> 7, x ^= x << 17;
-    return x;
-}
-
-static double now(void) {
-    struct timespec time;
-    clock_gettime(CLOCK_MONOTONIC, &time);
-    return (double)time.tv_sec * 1e9 + (double)time.tv_nsec;
-}
+#include "made_section.h"
 
 static dwcheck_process process;
 static dwcheck_cache cache;

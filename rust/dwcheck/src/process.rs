@@ -428,7 +428,7 @@ impl Process {
                 .try_reserve_exact(more)
                 .map_err(|_| Error::NoMemory)?;
             frames.resize(slots, Frame::default());
-            let (count, stop) = self.walk(address, state, &mut frames)?;
+            let (count, stop) = self.walk(address, state, &mut frames, None)?;
             if stop != Stop::Limit || slots == limit {
                 frames.truncate(count);
                 return Ok(Backtrace { frames, stop });
@@ -463,7 +463,7 @@ impl Process {
         state: &State<'_>,
         slots: &'f mut [Frame],
     ) -> Result<(&'f [Frame], Stop), Error> {
-        let (count, stop) = self.walk(address, state, slots)?;
+        let (count, stop) = self.walk(address, state, slots, None)?;
         Ok((&slots[..count], stop))
     }
 
@@ -494,27 +494,8 @@ impl Process {
         slots: &'f mut [Frame],
         cache: &mut Cache,
     ) -> Result<(&'f [Frame], Stop), Error> {
-        let length = slots.len();
-        let mut count = 0;
-        let mut stop = ffi::STOP_LIMIT;
-        let mut fault = ffi::Fault::default();
-        // SAFETY: the process and what `state` borrows are only read, `slots` and `cache` are
-        // borrowed exclusively, and the other pointers are to locals.
-        let status = unsafe {
-            ffi::dwcheck_backtrace_cached(
-                &self.raw,
-                address,
-                &state.raw(),
-                Frame::raw_slots(slots),
-                length,
-                &mut count,
-                &mut stop,
-                cache.raw(),
-                &mut fault,
-            )
-        };
-        Error::check(status, fault)?;
-        Ok((&slots[..count.min(length)], Stop::of(stop)))
+        let (count, stop) = self.walk(address, state, slots, Some(cache))?;
+        Ok((&slots[..count], stop))
     }
 
     /// The process, as the type that the library takes. It may only be read.
@@ -522,31 +503,40 @@ impl Process {
         &self.raw
     }
 
-    /// Walks up the stack, and writes as many frames as fit into `slots`. Returns the number of
-    /// frames, and why the walk ended.
+    /// Walks up the stack, with a cache if one is passed, and writes as many frames as fit into
+    /// `slots`. Returns the number of frames, and why the walk ended.
     fn walk(
         &self,
         address: u64,
         state: &State<'_>,
         slots: &mut [Frame],
+        cache: Option<&mut Cache>,
     ) -> Result<(usize, Stop), Error> {
         let length = slots.len();
         let mut count = 0;
         let mut stop = ffi::STOP_LIMIT;
         let mut fault = ffi::Fault::default();
-        // SAFETY: the process and what `state` borrows are only read, `slots` is borrowed
-        // exclusively, and the other pointers are to locals.
+        let (process, state) = (&self.raw, state.raw());
+        let frames = Frame::raw_slots(slots);
+        // SAFETY: the process and what `state` borrows are only read, `slots` and `cache` are
+        // borrowed exclusively, and the other pointers are to locals.
         let status = unsafe {
-            ffi::dwcheck_backtrace(
-                &self.raw,
-                address,
-                &state.raw(),
-                Frame::raw_slots(slots),
-                length,
-                &mut count,
-                &mut stop,
-                &mut fault,
-            )
+            match cache {
+                None => ffi::dwcheck_backtrace(
+                    process, address, &state, frames, length, &mut count, &mut stop, &mut fault,
+                ),
+                Some(cache) => ffi::dwcheck_backtrace_cached(
+                    process,
+                    address,
+                    &state,
+                    frames,
+                    length,
+                    &mut count,
+                    &mut stop,
+                    cache.raw(),
+                    &mut fault,
+                ),
+            }
         };
         Error::check(status, fault)?;
         Ok((count.min(length), Stop::of(stop)))
