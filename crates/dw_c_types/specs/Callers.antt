@@ -22,8 +22,8 @@ pub record ShowsCaller (caller : Caller) (out : CCaller) (old new : List CRegist
   pub count : out.count ≡ length caller.registers
   pub registers : new ≡ put_into (map cregister_of caller.registers) old
 
--- `caller` is the caller of the frame at `address`, computed with the tables of a process's modules.
--- It is None if no module has a row for the address.
+-- `caller` is the caller of the frame at `address`, computed with the tables of a process's
+-- modules. It is None if no module has a row for the address.
 pub record Unwinds (held : Option ProcessState) (abi : Abi) (memory registers : ℕ → Option ℕ) (address : ℕ) (caller : Option Caller) : Type 0 where
   pub is : over_held abi memory held registers address caller
 
@@ -32,8 +32,8 @@ abbrev pub FitsIn : Option ProcessState → Caller → Type 0
 FitsIn None caller = Unit {0}
 FitsIn (Some p) caller = CallerFits (2 ^ width_of p.target.address_size) caller
 
--- the frame at `address` has a caller, whose numbers are below 2^w, and which is written to `out` and
--- to the slots, as `ShowsCaller` says
+-- the frame at `address` has a caller, whose numbers are below 2^w, and which is written to `out`
+-- and to the slots, as `ShowsCaller` says
 pub record IsCaller (held : Option ProcessState) (abi : Abi) (memory registers : ℕ → Option ℕ) (address : ℕ) (out : CCaller)
     (old new : List CRegister) : Type 0 where
   pub caller : Caller

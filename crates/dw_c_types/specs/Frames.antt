@@ -58,8 +58,8 @@ pub record IsBacktrace (held : Option ProcessState) (abi : Abi) (memory : ℕ �
     (old new : List CFrame) (count stop : ℕ) : Type 0 where
   pub frames : AreWritten (through_held abi memory bits held) (first_place address registers) old new count stop
 
--- A walk that began at the place `first` has given `count` frames, which are written to the front of
--- the slots, and its next frame is at the place `p`.
+-- A walk that began at the place `first` has given `count` frames, which are written to the front
+-- of the slots, and its next frame is at the place `p`.
 pub record IsLeftAt (u : Unwinding) (first p : Place) (old new : List CFrame) (count : ℕ) : Type 0 where
   pub frames : List WalkedFrame
   pub are : AreFramesBy u (Some first) frames

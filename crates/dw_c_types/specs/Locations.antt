@@ -32,8 +32,8 @@ HasLocations s offset base address old new None = HasNoList s offset × (new ≡
 
 -- ---- one list by itself
 
--- The bytes at the offset are a list (`IsListAt`). Its expressions that apply at `address` are written
--- as `AreLocated` says.
+-- The bytes at the offset are a list (`IsListAt`). Its expressions that apply at `address` are
+-- written as `AreLocated` says.
 pub record AreLocatedAlone (target : Target) (section : List ℕ) (offset base address : ℕ) (old new : List CLocation) (count : ℕ)
     : Type 0 where
   pub list : Loclist

@@ -1,9 +1,9 @@
--- Walks up a stack through the modules of a process. They are the walks of Walks.antt of dw_unwind, with
--- two differences. The first is about signal frames, to which signal handlers return; an `.eh_frame`
--- section says which frames these are. The caller of a signal frame was interrupted and made no
--- call, so it is looked up at its own address, and not at the address before. The second is about
--- processors that sign return addresses: the bits of a return address that have the signature are
--- no part of the caller's address.
+-- Walks up a stack through the modules of a process. They are the walks of Walks.antt of dw_unwind,
+-- with two differences. The first is about signal frames, to which signal handlers return; an
+-- `.eh_frame` section says which frames these are. The caller of a signal frame was interrupted and
+-- made no call, so it is looked up at its own address, and not at the address before. The second is
+-- about processors that sign return addresses: the bits of a return address that have the signature
+-- are no part of the caller's address.
 use Rattle.std.specs.Prelude.{◌≡◌, ℕ, ◌≤◌, ◌-◌, ◌==◌, bit_and, if◌then◌else◌, Bool, false, List, [], ◌∷◌, length, Option, Some, None, option_map}
 use Rattle.dw_rules.specs.Abi.{Abi}
 use Rattle.dw_unwind.specs.Caller.{Caller}
@@ -40,8 +40,8 @@ through_held abi memory bits (Some p) = through_process abi memory bits p
 
 -- ---- from a frame to the next
 
--- the address that is looked up for a caller at `address`; `is_signal` says whether the frame before it
--- is a signal frame
+-- the address that is looked up for a caller at `address`; `is_signal` says whether the frame
+-- before it is a signal frame
 abbrev pub looked_up_after : Bool → ℕ → Option ℕ
 looked_up_after is_signal address = if is_signal then Some address else address_before address
 
@@ -59,8 +59,8 @@ abbrev pub place_at : Bool → Caller → ℕ → Place
 place_at is_signal caller address =
     record { address = address; looked_up = looked_up_after is_signal address; registers = contents_of caller.registers }
 
--- where a walk is after a frame, for which `looked_up` was looked up: at the frame's caller; none if
--- the frame has no caller or the return address has no value
+-- where a walk is after a frame, for which `looked_up` was looked up: at the frame's caller; none
+-- if the frame has no caller or the return address has no value
 abbrev pub place_after : Unwinding → Option ℕ → Option Caller → Option Place
 place_after u looked_up None = None
 place_after u looked_up (Some caller) =

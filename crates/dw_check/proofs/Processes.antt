@@ -9,7 +9,7 @@ use Rattle.dw_bytes.specs.declared.target.Target.{Target}
 use Rattle.dw_bytes.specs.declared.target.AddressSize.{AddressSize}
 use Rattle.dw_bytes.specs.declared.fault.Fault.{Fault}
 use Rattle.dw_rows.specs.Section as rows
-use Rattle.dw_rows.specs.Section.{FrameSection, frame_of}
+use Rattle.dw_rows.specs.Section.{FrameSection}
 use Rattle.dw_check.specs.Files.{GivesProcess, section_bytes, state_facts, further_modules, loaded_at}
 use Rattle.dw_check.specs.Runs.{Reply, text, refusal, not_hex, bad_line, accepted_text, frame_refusal, modules_refusal, modules_of_sections}
 use Rattle.dw_check.specs.Runs.{OfSection, OfState, OfFurther, OfProcess, IsUnreadProcess, IsBadProcess, OfModules, OfModulesAndState, Goes}

@@ -1,5 +1,5 @@
--- Reading a program of `.eh_frame`, and reading what was written for it: the same instructions, with nops
--- for those of vendors, up to the same fault.
+-- Reading a program of `.eh_frame`, and reading what was written for it: the same instructions,
+-- with nops for those of vendors, up to the same fault.
 use Rattle.std.proofs.Common.{◌≡◌, ℕ, zero, suc, ◌+◌, ◌-◌, ◌<◌, ◌≤◌, Bool, true, false, List, [], ◌∷◌, ◌++◌, length, map, Result, Ok, Err, refl, sym, ap, subst, ◌∙◌, arith, inl, inr}
 use Rattle.std.specs.Prelude.{replicate, ◌↔◌}
 use Rattle.std.proofs.lemmas.Bool.{cases_lt}

@@ -1,4 +1,5 @@
--- Reading the same bytes at an offset that is higher by d gives the same, with its offsets higher by d.
+-- Reading the same bytes at an offset that is higher by d gives the same, with its offsets higher
+-- by d.
 use Rattle.std.proofs.Common.{◌≡◌, ℕ, zero, suc, ◌+◌, Bool, true, false, cond, List, [], ◌∷◌, length, drop, map, Option, Some, None, Result, Ok, Err, refl, ap, ◌∙◌, arith}
 use Rattle.std.specs.Prelude.{◌==◌, nat_lt}
 use Rattle.std.specs.Int.{byte_len, cast_signed}

@@ -44,8 +44,8 @@ fixed_size target code =
     else if code == 0x0c then Some 8
     else None
 
--- The size of the pointer to the personality routine, which isn't read; 0xff says that there is none,
--- and DW_EH_PE_aligned (0x50) isn't known here.
+-- The size of the pointer to the personality routine, which isn't read; 0xff says that there is
+-- none, and DW_EH_PE_aligned (0x50) isn't known here.
 abbrev pub personality_size : Target → ℕ → Option ℕ
 personality_size target code =
     if code == 0xff then Some 0 else if code / 16 % 8 == 5 then None else fixed_size target (code % 16)
@@ -61,9 +61,9 @@ with_byte (b ∷ area) next = next b area
 
 -- What a letter says, given the data that is left: the augmentation with what it adds, and the data
 -- after the letter's own. R: the encoding of the addresses of the FDEs. L: the encoding of their
--- pointers to language-specific data. P: the encoding of a pointer to a personality routine, and that
--- pointer. S: the FDEs are signal frames. B: return addresses are signed with aarch64's key B. G: the
--- frames' memory is tagged.
+-- pointers to language-specific data. P: the encoding of a pointer to a personality routine, and
+-- that pointer. S: the FDEs are signal frames. B: return addresses are signed with aarch64's key B.
+-- G: the frames' memory is tagged.
 abbrev pub says : Target → ℕ → List ℕ → Augmentation → Option (Augmentation × List ℕ)
 says target letter area a =
     if letter == 82 then with_byte area (λ code rest. option_map (λ encoding. (record a { addresses = encoding }, rest)) (encoding_of code))
@@ -95,9 +95,9 @@ abbrev pub known_or : ℕ → Option Augmentation → ReadPosition → Result (A
 known_or at None r = Err (record { kind = BadAugmentation; at = at })
 known_or at (Some a) r = Ok (a, r)
 
--- Reading the augmentation data of a CIE whose string, at the offset `at`, has these letters. If the
--- first letter is z (122), a size and as many bytes of data follow; else there are none. An augmentation that isn't known
--- is reported at its string.
+-- Reading the augmentation data of a CIE whose string, at the offset `at`, has these letters. If
+-- the first letter is z (122), a size and as many bytes of data follow; else there are none. An
+-- augmentation that isn't known is reported at its string.
 unfoldable pub augmentation_at : ℕ → List ℕ → ReadPosition → Result (Augmentation × ReadPosition) Fault
 augmentation_at at [] r = Ok (no_letters, r)
 augmentation_at at (letter ∷ letters) r =

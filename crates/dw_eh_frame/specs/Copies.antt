@@ -1,5 +1,5 @@
--- Exact copies of FDEs. If several objects have the same function, a linker may keep one of the functions
--- and all its FDEs. These are one FDE here: the first.
+-- Exact copies of FDEs. If several objects have the same function, a linker may keep one of the
+-- functions and all its FDEs. These are one FDE here: the first.
 use Rattle.std.specs.Prelude.{ℕ, ◌==◌, ◌&&◌, nat_lt, Bool, false, if◌then◌else◌, List, [], ◌∷◌, ◌++◌, Option, Some, None}
 use Rattle.std.specs.Str.{bytes_eq}
 use Rattle.dw_eh_frame.specs.Records.{EhFde, EhRecord, eh_cie, eh_fde, eh_nothing}
@@ -19,8 +19,8 @@ abbrev pub repeats_one : Option EhFde → EhFde → Bool
 repeats_one None e = false
 repeats_one (Some g) e = repeats g e
 
--- The FDE e, which comes after the records `before`, is an exact copy of one of them: it covers addresses,
--- and it is a copy of the first FDE that begins at its first address and covers it.
+-- The FDE e, which comes after the records `before`, is an exact copy of one of them: it covers
+-- addresses, and it is a copy of the first FDE that begins at its first address and covers it.
 abbrev pub is_copy : List EhRecord → EhFde → Bool
 is_copy before e = nat_lt 0 e.address_range && repeats_one (first_at before e.initial_location) e
 

@@ -16,8 +16,8 @@ abbrev pub repeats_found : (ℕ → Result (EhRecord × ReadPosition) Fault) →
 repeats_found read None e = false
 repeats_found read (Some at) e = repeats_read (read at) e
 
--- whether the FDE is a copy, where `firsts` gives the offset of the first FDE that begins at an address,
--- and `read` reads the record at an offset
+-- whether the FDE is a copy, where `firsts` gives the offset of the first FDE that begins at an
+-- address, and `read` reads the record at an offset
 abbrev pub copied_by : (ℕ → Result (EhRecord × ReadPosition) Fault) → (ℕ → Option ℕ) → EhFde → Bool
 copied_by read firsts e = nat_lt 0 e.address_range && repeats_found read (firsts e.initial_location) e
 

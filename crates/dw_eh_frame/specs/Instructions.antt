@@ -29,9 +29,9 @@ dialect_of is_aarch64 a = record {
 }
 
 -- `args_size`: DW_CFA_GNU_args_size, the number of bytes of arguments that are on the stack.
--- `negate_ra_state`: DW_CFA_AARCH64_negate_ra_state, from here on the return address is signed, or no
--- longer; with true it is DW_CFA_AARCH64_negate_ra_state_with_pc, and the address of the instruction
--- that signed it is a part of the signature.
+-- `negate_ra_state`: DW_CFA_AARCH64_negate_ra_state, from here on the return address is signed, or
+-- no longer; with true it is DW_CFA_AARCH64_negate_ra_state_with_pc, and the address of the
+-- instruction that signed it is a part of the signature.
 pub data EhInstruction : Type 0 where
   plain : Instruction → EhInstruction
   args_size : ℕ → EhInstruction

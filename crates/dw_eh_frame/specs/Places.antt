@@ -1,4 +1,5 @@
--- Where records of `.eh_frame` were written, and where a fault of what was written is in the section.
+-- Where records of `.eh_frame` were written, and where a fault of what was written is in the
+-- section.
 use Rattle.std.specs.Prelude.{◌≡◌, ℕ, ◌+◌, ◌-◌, ◌^◌, ◌<◌, ◌≤◌, All, ◌==◌, ◌&&◌, nat_le, Bool, true, false, if◌then◌else◌, List, [], ◌∷◌, length, Option, Some, None}
 use Rattle.dw_bytes.specs.declared.fault.Fault.{Fault}
 use Rattle.dw_bytes.specs.declared.fault.FaultKind.{FaultKind}
@@ -58,8 +59,8 @@ abbrev pub is_overlap : FaultKind → Bool
 is_overlap Overlap = true
 is_overlap _ = false
 
--- Where a fault is in `.eh_frame` that is in the record with this place: an Overlap is at the record's
--- first byte, and any other fault is in its program or at the program's end.
+-- Where a fault is in `.eh_frame` that is in the record with this place: an Overlap is at the
+-- record's first byte, and any other fault is in its program or at the program's end.
 abbrev pub moved : RecordPlace → Fault → Option ℕ
 moved q fault =
     if is_overlap fault.kind then (if fault.at == q.made then Some q.source else None)

@@ -1,5 +1,5 @@
--- Encoded pointers (LSB Core, section 10.5.1): a byte says how a number is written, and which address
--- it is relative to.
+-- Encoded pointers (LSB Core, section 10.5.1): a byte says how a number is written, and which
+-- address it is relative to.
 use Rattle.std.specs.Prelude.{ℕ, ◌+◌, ◌*◌, ◌^◌, ◌-◌, ◌%◌, ◌&&◌, ◌==◌, nat_lt, Bool, if◌then◌else◌, Option, Some, None, Result, Ok, Err}
 use Rattle.std.specs.Int.{w64, cast_unsigned}
 use Rattle.dw_bytes.specs.declared.target.Target.{Target}
@@ -37,8 +37,8 @@ with_base base None = None
 with_base base (Some format) = Some (record { format = format; base = base })
 
 -- The encodings of an FDE's addresses that are read: absolute ones; those that are relative to the
--- address of the pointer itself, with DW_EH_PE_pcrel (0x10), or to the address of text or of data, with
--- DW_EH_PE_textrel (0x20) or DW_EH_PE_datarel (0x30); and DW_EH_PE_aligned (0x50).
+-- address of the pointer itself, with DW_EH_PE_pcrel (0x10), or to the address of text or of data,
+-- with DW_EH_PE_textrel (0x20) or DW_EH_PE_datarel (0x30); and DW_EH_PE_aligned (0x50).
 abbrev pub encoding_of : ℕ → Option PointerEncoding
 encoding_of code =
     if nat_lt code 0x10 then with_base Absolute (format_of code)
@@ -76,8 +76,8 @@ base_at bases Place at = Some ((bases.section + at) % 2 ^ 64)
 base_at bases Text at = bases.text_start
 base_at bases Data at = bases.data_start
 
--- An aligned pointer lies at the next address that is a multiple of an address's size. The number of
--- bytes before it:
+-- An aligned pointer lies at the next address that is a multiple of an address's size. The number
+-- of bytes before it:
 abbrev pub padding_at : Bases → Target → PointerBase → ℕ → ℕ
 padding_at bases target Aligned at =
     (bytes_of_address target.address_size - (bases.section + at) % bytes_of_address target.address_size)

@@ -85,8 +85,8 @@ pub record WritesFde (is_aarch64 : Bool) (target : Target) (e : EhFde) (pointer 
   pub offset : fde.offset ≡ length old
   pub ends : fde.program.position + length fde.program.rest ≡ length new
 
--- An FDE that says what `e` says was written after the bytes `old`. Its CIE pointer leads to the place
--- of its CIE.
+-- An FDE that says what `e` says was written after the bytes `old`. Its CIE pointer leads to the
+-- place of its CIE.
 pub record WritesPointing (is_aarch64 : Bool) (target : Target) (e : EhFde) (cies : List CiePlace) (old new : List ℕ) : Type 0 where
   pub place : CiePlace
   pub among : Contains cies place

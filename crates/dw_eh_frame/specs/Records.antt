@@ -56,14 +56,16 @@ pub data EhRecord : Type 0 where
 
 -- ---- the program of a CIE in full
 
--- For mips, riscv and alpha, GNU as begins the program of a CIE with def_cfa_register (0x0d), before
--- any instruction has defined a CFA, and means that register with the offset 0. So such a program
--- implies an instruction before its first one: def_cfa (0x0c) of the register 0 with the offset 0.
+-- For mips, riscv and alpha, GNU as begins the program of a CIE with def_cfa_register (0x0d),
+-- before any instruction has defined a CFA, and means that register with the offset 0. So such a
+-- program implies an instruction before its first one: def_cfa (0x0c) of the register 0 with the
+-- offset 0.
 abbrev pub implied_instruction : List ℕ → List ℕ
 implied_instruction [] = []
 implied_instruction (code ∷ _) = if code == 0x0d then 0x0c ∷ 0 ∷ 0 ∷ [] else []
 
--- A program with the instruction that it implies. The bytes that the section has keep their offsets.
+-- A program with the instruction that it implies. The bytes that the section has keep their
+-- offsets.
 abbrev pub in_full : ReadPosition → ReadPosition
 in_full r = record {
   target = r.target;
@@ -73,9 +75,9 @@ in_full r = record {
 
 -- ---- reading a CIE
 
--- The fields of a CIE after its id: the version; the augmentation's string, and with the letters eh an
--- address; what follows the string in `.debug_frame` too: in version 4 the two sizes, and in every
--- version the alignment factors and the return address register; and the augmentation's data.
+-- The fields of a CIE after its id: the version; the augmentation's string, and with the letters eh
+-- an address; what follows the string in `.debug_frame` too: in version 4 the two sizes, and in
+-- every version the alignment factors and the return address register; and the augmentation's data.
 unfoldable pub eh_cie_head_at : ReadPosition → Result (EhCieHead × ReadPosition) Fault
 eh_cie_head_at r = do
   version ← field_at (fixed 1) (λ number. unless (is_version number) Version) r
@@ -183,7 +185,7 @@ reading_fault_after before [] = None
 reading_fault_after before (Err fault ∷ items) = Some fault
 reading_fault_after before (Ok x ∷ items) = option_or (pointer_fault before x) (reading_fault_after (before ++ x ∷ []) items)
 
--- The first fault in reading a section: of the first record that can't be read, or that is an FDE whose
--- CIE isn't one of the records before it.
+-- The first fault in reading a section: of the first record that can't be read, or that is an FDE
+-- whose CIE isn't one of the records before it.
 unfoldable pub eh_reading_fault : Bases → Target → List ℕ → Option Fault
 eh_reading_fault bases target section = reading_fault_after [] (eh_entries_of bases target section)

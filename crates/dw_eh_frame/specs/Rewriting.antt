@@ -12,8 +12,8 @@ use Rattle.dw_eh_frame.specs.Silencing.{silenced}
 use Rattle.dw_eh_frame.specs.Records.{EhCie, EhFde, EhRecord, eh_cie, eh_fde, eh_nothing, eh_entries_of}
 
 -- The program `new` has nops in place of the instructions of the program `old` that `.debug_frame`
--- doesn't have. Its other bytes are the same, except for what can't be read. What is silenced doesn't
--- depend on where a program lies.
+-- doesn't have. Its other bytes are the same, except for what can't be read. What is silenced
+-- doesn't depend on where a program lies.
 pub record IsSameProgram (dialect : Dialect) (old new : ReadPosition) : Type 0 where
   pub target : new.target ≡ old.target
   pub bytes : new.rest ≡ silenced dialect (record { target = old.target; position = 0; rest = old.rest })
@@ -57,15 +57,16 @@ abbrev pub says_something : EhRecord → Bool
 says_something (eh_nothing at) = false
 says_something _ = true
 
--- The bytes `made` are a `.debug_frame` section that has, in the same order, one record for each CIE
--- and each FDE among the records of an `.eh_frame` section, and no others. Each says the same.
+-- The bytes `made` are a `.debug_frame` section that has, in the same order, one record for each
+-- CIE and each FDE among the records of an `.eh_frame` section, and no others. Each says the same.
 pub record IsRewriting (is_aarch64 : Bool) (target : Target) (records : List EhRecord) (made : List ℕ) : Type 0 where
   pub pairs : List Pair
   pub sources : map (λ (p : Pair). p.0) pairs ≡ filter says_something records
   pub encoded : AreRecords target 0 made (map (λ (p : Pair). p.1) pairs)
   pub same : (p : Pair) → Contains pairs p → SaysTheSame is_aarch64 pairs p
 
--- The section is read without a fault, and `made` is a rewriting of its records without exact copies.
+-- The section is read without a fault, and `made` is a rewriting of its records without exact
+-- copies.
 pub record IsRewritten (is_aarch64 : Bool) (bases : Bases) (target : Target) (section made : List ℕ) : Type 0 where
   pub records : List EhRecord
   pub are : eh_entries_of bases target section ≡ map Ok records

@@ -9,8 +9,8 @@ use Rattle.dw_frame.specs.Instructions.{Instruction}
 use Rattle.dw_eh_frame.specs.declared.dialect.Dialect.{Dialect}
 use Rattle.dw_eh_frame.specs.Instructions.{is_unread, is_negation, plain_line_of}
 
--- past the operands of an instruction of DWARF, and past an instruction; the Bool says whether it is
--- an instruction that `.debug_frame` doesn't have
+-- past the operands of an instruction of DWARF, and past an instruction; the Bool says whether it
+-- is an instruction that `.debug_frame` doesn't have
 abbrev pub past_operands : ℕ → Option (Line Instruction) → ReadPosition → Result (Bool × ReadPosition) Fault
 past_operands at line r = operands_at UnknownInstruction at line r >>= λ i. Ok (false, i.1)
 
@@ -28,9 +28,10 @@ abbrev pub piece : Bool → ℕ → List ℕ → List ℕ
 piece true k bytes = replicate k 0
 piece false k bytes = take k bytes
 
--- The bytes from the first instruction on that can't be read. `.debug_frame` doesn't know the code of
--- args_size, so it gets that of def_cfa_offset, whose operand is read in the same way. `.debug_frame`
--- would read a set_loc that isn't known, so it gets a code that isn't known there either.
+-- The bytes from the first instruction on that can't be read. `.debug_frame` doesn't know the code
+-- of args_size, so it gets that of def_cfa_offset, whose operand is read in the same way.
+-- `.debug_frame` would read a set_loc that isn't known, so it gets a code that isn't known there
+-- either.
 abbrev pub unread_code : Dialect → ℕ → ℕ
 unread_code dialect code = if code == 0x2e then 0x0e else if is_unread dialect code then 0x3f else code
 
@@ -42,8 +43,8 @@ abbrev pub silenced_then : Dialect → (ReadPosition → List ℕ) → ReadPosit
 silenced_then dialect others r (Ok found) = piece found.0 (found.1.position - r.position) r.rest ++ others found.1
 silenced_then dialect others r (Err fault) = unread dialect r.rest
 
--- the bytes that are left, with nops in place of the first n instructions that `.debug_frame` doesn't
--- have, up to the first that can't be read
+-- the bytes that are left, with nops in place of the first n instructions that `.debug_frame`
+-- doesn't have, up to the first that can't be read
 abbrev pub silenced_up_to : Dialect → ℕ → ReadPosition → List ℕ
 silenced_up_to dialect zero r = r.rest
 silenced_up_to dialect (suc n) r = silenced_then dialect (silenced_up_to dialect n) r (past_instruction dialect r)

@@ -15,7 +15,8 @@ use Rattle.dw_bytes.specs.Encoding.{max_address}
 use Rattle.dw_eh_frame.specs.Records.{EhCieHead, EhCie, EhFde, EhRecord, eh_cie, eh_fde, eh_nothing, eh_cie_at, in_full}
 use Rattle.dw_eh_frame.specs.Written.{EncodesNumbers}
 
--- the alignment factors and the return address register, as in the header of a CIE of `.debug_frame`
+-- the alignment factors and the return address register, as in the header of a CIE of
+-- `.debug_frame`
 abbrev pub factors_of : Factors → Header
 factors_of f = cie_header (record {
   version = f.version;
@@ -71,8 +72,8 @@ record_room (records.Nothing at) = 0
 
 -- ---- what holds of the values that are read
 
--- The CIE has a known version, the target of its section, and the bytes of its factors. Its program is
--- after the fields of its record.
+-- The CIE has a known version, the target of its section, and the bytes of its factors. Its program
+-- is after the fields of its record.
 pub record IsReadCie (target : Target) (c : declared_cie.EhCie) : Type 0 where
   pub known : is_version c.head.factors.version ≡ true
   pub numbers : EncodesNumbers target c.head.factors.version c.head.numbers.now (factors_of c.head.factors)
@@ -91,7 +92,8 @@ pub record IsReadFde (target : Target) (f : declared_fde.EhFde) : Type 0 where
 abbrev pub IsCieOf : Target → List ℕ → declared_cie.EhCie → Type 0
 IsCieOf target section c = eh_cie_at target section c.offset ≡ Ok (eh_cie_of c)
 
--- A record that was read at the offset `at`. The CIE of an FDE is the one that begins at its offset.
+-- A record that was read at the offset `at`. The CIE of an FDE is the one that begins at its
+-- offset.
 abbrev pub IsRead : Target → List ℕ → ℕ → declared_record.EhRecord → Type 0
 IsRead target section at (records.Cie c) = IsReadCie target c × (c.offset ≡ at) × (eh_cie_at target section at ≡ Ok (eh_cie_of c))
 IsRead target section at (records.Fde f) = IsReadFde target f × (eh_cie_at target section f.cie.offset ≡ Ok (eh_cie_of f.cie))

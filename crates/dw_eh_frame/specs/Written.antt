@@ -31,7 +31,7 @@ abbrev pub fde_bytes : Target → ℕ → ℕ → ℕ → List ℕ
 fde_bytes target pointer initial range =
     number_bytes target.order 4 pointer ++ (address_bytes target initial ++ address_bytes target range)
 
--- The bytes encode what follows the augmentation of a CIE with this version, up to the return address
--- register, at any offset.
+-- The bytes encode what follows the augmentation of a CIE with this version, up to the return
+-- address register, at any offset.
 pub record EncodesNumbers (target : Target) (version : ℕ) (numbers : List ℕ) (h : Header) : Type 0 where
   pub at_each : (at : ℕ) → Encodes target (past_augmentation target version) at numbers h

@@ -30,8 +30,8 @@ fn is_copy_of(section: &[u8], target: Target, bases: Bases, first: u32, fde: &Eh
     }
 }
 
-/// Whether the FDE is an exact copy of an earlier one. `firsts` has, for each address at which an FDE
-/// before it begins that covers addresses, the offset of the first of these FDEs.
+/// Whether the FDE is an exact copy of an earlier one. `firsts` has, for each address at which an
+/// FDE before it begins that covers addresses, the offset of the first of these FDEs.
 pub(crate) fn is_exact_copy(
     section: &[u8],
     target: Target,
@@ -54,8 +54,8 @@ pub(crate) fn is_exact_copy(
     }
 }
 
-/// Remembers where an FDE is, unless it covers no address or `firsts` has one that begins at the same
-/// address.
+/// Remembers where an FDE is, unless it covers no address or `firsts` has one that begins at the
+/// same address.
 pub(crate) fn remember(firsts: &mut FirstFdes, fde: &EhFde<'_>) -> Result<(), AllocError>
     ensures { OnOk result ((a : ℕ) → first_in firsts.new a
         ≡ remembered (first_in firsts.old a) (eh_fde_of fde.now) a) }

@@ -18,9 +18,9 @@ pub struct FdePlace {
     pub offset: u32,
 }
 
-/// For each address at which an FDE begins, the offset of the first FDE that does. Linkers write most
-/// FDEs in order of address. Those that begin above all earlier ones are in a list, where they take
-/// no search. The others are in a tree.
+/// For each address at which an FDE begins, the offset of the first FDE that does. Linkers write
+/// most FDEs in order of address. Those that begin above all earlier ones are in a list, where they
+/// take no search. The others are in a tree.
 #[derive(Drop)]
 pub(crate) struct FirstFdes {
     ascending: Vec<FdePlace>,

@@ -108,8 +108,8 @@ fn read_factors(cursor: &mut Cursor<'_>, version: u8) -> Result<Factors, Fault>
     })
 }
 
-/// Reads what follows the augmentation's string: in version 4 the sizes of an address and of a segment
-/// selector, and then the alignment factors and the return address register.
+/// Reads what follows the augmentation's string: in version 4 the sizes of an address and of a
+/// segment selector, and then the alignment factors and the return address register.
 fn read_numbers(cursor: &mut Cursor<'_>, target: Target, version: u8) -> Result<Factors, Fault>
     ensures exact { ParsesBy factors_of (fields_at (past_augmentation target version)) cursor.old result cursor.new }
     ensures version { IfOk result (λ found. found.version ≡ version) }

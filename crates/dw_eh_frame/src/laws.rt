@@ -1,5 +1,5 @@
-//! Laws about the records of `.eh_frame` and about rewritten sections. The functions do nothing: the
-//! contract of each is a law.
+//! Laws about the records of `.eh_frame` and about rewritten sections. The functions do nothing:
+//! the contract of each is a law.
 
 ghost use Rattle.std.specs.Prelude.{◌≡◌, ℕ, ◌+◌, ◌-◌, Bool, true, false, List, map, Contains, Ok};
 ghost use Rattle.dw_bytes.specs.declared.fault.Fault.{Fault};
@@ -46,8 +46,8 @@ pub fn rewritten_sections_are_read()
 {}
 
 /// A fault that is in the program of a written record, or at its end, is at the same place of the
-/// program that it was written for. An Overlap that is at a written record is at the record that it was
-/// written for.
+/// program that it was written for. An Overlap that is at a written record is at the record that it
+/// was written for.
 pub fn faults_keep_their_places()
     ensures program { (target : Target) (made : List ℕ) (pairs : List Pair) (places : List RecordPlace)
         (fault : Fault) (p : Pair) → AreRecords target 0 made (map (λ (p : Pair). p.1) pairs)

@@ -1,4 +1,5 @@
-//! Reads `.eh_frame` sections (LSB Core, section 10.6), and rewrites them as `.debug_frame` sections.
+//! Reads `.eh_frame` sections (LSB Core, section 10.6), and rewrites them as `.debug_frame`
+//! sections.
 #![tactic(auto)]
 
 mod augmentation;

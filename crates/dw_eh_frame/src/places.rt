@@ -23,8 +23,8 @@ pub struct RecordPlace {
 impl RecordPlace {
     ghost use Rattle.dw_eh_frame.specs.Places.{IsInside, moved};
 
-    /// Where a fault that is in this record is in `.eh_frame`: an Overlap is at the record's first byte,
-    /// and any other fault is in its program or at the program's end.
+    /// Where a fault that is in this record is in `.eh_frame`: an Overlap is at the record's first
+    /// byte, and any other fault is in its program or at the program's end.
     pub(crate) fn original(&self, fault: Fault) -> Option<u32>
         requires { IsInside self.now }
         ensures { result ≡ moved self.now fault }

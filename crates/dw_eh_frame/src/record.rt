@@ -219,8 +219,8 @@ fn read_fde<'a>(
     })
 }
 
-/// Reads a record from the offset after its length on. `body` is the part of the section that has the
-/// rest of the record.
+/// Reads a record from the offset after its length on. `body` is the part of the section that has
+/// the rest of the record.
 #[tactic(auto, unfolding(crate::specs::Records::eh_body_at, crate::specs::Records::eh_full_at, crate::specs::Records::eh_cie_at))]
 fn read_body<'a>(
     section: &'a [u8],
@@ -266,8 +266,8 @@ fn read_body<'a>(
     }
 }
 
-/// The record at offset `at` of a section, and the offset after the record. `last` may be any CIE of
-/// the section: an FDE that has it doesn't read it again.
+/// The record at offset `at` of a section, and the offset after the record. `last` may be any CIE
+/// of the section: an FDE that has it doesn't read it again.
 #[tactic(auto, unfolding(crate::specs::Records::eh_record_at))]
 pub(crate) fn record_after<'a>(
     section: &'a [u8],

@@ -30,8 +30,8 @@ pub struct CiePlace {
     pub made: u32,
 }
 
-/// The state of a rewriting: the bytes that were written, the places of the CIEs and of all records, and
-/// where the first FDE is that begins at each address.
+/// The state of a rewriting: the bytes that were written, the places of the CIEs and of all
+/// records, and where the first FDE is that begins at each address.
 #[derive(Drop)]
 struct Made {
     bytes: Vec<u8>,
@@ -60,8 +60,8 @@ const HEADER: usize = 32;
 /// The most bytes that are written.
 const MOST: usize = 0xffff_ff00;
 
-/// The place of the CIE that begins at the offset `source`, found by binary search. The places must be
-/// in order of offset.
+/// The place of the CIE that begins at the offset `source`, found by binary search. The places must
+/// be in order of offset.
 fn place_of(cies: &[CiePlace], source: u32) -> Option<CiePlace>
     requires { Ascends place_source cies.now }
     ensures { MatchOption result

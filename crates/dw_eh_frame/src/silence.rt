@@ -71,8 +71,8 @@ fn skip_high(cursor: &mut Cursor<'_>, code: u8, at: u32) -> Result<bool, Fault>
     Ok(false)
 }
 
-/// Moves past the operands of an instruction of DWARF. The most common instructions are handled here,
-/// where they are inlined; the others are calls.
+/// Moves past the operands of an instruction of DWARF. The most common instructions are handled
+/// here, where they are inlined; the others are calls.
 #[inline(always)]
 fn skip_operands(cursor: &mut Cursor<'_>, code: u8, at: u32) -> Result<bool, Fault>
     requires { at ≤ cursor.old.position }
@@ -149,8 +149,8 @@ fn push_next(out: &mut Vec<u8>, cursor: &Cursor<'_>, size: u32) -> Result<(), Al
     out.extend_from_slice(bytes)
 }
 
-/// Appends all bytes that are left, up to the offset `end`. They begin with an instruction that can't
-/// be read. `.debug_frame` refuses what is written for the same reason: args_size becomes
+/// Appends all bytes that are left, up to the offset `end`. They begin with an instruction that
+/// can't be read. `.debug_frame` refuses what is written for the same reason: args_size becomes
 /// def_cfa_offset, which has the same operand, and a set_loc gets a code that isn't known.
 fn push_rest(
     out: &mut Vec<u8>,
@@ -187,9 +187,9 @@ fn is_silenced_or_unread_code(code: u8, dialect: Dialect) -> bool
         || (!dialect.has_plain_addresses && code == 0x01)
 }
 
-/// Whether one of the bytes, if it were a code, would be written in another way. In most programs none
-/// would, so these needn't be read. All bytes are looked at, also after the first such byte: without
-/// an early exit the processor compares many bytes at once.
+/// Whether one of the bytes, if it were a code, would be written in another way. In most programs
+/// none would, so these needn't be read. All bytes are looked at, also after the first such byte:
+/// without an early exit the processor compares many bytes at once.
 fn has_silenced_or_unread(bytes: &[u8], dialect: Dialect) -> bool
     ensures { result ≡ list_any (is_silenced_or_unread dialect) bytes.now }
 {
@@ -200,8 +200,8 @@ fn has_silenced_or_unread(bytes: &[u8], dialect: Dialect) -> bool
     any
 }
 
-/// Appends the bytes of a program, with nops in place of the instructions that `.debug_frame` doesn't
-/// have.
+/// Appends the bytes of a program, with nops in place of the instructions that `.debug_frame`
+/// doesn't have.
 #[tactic(auto, using(crate::proofs::Unchanged::unchanged_laws))]
 pub(crate) fn push_program(
     out: &mut Vec<u8>,

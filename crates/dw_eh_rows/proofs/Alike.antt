@@ -227,8 +227,8 @@ no-row s b =
 
 -- ---- two lists of effects that agree, step by step
 
--- an effect `stays` on the left alone or on the right alone; or an effect on the left, and on the right
--- the same effect with another number
+-- an effect `stays` on the left alone or on the right alone; or an effect on the left, and on the
+-- right the same effect with another number
 pub data Step : Type 0 where
   left : Step
   right : Step

@@ -1,5 +1,5 @@
--- A program of `.eh_frame` and the program that was written for it have the same first fault, at the same
--- place.
+-- A program of `.eh_frame` and the program that was written for it have the same first fault, at
+-- the same place.
 use Rattle.std.proofs.Common.{◌≡◌, ℕ, zero, suc, ◌+◌, Bool, cond, List, [], ◌∷◌, ◌++◌, length, map, Option, Some, None, Ok, Err, refl, sym, ap, subst, ◌∙◌, arith}
 use Rattle.std.specs.Prelude.{◌==◌, ◌&&◌, nat_lt, nat_le}
 use Rattle.std.specs.Option.{option_map, option_or}

@@ -48,8 +48,9 @@ good-rest item items good other e (k, less, is) has = good other e (suc k, omega
 
 -- ---- lists of instructions
 
--- All of `its` are instructions that were read, and their expressions are good. None of them is refused
--- after `before` and those in front of it, and `ending` gives no fault for the program's end.
+-- All of `its` are instructions that were read, and their expressions are good. None of them is
+-- refused after `before` and those in front of it, and `ending` gives no fault for the program's
+-- end.
 record AllPass (refusal : List Effect → Effect → Option FaultKind) (ending : List Effect → Option Fault) (c : Cie) (n : ℕ)
     (before : List Effect) (its : EhItems) : Type 0 where
   items : List (ℕ × EhInstruction)

@@ -1,5 +1,5 @@
--- The first fault of the program of a CIE or an FDE of `.eh_frame`, and that of the program that was
--- written for it.
+-- The first fault of the program of a CIE or an FDE of `.eh_frame`, and that of the program that
+-- was written for it.
 use Rattle.std.proofs.Common.{◌≡◌, ℕ, ◌+◌, Bool, List, [], ◌∷◌, ◌++◌, length, map, Option, None, Ok, Err, refl, sym, ap, subst, ◌∙◌, arith}
 use Rattle.std.specs.Prelude.{reverse}
 use Rattle.dw_bytes.specs.Answers.{values_in}

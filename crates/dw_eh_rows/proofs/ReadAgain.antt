@@ -1,5 +1,5 @@
--- The CIE of an FDE is the record that begins where its pointer leads, and each CIE of a section is read
--- where it begins.
+-- The CIE of an FDE is the record that begins where its pointer leads, and each CIE of a section is
+-- read where it begins.
 use Rattle.std.proofs.Common.{◌≡◌, ℕ, ◌-◌, ◌≤◌, Bool, true, false, cond, List, length, Result, Ok, Err, Contains, refl, sym, ap, subst, ◌∙◌, arith}
 use Rattle.std.specs.Prelude.{◌==◌, nat_le}
 use Rattle.std.proofs.lemmas.List.{length-drop}
@@ -77,7 +77,8 @@ before-again target section place back c is = by (nat_le back place) is
 
 -- ---- records
 
--- a CIE is read again where it begins, and so is the CIE of an FDE, whose program has the section's target
+-- a CIE is read again where it begins, and so is the CIE of an FDE, whose program has the section's
+-- target
 abbrev pub IsAgain : Target → List ℕ → EhRecord → Type 0
 IsAgain target section (eh_cie c) = eh_cie_at target section c.offset ≡ Ok c
 IsAgain target section (eh_fde e) = (eh_cie_at target section e.cie.offset ≡ Ok e.cie) × (e.program.target ≡ target)

@@ -14,14 +14,15 @@ use Rattle.dw_rules.specs.Rules.{PlacedRow}
 use Rattle.dw_eh_rows.specs.Meaning.{AreEhRows, EhCovers, eh_fdes}
 use Rattle.dw_eh_rows.specs.OneRow.{HasOneEhRow}
 
--- The result of the check of a section of `size` bytes that has this fault, or none. The check passes only
--- if there is no fault. If it fails, it returns that fault. It may also say that memory ran out, or of a
--- section of more than 2^29 bytes that it is too long.
+-- The result of the check of a section of `size` bytes that has this fault, or none. The check
+-- passes only if there is no fault. If it fails, it returns that fault. It may also say that memory
+-- ran out, or of a section of more than 2^29 bytes that it is too long.
 abbrev pub EhAnswers : {X : Type 0} → ℕ → Option Fault → Result X Fault → Type 0
 EhAnswers size fault (Ok _) = fault ≡ None
 EhAnswers size fault (Err f) = (f ≡ memory) ⊎ (((f ≡ too_long) × (2 ^ 29 < size)) ⊎ (fault ≡ Some f))
 
--- The FDE is an exact copy of one that is kept: it has the same CIE, covers the same addresses, and has the same rows.
+-- The FDE is an exact copy of one that is kept: it has the same CIE, covers the same addresses, and
+-- has the same rows.
 pub record IsKeptElsewhere (is_aarch64 : Bool) (records : List EhRecord) (e : EhFde) : Type 0 where
   pub original : EhFde
   pub kept : Contains (eh_fdes (distinct records)) original
@@ -30,9 +31,9 @@ pub record IsKeptElsewhere (is_aarch64 : Bool) (records : List EhRecord) (e : Eh
   pub address_range : original.address_range ≡ e.address_range
   pub rows : (rows : List PlacedRow) → AreEhRows is_aarch64 original rows → AreEhRows is_aarch64 e rows
 
--- The rows that look-ups find are those of the section: each address that one of its FDEs covers has
--- exactly one row, the one that the definitions give, and a look-up finds it. Any other address has none.
--- Exact copies of an FDE are one FDE.
+-- The rows that look-ups find are those of the section: each address that one of its FDEs covers
+-- has exactly one row, the one that the definitions give, and a look-up finds it. Any other address
+-- has none. Exact copies of an FDE are one FDE.
 pub record HasEhRows (is_aarch64 : Bool) (bases : Bases) (section : List ℕ) (s : FrameSection) : Type 0 where
   pub records : List EhRecord
   pub are : eh_entries_of bases s.target section ≡ map Ok records

@@ -1,6 +1,6 @@
--- The first fault of an `.eh_frame` section, computed from its records and from the instructions of its
--- programs, and none if the section has no fault. Why an instruction is refused is the same as in
--- `.debug_frame` (DWARF 5, section 6.4).
+-- The first fault of an `.eh_frame` section, computed from its records and from the instructions of
+-- its programs, and none if the section has no fault. Why an instruction is refused is the same as
+-- in `.debug_frame` (DWARF 5, section 6.4).
 use Rattle.std.specs.Prelude.{ℕ, ◌+◌, pos, Bool, List, [], ◌∷◌, map, length, reverse, Option, Some, None, Result, Ok, Err}
 use Rattle.std.specs.List.{filter_map}
 use Rattle.std.specs.Option.{option_or}
@@ -48,13 +48,14 @@ abbrev pub as_cie : EhCie → Cie
 as_cie e = cie_with e e.head.numbers
 
 -- The fault of instruction number n, which was read, or none if it has none. `refusal` says why an
--- instruction is refused after the instructions before it. The instruction's expression is checked first.
+-- instruction is refused after the instructions before it. The instruction's expression is checked
+-- first.
 abbrev pub eh_item_fault : (List Effect → Effect → Option FaultKind) → Cie → ℕ → List Effect → ℕ × EhInstruction → Option Fault
 eh_item_fault refusal cie n before item =
     option_or (located_fault (eh_expression_in item.1)) (standing_at item.0 (refusal before (eh_effect_of cie n item.1)))
 
--- The first fault of a list of instructions, the first of which is number n, from left to right, or else
--- of the program's end. `ending` says why the program must not end after all of them.
+-- The first fault of a list of instructions, the first of which is number n, from left to right, or
+-- else of the program's end. `ending` says why the program must not end after all of them.
 abbrev pub eh_fault_from : (List Effect → Effect → Option FaultKind) → (List Effect → Option Fault) → Cie → ℕ → List Effect
     → List (Result (ℕ × EhInstruction) Fault) → Option Fault
 eh_fault_from refusal ending cie n before [] = ending before
@@ -74,7 +75,8 @@ fde_items is_aarch64 e = eh_instructions_of (dialect_in is_aarch64 e) e.program
 unfoldable pub eh_cie_fault : Bool → EhCie → Option Fault
 eh_cie_fault is_aarch64 e = eh_fault_from cie_refusal_at (λ _. None) (as_cie e) 0 [] (cie_items is_aarch64 e)
 
--- what the program of an FDE begins with: its first address, and the rules that its CIE's program leaves
+-- what the program of an FDE begins with: its first address, and the rules that its CIE's program
+-- leaves
 abbrev pub start_after : EhFde → List (ℕ × EhInstruction) → Start
 start_after e first = start_after_cie (reverse (eh_effects_from (as_cie e.cie) 0 first)) (as_fde e)
 
@@ -101,14 +103,16 @@ eh_cies records = filter_map cie_in records
 abbrev pub eh_overlap_fault : List EhFde → EhFde → Option Fault
 eh_overlap_fault fdes g = overlap_fault (map as_fde fdes) (as_fde g)
 
--- the first fault of the programs of the CIEs, or else of those of the FDEs, or else the first overlap
+-- the first fault of the programs of the CIEs, or else of those of the FDEs, or else the first
+-- overlap
 unfoldable pub eh_parts_fault : Bool → List EhRecord → Option Fault
 eh_parts_fault is_aarch64 records =
     option_or (first_fault (eh_cie_fault is_aarch64) (eh_cies records))
     (option_or (first_fault (eh_fde_fault is_aarch64) (eh_fdes records))
     (first_fault (eh_overlap_fault (eh_fdes records)) (eh_fdes records)))
 
--- the first fault of a section: the first fault in reading it, or else of its records without exact copies
+-- the first fault of a section: the first fault in reading it, or else of its records without exact
+-- copies
 unfoldable pub eh_section_fault : Bool → Bases → Target → List ℕ → Option Fault
 eh_section_fault is_aarch64 bases target section =
     option_or (eh_reading_fault bases target section)

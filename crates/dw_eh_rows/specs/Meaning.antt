@@ -38,8 +38,8 @@ as_fde e = record {
   program = e.program;
 }
 
--- In the rules of `.eh_frame` an expression is named by the number of its instruction, and not by where
--- it lies. The instruction with its number in that place:
+-- In the rules of `.eh_frame` an expression is named by the number of its instruction, and not by
+-- where it lies. The instruction with its number in that place:
 abbrev pub numbered_block : ℕ → Block → Block
 numbered_block n b = record { offset = n; target = b.target; bytes = b.bytes }
 
@@ -60,8 +60,8 @@ abbrev pub eh_effects_from : Cie → ℕ → List (ℕ × EhInstruction) → Lis
 eh_effects_from cie n [] = []
 eh_effects_from cie n (item ∷ items) = eh_effect_of cie n item.1 ∷ eh_effects_from cie (n + 1) items
 
--- The rows of an FDE whose CIE's program and whose own program have these instructions. The numbers of
--- the FDE's instructions follow those of the CIE's.
+-- The rows of an FDE whose CIE's program and whose own program have these instructions. The numbers
+-- of the FDE's instructions follow those of the CIE's.
 abbrev pub eh_rows_by : Cie → EhFde → List (ℕ × EhInstruction) → List (ℕ × EhInstruction) → List PlacedRow
 eh_rows_by cie e first items =
     rows_after (start_after_cie (reverse (eh_effects_from cie 0 first)) (as_fde e)) [] (eh_effects_from cie (length first) items)

@@ -19,8 +19,9 @@ pub record HasRows (is_aarch64 : Bool) (e : EhFde) (c : Cie) (f : Fde) (good : I
       → rows_with (λ n. content (expression_number (are.first ++ are.items) n)) rows
       ≡ rows_with (λ at. content (named at)) (rows_of c f)
 
--- The FDE `f` was written for `e`. Its addresses are the same. Its CIE_pointer leads to the CIE that was
--- written for the CIE of `e`. If the programs of the two are good, the rows of `f` are the rows of `e`.
+-- The FDE `f` was written for `e`. Its addresses are the same. Its CIE_pointer leads to the CIE
+-- that was written for the CIE of `e`. If the programs of the two are good, the rows of `f` are the
+-- rows of `e`.
 pub record KeepsRows (is_aarch64 : Bool) (pairs : List Pair) (e : EhFde) (f : Fde) : Type 0 where
   pub initial_location : f.initial_location ≡ e.initial_location
   pub address_range : f.address_range ≡ e.address_range

@@ -42,7 +42,8 @@ row_with named row = record {
 abbrev pub rows_with : (ℕ → LocatedExpression) → List PlacedRow → List Row
 rows_with named rows = map (row_with named) rows
 
--- `named` gives the expression of each of the instructions for the offset where the expression begins.
+-- `named` gives the expression of each of the instructions for the offset where the expression
+-- begins.
 abbrev pub Names : (ℕ → LocatedExpression) → List (ℕ × Instruction) → Type 0
 Names named items = (item : ℕ × Instruction) (x : LocatedExpression) → Contains items item → expression_in item.1 ≡ Some x
     → named x.offset ≡ x

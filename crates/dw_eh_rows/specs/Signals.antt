@@ -1,5 +1,5 @@
--- Signal frames: the FDEs of CIEs with the letter S. The caller of such a frame was interrupted and made
--- no call, so its row is that of its own address, and not that of the address before.
+-- Signal frames: the FDEs of CIEs with the letter S. The caller of such a frame was interrupted and
+-- made no call, so its row is that of its own address, and not that of the address before.
 use Rattle.std.specs.Prelude.{◌≡◌, ℕ, ◌+◌, ◌≤◌, ◌&&◌, nat_le, nat_lt, Bool, List, ◌++◌, map, filter, length, Ok}
 use Rattle.std.specs.List.{list_any}
 use Rattle.dw_bytes.specs.declared.target.Target.{Target}
@@ -26,7 +26,8 @@ has_address a range = nat_le range.start a && nat_lt a (range.start + range.coun
 abbrev pub is_signal_at : List AddressRange → ℕ → Bool
 is_signal_at ranges a = list_any (has_address a) ranges
 
--- the records before the offset `at` were read, and `ranges` are the addresses of their signal frames
+-- the records before the offset `at` were read, and `ranges` are the addresses of their signal
+-- frames
 pub record AreSignals (bases : Bases) (target : Target) (section : List ℕ) (at : ℕ) (ranges : List AddressRange) : Type 0 where
   pub inside : at ≤ length section
   pub records : List EhRecord

@@ -16,8 +16,8 @@ abbrev pub AreGoodEhExpressions : List (ℕ × EhInstruction) → Type 0
 AreGoodEhExpressions items = (item : ℕ × EhInstruction) (e : LocatedExpression) → Contains items item → eh_expression_in item.1 ≡ Some e
     → IsGoodExpression e.kind e.target e.bytes
 
--- A CIE's program is good: its bytes encode instructions that a CIE may have (`IsGoodCie` of `dw_rows`),
--- and their expressions are good.
+-- A CIE's program is good: its bytes encode instructions that a CIE may have (`IsGoodCie` of
+-- `dw_rows`), and their expressions are good.
 pub record IsGoodEhCie (is_aarch64 : Bool) (e : EhCie) : Type 0 where
   pub items : List (ℕ × EhInstruction)
   pub encoded : AreEhInstructions (dialect_of is_aarch64 e.head.augmentation) e.program.target e.program.position e.program.rest items
@@ -34,9 +34,9 @@ pub record IsGoodEhFde (is_aarch64 : Bool) (e : EhFde) : Type 0 where
   pub good : IsGood (start_after e first.items) (eh_effects_from (as_cie e.cie) (length first.items) items)
   pub expressions : AreGoodEhExpressions items
 
--- The section's bytes are read as records, one after another, up to the end. The CIE of each FDE is one
--- of the records before it. Except for exact copies, all programs are good, and no address is covered by
--- two FDEs.
+-- The section's bytes are read as records, one after another, up to the end. The CIE of each FDE is
+-- one of the records before it. Except for exact copies, all programs are good, and no address is
+-- covered by two FDEs.
 pub record IsEhWellFormed (is_aarch64 : Bool) (bases : Bases) (target : Target) (section : List ℕ) : Type 0 where
   pub records : List EhRecord
   pub are : eh_entries_of bases target section ≡ map Ok records

@@ -125,8 +125,8 @@ impl<'a, const PLACES: usize> Run<'a, PLACES> {
     }
 
     /// Applies the operation at the offset `at`. An operation that `execute_bare` or
-    /// `execute_base_register` handles neither uses nor names a location: `pending` is `None` before
-    /// and after it, so `pending` isn't written.
+    /// `execute_base_register` handles neither uses nor names a location: `pending` is `None`
+    /// before and after it, so `pending` isn't written.
     #[inline(always)]
     pub fn step<R: Registers, M: Memory>(
         &mut self,

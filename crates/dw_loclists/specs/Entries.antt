@@ -1,4 +1,5 @@
--- The entries of location lists (DWARF 5, sections 2.6.2 and 7.7.3): which bytes encode which entry.
+-- The entries of location lists (DWARF 5, sections 2.6.2 and 7.7.3): which bytes encode which
+-- entry.
 use Rattle.std.specs.Prelude.{ℕ, ◌==◌, ◌≤◌, Bool, true, false, if◌then◌else◌, List, Option, Some, None}
 use Rattle.dw_bytes.specs.declared.target.Target.{Target}
 use Rattle.dw_bytes.specs.Operands.{address, unsigned, block, Block, Line, none, one, three, Coded}

@@ -121,7 +121,8 @@ list_found r (Err fault) = record { offset = r.position; entries = [] }
 abbrev pub list_from : ReadPosition → Loclist
 list_from r = list_found r (list_at r)
 
--- the list at an offset of a section can be read, and `kept` is what is stored about its expressions
+-- the list at an offset of a section can be read, and `kept` is what is stored about its
+-- expressions
 pub record IsKeptList (target : Target) (section : List ℕ) (at : ℕ) (kept : List StoredExpression) : Type 0 where
   pub list : Loclist
   pub after : ReadPosition

@@ -48,9 +48,9 @@ impl<'a> Model for CheckedList<'a> {
 /// Reads and checks the list whose first byte is at `offset` in a section of fewer than 2^32 bytes.
 /// Nothing else of the section is read, so what counts is where the caller says that a list begins.
 ///
-/// An error is the first fault of the list from left to right, as in `check_lists`; `NoEnd` (54) is at
-/// the section's end. If memory runs out, the fault is `Memory` (60), at offset 0. Time and memory are in
-/// proportion to the list.
+/// An error is the first fault of the list from left to right, as in `check_lists`; `NoEnd` (54) is
+/// at the section's end. If memory runs out, the fault is `Memory` (60), at offset 0. Time and
+/// memory are in proportion to the list.
 pub fn check_list<'a>(
     alloc: Global,
     section: &'a [u8],

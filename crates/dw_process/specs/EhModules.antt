@@ -1,5 +1,5 @@
--- A module whose rows come from an `.eh_frame` section: what adding it makes of a process, and why it
--- isn't added.
+-- A module whose rows come from an `.eh_frame` section: what adding it makes of a process, and why
+-- it isn't added.
 use Rattle.std.specs.Prelude.{◌≡◌, ◌⊎◌, ◌<◌, ◌^◌, ℕ, List, length, Option, Some, None}
 use Rattle.dw_bytes.specs.Answers.{memory, values_in}
 use Rattle.dw_bytes.specs.declared.fault.Fault.{Fault}
@@ -40,8 +40,8 @@ pub record IsEhAdded (s : EhSection) (load_address : ℕ) (given : Option Addres
   pub is : IsFrameOf s old.target frame
   pub rows : IsAddedWith frame (signal_frames (values_in (eh_entries_of s.bases old.target s.bytes.now))) load_address given cookie room old id new
 
--- The fault is the first one of the section. The section may also be too long: it has more than 2^29
--- bytes, and what is made of it in memory would have 2^32.
+-- The fault is the first one of the section. The section may also be too long: it has more than
+-- 2^29 bytes, and what is made of it in memory would have 2^32.
 abbrev pub IsEhFault : EhSection → Target → Fault → Type 0
 IsEhFault s target fault = (first_fault_of s target ≡ Some fault) ⊎ ((fault ≡ too_long) × (2 ^ 29 < length s.bytes.now))
 

@@ -58,8 +58,8 @@ pub record IsReady (frame : FrameSection) (load_address : ℕ) (given : Option A
   pub place : IsPlaceFor ready.range modules ready.place
 
 -- A table of the rows of a checked section is added, at some place, to the modules, which are in
--- order of address. The new module has the id `id`, which is counted up, and these signal frames. What
--- the table stores is at most `room` bytes (`IsStored`).
+-- order of address. The new module has the id `id`, which is counted up, and these signal frames.
+-- What the table stores is at most `room` bytes (`IsStored`).
 pub record IsAddedWith (frame : FrameSection) (signals : List SignalRange) (load_address : ℕ) (given : Option AddressRange) (cookie room : ℕ) (old : ProcessState) (id : ℕ)
     (new : ProcessState) : Type 0 where
   pub added : LoadedModule

@@ -1,4 +1,5 @@
--- A cache of hints: which hint it has for an address. A hint says where the row of an address may be.
+-- A cache of hints: which hint it has for an address. A hint says where the row of an address may
+-- be.
 use Rattle.std.specs.Prelude.{ℕ, ◌*◌, ◌%◌, ◌/◌, ◌^◌, ◌-◌, slice_index_or}
 use Rattle.dw_process.specs.declared.row_cache.RowCache.{RowCache}
 use Rattle.dw_process.specs.declared.row_cache.RowHint.{RowHint}

@@ -18,8 +18,8 @@ pub mod GoodRows
 pub mod ExactRows
 -- what a look-up of an address finds (6.4.1)
 pub mod RowLookups
--- ---- How the code goes through programs and sections. No contract of a call uses the files of this
--- part, but for calls that only dw_tables makes.
+-- ---- How the code goes through programs and sections. No contract of a call uses the files of
+-- this part, but for calls that only dw_tables makes.
 
 -- programs that are checked while they are read
 pub mod Checking

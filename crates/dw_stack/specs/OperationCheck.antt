@@ -1,5 +1,5 @@
--- What checking one operation in one state gives (src/operation_check.rt): whether the operation is allowed
--- there, and what comes after it.
+-- What checking one operation in one state gives (src/operation_check.rt): whether the operation is
+-- allowed there, and what comes after it.
 use Rattle.std.specs.Prelude.{◌≡◌, ◌≢◌, ℕ, ℤ, ◌+◌, ◌<◌, ◌≤◌, true, List, length, Option, Some, None, slice_get}
 use Rattle.dw_bytes.specs.declared.fault.FaultKind.{FaultKind}
 use Rattle.dw_bytes.specs.declared.fault.FaultKind.TheVariants as fault

@@ -1,5 +1,5 @@
--- ---- Trusted: what docs/OUTPUT.md says about state files. The main promise (docs/HEADLINE.md) needs
--- none of these.
+-- ---- Trusted: what docs/OUTPUT.md says about state files. The main promise (docs/HEADLINE.md)
+-- needs none of these.
 
 -- parsing numbers and addresses
 pub mod Addresses

@@ -1,5 +1,5 @@
--- ---- Trusted: what a compiled table of a section is. The main promise (docs/HEADLINE.md) needs none
--- of these.
+-- ---- Trusted: what a compiled table of a section is. The main promise (docs/HEADLINE.md) needs
+-- none of these.
 
 -- compiled tables, which store all rows of a section
 pub mod UnwindTables

@@ -1,11 +1,11 @@
 -- Compiled tables. A compiled table stores all rows of a section, so that look-ups no longer need
 -- the section.
-use Rattle.std.specs.Prelude.{◌≡◌, ℕ, ◌+◌, ◌*◌, Bool, List, Option, None, find, length}
+use Rattle.std.specs.Prelude.{◌≡◌, ℕ, ◌+◌, ◌*◌, Bool, List, Option, find, length}
 use Rattle.std.specs.List.{sum_by}
 use Rattle.dw_bytes.specs.declared.target.Target.{Target}
 use Rattle.dw_frame.specs.Records.{Fde}
 use Rattle.dw_stack.specs.Located.{LocatedExpression}
-use Rattle.dw_rules.specs.Rules.{RowOver, Row, expression}
+use Rattle.dw_rules.specs.Rules.{RowOver, Row}
 use Rattle.dw_rows.specs.UnwindRows.{has_address}
 use Rattle.dw_rows.specs.Section.{FrameSection, rows_in}
 use Rattle.dw_rows.specs.RowLookups.{IsFoundAt}

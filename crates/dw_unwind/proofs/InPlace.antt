@@ -3,7 +3,6 @@ use Rattle.std.proofs.Common.{◌≡◌, ◌≢◌, ℕ, ◌+◌, ◌<◌, ◌�
 use Rattle.std.proofs.Common.{refl, sym, ap, subst, ◌∙◌, add-one, arith, drop, drop-cons}
 use Rattle.std.proofs.Common.{◌||◌, length, get_or, map, replicate, set, suc, zero, ℤ}
 use Rattle.std.specs.Prelude.{IfSome, Option, Some, None, pos}
-use Rattle.std.specs.List.{AllByRecursion}
 use Rattle.std.proofs.lemmas.Bool.Decides.{nat_tests}
 use Rattle.std.proofs.lemmas.List.{get_or-set_other, get_or-set_same, drop_all}
 use Rattle.dw_bytes.specs.declared.target.Target.{Target}
@@ -14,7 +13,6 @@ use Rattle.dw_unwind.specs.Contents.{HasContents, Overlays, abi_rules, content_c
 use Rattle.dw_rules.specs.SavedRules.{Saved, as_saved}
 use Rattle.dw_unwind.specs.Walks.{content_of}
 use Rattle.dw_unwind.specs.declared.usual_step.TheConstants.{LITTLE_64}
-use Rattle.dw_unwind.specs.declared.register_file.TheConstants.{PLACES}
 use Rattle.dw_unwind.proofs.Contents.{role-content, role-is, role_answer}
 
 -- ---- contents that stay where they are

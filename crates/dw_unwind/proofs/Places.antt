@@ -64,7 +64,8 @@ far-kept registers n far small among = record {
   ruled = kept-ruled (is_among n registers) among;
 }
 
--- an ABI that also names a stack pointer gives rules to the same registers, and to the stack pointer
+-- an ABI that also names a stack pointer gives rules to the same registers, and to the stack
+-- pointer
 pointed-ruled : (pointer : Bool) (role : Role) → ◌≢◌ {A = Rule} (rule_of_role role) default
     → ◌≢◌ {A = Rule} (rule_of_role (if pointer then stack_pointer else role)) default
 pointed-ruled true role some = λ e. cc

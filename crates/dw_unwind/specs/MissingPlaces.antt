@@ -21,8 +21,8 @@ pub record HasFarRule (rules : ℕ → Rule) : Type 0 where
   pub is_number : register < 65536
   pub ruled : rules register ≢ default
 
--- Contents were written for the registers that have a rule by `rules`: all of them have a place, and
--- the contents that were `wanted` are there now; or one of them has a number of PLACES or more.
+-- Contents were written for the registers that have a rule by `rules`: all of them have a place,
+-- and the contents that were `wanted` are there now; or one of them has a number of PLACES or more.
 abbrev pub Writes : (ℕ → Rule) → (ℕ → Option ℕ) → (ℕ → Option ℕ) → Bool → Type 0
 Writes rules wanted contents all_placed = MatchBool all_placed (wanted ≡ contents) (HasFarRule rules)
 

@@ -19,8 +19,8 @@ the_process = the_contract.the_row
 abbrev pub process_coded : Coded (Option ProcessState)
 process_coded = coded_option the_process.coded
 
--- ownership of the box at address `at`, which contains the process; ownership of nothing if there is
--- no process
+-- ownership of the box at address `at`, which contains the process; ownership of nothing if there
+-- is no process
 abbrev pub held_if : Global → Ptr → Option ProcessState → Fml
 held_if alloc at None = ftrue
 held_if alloc at (Some p) = box_owns (ghosts.dealloc_token alloc) the_process at p

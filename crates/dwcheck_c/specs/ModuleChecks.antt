@@ -1,5 +1,5 @@
 -- When the check of a module's section accepts it, and what C then gets.
-use Rattle.std.specs.Prelude.{◌≡◌, Option, Some, None, false, true}
+use Rattle.std.specs.Prelude.{◌≡◌, Some, None, false, true}
 use Rattle.dw_bytes.specs.declared.target.Target.{Target}
 use Rattle.dw_rows.specs.Section.{FrameSection, frame_of, section_fault}
 use Rattle.dw_process.specs.EhModules.{IsFrameOf}

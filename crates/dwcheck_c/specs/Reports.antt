@@ -11,7 +11,8 @@ use Rattle.dw_c_types.specs.Slots.{put_into}
 use Rattle.dwcheck_c.specs.declared.reports.CCounts.{CCounts}
 use Rattle.dwcheck_c.specs.declared.reports.CExpression.{CExpression}
 
--- C's struct for what a frame section contains; a number of rows of 2^64 or more is shown as 2^64 - 1
+-- C's struct for what a frame section contains; a number of rows of 2^64 or more is shown as 2^64 -
+-- 1
 abbrev pub frame_counts : FrameSection → CCounts
 frame_counts frame = record {
   cies = length frame.cies;
@@ -41,8 +42,8 @@ kind_number FrameCfa = 0
 kind_number FrameRegister = 1
 kind_number Location = 2
 
--- `out` is C's struct for the expression `x`, whose section is the one that `within` says. It has the
--- expression's number of operations, and its greatest stack depth on any path.
+-- `out` is C's struct for the expression `x`, whose section is the one that `within` says. It has
+-- the expression's number of operations, and its greatest stack depth on any path.
 pub record ShowsExpression (within : ℕ) (x : LocatedExpression) (out : CExpression) : Type 0 where
   pub offset : out.offset ≡ x.offset
   pub size : out.length ≡ length x.bytes
@@ -57,8 +58,8 @@ AreShown within [] [] = Unit {0}
 AreShown within (x ∷ xs) (out ∷ outs) = ShowsExpression within x out × AreShown within xs outs
 AreShown within _ _ = ⊥
 
--- C's structs for the expressions of the frame section, and after them those for the expressions of the
--- lists, are written to the front of the slots, as many as fit. The other slots are unchanged.
+-- C's structs for the expressions of the frame section, and after them those for the expressions of
+-- the lists, are written to the front of the slots, as many as fit. The other slots are unchanged.
 pub record AreReported (of_frame of_lists : List LocatedExpression) (old new : List CExpression) : Type 0 where
   pub frame_shown : List CExpression
   pub are_of_frame : AreShown IN_FRAME of_frame frame_shown

@@ -1,5 +1,5 @@
 -- What C gets of a record of a frame section: the record that the section's own definitions give.
-use Rattle.std.specs.Prelude.{◌≡◌, ℕ, ◌+◌, pos, Bool, true, false, if◌then◌else◌, List, [], ◌∷◌, drop, length, Result, Some, Ok, Err}
+use Rattle.std.specs.Prelude.{◌≡◌, ℕ, ◌+◌, pos, Bool, true, false, if◌then◌else◌, List, ◌∷◌, drop, length, Result, Some, Ok, Err}
 use Rattle.dw_bytes.specs.declared.fault.Fault.{Fault}
 use Rattle.dw_bytes.specs.declared.target.Target.{Target}
 use Rattle.dw_bytes.specs.Reading.{ReadPosition, section_from}
@@ -72,8 +72,8 @@ fde_shown is_signal f program next = record {
 abbrev pub end_of : ReadPosition → ℕ
 end_of program = program.position + length program.rest
 
--- A record of `.debug_frame` that was read as if the section began at the offset `at`. It ends where
--- its program ends, and no frame is a signal's.
+-- A record of `.debug_frame` that was read as if the section began at the offset `at`. It ends
+-- where its program ends, and no frame is a signal's.
 abbrev pub record_shown : ℕ → Record → CRecord
 record_shown at (cie_record c) = cie_shown false c (at + c.program.position) (at + end_of c.program)
 record_shown at (fde_record f) = fde_shown false f (at + f.program.position) (at + end_of f.program)
@@ -86,8 +86,8 @@ eh_record_shown (eh_nothing at) next = begun RECORD_EMPTY at false next
 
 -- ---- the record at an offset
 
--- What is left of a `.debug_frame` section from the offset `at` on begins with a record, and `out` is
--- C's struct for it. Its CIE pointer counts from the section's first byte.
+-- What is left of a `.debug_frame` section from the offset `at` on begins with a record, and `out`
+-- is C's struct for it. Its CIE pointer counts from the section's first byte.
 pub record IsRecord (section : List ℕ) (target : Target) (at : ℕ) (out : CRecord) : Type 0 where
   pub found : Record
   pub others : List (Result Record Fault)

@@ -1,4 +1,4 @@
-use Rattle.std.proofs.Common.{◌≡◌, ℕ, ◌+◌, ◌-◌, ◌<◌, ◌∙◌, List, length, take, drop, Option, None, Some, sym, ap, arith}
+use Rattle.std.proofs.Common.{◌≡◌, ℕ, ◌+◌, ◌-◌, ◌∙◌, take, drop, Some, sym, ap, arith}
 use Rattle.dw_eval.specs.World.{bytes_from}
 use Rattle.dw_eval.specs.MemoryBlocks.{block_byte}
 use Rattle.dw_eval.proofs.Windows.{window_in, window_past, window_below}

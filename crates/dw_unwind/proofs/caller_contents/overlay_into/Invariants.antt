@@ -6,8 +6,8 @@ use Rattle.dw_unwind.specs.Contents.{Overlays, contents_in}
 use Rattle.dw_unwind.specs.MissingPlaces.{Writes}
 use Rattle.dw_unwind.proofs.caller_contents.overlay_into.Given as goal
 
--- what the remaining rules make of the contents that are wanted so far is what all make of the first
--- contents
+-- what the remaining rules make of the contents that are wanted so far is what all make of the
+-- first contents
 abbrev pub invariant-loop-number : goal.invariant-loop-number
 invariant-loop-number g l = record {
   whole : map numbered_rule_of l.yielded ++ l.number-iterator ≡ l.fn.rules;

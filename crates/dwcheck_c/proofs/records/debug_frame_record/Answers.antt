@@ -1,4 +1,4 @@
-use Rattle.std.proofs.Common.{◌≡◌, ℕ, List, ◌∷◌, [], drop, length, Result, Ok, Err, refl, sym, ap, ◌∙◌, arith}
+use Rattle.std.proofs.Common.{ℕ, List, ◌∷◌, drop, Result, Ok, refl, ap, ◌∙◌, arith}
 use Rattle.std.proofs.lemmas.List.{length-drop}
 use Rattle.dw_bytes.specs.declared.fault.Fault.{Fault}
 use Rattle.dw_frame.specs.Records.{Record, cie_record, fde_record}
