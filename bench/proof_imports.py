@@ -54,23 +54,23 @@ WITHOUT_LAW = {
     # an ABI's numbers, one after the other
     "dw_rules.AbiRules": "abi-stands",
     # any list of rows without gaps
-    "dw_rows.Covering": "cover-after find-above find-below find-some found-by here not-here-above not-here-below",
+    "dw_rows.rows.Covering": "cover-after find-above find-below find-some found-by here not-here-above not-here-below",
     # any rows, before and after expressions are put in place of their offsets
-    "dw_rows.RowsWithExpressions": "find-with",
+    "dw_rows.rows.RowsWithExpressions": "find-with",
     # any section: where a row is found, if one FDE covers the address
-    "dw_rows.Lookups": "row-found",
+    "dw_rows.rows.Lookups": "row-found",
     # any index of FDEs
-    "dw_rows.Indexes": "AreDistinct entry-placed",
+    "dw_rows.sections.Indexes": "AreDistinct entry-placed",
     # any run of a program: the rules that it leaves name expressions of the section
-    "dw_rows.Lending": "lends-kept",
+    "dw_rows.expressions.Lending": "lends-kept",
     # any list that is written to an array, as far as it fits
     "dw_c_types.Putting": "comes puts-length puts_next puts_no_more puts_shown",
     # any list of effects: no instruction is refused exactly if the list is good
-    "dw_rows.Goods": "Fine FineCie fine-iff fine-cie-iff",
+    "dw_rows.programs.Goods": "Fine FineCie fine-iff fine-cie-iff",
     # an expression without a fault is good
-    "dw_rows.Programs": "located-good",
+    "dw_rows.programs.Programs": "located-good",
     # no fault, no reason for one
-    "dw_rows.RowCursors": "standing_at-none",
+    "dw_rows.rows.RowCursors": "standing_at-none",
     # any program of `.eh_frame`, read at another offset
     "dw_eh_frame.Shifted": "shift item-by instruction-by eh-instruction-by eh-instructions-shifted",
     # what is read of any program and of what is written for it; what `dw_eh_rows` says of faults is made of it
@@ -109,7 +109,7 @@ def laws(crates):
 
 def listed():
     """The names of the lemmas that WITHOUT_LAW lists, by crate and module."""
-    return {tuple(module.split(".")): names.split() for module, names in WITHOUT_LAW.items()}
+    return {tuple(module.split(".", 1)): names.split() for module, names in WITHOUT_LAW.items()}
 
 
 def main():

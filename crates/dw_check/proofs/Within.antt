@@ -12,10 +12,10 @@ use Rattle.dw_frame.specs.Sections.{top_of}
 use Rattle.dw_rules.specs.Rules.{Row}
 use Rattle.dw_stack.specs.Located.{LocatedExpression}
 use Rattle.dw_rules.specs.RowsWithExpressions.{row_with_expressions}
-use Rattle.dw_rows.proofs.RowsWithExpressions.{cover-with}
+use Rattle.dw_rows.proofs.rows.RowsWithExpressions.{cover-with}
 use Rattle.dw_rules.specs.ProgramFault.{fde_fault}
 use Rattle.dw_rows.specs.UnwindRows.{Cover, rows_of}
-use Rattle.dw_rows.proofs.Covering.{cover-rows}
+use Rattle.dw_rows.proofs.rows.Covering.{cover-rows}
 use Rattle.dw_check.specs.Text.{Fits, digits_of}
 
 below : (size : AddressSize) (n : ℕ) → n ≤ 2 ^ (8 * bytes_of_address size) - 1 → n < 16 ^ digits_of size

@@ -15,10 +15,10 @@ use Rattle.dw_rows.specs.UnwindRows.{rows_of, has_address}
 use Rattle.dw_rows.specs.GoodPrograms.{IsGoodFdeProgram}
 use Rattle.dw_rows.specs.ExactRows.{HasOneRow}
 use Rattle.dw_rows.specs.Section.{FrameSection, Covers, IsCoverOf, IsChecked, cies_among, fdes_among, cie_at, rows_in, rows_by_cie, row_of}
-use Rattle.dw_rows.proofs.CheckedSections.{checked-cies-ascend}
-use Rattle.dw_rows.proofs.Covering.{cover-rows}
-use Rattle.dw_rows.proofs.Programs.{fde-from-good}
-use Rattle.dw_rows.proofs.RowsOf.{one-row}
+use Rattle.dw_rows.proofs.sections.CheckedSections.{checked-cies-ascend}
+use Rattle.dw_rows.proofs.rows.Covering.{cover-rows}
+use Rattle.dw_rows.proofs.programs.Programs.{fde-from-good}
+use Rattle.dw_rows.proofs.rows.RowsOf.{one-row}
 use Rattle.dw_eh_frame.specs.declared.pointer.Bases.{Bases}
 use Rattle.dw_eh_frame.specs.Copies.{distinct}
 use Rattle.dw_eh_frame.proofs.CopiesFound.{distinct-within}

@@ -12,9 +12,9 @@ use Rattle.dw_stack.proofs.Named.{none_if_good}
 use Rattle.dw_rules.specs.Effects.{Effect}
 use Rattle.dw_rules.specs.InForce.{Start}
 use Rattle.dw_rules.specs.ProgramFault.{standing_at, refusal_at, refusal_at_end, cie_refusal_at, end_of}
-use Rattle.dw_rows.proofs.Goods.{Fine, fine-iff, FineCie, fine-cie-iff}
-use Rattle.dw_rows.proofs.Programs.{located-good}
-use Rattle.dw_rows.proofs.RowCursors.{standing_at-none}
+use Rattle.dw_rows.proofs.programs.Goods.{Fine, fine-iff, FineCie, fine-cie-iff}
+use Rattle.dw_rows.proofs.programs.Programs.{located-good}
+use Rattle.dw_rows.proofs.rows.RowCursors.{standing_at-none}
 use Rattle.dw_eh_frame.specs.Records.{EhCie, EhFde}
 use Rattle.dw_eh_frame.specs.Instructions.{EhInstruction, dialect_of}
 use Rattle.dw_eh_frame.proofs.ReadTwice.{EhItems, eh-programs-are-instructions}

@@ -20,7 +20,7 @@ use Rattle.dw_stack.specs.declared.state.State.{State}
 use Rattle.dw_stack.specs.InStates.{StepObjects}
 use Rattle.dw_stack.specs.Faults.{Given, verdicts, is_ahead, is_start, suits, passes, first_failed, rank}
 use Rattle.dw_stack.specs.OperationCheck.{IsEffectAt, Suits, TargetObjects, TargetIs, Checked, Objects}
-use Rattle.dw_stack.proofs.InStates.{Has}
+use Rattle.dw_stack.proofs.paths.InStates.{Has}
 use Rattle.dw_stack.proofs.Telling.{start_tells}
 
 -- ---- the first check that fails

@@ -32,14 +32,14 @@ use Rattle.dw_stack.specs.Expressions.{operations_in, reading_fault, IsGoodExpre
 use Rattle.dw_stack.specs.FirstFault.{states_to, same_state, Question, else_fault, first_no, asked_at, asked_of, asked_last, asked_from}
 use Rattle.dw_stack.specs.FirstFault.{first_fault, expression_fault}
 use Rattle.dw_stack.proofs.Places.{place_of_some, later_place}
-use Rattle.dw_stack.proofs.Routes.{Comes}
-use Rattle.dw_stack.proofs.Describes.{Describes}
+use Rattle.dw_stack.proofs.paths.Routes.{Comes}
+use Rattle.dw_stack.proofs.paths.Describes.{Describes}
 use Rattle.dw_stack.proofs.Checking.{all_passed, checked}
 use Rattle.dw_stack.proofs.Walks.{Walked, walked_start, walked_step}
 use Rattle.dw_stack.proofs.Verdicts.{step_fault, objects_fault, end_not_nothing, end_mismatch, end_empty, end_good, end_given, end_states}
 use Rattle.dw_stack.proofs.Verdicts.{end_depth}
 use Rattle.dw_stack.proofs.Encoded.{encoded_of, laid_if_read}
-use Rattle.dw_stack.proofs.InStates.{Has, states_come, come_states}
+use Rattle.dw_stack.proofs.paths.InStates.{Has, states_come, come_states}
 use Rattle.dw_stack.proofs.Telling.{bool_tells, same_tells, others_tell, start_tells}
 
 -- ---- which `InState` describes the set of states with which paths arrive

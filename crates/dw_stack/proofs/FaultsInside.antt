@@ -19,7 +19,7 @@ use Rattle.dw_stack.specs.Faults.{Refuses}
 use Rattle.dw_stack.specs.Expressions.{operations_in, reading_fault}
 use Rattle.dw_stack.specs.FirstFault.{expression_fault}
 use Rattle.dw_stack.proofs.Places.{place_of_some, place_le}
-use Rattle.dw_stack.proofs.Routes.{reached_place}
+use Rattle.dw_stack.proofs.paths.Routes.{reached_place}
 use Rattle.dw_stack.proofs.Encoded.{laid_if_read}
 use Rattle.dw_stack.proofs.Named.{first_if_some}
 

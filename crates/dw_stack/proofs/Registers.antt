@@ -17,7 +17,7 @@ use Rattle.dw_stack.specs.Effects.{effect_of}
 use Rattle.dw_stack.specs.States.{start_of, state_after}
 use Rattle.dw_stack.specs.OperationCheck.{Suits}
 use Rattle.dw_stack.specs.Expressions.{Checked, IsChecked}
-use Rattle.dw_stack.proofs.Unbranched.{begun, further, checked}
+use Rattle.dw_stack.proofs.paths.Unbranched.{begun, further, checked}
 
 one_byte : (o : Order) (n : ℕ) → n ≡ number o 1 (n ∷ [])
 one_byte Little n = omega arith

@@ -9,7 +9,7 @@ use Rattle.dw_stack.specs.declared.state.Mode.{Mode}
 use Rattle.dw_stack.specs.Paths.{Placed, place}
 use Rattle.dw_stack.specs.Faults.{is_start}
 use Rattle.dw_stack.specs.FirstFault.{number_of, same_state}
-use Rattle.dw_stack.proofs.InStates.{Has}
+use Rattle.dw_stack.proofs.paths.InStates.{Has}
 use Rattle.dw_stack.proofs.Stable.{mode_stable}
 
 -- the test b is true exactly if P holds

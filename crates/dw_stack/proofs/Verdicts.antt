@@ -27,8 +27,8 @@ use Rattle.dw_stack.specs.Faults.{Given, verdicts, passes, first_failed, Objecti
 use Rattle.dw_stack.specs.OperationCheck.{Objects}
 use Rattle.dw_stack.specs.InStates.{StepObjects}
 use Rattle.dw_stack.proofs.Places.{place_of_some, place_past, place_inj, place_mono, place_lt}
-use Rattle.dw_stack.proofs.Routes.{reach_from, extend, at_start, Comes, reaches_from_comes, comes_from_reaches, reached_place}
-use Rattle.dw_stack.proofs.Describes.{Describes, describes_is}
+use Rattle.dw_stack.proofs.paths.Routes.{reach_from, extend, at_start, Comes, reaches_from_comes, comes_from_reaches, reached_place}
+use Rattle.dw_stack.proofs.paths.Describes.{Describes, describes_is}
 use Rattle.dw_stack.proofs.Pieces.{pieces_mono}
 use Rattle.dw_stack.proofs.Checking.{failed, before_first, few_passes, ahead_passes, start_passes}
 use Rattle.dw_stack.proofs.Walks.{Fine, Accepted, Walked, one_state}

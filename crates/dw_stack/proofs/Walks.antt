@@ -23,8 +23,8 @@ use Rattle.dw_stack.specs.Faults.{Given}
 use Rattle.dw_stack.specs.OperationCheck.{Checked, TargetIs}
 use Rattle.dw_stack.specs.InStates.{PassesOn, Stepped}
 use Rattle.dw_stack.proofs.Places.{place_of_some, place_inj, place_mono}
-use Rattle.dw_stack.proofs.Routes.{reach_from, Comes, reaches_from_comes, comes_from_reaches}
-use Rattle.dw_stack.proofs.Describes.{Describes, describes_same, describes_is, describes_next, describes_target, length_next, length_target}
+use Rattle.dw_stack.proofs.paths.Routes.{reach_from, Comes, reaches_from_comes, comes_from_reaches}
+use Rattle.dw_stack.proofs.paths.Describes.{Describes, describes_same, describes_is, describes_next, describes_target, length_next, length_target}
 use Rattle.std.proofs.lemmas.List.Sums.{count_by_more_yes, count_by_more_no}
 use Rattle.std.proofs.lemmas.Option.{get_or_from_slice_get}
 

@@ -16,7 +16,7 @@ use Rattle.dw_stack.specs.Expressions.{operations_in, reading_fault, IsGoodExpre
 use Rattle.dw_stack.specs.Expressions.{Checked, IsChecked, IsOf, Knows}
 use Rattle.dw_stack.proofs.Places.{place_of_some}
 use Rattle.dw_stack.proofs.Verdicts.{good_refuses}
-use Rattle.dw_stack.proofs.Runs.{good_runs}
+use Rattle.dw_stack.proofs.paths.Runs.{good_runs}
 use Rattle.dw_stack.proofs.Encoded.{laid_out, encoded_of, read_of, laid_if_read}
 
 -- if the caller passed as many states as there are operations, there is no fault of their number

@@ -27,13 +27,13 @@ use Rattle.dw_rows.specs.Section.{IsReturnRegister}
 use Rattle.dw_tables.specs.CompiledTable.{StoredSet, no_set, set_numbered, row_if, row_from, next_start, entry_start, rows_to}
 use Rattle.dw_tables.specs.CompiledTable.{LendsFound, found_with_expressions, IsPlacedAt}
 use Rattle.dw_tables.specs.CompiledTable.{IsEntryCount, ArePlacedRows}
-use Rattle.dw_rows.proofs.Covering.{found-by, cover-rows, here}
-use Rattle.dw_rows.proofs.Lookups.{row-found, row-none}
-use Rattle.dw_rows.proofs.RowsWithExpressions.{find-with}
-use Rattle.dw_rows.proofs.FdesOfSections.{fde-good}
-use Rattle.dw_rows.proofs.CheckedSections.{checked-once, checked-fdes-sound}
-use Rattle.dw_rows.proofs.OneRow.{has-one-row}
-use Rattle.dw_rows.proofs.GoodExpressions.{checked-expressions}
+use Rattle.dw_rows.proofs.rows.Covering.{found-by, cover-rows, here}
+use Rattle.dw_rows.proofs.rows.Lookups.{row-found, row-none}
+use Rattle.dw_rows.proofs.rows.RowsWithExpressions.{find-with}
+use Rattle.dw_rows.proofs.sections.FdesOfSections.{fde-good}
+use Rattle.dw_rows.proofs.sections.CheckedSections.{checked-once, checked-fdes-sound}
+use Rattle.dw_rows.proofs.rows.OneRow.{has-one-row}
+use Rattle.dw_rows.proofs.expressions.GoodExpressions.{checked-expressions}
 use Rattle.dw_frame.specs.Sections.{top_of}
 use Rattle.dw_tables.proofs.TableRows.{placed-none, placed-row}
 use Rattle.dw_tables.proofs.FilledTables.{covered-has, first-cover}

@@ -23,11 +23,11 @@ use Rattle.dw_rows.specs.Overlap.{IsIndexOf}
 use Rattle.dw_tables.specs.CompiledTable.{StoredSet, no_set, set_numbered, row_if, row_from, next_start, rows_to, placed_rows}
 use Rattle.dw_tables.specs.CompiledTable.{rows_of_each, with_register, returning, returning_by_cie, LendsSet, LendsFound, IsPlacedAt}
 use Rattle.dw_tables.specs.CompiledTable.{IsTableUpTo, IsClosedAt, IsFilled, AreEntries, ArePlacedRows}
-use Rattle.dw_rows.proofs.Covering.{cover-rows, here, find-below, find-above, find-some}
-use Rattle.dw_rows.proofs.Lookups.{row-found, row-none}
-use Rattle.dw_rows.proofs.RowsWithExpressions.{find-with}
-use Rattle.dw_rows.proofs.FdesOfSections.{fde-good}
-use Rattle.dw_rows.proofs.CheckedSections.{checked-once}
+use Rattle.dw_rows.proofs.rows.Covering.{cover-rows, here, find-below, find-above, find-some}
+use Rattle.dw_rows.proofs.rows.Lookups.{row-found, row-none}
+use Rattle.dw_rows.proofs.rows.RowsWithExpressions.{find-with}
+use Rattle.dw_rows.proofs.sections.FdesOfSections.{fde-good}
+use Rattle.dw_rows.proofs.sections.CheckedSections.{checked-once}
 use Rattle.dw_tables.proofs.TableRows.{filled, find-past, find-first}
 
 -- ---- the rows of all FDEs

@@ -20,7 +20,7 @@ use Rattle.dw_rows.specs.Section.{FrameSection, cie_in, rows_by_cie}
 use Rattle.dw_rows.specs.Overlap.{IsIndexOf}
 use Rattle.dw_tables.specs.CompiledTable.{StoredSet, returning, row_with, rows_to, entry_bytes, IsTableUpTo, IsPushed, IsFilling, LacksRoom}
 use Rattle.dw_rules.proofs.RulesWithExpressions.{length-with}
-use Rattle.dw_rows.proofs.Indexes.{AreDistinct}
+use Rattle.dw_rows.proofs.sections.Indexes.{AreDistinct}
 use Rattle.dw_tables.proofs.TableRows.{rows-pushed, with-cfa}
 
 -- if `room < less` implies `other < more`, then `LacksRoom why room less` implies

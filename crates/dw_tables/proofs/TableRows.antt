@@ -22,8 +22,8 @@ use Rattle.dw_rows.specs.Section.{FrameSection, cie_in}
 use Rattle.dw_tables.specs.CompiledTable.{StoredSet, no_set, set_numbered, row_if, row_with, row_from, next_start, rows_to}
 use Rattle.dw_tables.specs.CompiledTable.{returning, returning_by_cie}
 use Rattle.dw_tables.specs.CompiledTable.{IsTableUpTo, IsClosedAt, IsBegunAt, IsPushed, IsFilling, IsFilled, IsEntryCount}
-use Rattle.dw_rows.proofs.Covering.{cover-after, here, not-here-below, not-here-above}
-use Rattle.dw_rows.proofs.Lending.{lends-kept}
+use Rattle.dw_rows.proofs.rows.Covering.{cover-after, here, not-here-below, not-here-above}
+use Rattle.dw_rows.proofs.expressions.Lending.{lends-kept}
 
 -- ---- the rows after one more entry
 

@@ -9,9 +9,9 @@ use Rattle.dw_rows.specs.Section.{parts_fault, section_fault, frame_of, placed_r
 use Rattle.dw_rules.specs.Initial.{AreLeftBy}
 use Rattle.dw_rows.specs.Overlap.{cie_offset, fde_offset, IsAddressIndex}
 use Rattle.dw_frame.specs.Bounds.{Ascends}
-use Rattle.dw_rows.proofs.Standing.{section-answered}
-use Rattle.dw_rows.proofs.SectionOrder.{cies-ascend, fdes-ascend}
-use Rattle.dw_rows.proofs.CheckedSections.{kept}
+use Rattle.dw_rows.proofs.programs.Standing.{section-answered}
+use Rattle.dw_rows.proofs.sections.SectionOrder.{cies-ascend, fdes-ascend}
+use Rattle.dw_rows.proofs.sections.CheckedSections.{kept}
 use Rattle.dw_rows.proofs.checked_frame.check_frame.Goals as goal
 
 pub check_parts-requires-clause-cies : goal.check_parts-requires-clause-cies

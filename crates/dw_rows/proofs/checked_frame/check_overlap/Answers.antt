@@ -1,6 +1,6 @@
 use Rattle.std.proofs.Common.{map}
 use Rattle.dw_frame.specs.Views.{fde_of}
-use Rattle.dw_rows.proofs.Clashes.{none-overlap, first-overlaps}
+use Rattle.dw_rows.proofs.sections.Clashes.{none-overlap, first-overlaps}
 use Rattle.dw_rows.proofs.checked_frame.check_overlap.Goals as goal
 
 pub returns-in-Some : goal.returns-in-Some

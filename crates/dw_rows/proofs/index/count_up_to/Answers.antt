@@ -1,7 +1,7 @@
 use Rattle.std.proofs.Common.{arith, ◌+◌, ◌*◌, ◌/◌, inl, inr, refl}
 use Rattle.std.proofs.lemmas.Bool.{cases_lt}
 use Rattle.dw_rows.specs.declared.index.IndexEntry.{IndexEntry}
-use Rattle.dw_rows.proofs.Indexes.{start-at}
+use Rattle.dw_rows.proofs.sections.Indexes.{start-at}
 use Rattle.dw_rows.proofs.index.count_up_to.Goals as goal
 
 pub loop-size-preserved : goal.loop-size-preserved

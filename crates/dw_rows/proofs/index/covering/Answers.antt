@@ -3,8 +3,8 @@ use Rattle.std.proofs.lemmas.List.{length-map}
 use Rattle.dw_frame.specs.Views.{fde_of}
 use Rattle.dw_rows.specs.Section.{CoversOnce}
 use Rattle.dw_rows.specs.Overlap.{fde_at}
-use Rattle.dw_rows.proofs.Indexes.{none-covered, not-covered, starts-sorted, starts-above, entry-within, entry-placed, entry-start}
-use Rattle.dw_rows.proofs.Indexes.{once-indexed, cover-indexed}
+use Rattle.dw_rows.proofs.sections.Indexes.{none-covered, not-covered, starts-sorted, starts-above, entry-within, entry-placed, entry-start}
+use Rattle.dw_rows.proofs.sections.Indexes.{once-indexed, cover-indexed}
 use Rattle.dw_rows.proofs.index.covering.Goals as goal
 
 pub count_up_to-after-requires : goal.count_up_to-after-requires

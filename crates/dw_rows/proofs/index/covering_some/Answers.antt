@@ -2,7 +2,7 @@ use Rattle.std.proofs.Common.{◌≡◌, map, take, filter, arith, refl, sym, ap
 use Rattle.std.proofs.lemmas.List.{length-map, take_all}
 use Rattle.dw_frame.specs.Records.{Fde}
 use Rattle.dw_frame.specs.Views.{fde_of}
-use Rattle.dw_rows.proofs.Indexes.{is_some_fde, entries-more, entries-same}
+use Rattle.dw_rows.proofs.sections.Indexes.{is_some_fde, entries-more, entries-same}
 use Rattle.dw_rows.proofs.index.covering_some.Goals as goal
 use Rattle.dw_rows.proofs.index.covering_some.Goals.{then-fde-gt0+in_ok-push, else-fde-gt0}
 

@@ -5,7 +5,7 @@ use Rattle.dw_frame.specs.Records.{Fde}
 use Rattle.dw_frame.specs.Views.{fde_of}
 use Rattle.dw_rows.specs.Overlap.{fde_at, IsEntry}
 use Rattle.dw_rows.specs.declared.index.IndexEntry.{IndexEntry}
-use Rattle.dw_rows.proofs.Indexes.{indexed, sorted-entries}
+use Rattle.dw_rows.proofs.sections.Indexes.{indexed, sorted-entries}
 use Rattle.dw_rows.proofs.index.index_of.Goals as goal
 
 pub returns : goal.returns

@@ -2,8 +2,8 @@ use Rattle.std.proofs.Common.{arith, map}
 use Rattle.std.proofs.lemmas.List.{length-map}
 use Rattle.dw_frame.specs.Views.{fde_of}
 use Rattle.dw_rows.specs.Overlap.{fde_at}
-use Rattle.dw_rows.proofs.Sweeps.{swept-none, swept-skip, swept-more, swept-all, clash-at}
-use Rattle.dw_rows.proofs.Indexes.{entry-within, entry-placed}
+use Rattle.dw_rows.proofs.sections.Sweeps.{swept-none, swept-skip, swept-more, swept-all, clash-at}
+use Rattle.dw_rows.proofs.sections.Indexes.{entry-within, entry-placed}
 use Rattle.dw_rows.proofs.index.overlaps.Goals as goal
 use Rattle.dw_rows.proofs.index.overlaps.Goals.{then-fde-last+else-fde-end, else-fde-last}
 

@@ -1,6 +1,6 @@
 use Rattle.std.proofs.Common.{refl}
 use mir.Val.{bool_byte}
-use Rattle.dw_rows.proofs.Indexes.{strides}
+use Rattle.dw_rows.proofs.sections.Indexes.{strides}
 use Rattle.dw_rows.proofs.index.stride.Goals as goal
 
 pub returns : goal.returns

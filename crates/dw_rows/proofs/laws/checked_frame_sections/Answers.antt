@@ -1,7 +1,7 @@
-use Rattle.dw_rows.proofs.WellFormedSections.{faultless-well-formed}
-use Rattle.dw_rows.proofs.CheckedSections.{checked-cies-sound, checked-fdes-sound, checked-cies-ascend, checked-fdes-ascend}
-use Rattle.dw_rows.proofs.GoodExpressions.{checked-expressions}
-use Rattle.dw_rows.proofs.Lending.{one-at-offset}
+use Rattle.dw_rows.proofs.sections.WellFormedSections.{faultless-well-formed}
+use Rattle.dw_rows.proofs.sections.CheckedSections.{checked-cies-sound, checked-fdes-sound, checked-cies-ascend, checked-fdes-ascend}
+use Rattle.dw_rows.proofs.expressions.GoodExpressions.{checked-expressions}
+use Rattle.dw_rows.proofs.expressions.Lending.{one-at-offset}
 use Rattle.dw_rows.proofs.laws.checked_frame_sections.Goals as goal
 
 pub returns : goal.returns

@@ -1,5 +1,5 @@
-use Rattle.dw_rows.proofs.Lookups.{row-none}
-use Rattle.dw_rows.proofs.OneRow.{has-one-row}
+use Rattle.dw_rows.proofs.rows.Lookups.{row-none}
+use Rattle.dw_rows.proofs.rows.OneRow.{has-one-row}
 use Rattle.dw_rows.proofs.laws.exact_rows.Goals as goal
 
 pub returns : goal.returns

@@ -1,4 +1,4 @@
-use Rattle.dw_rows.proofs.CheckedInPlace.{checked-in-place, never-barred}
+use Rattle.dw_rows.proofs.programs.CheckedInPlace.{checked-in-place, never-barred}
 use Rattle.dw_rows.proofs.laws.expressions_are_checked_in_their_place.Goals as goal
 
 pub returns : goal.returns

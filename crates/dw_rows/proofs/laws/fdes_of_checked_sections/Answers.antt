@@ -1,5 +1,5 @@
-use Rattle.dw_rows.proofs.CheckedSections.{checked-once}
-use Rattle.dw_rows.proofs.FdesOfSections.{fde-good}
+use Rattle.dw_rows.proofs.sections.CheckedSections.{checked-once}
+use Rattle.dw_rows.proofs.sections.FdesOfSections.{fde-good}
 use Rattle.dw_rows.proofs.laws.fdes_of_checked_sections.Goals as goal
 
 pub returns : goal.returns

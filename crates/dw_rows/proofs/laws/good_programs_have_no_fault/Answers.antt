@@ -1,4 +1,4 @@
-use Rattle.dw_rows.proofs.Programs.{good-from-cie, cie-from-good, good-from-fde, fde-from-good}
+use Rattle.dw_rows.proofs.programs.Programs.{good-from-cie, cie-from-good, good-from-fde, fde-from-good}
 use Rattle.dw_rows.proofs.laws.good_programs_have_no_fault.Goals as goal
 
 pub returns : goal.returns

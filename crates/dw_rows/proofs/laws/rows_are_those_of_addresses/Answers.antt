@@ -1,4 +1,4 @@
-use Rattle.dw_rows.proofs.RowsOf.{rows-of-good}
+use Rattle.dw_rows.proofs.rows.RowsOf.{rows-of-good}
 use Rattle.dw_rows.proofs.laws.rows_are_those_of_addresses.Goals as goal
 
 pub returns : goal.returns

@@ -1,8 +1,8 @@
 use Rattle.std.proofs.Common.{◌+◌}
 use Rattle.dw_rows.specs.UnwindRows.{rows_of}
-use Rattle.dw_rows.proofs.Covering.{cover-rows}
-use Rattle.dw_rows.proofs.RowsWithExpressions.{cover-with}
-use Rattle.dw_rows.proofs.RowsOf.{one-row}
+use Rattle.dw_rows.proofs.rows.Covering.{cover-rows}
+use Rattle.dw_rows.proofs.rows.RowsWithExpressions.{cover-with}
+use Rattle.dw_rows.proofs.rows.RowsOf.{one-row}
 use Rattle.dw_rows.proofs.laws.rows_cover.Goals as goal
 
 pub returns : goal.returns

@@ -1,5 +1,5 @@
-use Rattle.dw_rows.proofs.RowsUnder.{section-row-under}
-use Rattle.dw_rows.proofs.GoodRows.{row-good, found-good}
+use Rattle.dw_rows.proofs.rows.RowsUnder.{section-row-under}
+use Rattle.dw_rows.proofs.rows.GoodRows.{row-good, found-good}
 use Rattle.dw_rows.proofs.laws.rows_have_good_expressions.Goals as goal
 
 pub returns : goal.returns

@@ -1,6 +1,6 @@
 use Rattle.std.proofs.Common.{length}
 use Rattle.dw_rows.specs.GoodPrograms.{rule_after, cfa_after}
-use Rattle.dw_rows.proofs.InForce.{are_rules, agree}
+use Rattle.dw_rows.proofs.programs.InForce.{are_rules, agree}
 use Rattle.dw_rows.proofs.laws.rules_by_instruction.Goals as goal
 
 pub returns : goal.returns

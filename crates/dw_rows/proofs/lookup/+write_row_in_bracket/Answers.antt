@@ -5,10 +5,10 @@ use Rattle.dw_rows.specs.UnwindRows.{rows_of, has_address}
 use Rattle.dw_rules.specs.RuleSet.{StoredRules}
 use Rattle.dw_rows.specs.RowCursors.{cursor_at, RowCursor, above}
 use Rattle.dw_rules.specs.RowExpressions.{row_expressions}
-use Rattle.dw_rows.proofs.RowsWithExpressions.{find-with}
-use Rattle.dw_rows.proofs.Covering.{not-missed}
-use Rattle.dw_rows.proofs.Coming.{plain-row, seeks-found, seeks-on, seeks-cursor, seeks-nearer, seeks-cfa, seeks-lent, seeks-remembers}
-use Rattle.dw_rows.proofs.Coming.{seeks-restores, seeks-end}
+use Rattle.dw_rows.proofs.rows.RowsWithExpressions.{find-with}
+use Rattle.dw_rows.proofs.rows.Covering.{not-missed}
+use Rattle.dw_rows.proofs.rows.Coming.{plain-row, seeks-found, seeks-on, seeks-cursor, seeks-nearer, seeks-cfa, seeks-lent, seeks-remembers}
+use Rattle.dw_rows.proofs.rows.Coming.{seeks-restores, seeks-end}
 use Rattle.dw_rows.proofs.lookup.+write_row_in_bracket.Goals as goal
 
 pub next_plain-requires : goal.next_plain-requires

@@ -7,7 +7,7 @@ use Rattle.dw_stack.specs.declared.state.State.{State}
 use Rattle.dw_stack.specs.declared.state.StackState.{StackState}
 use Rattle.dw_stack.specs.States.{at_offset}
 use Rattle.dw_stack.specs.Expressions.{AreStatesOf, Checked, IsChecked}
-use Rattle.dw_stack.proofs.Unbranched.{CheckedSoFar, begun, further, checked, states_checked}
+use Rattle.dw_stack.proofs.paths.Unbranched.{CheckedSoFar, begun, further, checked, states_checked}
 use Rattle.dw_stack.proofs.branchless_check.certify_branchless.Goals.{then-left, else-left}
 use Rattle.dw_stack.proofs.branchless_check.certify_branchless.Goals as goal
 

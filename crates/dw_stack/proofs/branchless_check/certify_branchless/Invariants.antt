@@ -1,5 +1,5 @@
 use Rattle.std.proofs.Common.{◌-◌}
-use Rattle.dw_stack.proofs.Unbranched.{CheckedSoFar}
+use Rattle.dw_stack.proofs.paths.Unbranched.{CheckedSoFar}
 use Rattle.dw_stack.proofs.branchless_check.certify_branchless.Given as goal
 
 abbrev pub invariant-loop-at : goal.invariant-loop-at

@@ -5,7 +5,7 @@ use Rattle.dw_ops.specs.Views.{operation_of}
 use Rattle.dw_stack.specs.declared.state.Kind.{Kind}
 use Rattle.dw_stack.specs.declared.state.StackState.{StackState}
 use Rattle.dw_stack.specs.Expressions.{Checked, IsChecked}
-use Rattle.dw_stack.proofs.Unbranched.{CheckedAlone, begun, further, checked}
+use Rattle.dw_stack.proofs.paths.Unbranched.{CheckedAlone, begun, further, checked}
 use Rattle.dw_stack.proofs.branchless_check.check_branchless.Goals.{then-left, else-left}
 use Rattle.dw_stack.proofs.branchless_check.check_branchless.Goals as goal
 

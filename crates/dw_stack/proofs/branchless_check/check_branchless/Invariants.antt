@@ -1,5 +1,5 @@
 use Rattle.std.proofs.Common.{◌-◌}
-use Rattle.dw_stack.proofs.Unbranched.{CheckedAlone}
+use Rattle.dw_stack.proofs.paths.Unbranched.{CheckedAlone}
 use Rattle.dw_stack.proofs.branchless_check.check_branchless.Given as goal
 
 abbrev pub invariant-loop-at : goal.invariant-loop-at

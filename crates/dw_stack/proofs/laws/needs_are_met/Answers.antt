@@ -1,6 +1,6 @@
 use Rattle.std.proofs.Common.{length}
 use Rattle.dw_stack.specs.Expressions.{operations_in}
-use Rattle.dw_stack.proofs.Runs.{meets_at}
+use Rattle.dw_stack.proofs.paths.Runs.{meets_at}
 use Rattle.dw_stack.proofs.Encoded.{laid_out}
 use Rattle.dw_stack.proofs.laws.needs_are_met.Goals as goal
 

@@ -1,6 +1,6 @@
 use Rattle.std.proofs.Common.{length}
 use Rattle.dw_stack.specs.Expressions.{operations_in}
-use Rattle.dw_stack.proofs.Runs.{as_certified}
+use Rattle.dw_stack.proofs.paths.Runs.{as_certified}
 use Rattle.dw_stack.proofs.Encoded.{laid_out}
 use Rattle.dw_stack.proofs.laws.runs_are_as_certified.Goals as goal
 

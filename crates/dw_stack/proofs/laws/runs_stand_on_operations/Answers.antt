@@ -1,6 +1,6 @@
 use Rattle.std.proofs.Common.{length}
 use Rattle.dw_stack.specs.Expressions.{operations_in}
-use Rattle.dw_stack.proofs.Runs.{stands_on_start}
+use Rattle.dw_stack.proofs.paths.Runs.{stands_on_start}
 use Rattle.dw_stack.proofs.Encoded.{laid_out}
 use Rattle.dw_stack.proofs.laws.runs_stand_on_operations.Goals as goal
 

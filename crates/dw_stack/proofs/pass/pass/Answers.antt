@@ -19,7 +19,7 @@ use Rattle.dw_stack.specs.Paths.{Placed, place, IsLaidOut}
 use Rattle.dw_stack.specs.Faults.{IsFirstFault}
 use Rattle.dw_stack.specs.InStates.{given_of, known_state, Stepped, StepObjects}
 use Rattle.dw_stack.specs.Views.{placed_in}
-use Rattle.dw_stack.proofs.Describes.{arrived_is}
+use Rattle.dw_stack.proofs.paths.Describes.{arrived_is}
 use Rattle.dw_stack.proofs.Lists.{placed_in_length}
 use Rattle.dw_stack.proofs.Places.{place_le}
 use Rattle.dw_stack.proofs.Walks.{Walked, length-passed, walked_start, walked_step}

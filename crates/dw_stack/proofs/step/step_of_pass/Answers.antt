@@ -4,7 +4,7 @@ use Rattle.dw_stack.specs.declared.in_state.InState.TheVariants.{Unreached, Know
 use Rattle.dw_stack.specs.InStates.{given_of}
 use Rattle.dw_stack.specs.Faults.{Given}
 use Rattle.dw_stack.specs.Views.{placed_in}
-use Rattle.dw_stack.proofs.Describes.{arrived_is}
+use Rattle.dw_stack.proofs.paths.Describes.{arrived_is}
 use Rattle.dw_stack.proofs.Checking.{step_objects}
 use Rattle.dw_stack.proofs.step.step_of_pass.Goals as goal
 

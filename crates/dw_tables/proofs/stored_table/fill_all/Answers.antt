@@ -5,7 +5,7 @@ use Rattle.dw_frame.specs.Views.{fde_of}
 use Rattle.dw_rows.specs.Overlap.{IsAddressIndex, IsIndexOf, fde_at}
 use Rattle.dw_tables.specs.declared.table_entries.TableEntry.{TableEntry}
 use Rattle.dw_tables.specs.CompiledTable.{StoredSet, AreEntries, ArePlacedRows, rows_to, sets_bytes}
-use Rattle.dw_rows.proofs.Indexes.{entry-placed}
+use Rattle.dw_rows.proofs.sections.Indexes.{entry-placed}
 use Rattle.dw_tables.proofs.FilledTables.{IsFillingAll, all-begin, all-on, all-done}
 use Rattle.dw_tables.specs.UnwindTables.{fde_bytes, all_rows_bytes}
 use Rattle.dw_tables.proofs.TableRoom.{sum-further, sum-first, lacks-more, still-lacks}

@@ -3,13 +3,13 @@ use Rattle.dw_frame.specs.Records.{Cie}
 use Rattle.dw_frame.specs.Views.{cie_of, fde_of}
 use Rattle.dw_frame.specs.declared.entry.CommonInformationEntry.{CommonInformationEntry}
 use Rattle.dw_rows.specs.Section.{FrameSection, cie_at}
-use Rattle.dw_rows.proofs.Parts.{pointed-in, good-past}
+use Rattle.dw_rows.proofs.sections.Parts.{pointed-in, good-past}
 use Rattle.dw_frame.specs.Bounds.{Ascends}
 use Rattle.dw_rows.specs.Overlap.{cie_offset}
 use Rattle.dw_rows.specs.RowCursors.{Lends}
-use Rattle.dw_rows.proofs.Faults.{at-found}
-use Rattle.dw_rows.proofs.Lending.{lends-in}
-use Rattle.dw_rows.proofs.CheckedSections.{checked-parts, checked-cies-ascend}
+use Rattle.dw_rows.proofs.sections.Faults.{at-found}
+use Rattle.dw_rows.proofs.expressions.Lending.{lends-in}
+use Rattle.dw_rows.proofs.sections.CheckedSections.{checked-parts, checked-cies-ascend}
 use Rattle.dw_rows.proofs.checked_frame.CheckedFrame.begin_with_cie.Goals as goal
 
 pub set_rules_of_cie-requires-clause-order : goal.set_rules_of_cie-requires-clause-order

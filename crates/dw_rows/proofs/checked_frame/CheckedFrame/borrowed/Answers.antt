@@ -4,7 +4,7 @@ use Rattle.dw_stack.specs.declared.checked.CheckedExpression.{CheckedExpression}
 use Rattle.dw_stack.specs.Located.{located_of, all_located}
 use Rattle.dw_frame.specs.Bounds.{Ascends}
 use Rattle.dw_rules.specs.ExpressionOrder.{expression_offset}
-use Rattle.dw_rows.proofs.Lending.{cies-in-order, fdes-in-order}
+use Rattle.dw_rows.proofs.expressions.Lending.{cies-in-order, fdes-in-order}
 use Rattle.dw_rows.proofs.checked_frame.CheckedFrame.borrowed.Goals as goal
 
 pub new-requires-clause-cies : goal.new-requires-clause-cies

@@ -2,7 +2,7 @@ use Rattle.std.proofs.Common.{◌≡◌, None, Contains, subst}
 use Rattle.dw_frame.specs.Records.{Cie}
 use Rattle.dw_rules.specs.ProgramFault.{cie_fault}
 use Rattle.dw_rows.specs.Section.{FrameSection}
-use Rattle.dw_rows.proofs.CheckedSections.{checked-cies-good}
+use Rattle.dw_rows.proofs.sections.CheckedSections.{checked-cies-good}
 use Rattle.dw_rows.proofs.checked_frame.CheckedFrame.cies.Goals as goal
 
 pub returns-clause-good : goal.returns-clause-good

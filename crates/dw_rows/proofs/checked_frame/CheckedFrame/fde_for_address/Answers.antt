@@ -8,7 +8,7 @@ use Rattle.dw_frame.specs.declared.entry.FrameDescriptionEntry.{FrameDescription
 use Rattle.dw_rows.specs.Section.{FrameSection, CoversOnce, IsCoverOf}
 use Rattle.dw_rows.specs.Overlap.{IsAddressIndex}
 use Rattle.dw_rows.specs.declared.index.IndexEntry.{IndexEntry}
-use Rattle.dw_rows.proofs.CheckedSections.{checked-once, checked-fits}
+use Rattle.dw_rows.proofs.sections.CheckedSections.{checked-once, checked-fits}
 use Rattle.dw_rows.proofs.checked_frame.CheckedFrame.fde_for_address.Goals as goal
 
 -- if all FDEs end at or below the target's highest address, so does the FDE found for an address

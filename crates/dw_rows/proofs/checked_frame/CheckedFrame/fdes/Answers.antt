@@ -2,7 +2,7 @@ use Rattle.std.proofs.Common.{◌+◌, ◌≤◌, Contains, subst}
 use Rattle.dw_frame.specs.Records.{Fde}
 use Rattle.dw_frame.specs.Sections.{top_of}
 use Rattle.dw_rows.specs.Section.{FrameSection}
-use Rattle.dw_rows.proofs.CheckedSections.{checked-fits}
+use Rattle.dw_rows.proofs.sections.CheckedSections.{checked-fits}
 use Rattle.dw_rows.proofs.checked_frame.CheckedFrame.fdes.Goals as goal
 
 pub returns-clause-fit : goal.returns-clause-fit

@@ -4,9 +4,9 @@ use Rattle.dw_frame.specs.Views.{cie_of, fde_of}
 use Rattle.dw_rows.specs.Section.{rows_by_cie}
 use Rattle.dw_rules.specs.RowsWithExpressions.{row_with_expressions}
 use Rattle.dw_rows.specs.UnwindRows.{rows_of, has_address}
-use Rattle.dw_rows.proofs.Covering.{cover-rows, found-by}
-use Rattle.dw_rows.proofs.RowsWithExpressions.{cover-with}
-use Rattle.dw_rows.proofs.Lookups.{row-found, row-none}
+use Rattle.dw_rows.proofs.rows.Covering.{cover-rows, found-by}
+use Rattle.dw_rows.proofs.rows.RowsWithExpressions.{cover-with}
+use Rattle.dw_rows.proofs.rows.Lookups.{row-found, row-none}
 use Rattle.dw_rows.proofs.checked_frame.CheckedFrame.row_for_address_into.Goals as goal
 
 pub write_row_of-cie-requires-clause-low : goal.write_row_of-cie-requires-clause-low

@@ -3,7 +3,7 @@ use Rattle.dw_frame.specs.Views.{cie_of, fde_of}
 use Rattle.dw_rules.specs.RowsWithExpressions.{row_with_expressions}
 use Rattle.dw_rules.specs.RowExpressions.{row_expressions}
 use Rattle.dw_rows.specs.RowCursors.{cursor_at}
-use Rattle.dw_rows.proofs.Coming.{ready-rests, ready-comes}
+use Rattle.dw_rows.proofs.rows.Coming.{ready-rests, ready-comes}
 use Rattle.dw_rows.proofs.row_iter.Rows.next_into.Goals as goal
 
 pub invariant_of-self-in-None : goal.invariant_of-self-in-None

@@ -2,7 +2,7 @@ use Rattle.std.proofs.Common.{List, subst, sym}
 use Rattle.dw_stack.specs.Located.{LocatedExpression}
 use Rattle.dw_frame.specs.Views.{cie_of, fde_of}
 use Rattle.dw_rows.specs.RowCursors.{Lends}
-use Rattle.dw_rows.proofs.Coming.{ready-begun}
+use Rattle.dw_rows.proofs.rows.Coming.{ready-begun}
 use Rattle.dw_rows.proofs.row_iter.Rows.restart_in.Goals as goal
 
 pub invariant_of-self : goal.invariant_of-self

@@ -1,6 +1,6 @@
 use Rattle.std.proofs.Common.{length, refl}
 use Rattle.dw_stack.specs.Expressions.{operations_in}
-use Rattle.dw_stack.proofs.Heights.{depth_within}
+use Rattle.dw_stack.proofs.paths.Heights.{depth_within}
 use Rattle.dw_stack.proofs.Stable.{checked_stable}
 use Rattle.dw_stack.proofs.Whole.{runs_for}
 use Rattle.dw_stack.specs.Certificates.{checked_of}

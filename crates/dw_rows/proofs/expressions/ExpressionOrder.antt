@@ -22,7 +22,7 @@ use Rattle.dw_frame.proofs.Blocks.{ends-with-block, sound-inside}
 use Rattle.dw_stack.specs.Located.{LocatedExpression}
 use Rattle.dw_rules.specs.Expressions.{expressions_in, expressions_of, cie_expressions, fde_expressions, frame_expressions, expression_at}
 use Rattle.dw_rows.specs.Section.{frame_of, cies_among, fdes_among}
-use Rattle.dw_rows.proofs.SectionOrder.{are-records}
+use Rattle.dw_rows.proofs.sections.SectionOrder.{are-records}
 use Rattle.dw_rules.proofs.ExpressionsByOffset.{at-offset, no-expression, found-in-parts}
 
 -- Expressions with the same target that follow each other: the first begins after `low`, each

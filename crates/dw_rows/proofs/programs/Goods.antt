@@ -1,4 +1,4 @@
--- A program is good (`IsGood`, ../specs/GoodPrograms.antt) if and only if none of its instructions
+-- A program is good (`IsGood`, ../../specs/GoodPrograms.antt) if and only if none of its instructions
 -- is refused and its end isn't refused.
 use Rattle.std.proofs.Common.{◌≡◌, ◌≢◌, ℕ, zero, suc, ◌+◌, ◌-◌, ◌<◌, ◌≤◌, ◌⊎◌, inl, inr, Bool, List, [], ◌∷◌, ◌++◌, length, reverse, take}
 use Rattle.std.proofs.Common.{drop, get_or, refl, sym, ap, ◌∙◌, arith, Option, Some, None, length-append, append_assoc, true, false, cond}
@@ -17,12 +17,12 @@ use Rattle.dw_rules.specs.Effects.{Effect, stays, advances_loc, sets_loc, rememb
 use Rattle.dw_rules.specs.InForce.{Start, location_of, rule_at, cfa_at, open_count, not_register_cfa, cie_start}
 use Rattle.dw_rules.specs.ProgramFault.{is_restore_state, is_remember_state, lacks_cfa, goes_back, refusal_at, refusal_at_end, cie_refusal_at}
 use Rattle.dw_rows.specs.GoodPrograms.{prefix, remembers, restores_in, Match, IsLast, IsGood, IsGoodCie, rule_after, cfa_after, location_after}
-use Rattle.dw_rows.proofs.Checking.{Passed, passed-from, from-passed, Ended, ended-from, from-ended}
-use Rattle.dw_rows.proofs.Beginnings.{prefix-all, length-prefix}
-use Rattle.dw_rows.proofs.InForce.{prefix-at, around, reverse-middle}
-use Rattle.dw_rows.proofs.Matching.{found, open_count-skip, StaysOut-balanced, balanced-StaysOut, remembers-append, restores-append}
-use Rattle.dw_rows.proofs.Matching.{remembers-reverse, restores-reverse, reverse-reverse}
-use Rattle.dw_rows.proofs.Effects.{open_count-suc}
+use Rattle.dw_rows.proofs.programs.Checking.{Passed, passed-from, from-passed, Ended, ended-from, from-ended}
+use Rattle.dw_rows.proofs.programs.Beginnings.{prefix-all, length-prefix}
+use Rattle.dw_rows.proofs.programs.InForce.{prefix-at, around, reverse-middle}
+use Rattle.dw_rows.proofs.programs.Matching.{found, open_count-skip, StaysOut-balanced, balanced-StaysOut, remembers-append, restores-append}
+use Rattle.dw_rows.proofs.programs.Matching.{remembers-reverse, restores-reverse, reverse-reverse}
+use Rattle.dw_rows.proofs.programs.Effects.{open_count-suc}
 
 -- no instruction of the program is refused, and neither is the program's end
 pub record Fine (s : Start) (p : List Effect) : Type 0 where

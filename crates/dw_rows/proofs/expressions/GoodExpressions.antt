@@ -10,10 +10,10 @@ use Rattle.dw_stack.specs.Expressions.{IsGoodExpression}
 use Rattle.dw_stack.specs.Located.{LocatedExpression}
 use Rattle.dw_rules.specs.Expressions.{expressions_in, expressions_of, cie_expressions, fde_expressions, frame_expressions}
 use Rattle.dw_rows.specs.Section.{FrameSection, IsChecked, frame_of}
-use Rattle.dw_rows.proofs.ExpressionOrder.{expression-inside}
-use Rattle.dw_rows.proofs.Parts.{pointed-in, good-past}
-use Rattle.dw_rows.proofs.Programs.{good-from-cie, good-from-fde, good-read, good-read-fde}
-use Rattle.dw_rows.proofs.CheckedSections.{checked-read, checked-parts, checked-cies-good, in-programs}
+use Rattle.dw_rows.proofs.expressions.ExpressionOrder.{expression-inside}
+use Rattle.dw_rows.proofs.sections.Parts.{pointed-in, good-past}
+use Rattle.dw_rows.proofs.programs.Programs.{good-from-cie, good-from-fde, good-read, good-read-fde}
+use Rattle.dw_rows.proofs.sections.CheckedSections.{checked-read, checked-parts, checked-cies-good, in-programs}
 
 abbrev IsGood : LocatedExpression → Type 0
 IsGood e = IsGoodExpression e.kind e.target e.bytes

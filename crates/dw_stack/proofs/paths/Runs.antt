@@ -25,10 +25,10 @@ use Rattle.dw_stack.specs.Machine.{entry, location_named, jumps, JumpsTo}
 use Rattle.dw_stack.specs.Machine.{extent_of, location_of, stack_after, pieces_after, CanDo, Meets, Step, Run, offsets_of, Starts}
 use Rattle.dw_stack.specs.Machine.{PendingIs, has_pieces, Agrees, IsNotStuck, IsOver, RunsWell}
 use Rattle.dw_stack.proofs.Places.{place_of_some, place_past, place_mono, place_inj}
-use Rattle.dw_stack.proofs.Heights.{next_height_le}
+use Rattle.dw_stack.proofs.paths.Heights.{next_height_le}
 use Rattle.dw_stack.proofs.Pieces.{pieces_mono, pieces_with, length-pieces_after}
-use Rattle.dw_stack.proofs.Ends.{pieced_after, result_there}
-use Rattle.dw_stack.proofs.Routes.{reach_from, extend, at_start, reached_place, edge_lands}
+use Rattle.dw_stack.proofs.paths.Ends.{pieced_after, result_there}
+use Rattle.dw_stack.proofs.paths.Routes.{reach_from, extend, at_start, reached_place, edge_lands}
 
 -- for each operation: the location that is pending after the operation is as its role says
 pending_is : (op : Operation) (s : List ℕ) (p : Option LocationDescription) (h : ℕ) (b : Bool) → p ≡ location_named op s

@@ -24,11 +24,11 @@ use Rattle.dw_rows.specs.Clauses.{IsRowAt, start_in, program_in}
 use Rattle.dw_rows.specs.Section.{FrameSection, IsChecked, frame_of}
 use Rattle.dw_rows.specs.RowCursors.{RowCursor, StandsAfter, LendsTo, Lends}
 use Rattle.dw_rules.proofs.NamedExpressions.{rules-have, cfa-has, listed-have}
-use Rattle.dw_rows.proofs.ExpressionsAmong.{of-instruction, of-effect, of-frame-cie, of-frame-fde}
-use Rattle.dw_rows.proofs.ExpressionOrder.{expression-found, cie-expressions-ascend, fde-expressions-ascend}
-use Rattle.dw_rows.proofs.Programs.{effects-good, good-read-fde, start-same}
+use Rattle.dw_rows.proofs.expressions.ExpressionsAmong.{of-instruction, of-effect, of-frame-cie, of-frame-fde}
+use Rattle.dw_rows.proofs.expressions.ExpressionOrder.{expression-found, cie-expressions-ascend, fde-expressions-ascend}
+use Rattle.dw_rows.proofs.programs.Programs.{effects-good, good-read-fde, start-same}
 use Rattle.dw_rules.proofs.Tables.{rule_list-table, rule_list-same}
-use Rattle.dw_rows.proofs.CheckedSections.{checked-read, in-programs}
+use Rattle.dw_rows.proofs.sections.CheckedSections.{checked-read, in-programs}
 
 -- ---- the rules that a cursor has
 

@@ -26,8 +26,8 @@ use Rattle.dw_rows.specs.Section.{first_fault, cie_at, pointer_fault, program_fa
 use Rattle.dw_rows.specs.Section.{parts_fault, section_fault, frame_of}
 use Rattle.dw_stack.specs.FirstFault.{expression_fault}
 use Rattle.dw_stack.proofs.FaultsInside.{fault-inside}
-use Rattle.dw_rows.proofs.ExpressionOrder.{program-inside}
-use Rattle.dw_rows.proofs.SectionOrder.{fdes-sound, cies-sound}
+use Rattle.dw_rows.proofs.expressions.ExpressionOrder.{program-inside}
+use Rattle.dw_rows.proofs.sections.SectionOrder.{fdes-sound, cies-sound}
 
 -- ---- the first of two faults is one of them
 

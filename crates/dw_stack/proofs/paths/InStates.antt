@@ -14,7 +14,7 @@ use Rattle.dw_stack.specs.States.{start_of, state_after}
 use Rattle.dw_stack.specs.Paths.{Placed, place, IsLaidOut, jump_target, branch_target_of, Leads}
 use Rattle.dw_stack.specs.FirstFault.{offsets_to, offsets_after, states_at, onward, arrivals, states_to}
 use Rattle.dw_stack.proofs.Places.{place_of_some, later_place}
-use Rattle.dw_stack.proofs.Routes.{reach_from, Comes, reaches_from_comes, comes_from_reaches}
+use Rattle.dw_stack.proofs.paths.Routes.{reach_from, Comes, reaches_from_comes, comes_from_reaches}
 
 -- ---- elements of a list
 

@@ -5,7 +5,7 @@ use Rattle.std.proofs.Common.{length-append}
 use Rattle.std.proofs.lemmas.Bool.{cases_lt}
 use Rattle.dw_rules.specs.Effects.{Effect, remembers_state, restores_state}
 use Rattle.dw_rows.specs.GoodPrograms.{remembers, restores_in, IsBalanced, Match}
-use Rattle.dw_rows.proofs.Matching.{remembers-append, restores-append}
+use Rattle.dw_rows.proofs.programs.Matching.{remembers-append, restores-append}
 
 -- if a list is split in two ways, the longer front begins with the shorter one
 record Between (a b c d : List Effect) : Type 0 where

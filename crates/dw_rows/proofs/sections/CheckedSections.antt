@@ -16,9 +16,9 @@ use Rattle.dw_rules.specs.RuleSet.{StoredRules}
 use Rattle.dw_rules.specs.Initial.{AreLeftBy}
 use Rattle.dw_rows.specs.Overlap.{cie_offset, fde_offset, IsAddressIndex, IsKept}
 use Rattle.dw_rows.specs.declared.index.IndexEntry.{IndexEntry}
-use Rattle.dw_rows.proofs.Faults.{option_or-none, none-each}
-use Rattle.dw_rows.proofs.Parts.{parts-pass, covers-once-in}
-use Rattle.dw_rows.proofs.SectionOrder.{cies-ascend, fdes-ascend, cies-sound, fdes-sound}
+use Rattle.dw_rows.proofs.sections.Faults.{option_or-none, none-each}
+use Rattle.dw_rows.proofs.sections.Parts.{parts-pass, covers-once-in}
+use Rattle.dw_rows.proofs.sections.SectionOrder.{cies-ascend, fdes-ascend, cies-sound, fdes-sound}
 
 -- the CIEs and FDEs of a section that passed the check were read without a fault
 pub checked-read : (s : FrameSection) → IsChecked s → fault_in (records_of s.target s.section) ≡ None

@@ -1,5 +1,5 @@
 -- The program of a CIE or an FDE has no fault if and only if it is good
--- (../specs/GoodPrograms.antt).
+-- (../../specs/GoodPrograms.antt).
 use Rattle.std.proofs.Common.{◌≡◌, ℕ, zero, suc, List, [], ◌∷◌, ◌++◌, map, reverse, take, refl, sym, ap, ◌∙◌, arith, Option, Some, None}
 use Rattle.std.proofs.Common.{Result, Ok, Err, Contains, subst, append_assoc}
 use Rattle.std.proofs.lemmas.List.{reverse-append, append-nil}
@@ -21,9 +21,9 @@ use Rattle.dw_rules.specs.ProgramFault.{standing_at, item_fault, fault_from, ref
 use Rattle.dw_rules.specs.ProgramFault.{fde_fault}
 use Rattle.dw_rows.specs.GoodPrograms.{IsGood, AreGoodExpressions, IsGoodCieProgram, IsGoodFdeProgram}
 use Rattle.dw_stack.proofs.Named.{none_if_good, good_if_none}
-use Rattle.dw_rows.proofs.Faults.{option_or-none}
-use Rattle.dw_rows.proofs.RowCursors.{standing_at-none, item-passes}
-use Rattle.dw_rows.proofs.Goods.{Fine, fine-iff, FineCie, fine-cie-iff}
+use Rattle.dw_rows.proofs.sections.Faults.{option_or-none}
+use Rattle.dw_rows.proofs.rows.RowCursors.{standing_at-none, item-passes}
+use Rattle.dw_rows.proofs.programs.Goods.{Fine, fine-iff, FineCie, fine-cie-iff}
 
 -- ---- expressions
 

@@ -3,8 +3,8 @@ use Rattle.std.proofs.Common.{◌≡◌, Some, None, Contains}
 use Rattle.dw_frame.specs.Records.{Cie, Fde}
 use Rattle.dw_rules.specs.ProgramFault.{cie_fault, fde_fault}
 use Rattle.dw_rows.specs.Section.{FrameSection, IsChecked, cie_in}
-use Rattle.dw_rows.proofs.CheckedSections.{checked-parts}
-use Rattle.dw_rows.proofs.Parts.{pointed-in, good-past}
+use Rattle.dw_rows.proofs.sections.CheckedSections.{checked-parts}
+use Rattle.dw_rows.proofs.sections.Parts.{pointed-in, good-past}
 
 pub fde-good : (s : FrameSection) → IsChecked s → (f : Fde) → Contains s.fdes f
     → (c : Cie) × (cie_in s f ≡ Some c) × (cie_fault c ≡ None) × (fde_fault c f ≡ None)

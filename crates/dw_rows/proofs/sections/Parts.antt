@@ -10,8 +10,8 @@ use Rattle.dw_rows.specs.Section.{first_fault, cie_at, pointer_fault, program_fa
 use Rattle.dw_rows.specs.Section.{parts_fault, CoversOnce}
 use Rattle.dw_rows.specs.Overlap.{fde_offset}
 use Rattle.dw_frame.specs.Bounds.{Ascends}
-use Rattle.dw_rows.proofs.Faults.{option_or-none, none-each, at-found}
-use Rattle.dw_rows.proofs.Clashes.{once-covered}
+use Rattle.dw_rows.proofs.sections.Faults.{option_or-none, none-each, at-found}
+use Rattle.dw_rows.proofs.sections.Clashes.{once-covered}
 
 -- no part of the check found a fault
 pub record PartsPass (cies : List Cie) (fdes : List Fde) : Type 0 where

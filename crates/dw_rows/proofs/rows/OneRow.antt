@@ -14,15 +14,15 @@ use Rattle.dw_rows.specs.Clauses.{IsRowAt, IsRow, AreRowsFrom, start_in, program
 use Rattle.dw_rows.specs.Section.{FrameSection, Covers, IsCoverOf, IsChecked, rows_in, rows_by_cie}
 use Rattle.dw_rows.specs.ExactRows.{HasOneRow}
 use Rattle.dw_rules.proofs.Tables.{rule_list-table, rule_list-same}
-use Rattle.dw_rows.proofs.Parts.{pointed-in, good-past}
-use Rattle.dw_rows.proofs.Faults.{at-found}
-use Rattle.dw_rows.proofs.Programs.{good-from-cie, good-from-fde}
-use Rattle.dw_rows.proofs.Covering.{cover-rows}
-use Rattle.dw_rows.proofs.RowsOf.{rows-of-good, one-row}
-use Rattle.dw_rows.proofs.Lookups.{row-found}
-use Rattle.dw_rows.proofs.Lending.{lends-in, row-lends}
-use Rattle.dw_rows.proofs.RowsWithExpressions.{filter-with}
-use Rattle.dw_rows.proofs.CheckedSections.{checked-parts, checked-once}
+use Rattle.dw_rows.proofs.sections.Parts.{pointed-in, good-past}
+use Rattle.dw_rows.proofs.sections.Faults.{at-found}
+use Rattle.dw_rows.proofs.programs.Programs.{good-from-cie, good-from-fde}
+use Rattle.dw_rows.proofs.rows.Covering.{cover-rows}
+use Rattle.dw_rows.proofs.rows.RowsOf.{rows-of-good, one-row}
+use Rattle.dw_rows.proofs.rows.Lookups.{row-found}
+use Rattle.dw_rows.proofs.expressions.Lending.{lends-in, row-lends}
+use Rattle.dw_rows.proofs.rows.RowsWithExpressions.{filter-with}
+use Rattle.dw_rows.proofs.sections.CheckedSections.{checked-parts, checked-once}
 
 -- ---- the only row that passes a test
 

@@ -14,10 +14,10 @@ use Rattle.dw_rules.specs.Effects.{Effect, effect_of, effects_of}
 use Rattle.dw_rules.specs.InForce.{Start, location_of, fde_start}
 use Rattle.dw_rules.specs.ProgramFault.{refusal_at, item_fault, fde_fault_from, fde_fault}
 use Rattle.dw_rows.specs.UnwindRows.{rows_up_to, rows_after, rows_of, has_address, Cover}
-use Rattle.dw_rows.proofs.Checking.{passed-from}
-use Rattle.dw_rows.proofs.Faults.{option_or-none}
-use Rattle.dw_rows.proofs.RowCursors.{item-passes}
-use Rattle.dw_rows.proofs.Running.{forward}
+use Rattle.dw_rows.proofs.programs.Checking.{passed-from}
+use Rattle.dw_rows.proofs.sections.Faults.{option_or-none}
+use Rattle.dw_rows.proofs.rows.RowCursors.{item-passes}
+use Rattle.dw_rows.proofs.programs.Running.{forward}
 
 cover-up : (s : Start) (before : List Effect) (to : ℕ) (rows : List PlacedRow) (end : ℕ) → location_of s before ≤ to → Cover to rows end
     → Cover (location_of s before) (rows_up_to s before to ++ rows) end

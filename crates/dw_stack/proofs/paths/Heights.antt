@@ -11,7 +11,7 @@ use Rattle.dw_stack.specs.declared.state.Kind.TheVariants.{FrameCfa, FrameRegist
 use Rattle.dw_stack.specs.Effects.{effect_of}
 use Rattle.dw_stack.specs.States.{start_of, next_mode, height_after}
 use Rattle.dw_stack.specs.Paths.{Placed, Reaches, IsGood, Touches, IsDepth}
-use Rattle.dw_stack.proofs.Routes.{last_edge, reach_from}
+use Rattle.dw_stack.proofs.paths.Routes.{last_edge, reach_from}
 
 start_within : (kind : Kind) → (start_of kind).height ≤ MAX_HEIGHT
 start_within FrameCfa = omega arith

@@ -19,13 +19,13 @@ use Rattle.dw_rows.specs.UnwindRows.{rows_of, has_address}
 use Rattle.dw_rows.specs.Clauses.{IsRow, AreRowsFrom, start_in, program_in}
 use Rattle.dw_rows.specs.Section.{FrameSection, IsChecked, covers, rows_in, rows_by_cie, row_of}
 use Rattle.dw_rules.proofs.Elements.{contained-map}
-use Rattle.dw_rows.proofs.Parts.{pointed-in, good-past}
-use Rattle.dw_rows.proofs.Faults.{at-found}
-use Rattle.dw_rows.proofs.Programs.{good-from-cie, good-from-fde}
-use Rattle.dw_rows.proofs.RowsOf.{rows-of-good}
-use Rattle.dw_rows.proofs.Lending.{lends-in, row-lends}
-use Rattle.dw_rows.proofs.CheckedSections.{checked-parts}
-use Rattle.dw_rows.proofs.GoodExpressions.{checked-expressions}
+use Rattle.dw_rows.proofs.sections.Parts.{pointed-in, good-past}
+use Rattle.dw_rows.proofs.sections.Faults.{at-found}
+use Rattle.dw_rows.proofs.programs.Programs.{good-from-cie, good-from-fde}
+use Rattle.dw_rows.proofs.rows.RowsOf.{rows-of-good}
+use Rattle.dw_rows.proofs.expressions.Lending.{lends-in, row-lends}
+use Rattle.dw_rows.proofs.sections.CheckedSections.{checked-parts}
+use Rattle.dw_rows.proofs.expressions.GoodExpressions.{checked-expressions}
 
 -- what `find` returns is one of the elements
 found-among : {X : Type 0} (p : X → Bool) (xs : List X) (x : X) → find p xs ≡ Some x → Contains xs x

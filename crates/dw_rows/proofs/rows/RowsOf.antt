@@ -14,10 +14,10 @@ use Rattle.dw_rows.specs.UnwindRows.{row_up_to, rows_after, rows_of, has_address
 use Rattle.dw_rows.specs.GoodPrograms.{prefix, location_after, IsLast, IsGood, IsGoodFdeProgram}
 use Rattle.dw_rows.specs.Clauses.{IsRow, AreRowsFrom, AreRowsOf, start_in, program_in}
 use Rattle.dw_rules.proofs.Tables.{IsTable-rule_list, rule_in-rule_list}
-use Rattle.dw_rows.proofs.InForce.{prefix-front}
-use Rattle.dw_rows.proofs.Goods.{climbs-to}
-use Rattle.dw_rows.proofs.Programs.{effects-good, start-same, good-read-fde}
-use Rattle.dw_rows.proofs.Covering.{here, not-here-below, not-here-above}
+use Rattle.dw_rows.proofs.programs.InForce.{prefix-front}
+use Rattle.dw_rows.proofs.programs.Goods.{climbs-to}
+use Rattle.dw_rows.proofs.programs.Programs.{effects-good, start-same, good-read-fde}
+use Rattle.dw_rows.proofs.rows.Covering.{here, not-here-below, not-here-above}
 
 -- The address a is at or above the location after k instructions, and below the location after
 -- k + 1, if and only if k is the greatest number of instructions after which the location is at

@@ -7,8 +7,8 @@ use Rattle.dw_rules.specs.Rules.{expression, val_expression, register_and_offset
 use Rattle.dw_rows.specs.GoodRows.{IsGoodRule, IsGoodCfa}
 use Rattle.dw_rows.specs.RowLookups.{IsRuleUnder, IsCfaUnder, IsRowUnder}
 use Rattle.dw_rows.specs.Section.{FrameSection, IsChecked, row_of}
-use Rattle.dw_rows.proofs.GoodRows.{found-good}
-use Rattle.dw_rows.proofs.GoodExpressions.{checked-expressions}
+use Rattle.dw_rows.proofs.rows.GoodRows.{found-good}
+use Rattle.dw_rows.proofs.expressions.GoodExpressions.{checked-expressions}
 
 good-rule-under : (s : FrameSection) → IsChecked s → (x : Rule) → IsGoodRule s.expressions x → IsRuleUnder s.target x
 good-rule-under s k (expression e) h = (checked-expressions s k e h.among).1

@@ -1,0 +1,10 @@
+-- Sections: their records, overlaps, index and faults.
+pub mod Sweeps
+pub mod Indexes
+pub mod Faults
+pub mod Clashes
+pub mod Parts
+pub mod SectionOrder
+pub mod WellFormedSections
+pub mod CheckedSections
+pub mod FdesOfSections
