@@ -17,7 +17,7 @@ use Rattle.dw_bytes.proofs.Readers.{bind-ok, ok-is}
 use Rattle.dw_bytes.proofs.Bodies.{framed-found}
 use Rattle.dw_frame.specs.Bounds.{Ascends}
 use Rattle.dw_eh_frame.specs.declared.pointer.Bases.{Bases}
-use Rattle.dw_eh_frame.specs.Records.{EhCie, EhFde, EhRecord, eh_cie, eh_fde, eh_nothing, eh_cie_head_at, eh_cie_from, eh_cie_before, eh_area_at, eh_fde_from, eh_full_at, eh_body_at, eh_record_at, eh_entries_from, eh_entries_of, in_full}
+use Rattle.dw_eh_frame.specs.Records.{EhCie, EhFde, EhRecord, eh_cie, eh_fde, eh_nothing, eh_cie_head_at, eh_cie_from, eh_cie_before, eh_area_at, eh_fde_from, eh_full_at, eh_body_at, eh_record_at, eh_records_from, eh_records_of, in_full}
 use Rattle.dw_eh_frame.specs.Pointers.{pointer_at, range_at}
 use Rattle.dw_eh_frame.specs.Places.{source_start}
 use Rattle.dw_eh_frame.specs.Rewriting.{says_something}
@@ -151,8 +151,8 @@ up-to-rise bases section (suc n) r (x ∷ records) is = elim (cases_lt 0 (length
 ]
 
 pub records-rise : (bases : Bases) (target : Target) (section : List ℕ) (records : List EhRecord)
-    → eh_entries_of bases target section ≡ map Ok records → Ascends source_start records
-unfolding eh_entries_from sequence_of
+    → eh_records_of bases target section ≡ map Ok records → Ascends source_start records
+unfolding eh_records_from sequence_of
 records-rise bases target section records is =
     (up-to-rise bases section (length (section_from target section 0).rest) (section_from target section 0) records is).0
 

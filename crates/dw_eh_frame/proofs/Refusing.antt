@@ -12,14 +12,14 @@ use Rattle.dw_bytes.proofs.Sequences.{stops}
 use Rattle.dw_eh_frame.specs.declared.pointer.Bases.{Bases}
 use Rattle.dw_eh_frame.specs.declared.rewriting.CiePlace.{CiePlace}
 use Rattle.dw_eh_frame.specs.declared.places.RecordPlace.{RecordPlace}
-use Rattle.dw_eh_frame.specs.Records.{EhCie, EhFde, EhRecord, eh_cie, eh_fde, eh_nothing, eh_record_at, eh_entries_from, begins_at, lost, reading_fault_after}
+use Rattle.dw_eh_frame.specs.Records.{EhCie, EhFde, EhRecord, eh_cie, eh_fde, eh_nothing, eh_record_at, eh_records_from, begins_at, lost, reading_fault_after}
 use Rattle.dw_eh_frame.specs.Progress.{IsUnderWay}
 use Rattle.dw_eh_frame.specs.Refused.{IsRefused, IsUnwritten, IsUnwrittenFde}
 use Rattle.dw_eh_frame.proofs.Steps.{at-record}
 
 at-fault : (bases : Bases) (target : Target) (section : List ℕ) (at : ℕ) (fault : Fault) → at < length section
-    → eh_record_at bases section (section_from target section at) ≡ Err fault → eh_entries_from bases target section at ≡ Err fault ∷ []
-unfolding eh_entries_from
+    → eh_record_at bases section (section_from target section at) ≡ Err fault → eh_records_from bases target section at ≡ Err fault ∷ []
+unfolding eh_records_from
 at-fault bases target section at fault h is = stops (eh_record_at bases section) (section_from target section at) fault
     (omega (arith, length-drop at section)) is
 
@@ -60,7 +60,7 @@ refused-fde a bases target section at next room made cies list firsts e fault wa
     none-begins e.cie.offset way.records (λ c among same. let place = way.complete c among in alone place.0 place.1 (place.2 ∙ same)) in
     inr (inr (way.first
     ∙ (ap (reading_fault_after way.records) (at-record bases target section at next (eh_fde e) is)
-    ∙ (ap (λ b. option_or (cond b None (Some (lost e))) (reading_fault_after (way.records ++ eh_fde e ∷ []) (eh_entries_from bases target section next)))
+    ∙ (ap (λ b. option_or (cond b None (Some (lost e))) (reading_fault_after (way.records ++ eh_fde e ∷ []) (eh_records_from bases target section next)))
     none ∙ ap Some (sym h)))))
 
 pub ruleset refusals = (refused-reading, refused-record, refused-fde)

@@ -17,7 +17,7 @@ use Rattle.dw_frame.specs.Records.{Cie, Record, cie_record, fde_record}
 use Rattle.dw_frame.specs.Sections.{IsRecord, AreRecords}
 use Rattle.dw_eh_frame.specs.declared.pointer.Bases.{Bases}
 use Rattle.dw_eh_frame.specs.declared.rewriting.CiePlace.{CiePlace}
-use Rattle.dw_eh_frame.specs.Records.{EhCie, EhFde, EhRecord, eh_cie, eh_fde, eh_nothing, eh_cie_at, eh_body_at, eh_record_at, eh_entries_from, eh_entries_of, begins_at, lost, reading_fault_after, eh_reading_fault}
+use Rattle.dw_eh_frame.specs.Records.{EhCie, EhFde, EhRecord, eh_cie, eh_fde, eh_nothing, eh_cie_at, eh_body_at, eh_record_at, eh_records_from, eh_records_of, begins_at, lost, reading_fault_after, eh_reading_fault}
 use Rattle.dw_eh_frame.specs.declared.dialect.Dialect.{Dialect}
 use Rattle.dw_eh_frame.specs.declared.places.RecordPlace.{RecordPlace}
 use Rattle.dw_eh_frame.specs.Instructions.{dialect_of}
@@ -53,14 +53,14 @@ records-forward bases section r x after is =
 
 pub at-record : (bases : Bases) (target : Target) (section : List ℕ) (at next : ℕ) (x : EhRecord)
     → eh_record_at bases section (section_from target section at) ≡ Ok (x, section_from target section next)
-    → eh_entries_from bases target section at ≡ Ok x ∷ eh_entries_from bases target section next
-unfolding eh_entries_from
+    → eh_records_from bases target section at ≡ Ok x ∷ eh_records_from bases target section next
+unfolding eh_records_from
 at-record bases target section at next x is = goes-on (eh_record_at bases section) (records-forward bases section)
     (section_from target section at) x (section_from target section next) is
 
 pub at-end : (bases : Bases) (target : Target) (section : List ℕ) (at : ℕ) → length section ≤ at
-    → eh_entries_from bases target section at ≡ []
-unfolding eh_entries_from
+    → eh_records_from bases target section at ≡ []
+unfolding eh_records_from
 at-end bases target section at h = ends (eh_record_at bases section) (section_from target section at) (omega (arith, length-drop at section))
 
 -- ---- writing
@@ -120,14 +120,14 @@ place-still target section pairs p q h = record {
 
 -- the records so far, after one more
 read-more : (bases : Bases) (target : Target) (section : List ℕ) (at next : ℕ) (records : List EhRecord) (x : EhRecord)
-    → eh_entries_of bases target section ≡ map Ok records ++ eh_entries_from bases target section at
+    → eh_records_of bases target section ≡ map Ok records ++ eh_records_from bases target section at
     → eh_record_at bases section (section_from target section at) ≡ Ok (x, section_from target section next)
-    → eh_entries_of bases target section ≡ map Ok (records ++ x ∷ []) ++ eh_entries_from bases target section next
+    → eh_records_of bases target section ≡ map Ok (records ++ x ∷ []) ++ eh_records_from bases target section next
 read-more bases target section at next records x read is =
     read
     ∙ (ap (λ (items : List (Result EhRecord Fault)). map Ok records ++ items) (at-record bases target section at next x is)
-    ∙ (sym (append_assoc (map Ok records) (Ok x ∷ []) (eh_entries_from bases target section next))
-    ∙ ap (λ (items : List (Result EhRecord Fault)). items ++ eh_entries_from bases target section next)
+    ∙ (sym (append_assoc (map Ok records) (Ok x ∷ []) (eh_records_from bases target section next))
+    ∙ ap (λ (items : List (Result EhRecord Fault)). items ++ eh_records_from bases target section next)
     (sym (map-append Ok records (x ∷ [])))))
 
 -- the records that say something, after one more
@@ -401,10 +401,10 @@ among-records pairs records c d sources among =
 
 still-first : (bases : Bases) (target : Target) (section : List ℕ) (next : ℕ) (records : List EhRecord) (e : EhFde)
     → list_any (begins_at e.cie.offset) records ≡ true
-    → reading_fault_after records (Ok (eh_fde e) ∷ eh_entries_from bases target section next)
-    ≡ reading_fault_after (records ++ eh_fde e ∷ []) (eh_entries_from bases target section next)
+    → reading_fault_after records (Ok (eh_fde e) ∷ eh_records_from bases target section next)
+    ≡ reading_fault_after (records ++ eh_fde e ∷ []) (eh_records_from bases target section next)
 still-first bases target section next records e found =
-    ap (λ b. option_or (cond b None (Some (lost e))) (reading_fault_after (records ++ eh_fde e ∷ []) (eh_entries_from bases target section next)))
+    ap (λ b. option_or (cond b None (Some (lost e))) (reading_fault_after (records ++ eh_fde e ∷ []) (eh_records_from bases target section next)))
     found
 
 abbrev ok-cie : EhCie → Result EhCie Fault

@@ -9,7 +9,7 @@ use Rattle.dw_frame.specs.Bounds.{Ascends}
 use Rattle.dw_frame.specs.Sections.{AreRecords, IsRecord}
 use Rattle.dw_eh_frame.specs.declared.pointer.Bases.{Bases}
 use Rattle.dw_eh_frame.specs.declared.rewriting.CiePlace.{CiePlace}
-use Rattle.dw_eh_frame.specs.Records.{EhCie, EhFde, EhRecord, eh_cie, eh_fde, eh_record_at, begins_at, eh_cie_at, eh_entries_from, eh_entries_of, reading_fault_after, eh_reading_fault}
+use Rattle.dw_eh_frame.specs.Records.{EhCie, EhFde, EhRecord, eh_cie, eh_fde, eh_record_at, begins_at, eh_cie_at, eh_records_from, eh_records_of, reading_fault_after, eh_reading_fault}
 use Rattle.dw_eh_frame.specs.declared.places.RecordPlace.{RecordPlace}
 use Rattle.dw_eh_frame.specs.Places.{ArePlaces, place_for}
 use Rattle.dw_eh_frame.specs.Copies.{distinct, first_at}
@@ -42,8 +42,8 @@ pub record IsReadAgain (bases : Bases) (target : Target) (section : List ℕ) (a
 pub record IsUnderWay (is_aarch64 : Bool) (bases : Bases) (target : Target) (section : List ℕ) (at : ℕ) (made : List ℕ) (cies : List CiePlace) (list : List RecordPlace) (firsts : ℕ → Option ℕ) : Type 0 where
   pub inside : at ≤ length section
   pub records : List EhRecord
-  pub read : eh_entries_of bases target section ≡ map Ok records ++ eh_entries_from bases target section at
-  pub first : eh_reading_fault bases target section ≡ reading_fault_after records (eh_entries_from bases target section at)
+  pub read : eh_records_of bases target section ≡ map Ok records ++ eh_records_from bases target section at
+  pub first : eh_reading_fault bases target section ≡ reading_fault_after records (eh_records_from bases target section at)
   pub pairs : List Pair
   pub sources : map (λ (p : Pair). p.0) pairs ≡ filter says_something (distinct records)
   pub encoded : AreRecords target 0 made (map (λ (p : Pair). p.1) pairs)

@@ -158,11 +158,11 @@ eh_record_at bases section r = do
   Ok (found, framed.1)
 
 -- the records of a section, from an offset on, up to its end or the first fault
-unfoldable pub eh_entries_from : Bases → Target → List ℕ → ℕ → List (Result EhRecord Fault)
-eh_entries_from bases target section at = sequence_of (eh_record_at bases section) (section_from target section at)
+unfoldable pub eh_records_from : Bases → Target → List ℕ → ℕ → List (Result EhRecord Fault)
+eh_records_from bases target section at = sequence_of (eh_record_at bases section) (section_from target section at)
 
-abbrev pub eh_entries_of : Bases → Target → List ℕ → List (Result EhRecord Fault)
-eh_entries_of bases target section = eh_entries_from bases target section 0
+abbrev pub eh_records_of : Bases → Target → List ℕ → List (Result EhRecord Fault)
+eh_records_of bases target section = eh_records_from bases target section 0
 
 -- ---- the first fault in reading a section
 
@@ -188,4 +188,4 @@ reading_fault_after before (Ok x ∷ items) = option_or (pointer_fault before x)
 -- The first fault in reading a section: of the first record that can't be read, or that is an FDE
 -- whose CIE isn't one of the records before it.
 unfoldable pub eh_reading_fault : Bases → Target → List ℕ → Option Fault
-eh_reading_fault bases target section = reading_fault_after [] (eh_entries_of bases target section)
+eh_reading_fault bases target section = reading_fault_after [] (eh_records_of bases target section)

@@ -9,7 +9,7 @@ use Rattle.dw_eh_frame.specs.declared.dialect.Dialect.{Dialect}
 use Rattle.dw_eh_frame.specs.Instructions.{dialect_of}
 use Rattle.dw_eh_frame.specs.Copies.{distinct}
 use Rattle.dw_eh_frame.specs.Silencing.{silenced}
-use Rattle.dw_eh_frame.specs.Records.{EhCie, EhFde, EhRecord, eh_cie, eh_fde, eh_nothing, eh_entries_of}
+use Rattle.dw_eh_frame.specs.Records.{EhCie, EhFde, EhRecord, eh_cie, eh_fde, eh_nothing, eh_records_of}
 
 -- The program `new` has nops in place of the instructions of the program `old` that `.debug_frame`
 -- doesn't have. Its other bytes are the same, except for what can't be read. What is silenced
@@ -69,5 +69,5 @@ pub record IsRewriting (is_aarch64 : Bool) (target : Target) (records : List EhR
 -- copies.
 pub record IsRewritten (is_aarch64 : Bool) (bases : Bases) (target : Target) (section made : List ℕ) : Type 0 where
   pub records : List EhRecord
-  pub are : eh_entries_of bases target section ≡ map Ok records
+  pub are : eh_records_of bases target section ≡ map Ok records
   pub rewriting : IsRewriting is_aarch64 target (distinct records) made

@@ -17,7 +17,7 @@ use Rattle.dw_eh_frame.specs.declared.pointer.Bases.{Bases}
 use Rattle.dw_eh_frame.specs.declared.dialect.Dialect.{Dialect}
 use Rattle.dw_eh_frame.specs.Copies.{distinct}
 use Rattle.dw_eh_frame.specs.Instructions.{EhInstruction, plain, args_size, negate_ra_state, dialect_of, AreEhInstructions, eh_instructions_of}
-use Rattle.dw_eh_frame.specs.Records.{EhCie, EhFde, EhRecord, eh_fde, eh_cie_at, eh_entries_of}
+use Rattle.dw_eh_frame.specs.Records.{EhCie, EhFde, EhRecord, eh_fde, eh_cie_at, eh_records_of}
 use Rattle.dw_eh_frame.proofs.RecordOrder.{same-given}
 use Rattle.dw_eh_frame.proofs.CopiesFound.{distinct-within}
 use Rattle.dw_eh_frame.proofs.Shifted.{shift, item-by, instruction-by, eh-instruction-by, eh-instructions-shifted}
@@ -182,7 +182,7 @@ same-bytes (x ∷ xs) (y ∷ ys) h =
     ap (λ n. n ∷ xs) (number-of x y parts.0) ∙ ap (λ (l : List ℕ). y ∷ l) (same-bytes xs ys parts.1)
 
 copied : (a : Bool) (bases : Bases) (target : Target) (section : List ℕ) (records : List EhRecord)
-    → eh_entries_of bases target section ≡ map Ok records → (e : EhFde) → Contains records (eh_fde e) → IsCopyOfKept records e
+    → eh_records_of bases target section ≡ map Ok records → (e : EhFde) → Contains records (eh_fde e) → IsCopyOfKept records e
     → IsKeptElsewhere a records e
 copied a bases target section records are e e_in copy =
     let g = copy.original in
@@ -205,7 +205,7 @@ copied a bases target section records are e e_in copy =
     }
 
 pub each-kept : (a : Bool) (bases : Bases) (target : Target) (section : List ℕ) (records : List EhRecord)
-    → eh_entries_of bases target section ≡ map Ok records → (e : EhFde) → Contains (eh_fdes records) e
+    → eh_records_of bases target section ≡ map Ok records → (e : EhFde) → Contains (eh_fdes records) e
     → Contains (eh_fdes (distinct records)) e ⊎ IsKeptElsewhere a records e
 each-kept a bases target section records are e among =
     let e_in = eh-record-of records e among in

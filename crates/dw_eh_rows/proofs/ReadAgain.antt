@@ -13,7 +13,7 @@ use Rattle.dw_bytes.specs.Bodies.{body_of, framed_at}
 use Rattle.dw_bytes.proofs.Bounds.{Stays, end-of, each-along, length-stays, take-stays}
 use Rattle.dw_bytes.proofs.Readers.{leaves-suffix, length-exact, take-exact}
 use Rattle.dw_eh_frame.specs.declared.pointer.Bases.{Bases}
-use Rattle.dw_eh_frame.specs.Records.{EhCie, EhFde, EhRecord, eh_cie, eh_fde, eh_nothing, eh_cie_from, eh_cie_at, no_such_cie, eh_cie_before, eh_area_at, eh_fde_from, eh_full_at, eh_body_at, eh_record_at, eh_entries_from, eh_entries_of}
+use Rattle.dw_eh_frame.specs.Records.{EhCie, EhFde, EhRecord, eh_cie, eh_fde, eh_nothing, eh_cie_from, eh_cie_at, no_such_cie, eh_cie_before, eh_area_at, eh_fde_from, eh_full_at, eh_body_at, eh_record_at, eh_records_from, eh_records_of}
 use Rattle.dw_eh_frame.specs.Pointers.{pointer_at, range_at}
 use Rattle.dw_eh_rows.proofs.ReadTargets.{Keeps, fixed-keeps, program-target}
 use Rattle.dw_eh_frame.proofs.RecordOrder.{ok-bind, same-given, cie-starts, fde-of}
@@ -162,8 +162,8 @@ Holds target section (Ok x) = IsAgain target section x
 Holds target section (Err fault) = Unit {0}
 
 pub each-again : (bases : Bases) (target : Target) (section : List ℕ) (x : EhRecord)
-    → Contains (eh_entries_of bases target section) (Ok x) → IsAgain target section x
-unfolding eh_entries_from
+    → Contains (eh_records_of bases target section) (Ok x) → IsAgain target section x
+unfolding eh_records_from
 each-again bases target section x among =
     each-along (eh_record_at bases section) (Inside target section) (Holds target section)
     (λ r y after inside is. record-again bases target section r.position y after inside.1

@@ -21,7 +21,7 @@ use Rattle.dw_eh_frame.specs.declared.pointer.Bases.{Bases}
 use Rattle.dw_eh_frame.specs.Copies.{distinct}
 use Rattle.dw_eh_frame.proofs.CopiesFound.{distinct-rise}
 use Rattle.dw_eh_frame.specs.declared.places.RecordPlace.{RecordPlace}
-use Rattle.dw_eh_frame.specs.Records.{EhCie, EhFde, EhRecord, eh_cie, eh_fde, eh_nothing, eh_entries_of, eh_reading_fault}
+use Rattle.dw_eh_frame.specs.Records.{EhCie, EhFde, EhRecord, eh_cie, eh_fde, eh_nothing, eh_records_of, eh_reading_fault}
 use Rattle.dw_eh_frame.specs.Rewriting.{Pair, SaysTheSame, says_something, IsSameCie, IsSameFde}
 use Rattle.dw_eh_frame.specs.Places.{ArePlaces, IsOn, IsRewrittenAt, original_of, source_start, source_program_start, written_program}
 use Rattle.dw_eh_frame.proofs.FaultPlaces.{program-place, overlap-place}
@@ -365,9 +365,9 @@ section-kept a bases target section made places w faultless =
       are = w.are;
       rise = rise;
     } in
-    let values : values_in (eh_entries_of bases target section) ≡ w.rewritten.records =
+    let values : values_in (eh_records_of bases target section) ≡ w.rewritten.records =
     ap (λ items. values_in {X = EhRecord} items) w.rewritten.are ∙ values-found w.rewritten.records in
     let own : eh_section_fault a bases target section ≡ eh_parts_fault a (sources pairs) =
-    ap (λ o. option_or o (eh_parts_fault a (distinct (values_in (eh_entries_of bases target section))))) faultless
+    ap (λ o. option_or o (eh_parts_fault a (distinct (values_in (eh_records_of bases target section))))) faultless
     ∙ (ap (λ (l : List EhRecord). eh_parts_fault a (distinct l)) values ∙ (sym (same-parts a records) ∙ ap (eh_parts_fault a) (sym w.rewritten.rewriting.sources))) in
     subst (λ o. Kept pairs places o (section_fault target made)) (sym own) (parts-kept a target made pairs places parts)

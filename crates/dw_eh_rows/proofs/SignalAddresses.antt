@@ -6,7 +6,7 @@ use Rattle.dw_bytes.specs.declared.target.Target.{Target}
 use Rattle.dw_bytes.specs.Answers.{values_in}
 use Rattle.dw_eh_frame.specs.declared.pointer.Bases.{Bases}
 use Rattle.dw_eh_frame.specs.Copies.{distinct}
-use Rattle.dw_eh_frame.specs.Records.{EhCie, EhFde, EhRecord, eh_entries_of}
+use Rattle.dw_eh_frame.specs.Records.{EhCie, EhFde, EhRecord, eh_records_of}
 use Rattle.dw_eh_rows.specs.Faults.{eh_section_fault}
 use Rattle.dw_eh_rows.specs.Meaning.{EhCovers, eh_fdes}
 use Rattle.dw_eh_rows.specs.Signals.{is_signal_frame, addresses_of, signal_frames, has_address, is_signal_at}
@@ -88,7 +88,7 @@ record Keeps (records : List EhRecord) (e : EhFde) (a : ℕ) : Type 0 where
   is : is_signal_frame fde ≡ is_signal_frame e
 
 keeps : (is_aarch64 : Bool) (bases : Bases) (target : Target) (section : List ℕ) (records : List EhRecord)
-    → eh_entries_of bases target section ≡ map Ok records → (e : EhFde) → Contains (eh_fdes records) e → (a : ℕ) → EhCovers e a
+    → eh_records_of bases target section ≡ map Ok records → (e : EhFde) → Contains (eh_fdes records) e → (a : ℕ) → EhCovers e a
     → Keeps records e a
 keeps is_aarch64 bases target section records are e among a covers =
     elim (each-kept is_aarch64 bases target section records are e among) [
@@ -107,7 +107,7 @@ decide false true onward back = absurd (let no = back refl in cc)
 decide false false onward back = refl
 
 among-records : (is_aarch64 : Bool) (bases : Bases) (target : Target) (section : List ℕ) (records : List EhRecord)
-    → eh_entries_of bases target section ≡ map Ok records
+    → eh_records_of bases target section ≡ map Ok records
     → ((a : ℕ) (e g : EhFde) → Contains (eh_fdes (distinct records)) e → Contains (eh_fdes (distinct records)) g → EhCovers e a → EhCovers g a → e ≡ g)
     → (e : EhFde) → Contains (eh_fdes records) e → (a : ℕ) → EhCovers e a → is_signal_at (signal_frames records) a ≡ is_signal_frame e
 among-records is_aarch64 bases target section records are once e among a covers =
@@ -121,11 +121,11 @@ among-records is_aarch64 bases target section records are once e among a covers 
 
 pub signal-addresses : (is_aarch64 : Bool) (bases : Bases) (target : Target) (section : List ℕ)
     → eh_section_fault is_aarch64 bases target section ≡ None
-    → (e : EhFde) → Contains (eh_fdes (values_in (eh_entries_of bases target section))) e → (a : ℕ) → EhCovers e a
-    → is_signal_at (signal_frames (values_in (eh_entries_of bases target section))) a ≡ is_signal_frame e
+    → (e : EhFde) → Contains (eh_fdes (values_in (eh_records_of bases target section))) e → (a : ℕ) → EhCovers e a
+    → is_signal_at (signal_frames (values_in (eh_records_of bases target section))) a ≡ is_signal_frame e
 signal-addresses is_aarch64 bases target section none =
     let well = (faultless-well-formed is_aarch64 bases target section).0 none in
-    let values : well.records ≡ values_in (eh_entries_of bases target section) =
+    let values : well.records ≡ values_in (eh_records_of bases target section) =
     sym (ap (λ items. values_in {X = EhRecord} items) well.are ∙ values-read well.records) in
     subst (λ (records : List EhRecord). (e : EhFde) → Contains (eh_fdes records) e → (a : ℕ) → EhCovers e a
     → is_signal_at (signal_frames records) a ≡ is_signal_frame e) values

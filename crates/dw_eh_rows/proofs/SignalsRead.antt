@@ -8,7 +8,7 @@ use Rattle.dw_bytes.specs.Answers.{fault_in, values_in}
 use Rattle.dw_bytes.specs.Reading.{section_from}
 use Rattle.dw_bytes.proofs.Sequences.{stops}
 use Rattle.dw_eh_frame.specs.declared.pointer.Bases.{Bases}
-use Rattle.dw_eh_frame.specs.Records.{EhRecord, eh_cie, eh_fde, eh_nothing, eh_record_at, eh_entries_from, eh_entries_of}
+use Rattle.dw_eh_frame.specs.Records.{EhRecord, eh_cie, eh_fde, eh_nothing, eh_record_at, eh_records_from, eh_records_of}
 use Rattle.dw_eh_frame.proofs.Steps.{at-record, at-end}
 use Rattle.dw_eh_rows.specs.declared.signals.AddressRange.{AddressRange}
 use Rattle.dw_eh_rows.specs.Meaning.{eh_fdes}
@@ -39,8 +39,8 @@ signals-more bases target section at next x ranges more so_far is inside added =
   records = so_far.records ++ x ∷ [];
   read = so_far.read
       ∙ (ap (λ (items : List (Result EhRecord Fault)). map Ok so_far.records ++ items) (at-record bases target section at next x is)
-      ∙ (sym (append_assoc (map Ok so_far.records) (Ok x ∷ []) (eh_entries_from bases target section next))
-      ∙ ap (λ (items : List (Result EhRecord Fault)). items ++ eh_entries_from bases target section next)
+      ∙ (sym (append_assoc (map Ok so_far.records) (Ok x ∷ []) (eh_records_from bases target section next))
+      ∙ ap (λ (items : List (Result EhRecord Fault)). items ++ eh_records_from bases target section next)
       (sym (map-append Ok so_far.records (x ∷ [])))));
   are = added ∙ (ap (λ (l : List AddressRange). l ++ signal_frames (x ∷ [])) so_far.are ∙ sym (frames-append so_far.records (x ∷ [])));
 }
@@ -51,18 +51,18 @@ values-read (x ∷ xs) = ap (λ (l : List EhRecord). x ∷ l) (values-read xs)
 
 pub signals-end : (bases : Bases) (target : Target) (section : List ℕ) (at : ℕ) (ranges : List AddressRange)
     → AreSignals bases target section at ranges → length section ≤ at
-    → ranges ≡ signal_frames (values_in (eh_entries_of bases target section))
+    → ranges ≡ signal_frames (values_in (eh_records_of bases target section))
 signals-end bases target section at ranges so_far end =
-    let all : eh_entries_of bases target section ≡ map Ok so_far.records =
+    let all : eh_records_of bases target section ≡ map Ok so_far.records =
     so_far.read ∙ (ap (λ (items : List (Result EhRecord Fault)). map Ok so_far.records ++ items) (at-end bases target section at end)
     ∙ append-nil (map Ok so_far.records)) in
-    let values : values_in (eh_entries_of bases target section) ≡ so_far.records =
+    let values : values_in (eh_records_of bases target section) ≡ so_far.records =
     ap (λ items. values_in {X = EhRecord} items) all ∙ values-read so_far.records in
     so_far.are ∙ ap signal_frames (sym values)
 
 at-fault : (bases : Bases) (target : Target) (section : List ℕ) (at : ℕ) (fault : Fault) → at < length section
-    → eh_record_at bases section (section_from target section at) ≡ Err fault → eh_entries_from bases target section at ≡ Err fault ∷ []
-unfolding eh_entries_from
+    → eh_record_at bases section (section_from target section at) ≡ Err fault → eh_records_from bases target section at ≡ Err fault ∷ []
+unfolding eh_records_from
 at-fault bases target section at fault h is = stops (eh_record_at bases section) (section_from target section at) fault
     (omega (arith, length-drop at section)) is
 
@@ -73,7 +73,7 @@ past-good (x ∷ records) fault = past-good records fault
 pub signals-refused : (bases : Bases) (target : Target) (section : List ℕ) (at : ℕ) (ranges : List AddressRange) (fault : Fault)
     → AreSignals bases target section at ranges → at < length section
     → eh_record_at bases section (section_from target section at) ≡ Err fault
-    → fault_in (eh_entries_of bases target section) ≡ Some fault
+    → fault_in (eh_records_of bases target section) ≡ Some fault
 signals-refused bases target section at ranges fault so_far some is =
     ap (λ items. fault_in {X = EhRecord} items) (so_far.read ∙ ap (λ (xs : List (Result EhRecord Fault)). map Ok so_far.records ++ xs)
     (at-fault bases target section at fault some is)) ∙ past-good so_far.records fault

@@ -17,7 +17,7 @@ use Rattle.dw_eh_frame.specs.declared.pointer.Bases.{Bases}
 use Rattle.dw_eh_frame.specs.Copies.{distinct}
 use Rattle.dw_eh_frame.proofs.CopiesFound.{distinct-within, distinct-cies, distinct-rise}
 use Rattle.dw_eh_frame.specs.Places.{source_start}
-use Rattle.dw_eh_frame.specs.Records.{EhCie, EhFde, EhRecord, eh_cie, eh_fde, eh_nothing, eh_cie_at, eh_entries_of, begins_at, lost, pointer_fault, reading_fault_after, eh_reading_fault}
+use Rattle.dw_eh_frame.specs.Records.{EhCie, EhFde, EhRecord, eh_cie, eh_fde, eh_nothing, eh_cie_at, eh_records_of, begins_at, lost, pointer_fault, reading_fault_after, eh_reading_fault}
 use Rattle.dw_eh_rows.specs.Meaning.{as_fde, eh_fdes, EhCovers}
 use Rattle.dw_eh_rows.specs.Faults.{eh_cies, eh_cie_fault, eh_fde_fault, eh_overlap_fault, eh_parts_fault, eh_section_fault}
 use Rattle.dw_eh_rows.specs.WellFormed.{IsGoodEhCie, IsEhWellFormed}
@@ -149,7 +149,7 @@ as-read (y ∷ records) x (suc k, less, is) =
     let more = as-read records x (k, omega arith, is) in
     (suc more.0, omega (arith, more.1), more.2)
 
-own-cie : (bases : Bases) (target : Target) (section : List ℕ) (records : List EhRecord) → eh_entries_of bases target section ≡ map Ok records
+own-cie : (bases : Bases) (target : Target) (section : List ℕ) (records : List EhRecord) → eh_records_of bases target section ≡ map Ok records
     → (e : EhFde) → Contains records (eh_fde e) → (c : EhCie) → Contains records (eh_cie c) → c.offset ≡ e.cie.offset → c ≡ e.cie
 own-cie bases target section records are e e_in c c_in same =
     let one = each-again bases target section (eh_fde e)
@@ -300,7 +300,7 @@ well-formed : (a : Bool) (bases : Bases) (target : Target) (section : List ℕ) 
     → IsEhWellFormed a bases target section
 unfolding eh_section_fault eh_reading_fault eh_parts_fault
 well-formed a bases target section none =
-    let entries = eh_entries_of bases target section in
+    let entries = eh_records_of bases target section in
     let records : List EhRecord = values_in entries in
     let kept : List EhRecord = distinct records in
     let halves = either-none (reading_fault_after [] entries) (eh_parts_fault a kept) none in
@@ -339,7 +339,7 @@ no-fault : (a : Bool) (bases : Bases) (target : Target) (section : List ℕ) →
     → eh_section_fault a bases target section ≡ None
 unfolding eh_section_fault eh_reading_fault eh_parts_fault
 no-fault a bases target section w =
-    let entries = eh_entries_of bases target section in
+    let entries = eh_records_of bases target section in
     let kept : List EhRecord = distinct w.records in
     let values : values_in {X = EhRecord} entries ≡ w.records = ap (λ items. values_in {X = EhRecord} items) w.are ∙ values-read w.records in
     let reading : reading_fault_after [] entries ≡ None =

@@ -5,7 +5,7 @@ use Rattle.dw_bytes.specs.Answers.{memory}
 use Rattle.dw_rows.specs.Section.{FrameSection, row_of}
 use Rattle.dw_eh_frame.specs.declared.pointer.Bases.{Bases}
 use Rattle.dw_eh_frame.specs.Copies.{distinct}
-use Rattle.dw_eh_frame.specs.Records.{EhFde, EhRecord, eh_entries_of}
+use Rattle.dw_eh_frame.specs.Records.{EhFde, EhRecord, eh_records_of}
 use Rattle.dw_frame.specs.Bounds.{offset_of}
 use Rattle.dw_eh_frame.specs.Places.{IsOn, is_overlap, written_program}
 use Rattle.dw_eh_frame.specs.Refused.{too_long}
@@ -36,7 +36,7 @@ pub record IsKeptElsewhere (is_aarch64 : Bool) (records : List EhRecord) (e : Eh
 -- has none. Exact copies of an FDE are one FDE.
 pub record HasEhRows (is_aarch64 : Bool) (bases : Bases) (section : List ℕ) (s : FrameSection) : Type 0 where
   pub records : List EhRecord
-  pub are : eh_entries_of bases s.target section ≡ map Ok records
+  pub are : eh_records_of bases s.target section ≡ map Ok records
   pub covered : (e : EhFde) → Contains (eh_fdes records) e → (a : ℕ) → EhCovers e a → HasOneEhRow is_aarch64 (distinct records) s a
   pub copies : (e : EhFde) → Contains (eh_fdes records) e → Contains (eh_fdes (distinct records)) e ⊎ IsKeptElsewhere is_aarch64 records e
   pub others : (a : ℕ) → ((e : EhFde) → Contains (eh_fdes records) e → ¬ EhCovers e a) → row_of s a ≡ None

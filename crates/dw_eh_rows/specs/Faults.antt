@@ -17,7 +17,7 @@ use Rattle.dw_rules.specs.ProgramFault.{standing_at, refusal_at, refusal_at_end,
 use Rattle.dw_rows.specs.Section.{first_fault, overlap_fault}
 use Rattle.dw_eh_frame.specs.declared.pointer.Bases.{Bases}
 use Rattle.dw_eh_frame.specs.Copies.{distinct}
-use Rattle.dw_eh_frame.specs.Records.{EhCie, EhFde, EhRecord, eh_cie, eh_fde, eh_nothing, eh_entries_of, eh_reading_fault}
+use Rattle.dw_eh_frame.specs.Records.{EhCie, EhFde, EhRecord, eh_cie, eh_fde, eh_nothing, eh_records_of, eh_reading_fault}
 use Rattle.dw_eh_frame.specs.Instructions.{EhInstruction, dialect_of, eh_instructions_of}
 use Rattle.dw_eh_rows.specs.Meaning.{as_fde, dialect_in, eh_effect_of, eh_effects_from, eh_expression_in, eh_fdes}
 
@@ -116,4 +116,4 @@ eh_parts_fault is_aarch64 records =
 unfoldable pub eh_section_fault : Bool → Bases → Target → List ℕ → Option Fault
 eh_section_fault is_aarch64 bases target section =
     option_or (eh_reading_fault bases target section)
-    (eh_parts_fault is_aarch64 (distinct (values_in (eh_entries_of bases target section))))
+    (eh_parts_fault is_aarch64 (distinct (values_in (eh_records_of bases target section))))

@@ -4,7 +4,7 @@ use Rattle.std.specs.Prelude.{◌≡◌, ℕ, ◌+◌, ◌≤◌, ◌&&◌, nat_
 use Rattle.std.specs.List.{list_any}
 use Rattle.dw_bytes.specs.declared.target.Target.{Target}
 use Rattle.dw_eh_frame.specs.declared.pointer.Bases.{Bases}
-use Rattle.dw_eh_frame.specs.Records.{EhFde, EhRecord, eh_entries_from, eh_entries_of}
+use Rattle.dw_eh_frame.specs.Records.{EhFde, EhRecord, eh_records_from, eh_records_of}
 use Rattle.dw_eh_rows.specs.declared.signals.AddressRange.{AddressRange}
 use Rattle.dw_eh_rows.specs.Meaning.{eh_fdes}
 
@@ -31,5 +31,5 @@ is_signal_at ranges a = list_any (has_address a) ranges
 pub record AreSignals (bases : Bases) (target : Target) (section : List ℕ) (at : ℕ) (ranges : List AddressRange) : Type 0 where
   pub inside : at ≤ length section
   pub records : List EhRecord
-  pub read : eh_entries_of bases target section ≡ map Ok records ++ eh_entries_from bases target section at
+  pub read : eh_records_of bases target section ≡ map Ok records ++ eh_records_from bases target section at
   pub are : ranges ≡ signal_frames records

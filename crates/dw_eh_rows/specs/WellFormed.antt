@@ -6,7 +6,7 @@ use Rattle.dw_stack.specs.Located.{LocatedExpression}
 use Rattle.dw_rows.specs.GoodPrograms.{IsGood, IsGoodCie}
 use Rattle.dw_eh_frame.specs.declared.pointer.Bases.{Bases}
 use Rattle.dw_eh_frame.specs.Copies.{distinct}
-use Rattle.dw_eh_frame.specs.Records.{EhCie, EhFde, EhRecord, eh_cie, eh_fde, eh_entries_of}
+use Rattle.dw_eh_frame.specs.Records.{EhCie, EhFde, EhRecord, eh_cie, eh_fde, eh_records_of}
 use Rattle.dw_eh_frame.specs.Instructions.{EhInstruction, dialect_of, AreEhInstructions}
 use Rattle.dw_eh_rows.specs.Meaning.{dialect_in, eh_effects_from, eh_expression_in, eh_fdes, EhCovers}
 use Rattle.dw_eh_rows.specs.Faults.{as_cie, eh_cies, start_after}
@@ -39,7 +39,7 @@ pub record IsGoodEhFde (is_aarch64 : Bool) (e : EhFde) : Type 0 where
 -- covered by two FDEs.
 pub record IsEhWellFormed (is_aarch64 : Bool) (bases : Bases) (target : Target) (section : List ℕ) : Type 0 where
   pub records : List EhRecord
-  pub are : eh_entries_of bases target section ≡ map Ok records
+  pub are : eh_records_of bases target section ≡ map Ok records
   pub pointers : (front back : List EhRecord) (e : EhFde) → records ≡ front ++ eh_fde e ∷ back
       → Contains front (eh_cie e.cie)
   pub cie_programs : (c : EhCie) → Contains (eh_cies (distinct records)) c → IsGoodEhCie is_aarch64 c

@@ -12,7 +12,7 @@ ghost use Rattle.dw_eh_frame.specs.declared.pointer.Bases.{Bases};
 ghost use Rattle.dw_eh_frame.specs.Copies.{distinct};
 ghost use Rattle.dw_eh_frame.specs.declared.places.RecordPlace.{RecordPlace};
 ghost use Rattle.dw_eh_frame.specs.Places.{IsRewrittenAt, original_of};
-ghost use Rattle.dw_eh_frame.specs.Records.{EhFde, EhRecord, eh_fde, eh_entries_of, eh_reading_fault};
+ghost use Rattle.dw_eh_frame.specs.Records.{EhFde, EhRecord, eh_fde, eh_records_of, eh_reading_fault};
 ghost use Rattle.dw_eh_rows.specs.Checked.{IsFaultOf};
 ghost use Rattle.dw_eh_rows.specs.Faults.{eh_section_fault};
 ghost use Rattle.dw_eh_frame.specs.Rewriting.{IsRewriting, IsRewritten};
@@ -64,8 +64,8 @@ pub fn written_faults_are_the_sections()
 pub fn signal_frames_are_exact()
     ensures covered { (is_aarch64 : Bool) (bases : Bases) (target : Target) (section : List ℕ)
         → eh_section_fault is_aarch64 bases target section ≡ None
-        → (e : EhFde) → Contains (eh_fdes (values_in (eh_entries_of bases target section))) e → (a : ℕ) → EhCovers e a
-        → is_signal_at (signal_frames (values_in (eh_entries_of bases target section))) a ≡ is_signal_frame e }
+        → (e : EhFde) → Contains (eh_fdes (values_in (eh_records_of bases target section))) e → (a : ℕ) → EhCovers e a
+        → is_signal_at (signal_frames (values_in (eh_records_of bases target section))) a ≡ is_signal_frame e }
     ensures others { (records : List EhRecord) (a : ℕ) → ((e : EhFde) → Contains (eh_fdes records) e → ¬ EhCovers e a)
         → is_signal_at (signal_frames records) a ≡ false }
 {}

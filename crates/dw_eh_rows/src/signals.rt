@@ -2,7 +2,7 @@
 
 ghost use Rattle.std.specs.Prelude.{◌≡◌, ◌<◌, ◌^◌, ◌++◌, ◌⊎◌, [], ◌∷◌, IfOk, IfErr, OnOk, Some, length};
 ghost use Rattle.dw_bytes.specs.Answers.{fault_in, memory, values_in};
-ghost use Rattle.dw_eh_frame.specs.Records.{eh_entries_of};
+ghost use Rattle.dw_eh_frame.specs.Records.{eh_records_of};
 ghost use Rattle.dw_eh_frame.specs.Views.{eh_record_of};
 ghost use Rattle.dw_eh_rows.specs.Signals.{is_signal_at, signal_frames as frames_of};
 
@@ -43,9 +43,9 @@ pub fn signal_frames(
 ) -> Result<Vec<AddressRange>, Fault>
     requires { length section.now < 2 ^ 32 }
     ensures refused { IfErr result (λ fault. (fault ≡ memory)
-        ⊎ (fault_in (eh_entries_of bases target section.now) ≡ Some fault)) }
+        ⊎ (fault_in (eh_records_of bases target section.now) ≡ Some fault)) }
     ensures frames { IfOk result (λ ranges. ranges.items
-        ≡ frames_of (values_in (eh_entries_of bases target section.now))) }
+        ≡ frames_of (values_in (eh_records_of bases target section.now))) }
 {
     let mut ranges = Vec::new(alloc);
     let mut at = 0u32;

@@ -8,7 +8,7 @@ use Rattle.dw_eh_frame.specs.Refused.{too_long}
 use Rattle.dw_eh_rows.specs.Checked.{HasEhRows}
 use Rattle.dw_eh_rows.specs.Faults.{eh_section_fault}
 use Rattle.dw_eh_rows.specs.Signals.{signal_frames}
-use Rattle.dw_eh_frame.specs.Records.{eh_entries_of}
+use Rattle.dw_eh_frame.specs.Records.{eh_records_of}
 use Rattle.dw_eh_frame.specs.Rewriting.{IsRewritten}
 use Rattle.dw_rows.specs.Section.{FrameSection, IsChecked}
 use Rattle.dw_process.specs.Processes.{IsAddedWith, ProcessState}
@@ -38,7 +38,7 @@ pub record IsEhAdded (s : EhSection) (load_address : ℕ) (given : Option Addres
     (new : ProcessState) : Type 0 where
   pub frame : FrameSection
   pub is : IsFrameOf s old.target frame
-  pub rows : IsAddedWith frame (signal_frames (values_in (eh_entries_of s.bases old.target s.bytes.now))) load_address given cookie room old id new
+  pub rows : IsAddedWith frame (signal_frames (values_in (eh_records_of s.bases old.target s.bytes.now))) load_address given cookie room old id new
 
 -- The fault is the first one of the section. The section may also be too long: it has more than
 -- 2^29 bytes, and what is made of it in memory would have 2^32.
