@@ -36,7 +36,7 @@ use std::marker::Model;
 #[derive(Drop)]
 pub struct UnwindTable {
     target: Target,
-    placed: StoredTable,
+    stored_table: StoredTable,
     expressions: OwnedExpressions,
 }
 
@@ -54,11 +54,11 @@ impl Model for UnwindTable {
 
     ghost view = { λ t. record {
       target = t.target;
-      rows = map (found_with_expressions t.expressions) t.placed.rows;
-      bytes = t.placed.bytes + sum_by expression_bytes t.expressions;
+      rows = map (found_with_expressions t.expressions) t.stored_table.rows;
+      bytes = t.stored_table.bytes + sum_by expression_bytes t.expressions;
     } };
 
-    ghost invariant = { λ t. All (LendsFound t.expressions) t.placed.rows
+    ghost invariant = { λ t. All (LendsFound t.expressions) t.stored_table.rows
         × ((e : LocatedExpression) → Contains t.expressions e → IsUnder t.target e) };
 }
 
@@ -117,10 +117,10 @@ impl UnwindTable {
     {
         let mut left = room;
         let expressions = copy_expressions(alloc, &frame.borrowed(), &mut left)?;
-        let placed = StoredTable::of(frame, alloc, left)?;
+        let stored_table = StoredTable::of(frame, alloc, left)?;
         Ok(UnwindTable {
             target: frame.target(),
-            placed,
+            stored_table,
             expressions,
         })
     }
@@ -162,7 +162,7 @@ impl UnwindTable {
         ensures under { IfSome result (λ found. IsRowUnder self.now.target found.0) }
     {
         let expressions = RowExpressions::Owned(&self.expressions);
-        self.placed.find(address, hint, expressions)
+        self.stored_table.find(address, hint, expressions)
     }
 
     /// The row of an address, or `None` if no FDE covers the address. The row's rules and

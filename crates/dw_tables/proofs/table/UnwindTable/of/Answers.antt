@@ -11,16 +11,16 @@ use Rattle.dw_tables.proofs.table.UnwindTable.of.Goals as goal
 
 pub returns-clause-table : goal.returns-clause-table
 returns-clause-table c =
-    table-of c.args.frame.now c.target.result c.in_ok-expressions.expressions c.in_ok-placed.placed.rows _ c.target.ensures
-    (c.in_ok-expressions.ensures.owned ∙ c.borrowed.ensures) c.in_ok-placed.ensures.rows
+    table-of c.args.frame.now c.target.result c.in_ok-expressions.expressions c.in_ok-stored_table.stored_table.rows _ c.target.ensures
+    (c.in_ok-expressions.ensures.owned ∙ c.borrowed.ensures) c.in_ok-stored_table.ensures.rows
 
 pub invariant_of-result : goal.invariant_of-result
 invariant_of-result c =
     let s = c.args.frame.now in
     let same : s.expressions ≡ c.in_ok-expressions.expressions = sym (c.in_ok-expressions.ensures.owned ∙ c.borrowed.ensures) in
     let under : (e : LocatedExpression) → Contains s.expressions e → IsUnder c.target.result e =
-    λ e among. subst (λ (t : Target). IsUnder t e) (sym c.target.ensures) (all-under s c.in_ok-placed.ensures.rows.checked e among) in (
-      subst (λ (es : List LocatedExpression). All (LendsFound es) c.in_ok-placed.placed.rows) same c.in_ok-placed.ensures.rows.lends,
+    λ e among. subst (λ (t : Target). IsUnder t e) (sym c.target.ensures) (all-under s c.in_ok-stored_table.ensures.rows.checked e among) in (
+      subst (λ (es : List LocatedExpression). All (LendsFound es) c.in_ok-stored_table.stored_table.rows) same c.in_ok-stored_table.ensures.rows.lends,
       subst (λ (es : List LocatedExpression). (e : LocatedExpression) → Contains es e → IsUnder c.target.result e) same under,
     )
 
@@ -28,20 +28,20 @@ pub returns-clause-room : goal.returns-clause-room
 returns-clause-room c =
     omega (
       arith,
-      c.in_ok-placed.ensures.few,
-      c.in_ok-placed.ensures.stored,
+      c.in_ok-stored_table.ensures.few,
+      c.in_ok-stored_table.ensures.stored,
       c.in_ok-expressions.ensures.stored,
-      length-map c.in_ok-placed.placed.rows (found_with_expressions c.in_ok-expressions.expressions),
+      length-map c.in_ok-stored_table.stored_table.rows (found_with_expressions c.in_ok-expressions.expressions),
     )
 
 pub returns-clause-counted : goal.returns-clause-counted
 returns-clause-counted c =
     omega (
       arith,
-      c.in_ok-placed.ensures.few,
+      c.in_ok-stored_table.ensures.few,
       ap (λ (es : List LocatedExpression). sum_by expression_bytes es) (c.in_ok-expressions.ensures.owned ∙ c.borrowed.ensures),
-      length-map c.in_ok-placed.placed.rows (found_with_expressions c.in_ok-expressions.expressions),
+      length-map c.in_ok-stored_table.stored_table.rows (found_with_expressions c.in_ok-expressions.expressions),
     )
 
 pub returns-clause-stored : goal.returns-clause-stored
-returns-clause-stored c = omega (arith, c.in_ok-placed.ensures.stored, c.in_ok-expressions.ensures.stored)
+returns-clause-stored c = omega (arith, c.in_ok-stored_table.ensures.stored, c.in_ok-expressions.ensures.stored)
