@@ -19,7 +19,6 @@ mod unwinder;
 mod unwinding;
 mod usual_step;
 mod walk;
-mod walked_contents;
 
 pub use backtraces::backtrace;
 pub use caller_contents::NoPlace;
@@ -34,4 +33,3 @@ pub use unwinder::Unwinder;
 pub use unwinding::{Answer, Caller, FoundRegisters, MAX_FOUND, Unwound, unwind, unwind_in_place};
 pub use usual_step::step_in_place;
 pub use walk::{Walk, return_address};
-pub use walked_contents::WalkedContents;

@@ -4,7 +4,6 @@ ghost use Rattle.std.specs.Prelude.{◌≡◌};
 ghost use Rattle.dw_unwind.specs.Modules.{as_linked};
 
 use crate::caller_contents::{NoPlace, contents_by};
-use crate::kept_registers::KeptRegisters;
 use crate::register_file::RegisterFile;
 use crate::register_list::RegisterList;
 use crate::unwind_rows::UnwindRows;
@@ -19,9 +18,14 @@ use dw_rows::Abi;
 /// process have the address size of the process.
 ///
 /// ```rust
-/// let sections = [Module::new(&program, 0x5555_5555_4000), Module::new(&library,
-/// 0x7fff_f7dc_3000)]; let tables = [Module::new(&program_table, 0x5555_5555_4000),
-/// Module::new(&library_table, 0x7fff_f7dc_3000)];
+/// let sections = [
+///     Module::new(&program, 0x5555_5555_4000),
+///     Module::new(&library, 0x7fff_f7dc_3000),
+/// ];
+/// let tables = [
+///     Module::new(&program_table, 0x5555_5555_4000),
+///     Module::new(&library_table, 0x7fff_f7dc_3000),
+/// ];
 /// ```
 #[derive(Clone, Copy, Debug, Drop)]
 pub struct Module<T> {
@@ -111,18 +115,5 @@ impl<'m, T: UnwindRows> Unwinder for &'m [Module<T>] {
             }
         }
         Ok(None)
-    }
-
-    /// Always none: which module has the row is found by asking each of them.
-    #[inline(always)]
-    fn contents_in_place<M: Memory>(
-        &self,
-        _kept: &KeptRegisters<'_>,
-        _stack_pointer: Option<u16>,
-        _address: u64,
-        _memory: &M,
-        _file: &mut RegisterFile,
-    ) -> Option<Unwound> {
-        None
     }
 }

@@ -1,13 +1,11 @@
 //! A checked section as an unwinder.
 
 use crate::caller_contents::{NoPlace, contents_by};
-use crate::kept_registers::KeptRegisters;
 use crate::register_file::RegisterFile;
 use crate::register_list::RegisterList;
 use crate::unwind_rows::UnwindRows;
 use crate::unwinder::Unwinder;
 use crate::unwinding::{Unwound, unwind_into};
-use crate::usual_step::step_in_place;
 use dw_eval::{Memory, Registers};
 use dw_rows::{Abi, CheckedFrame};
 
@@ -45,18 +43,5 @@ impl<'f, 'a> Unwinder for &'f CheckedFrame<'a> {
         into: &mut RegisterFile,
     ) -> Result<Option<Unwound>, NoPlace> {
         contents_by(self, kept, stack_pointer, address, registers, memory, into)
-    }
-
-    #[inline(always)]
-    fn contents_in_place<M: Memory>(
-        &self,
-        kept: &KeptRegisters<'_>,
-        stack_pointer: Option<u16>,
-        address: u64,
-        memory: &M,
-        file: &mut RegisterFile,
-    ) -> Option<Unwound> {
-        let mut slot = self.slot();
-        step_in_place(self, &mut slot, kept, stack_pointer, address, memory, file)
     }
 }

@@ -1,30 +1,25 @@
 //! The trait `Unwinder`, for types that can find the caller of a frame.
 
-ghost use Rattle.std.specs.Prelude.{◌≡◌, ℕ, IfOk, IfSome, MatchOption, OnErr, Some, option_map};
+ghost use Rattle.std.specs.Prelude.{◌≡◌, ℕ, IfOk, IfSome, OnErr, Some, option_map};
 ghost use Rattle.dw_rules.specs.Abi.{abi_of};
 ghost use Rattle.dw_rules.specs.AbiViews.{roles_of};
-ghost use Rattle.dw_unwind.specs.Caller.{value};
 ghost use Rattle.dw_unwind.specs.CallerFits.{CallerFits};
-ghost use Rattle.dw_unwind.specs.CallerViews.{answer_in};
 ghost use Rattle.dw_unwind.specs.Contents.{UnwindsTo, contents_in};
 ghost use Rattle.dw_unwind.specs.MissingPlaces.{LacksPlace};
 ghost use Rattle.dw_unwind.specs.UnwoundViews.{caller_with};
 
 use crate::caller_contents::{NoPlace, contents_by};
-use crate::kept_registers::KeptRegisters;
 use crate::register_file::RegisterFile;
 use crate::register_list::RegisterList;
 use crate::unwind_rows::UnwindRows;
 use crate::unwinding::{Unwound, unwind_into};
-use crate::usual_step::step_in_place;
 use dw_eval::{Memory, Registers};
 use dw_rows::Abi;
 
-/// Finds the caller of a frame, for `unwind`, `backtrace`, `Walk` and `WalkedContents`. It is
-/// implemented by a checked section (as `&CheckedFrame`), by a compiled table or another source of
-/// rows (as `&UnwindTable`), and by the modules of a process (as `&[Module<T>]`). Other crates
-/// can't implement this trait: it writes registers to a `RegisterList`, which is private to this
-/// crate.
+/// Finds the caller of a frame, for `unwind`, `backtrace` and `Walk`. It is implemented by a checked
+/// section (as `&CheckedFrame`), by a compiled table or another source of rows (as `&UnwindTable`),
+/// and by the modules of a process (as `&[Module<T>]`). Other crates can't implement this trait: it
+/// writes registers to a `RegisterList`, which is private to this crate.
 pub trait Unwinder {
     ghost use Rattle.std.specs.Prelude.{ℕ, Option};
     ghost use Rattle.dw_rules.specs.Abi.{Abi};
@@ -74,24 +69,6 @@ pub trait Unwinder {
         ensures no_place { OnErr result (LacksPlace
             (unwinds self.now (abi_of kept.now stack_pointer) (M.bytes memory.now))
             (R.contents registers.now) (Some address)) };
-
-    /// Finds the caller of the frame at `address` whose registers have the contents in `file`, and
-    /// replaces them by the contents of the caller's registers, if that can be done in place and
-    /// the return address is known. If not, or if there is no caller, the result is none and
-    /// nothing has changed: `contents_into` has the answer.
-    fn contents_in_place<M: Memory>(
-        &self,
-        kept: &KeptRegisters<'_>,
-        stack_pointer: Option<u16>,
-        address: u64,
-        memory: &M,
-        file: &mut RegisterFile,
-    ) -> Option<Unwound>
-        ensures steps { MatchOption result (file.new ≡ file.old) (λ unwound. UnwindsTo
-            (unwinds self.now (abi_of kept.now stack_pointer) (M.bytes memory.now))
-            (contents_in file.old) (Some address) (Some unwound) (contents_in file.new)) }
-        ensures known { IfSome result (λ unwound. (next : ℕ)
-            × (answer_in unwound.return_address ≡ value next)) };
 }
 
 /// Unwinds with a compiled table, or anything else that can look up rows.
@@ -127,18 +104,5 @@ impl<'r, T: UnwindRows> Unwinder for &'r T {
         into: &mut RegisterFile,
     ) -> Result<Option<Unwound>, NoPlace> {
         contents_by(*self, kept, stack_pointer, address, registers, memory, into)
-    }
-
-    #[inline(always)]
-    fn contents_in_place<M: Memory>(
-        &self,
-        kept: &KeptRegisters<'_>,
-        stack_pointer: Option<u16>,
-        address: u64,
-        memory: &M,
-        file: &mut RegisterFile,
-    ) -> Option<Unwound> {
-        let mut slot = self.slot();
-        step_in_place(*self, &mut slot, kept, stack_pointer, address, memory, file)
     }
 }
