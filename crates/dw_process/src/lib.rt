@@ -20,6 +20,6 @@ pub use found_row::FoundRow;
 pub use loaded_module::LoadedModule;
 pub use process::Process;
 pub use refusal::Refusal;
-pub use row_cache::{NoHints, RowCache, RowHint, RowHints};
+pub use row_cache::{NoHints, ProcessSlot, RowCache, RowHint, RowHints};
 pub use shared_signals::SharedSignals;
 pub use shared_table::SharedTable;

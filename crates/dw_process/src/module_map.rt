@@ -1,6 +1,6 @@
 //! The modules of a process in order of address, and the module of an address.
 
-ghost use Rattle.std.specs.Prelude.{◌≡◌, ◌<◌, ◌≤◌, ◌⊎◌, ◌+◌, ◌*◌, ◌-◌, [], ℕ, IfErr, IfOk, IfSome, MatchResult, length, slice_index_or};
+ghost use Rattle.std.specs.Prelude.{◌≡◌, ◌<◌, ◌≤◌, ◌⊎◌, ◌+◌, ◌*◌, ◌-◌, [], ℕ, IfErr, IfOk, IfSome, MatchResult, Some, length, slice_index_or};
 ghost use Rattle.std.specs.List.{insert, remove};
 ghost use Rattle.std.specs.List.Sorted.{IsNonDecreasingBy};
 ghost use Rattle.std.specs.Option.{option_map};
@@ -8,7 +8,7 @@ ghost use Rattle.dw_process.specs.ModuleMaps.{AreInOrder, IsPlaceFor, IsProper, 
 
 use crate::address_range::AddressRange;
 use crate::loaded_module::LoadedModule;
-use crate::row_cache::NO_HINT;
+use crate::row_cache::{NO_HINT, ProcessSlot};
 use std::alloc::{AllocError, Global};
 use std::marker::Model;
 
@@ -94,22 +94,40 @@ impl ModuleMap {
     pub fn at(&self, address: u64) -> Option<&LoadedModule>
         ensures { option_map (λ m. m.now) result ≡ module_at self.now address }
     {
-        let mut hint = NO_HINT;
-        self.at_near(address, &mut hint)
+        let mut slot = ProcessSlot::new();
+        self.at_near(address, &mut slot)
     }
 
-    /// What `at` returns. `hint` is a guess of the module's index. If it is wrong, a search
-    /// follows, and `hint` becomes the index of the module, if there is one.
+    /// The module at index `guess`, if its range contains the address.
     #[inline(always)]
-    pub fn at_near(&self, address: u64, hint: &mut u32) -> Option<&LoadedModule>
-        ensures { option_map (λ m. m.now) result ≡ module_at self.now address }
+    fn at_guess(&self, guess: u32, address: u64) -> Option<&LoadedModule>
+        ensures { IfSome result (λ near. Some near.now ≡ module_at self.now address) }
     {
-        let guess = *hint as usize;
+        let guess = guess as usize;
         if guess < self.modules.len() {
             let near = &self.modules[guess];
             if near.range.first <= address && address <= near.range.last {
                 return Some(near);
             }
+        }
+        None
+    }
+
+    /// What `at` returns. `slot` has two guesses of the module's index. If both are wrong, a search
+    /// follows. If there is a module, `slot` has its index afterwards.
+    #[inline(always)]
+    pub fn at_near(&self, address: u64, slot: &mut ProcessSlot) -> Option<&LoadedModule>
+        ensures { option_map (λ m. m.now) result ≡ module_at self.now address }
+    {
+        // The module of the frame before is asked first. A processor foresees that it is the right
+        // one, and goes on without waiting for the hint.
+        if let Some(near) = self.at_guess(slot.last_module, address) {
+            slot.hint.module_index = slot.last_module;
+            return Some(near);
+        }
+        if let Some(near) = self.at_guess(slot.hint.module_index, address) {
+            slot.last_module = slot.hint.module_index;
+            return Some(near);
         }
         let after = count_up_to(self.firsts.as_slice(), address);
         if after == 0 {
@@ -117,7 +135,8 @@ impl ModuleMap {
         }
         let module = &self.modules[after - 1];
         if address <= module.range.last {
-            *hint = u32::try_from(after - 1).unwrap_or(NO_HINT);
+            slot.last_module = u32::try_from(after - 1).unwrap_or(NO_HINT);
+            slot.hint.module_index = slot.last_module;
             return Some(module);
         }
         None

@@ -13,7 +13,7 @@ use crate::loaded_module::LoadedModule;
 use crate::module_map::ModuleMap;
 use crate::ranges::range_for;
 use crate::refusal::Refusal;
-use crate::row_cache::RowHint;
+use crate::row_cache::ProcessSlot;
 use crate::shared_signals::SharedSignals;
 use crate::shared_table::SharedTable;
 use dw_bytes::{OUT_OF_MEMORY, Target};
@@ -238,26 +238,27 @@ impl Process {
         ensures row { result ≡ found_at self.now address }
         ensures found { IfSome result (IsFoundIn self.now address) }
     {
-        let mut hint = RowHint::none();
-        self.row_for_address_near(address, &mut hint)
+        let mut slot = ProcessSlot::new();
+        self.row_for_address_near(address, &mut slot)
     }
 
-    /// What `row_for_address` returns. `hint` says where the row may be: it is what an earlier
-    /// look-up left there, in this process or in another one, or any other hint. If it is right, as
-    /// it usually is for an address that was looked up before, no search is needed. If not, a
-    /// search follows, and the hint is set if there is such a module.
+    /// What `row_for_address` returns. `slot` says where the row may be: in the module that an
+    /// earlier look-up found, or where a hint says, which is what an earlier look-up left there, in
+    /// this process or in another one, or any other hint. If it is right, as it usually is for an
+    /// address that was looked up before, no search is needed. If not, a search follows, and the
+    /// slot is set if there is such a module.
     #[inline(always)]
-    pub fn row_for_address_near(&self, address: u64, hint: &mut RowHint) -> Option<FoundRow<'_>>
+    pub fn row_for_address_near(&self, address: u64, slot: &mut ProcessSlot) -> Option<FoundRow<'_>>
         ensures row { result ≡ found_at self.now address }
         ensures found { IfSome result (IsFoundIn self.now address) }
     {
-        let Some(found) = self.modules.at_near(address, &mut hint.module_index) else {
+        let Some(found) = self.modules.at_near(address, slot) else {
             return None;
         };
         let linked = as_linked(self.target, found.load_address, address);
         match found
             .rows
-            .row_and_return_register_near(linked, &mut hint.entry_count)
+            .row_and_return_register_near(linked, &mut slot.hint.entry_count)
         {
             Some((row, return_register)) => Some(FoundRow {
                 id: found.id,
@@ -277,18 +278,18 @@ impl Process {
     pub fn is_signal_frame(&self, address: u64) -> bool
         ensures { result ≡ is_signal_in self.now address }
     {
-        let mut hint = RowHint::none();
-        self.is_signal_frame_near(address, &mut hint)
+        let mut slot = ProcessSlot::new();
+        self.is_signal_frame_near(address, &mut slot)
     }
 
-    /// What `is_signal_frame` returns. `hint` is that of `row_for_address_near`.
+    /// What `is_signal_frame` returns. `slot` is that of `row_for_address_near`.
     #[inline(always)]
-    pub fn is_signal_frame_near(&self, address: u64, hint: &mut RowHint) -> bool
+    pub fn is_signal_frame_near(&self, address: u64, slot: &mut ProcessSlot) -> bool
         ensures { result ≡ is_signal_in self.now address }
     {
-        match self.modules.at_near(address, &mut hint.module_index) {
+        match self.modules.at_near(address, slot) {
             Some(found) => {
-                let target = found.rows.rows_target();
+                let target = found.rows.target();
                 let linked = as_linked(target, found.load_address, address);
                 found.signals.has(linked)
             }
@@ -314,7 +315,7 @@ impl Process {
 
 /// Looks rows up in the module whose range contains the address. A slot says where the row may be.
 impl UnwindRows for Process {
-    type Slot = RowHint;
+    type Slot = ProcessSlot;
 
     ghost use Rattle.std.specs.Prelude.{◌≡◌};
     ghost use Rattle.dw_process.specs.Processes.{row_in};
@@ -329,22 +330,21 @@ impl UnwindRows for Process {
     }
 
     #[inline(always)]
-    fn slot(&self) -> RowHint {
-        RowHint::none()
+    fn slot(&self) -> ProcessSlot {
+        ProcessSlot::new()
     }
 
     #[inline(always)]
     fn find_row<'p>(
         &'p self,
         address: u64,
-        slot: &'p mut RowHint,
+        slot: &'p mut ProcessSlot,
     ) -> Option<(UnwindRow<'p, 'p>, u16)> {
-        let Some(found) = self.modules.at_near(address, &mut slot.module_index) else {
+        let Some(found) = self.modules.at_near(address, slot) else {
             return None;
         };
         let linked = as_linked(self.target, found.load_address, address);
-        found
-            .rows
-            .row_and_return_register_near(linked, &mut slot.entry_count)
+        let hint = &mut slot.hint.entry_count;
+        found.rows.row_and_return_register_near(linked, hint)
     }
 }

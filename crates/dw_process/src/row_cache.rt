@@ -1,4 +1,5 @@
-//! Hints: where the rows of addresses that were looked up earlier may be.
+//! Where a process may have the row of an address: in the module of the row before, or where a hint
+//! says.
 
 ghost use Rattle.std.specs.Prelude.{◌≡◌, ◌<◌, replicate};
 ghost use Rattle.dw_process.specs.RowCaches.{hint_at, no_hint, place_of as its_place};
@@ -25,6 +26,29 @@ impl RowHint {
         RowHint {
             module_index: NO_HINT,
             entry_count: NO_HINT,
+        }
+    }
+}
+
+/// Where a look-up in a process begins: in the module that the look-up before found, and then where
+/// a hint says. Callers of a frame are often in its module, which then needs no search. Any slot
+/// will do, as any hint will.
+#[derive(Clone, Copy, Drop)]
+pub struct ProcessSlot {
+    pub(crate) last_module: u32,
+    /// A hint for the next look-up, and afterwards where that look-up found its row.
+    pub hint: RowHint,
+}
+
+impl ProcessSlot {
+    /// A slot that no look-up has used.
+    #[inline(always)]
+    pub fn new() -> Self
+        ensures { result.hint ≡ no_hint }
+    {
+        ProcessSlot {
+            last_module: NO_HINT,
+            hint: RowHint::none(),
         }
     }
 }

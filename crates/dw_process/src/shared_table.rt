@@ -7,7 +7,6 @@ ghost use Rattle.dw_rows.specs.RowLookups.{IsRowUnder};
 use dw_bytes::Target;
 use dw_rows::UnwindRow;
 use dw_tables::UnwindTable;
-use dw_unwind::UnwindRows;
 use std::alloc::Global;
 use std::marker::Model;
 use std::sync::Arc;
@@ -48,17 +47,15 @@ impl SharedTable {
         }
     }
 
-    /// The table's row at an address, with its return address register; none if the table has no
-    /// row there.
-    #[inline(always)]
-    pub fn row_and_return_register(&self, address: u64) -> Option<(UnwindRow<'_, '_>, u16)>
-        ensures row { result ≡ row_at self.now address }
-        ensures under { IfSome result (λ found. IsRowUnder self.now.target found.0) }
+    /// The target that the table's section was read with.
+    pub fn target(&self) -> Target
+        ensures { result ≡ self.now.target }
     {
-        self.table.row_and_return_register(address)
+        self.table.target()
     }
 
-    /// What `row_and_return_register` returns. `hint` is that of the table's call of this name.
+    /// The table's row at an address, with its return address register; none if the table has no
+    /// row there. `hint` is that of the table's call of this name.
     #[inline(always)]
     pub fn row_and_return_register_near(
         &self,
@@ -69,30 +66,5 @@ impl SharedTable {
         ensures under { IfSome result (λ found. IsRowUnder self.now.target found.0) }
     {
         self.table.row_and_return_register_near(address, hint)
-    }
-}
-
-/// Looks rows up in the table.
-impl UnwindRows for SharedTable {
-    type Slot = ();
-
-    ghost use Rattle.std.specs.Prelude.{◌≡◌};
-    ghost use Rattle.dw_tables.specs.UnwindTables.{row_at};
-
-    ghost target_of = { λ t. t.target };
-
-    ghost finds = { λ t address found. found ≡ row_at t address };
-
-    #[inline(always)]
-    fn rows_target(&self) -> Target {
-        self.table.target()
-    }
-
-    #[inline(always)]
-    fn slot(&self) -> () {}
-
-    #[inline(always)]
-    fn find_row<'p>(&'p self, address: u64, _slot: &'p mut ()) -> Option<(UnwindRow<'p, 'p>, u16)> {
-        self.row_and_return_register(address)
     }
 }

@@ -31,7 +31,7 @@ use Rattle.dw_unwind.specs.declared.modules.Module.{Module}
 off : (contents known : List ℕ) (r : ℕ) → get_or known r 0 ≡ 0 → content_in contents known r ≡ None
 off contents known r is = rw is refl
 
-all-zero : (n r : ℕ) → ◌≡◌ {A = ℕ} (get_or (replicate n 0) r 0) 0
+pub all-zero : (n r : ℕ) → ◌≡◌ {A = ℕ} (get_or (replicate n 0) r 0) 0
 all-zero zero r = refl
 all-zero (suc n) zero = refl
 all-zero (suc n) (suc r) = all-zero n r

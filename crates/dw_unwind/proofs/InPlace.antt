@@ -13,7 +13,7 @@ use Rattle.dw_unwind.specs.Contents.{HasContents, Overlays, abi_rules, content_c
 use Rattle.dw_rules.specs.SavedRules.{Saved, as_saved}
 use Rattle.dw_unwind.specs.Walks.{content_of}
 use Rattle.dw_unwind.specs.declared.usual_step.TheConstants.{LITTLE_64}
-use Rattle.dw_unwind.proofs.Contents.{role-content, role-is, role_answer}
+use Rattle.dw_unwind.proofs.Contents.{all-zero, role-content, role-is, role_answer}
 
 -- ---- contents that stay where they are
 
@@ -86,12 +86,6 @@ set-marks marks n r lt = go (n == r) refl
         subst (λ (k : ℕ). get_or (set marks n true) k false ≡ true) same (get_or-set_same marks n true false lt)
     go false is = get_or-set_other marks n r true false (unequal n r is)
 
--- a register without a place is no register that has one
-pub far-unmarked : (marks : List Bool) (n r : ℕ) → r < n → get_or marks r false ≡ ((n == r) || get_or marks r false)
-far-unmarked marks n r lt =
-    let none : (n == r) ≡ false = grind (arith, nat_tests) in
-    ap (λ (b : Bool). b || get_or marks r false) (sym none)
-
 pub marks-next : (marks next : List Bool) (numbers : List ℕ) (i r : ℕ) → i < length numbers
     → get_or next r false ≡ ((get_or numbers i 0 == r) || get_or marks r false)
     → (get_or next r false || is_among r (drop (i + 1) numbers)) ≡ (get_or marks r false || is_among r (drop i numbers))
@@ -117,3 +111,43 @@ marks-all marks numbers i r le is =
     go : (b : Bool) → b ≡ (b || false)
     go true = refl
     go false = refl
+
+-- ---- flags of listed registers
+
+pub set-flags : (old flags : List ℕ) (n r : ℕ) → n < length flags
+    → get_or (set flags n (get_or old n 0)) r 0 ≡ (if n == r then get_or old r 0 else get_or flags r 0)
+set-flags old flags n r lt = go (n == r) refl
+  where
+    go : (here : Bool) → (n == r) ≡ here → get_or (set flags n (get_or old n 0)) r 0 ≡ (if here then get_or old r 0 else get_or flags r 0)
+    go true is =
+        let same : n ≡ r = grind (arith, nat_tests) in
+        subst (λ (k : ℕ). get_or (set flags n (get_or old n 0)) k 0 ≡ get_or old k 0) same (get_or-set_same flags n (get_or old n 0) 0 lt)
+    go false is = get_or-set_other flags n r (get_or old n 0) 0 (unequal n r is)
+
+pub listed-first : (old numbers : List ℕ) (n r : ℕ)
+    → (if is_among r numbers then get_or old r 0 else get_or (replicate n 0) r 0) ≡ (if is_among r numbers then get_or old r 0 else 0)
+listed-first old numbers n r = ap (λ (x : ℕ). if is_among r numbers then get_or old r 0 else x) (all-zero n r)
+
+pub listed-next : (old flags next numbers : List ℕ) (i r : ℕ) → i < length numbers
+    → get_or next r 0 ≡ (if get_or numbers i 0 == r then get_or old r 0 else get_or flags r 0)
+    → (if is_among r (drop (i + 1) numbers) then get_or old r 0 else get_or next r 0)
+    ≡ (if is_among r (drop i numbers) then get_or old r 0 else get_or flags r 0)
+listed-next old flags next numbers i r lt is =
+    let n = get_or numbers i 0 in
+    let cut : drop i numbers ≡ n ∷ drop (i + 1) numbers = rw (add-one) (drop-cons numbers i 0 lt) in
+    ap (λ (x : ℕ). if is_among r (drop (i + 1) numbers) then get_or old r 0 else x) is
+    ∙ go (n == r) (is_among r (drop (i + 1) numbers))
+    ∙ ap (λ (l : List ℕ). if is_among r l then get_or old r 0 else get_or flags r 0) (sym cut)
+  where
+    go : (here later : Bool) → (if later then get_or old r 0 else (if here then get_or old r 0 else get_or flags r 0))
+        ≡ (if here || later then get_or old r 0 else get_or flags r 0)
+    go true true = refl
+    go true false = refl
+    go false true = refl
+    go false false = refl
+
+pub listed-all : (numbers : List ℕ) (i r kept flag final : ℕ) → length numbers ≤ i
+    → (if is_among r (drop i numbers) then kept else flag) ≡ final → flag ≡ final
+listed-all numbers i r kept flag final le is =
+    let none : drop i numbers ≡ [] = drop_all i numbers le in
+    ap (λ (l : List ℕ). if is_among r l then kept else flag) (sym none) ∙ is

@@ -18,3 +18,14 @@ pub record IsMarked (number : ℕ) (old new : List Bool) : Type 0 where
 pub record ArePicked (marks : List Bool) (old new : List ℕ) : Type 0 where
   pub length_is : length new ≡ length old
   pub each : (r : ℕ) → get_or new r 0 ≡ (if get_or marks r false then get_or old r 0 else 0)
+
+-- The flag of the register `number`, if that has a place, is what it is in `old`, and the others are
+-- those of `flags`.
+pub record IsRestored (number : ℕ) (old flags new : List ℕ) : Type 0 where
+  pub length_is : length new ≡ length flags
+  pub each : (r : ℕ) → r < PLACES → get_or new r 0 ≡ (if number == r then get_or old r 0 else get_or flags r 0)
+
+-- each flag of `new` is that of `old` if its register is among those with these numbers, else 0
+pub record AreListed (numbers : List ℕ) (old new : List ℕ) : Type 0 where
+  pub length_is : length new ≡ PLACES
+  pub each : (r : ℕ) → r < PLACES → get_or new r 0 ≡ (if is_among r numbers then get_or old r 0 else 0)

@@ -4,7 +4,7 @@ ghost use Rattle.std.specs.Prelude.{◌≡◌, ◌<◌, ◌≤◌, ◌^◌, ℕ,
 ghost use Rattle.std.specs.Bool.{OnFalse, OnTrue};
 ghost use Rattle.dw_rules.specs.Abi.{is_among};
 ghost use Rattle.dw_unwind.specs.Contents.{content_changed, contents_in};
-ghost use Rattle.dw_unwind.specs.KeptRegisters.{ArePicked};
+ghost use Rattle.dw_unwind.specs.KeptRegisters.{ArePicked, AreListed, IsRestored};
 
 use crate::kept_registers::KeptRegisters;
 use dw_eval::Registers;
@@ -48,6 +48,30 @@ fn keep_marked(flags: &mut [u8; PLACES], marks: &[bool; PLACES])
     for place in 0..PLACES {
         let flag = flags[place];
         flags[place] = if marks[place] { flag } else { 0 };
+    }
+}
+
+/// Sets the flag of the register `number`, if it has a place, to what it is in `old`.
+#[inline(always)]
+fn restore(flags: &mut [u8; PLACES], old: &[u8; PLACES], number: u16)
+    ensures { IsRestored number old.now flags.old flags.new }
+{
+    let place = usize::from(number);
+    if place >= PLACES {
+        return;
+    }
+    flags[place] = old[place];
+}
+
+/// Clears the flags of the registers that aren't among `numbers`.
+#[inline(always)]
+fn keep_listed(flags: &mut [u8; PLACES], numbers: &[u16])
+    ensures { AreListed numbers.now flags.old flags.new }
+{
+    let old = *flags;
+    *flags = [0; PLACES];
+    for number in numbers {
+        restore(flags, &old, *number);
     }
 }
 
@@ -127,7 +151,10 @@ impl RegisterFile {
         ensures { (r : ℕ) → contents_in self.new r
             ≡ (if is_among r kept.now then contents_in self.old r else None) }
     {
-        keep_marked(&mut self.known, kept.marks());
+        match kept.marks() {
+            Some(marks) => keep_marked(&mut self.known, marks),
+            None => keep_listed(&mut self.known, kept.numbers()),
+        }
     }
 
     /// Each content is below 2^64. This does nothing: only its contract is used.

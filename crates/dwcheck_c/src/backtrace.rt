@@ -21,7 +21,7 @@ use dw_c_types::answer::{CFrame, c_frame_of};
 use dw_c_types::state::Contents;
 use dw_c_types::status::DONE;
 use dw_eval::{Memory, Registers};
-use dw_process::{Process, RowHints};
+use dw_process::{Process, ProcessSlot, RowHints};
 use dw_rows::Abi;
 use dw_unwind::{BriefFrame, KeptRegisters, RegisterFile, Stop, Unwound, return_address};
 
@@ -138,9 +138,13 @@ fn write_steps<H: RowHints, M: Memory>(
         bits process.now) (place_of cursor.old) slots.old slots.new result.0 (stop_number result.1) }
 {
     let mut count = 0;
+    let mut last = ProcessSlot::new();
     while count < slots.len() {
-        let slot = &mut slots[count];
-        if step_by(process, hints, kept, pointer, bits, cursor, memory, slot) != DONE {
+        let out = &mut slots[count];
+        if step_by(
+            process, hints, &mut last, kept, pointer, bits, cursor, memory, out,
+        ) != DONE
+        {
             let looked_up = cursor.looked_up();
             let (numbers, file) = (kept.numbers(), &cursor.registers);
             return write_more(

@@ -26,7 +26,7 @@ use dw_c_types::fault::{CFault, IN_ABI, report};
 use dw_c_types::state::{CState, Contents};
 use dw_c_types::status::{DONE, NO_PLACE, NONE, REFUSED};
 use dw_eval::{Memory, Registers};
-use dw_process::{NoHints, Process, RowHint, RowHints};
+use dw_process::{NoHints, Process, ProcessSlot, RowHints};
 use dw_unwind::{
     KeptRegisters, PLACES, RegisterFile, Stop, Unwinder, return_address, step_in_place,
 };
@@ -147,10 +147,10 @@ pub(crate) fn without_bits(bits: u64, address: u64) -> u64
 
 /// The stage of a cursor at the caller of a frame that was looked up at `address`.
 #[inline(always)]
-fn stage_of_caller(process: &Process, address: u64, hint: &mut RowHint) -> u32
+fn stage_of_caller(process: &Process, address: u64, slot: &mut ProcessSlot) -> u32
     ensures { result ≡ (if is_signal_in process.now address then EXACT else CALLER) }
 {
-    if process.is_signal_frame_near(address, hint) {
+    if process.is_signal_frame_near(address, slot) {
         EXACT
     } else {
         CALLER
@@ -208,7 +208,7 @@ fn step_by_copy<M: Memory>(
         Ok(next) => {
             cursor.registers = into;
             cursor.address = without_bits(bits, next);
-            cursor.stage = stage_of_caller(process, address, &mut RowHint::none());
+            cursor.stage = stage_of_caller(process, address, &mut ProcessSlot::new());
         }
         Err(stop) => cursor.stage = stage_after(stop),
     }
@@ -230,11 +230,13 @@ fn end_uncovered(cursor: &mut CCursor, out: &mut CFrame)
 }
 
 /// Writes the frame that a cursor is at to `out`, and moves the cursor to the frame's caller. The
-/// frame's row is looked up with the help of `hints`.
+/// frame's row is looked up with the help of `hints`, and of `slot`, which may have the module of
+/// the frame before.
 #[inline(always)]
 pub(crate) fn step_by<H: RowHints, M: Memory>(
     process: &Process,
     hints: &mut H,
+    slot: &mut ProcessSlot,
     kept: &KeptRegisters<'_>,
     stack_pointer: Option<u16>,
     bits: u64,
@@ -255,24 +257,16 @@ pub(crate) fn step_by<H: RowHints, M: Memory>(
         end_uncovered(cursor, out);
         return DONE;
     };
-    let mut hint = hints.hint(address);
+    slot.hint = hints.hint(address);
     let file = &mut cursor.registers;
-    let unwound = step_in_place(
-        process,
-        &mut hint,
-        kept,
-        stack_pointer,
-        address,
-        memory,
-        file,
-    );
-    hints.set_hint(address, hint);
+    let unwound = step_in_place(process, slot, kept, stack_pointer, address, memory, file);
+    hints.set_hint(address, slot.hint);
     match unwound {
         Some(unwound) => match return_address(Some(unwound)) {
             Ok(next) => {
                 *out = c_frame_of(brief(cursor.address, Some(unwound)));
                 cursor.address = without_bits(bits, next);
-                cursor.stage = stage_of_caller(process, address, &mut hint);
+                cursor.stage = stage_of_caller(process, address, slot);
                 DONE
             }
             Err(_) => unreachable!(),
@@ -308,11 +302,12 @@ fn step_of(process: &Process, cursor: &mut CCursor, state: &CState<'_>, out: &mu
     if cursor.stage > CALLER {
         return NONE;
     }
-    let marked = KeptRegisters::new(state.kept);
+    let kept = KeptRegisters::for_one_step(state.kept);
     step_by(
         process,
         &mut NoHints,
-        &marked,
+        &mut ProcessSlot::new(),
+        &kept,
         state.pointer(),
         state.signed_bits,
         cursor,

@@ -2,7 +2,7 @@ use Rattle.std.proofs.Common.{◌≡◌, ℕ, List, map, sym, subst, ap, ◌∙�
 use Rattle.std.specs.List.Sorted.{IsNonDecreasingBy}
 use Rattle.dw_process.specs.declared.loaded_module.LoadedModule.{LoadedModule}
 use Rattle.dw_process.specs.ModuleMaps.{IsStartCount, first_of, module_at}
-use Rattle.dw_process.proofs.Placing.{firsts_rise, none_up_to, not_the_last, the_last, the_one, is_inside}
+use Rattle.dw_process.proofs.Placing.{firsts_rise, none_up_to, not_the_last, the_last}
 use Rattle.dw_process.proofs.module_map.ModuleMap.at_near.Goals as goal
 
 pub count_up_to-after-requires : goal.count_up_to-after-requires
@@ -34,13 +34,4 @@ returns c =
     let counted = subst (λ (l : List ℕ). IsStartCount l c.args.address c.count_up_to-after.result) firsts c.count_up_to-after.ensures in
     sym (not_the_last modules c.self.invariant.1 c.args.address c.count_up_to-after.result counted c.index-module.result.now (omega arith)
     (sym c.index-module.ensures) (omega arith))
-    ∙ ap (λ (l : List LoadedModule). module_at l c.args.address) c.self.view_is
-
-pub returns-then-address-near : goal.returns-then-address-near
-returns-then-address-near c =
-    let modules = c.self.inside.modules.items in
-    let near = c.index-near.result.now in
-    let guess = c.args.hint.now in
-    sym (the_one modules c.self.invariant.1 c.args.address near (guess, omega arith, sym c.index-near.ensures)
-    (is_inside near.range c.args.address (omega arith) (omega arith)))
     ∙ ap (λ (l : List LoadedModule). module_at l c.args.address) c.self.view_is
