@@ -122,11 +122,17 @@ uint32_t dwcheck_cursor_init(dwcheck_cursor *cursor, uint64_t address, const dwc
 }
 
 PROVED(dwcheck_cursor_step);
+/* Not inlined: the usual path then needs no stack frame, and ends in a jump to the proved call. */
+static __attribute__((noinline)) uint32_t step_without_null(const dwcheck_process *process, dwcheck_cursor *cursor,
+                                                            const dwcheck_state *state, dwcheck_frame *frame) {
+    const dwcheck_state copy = with_all(state);
+    return proved_dwcheck_cursor_step(process, cursor, &copy, frame);
+}
+
 uint32_t dwcheck_cursor_step(const dwcheck_process *process, dwcheck_cursor *cursor, const dwcheck_state *state,
                              dwcheck_frame *frame) {
     if (has_all(state)) return proved_dwcheck_cursor_step(process, cursor, state, frame);
-    const dwcheck_state copy = with_all(state);
-    return proved_dwcheck_cursor_step(process, cursor, &copy, frame);
+    return step_without_null(process, cursor, state, frame);
 }
 
 PROVED(dwcheck_evaluate);

@@ -32,8 +32,8 @@
      left. c/tests/readers.c tests all of these.
    - The stack is large enough. As measured on x86-64, dwcheck_backtrace and dwcheck_backtrace_cached take 2.8 KB,
      dwcheck_unwind 7.1 KB and dwcheck_cursor_step 0.6 KB; if a rule is an expression, 4.7, 8.7 and 3.8 KB; and the
-     first two take 19 KB if a register of 96 or more is known. dwcheck_process_add takes 84 KB, dwcheck_check and dwcheck_report 40 KB,
-     dwcheck_cursor_step_with 21 KB, dwcheck_evaluate 12 KB, and every other call less than 4 KB.
+     first two take 19 KB if a register of 96 or more is known. dwcheck_process_add takes 84 KB, dwcheck_check and
+     dwcheck_report 40 KB, dwcheck_cursor_step_with 21 KB, dwcheck_evaluate 12 KB, and every other call less than 4 KB.
    - Fields called `reserved` are set to 0. A later version may give them a meaning.
 
    Only DONE writes what a call gives or changes, and only REFUSED writes `fault`, unless the call says otherwise. Only
