@@ -7,8 +7,8 @@
 #   make install    does what make does; then installs the results in $(DESTDIR)$(PREFIX)
 #   make packages   installs the Debian packages that dwcheck-elf is built with
 #   make dist       after make, an archive for machines without the kit, in build/dist/
-# make also needs cc, ar and objcopy. If cargo or a package is missing, dwcheck-elf is left out, and a line
-# says so. JOBS is the number of cargo's parallel jobs (all processors if not set).
+# make also needs cc, ar, objcopy and python3. If cargo or a package is missing, dwcheck-elf is left out,
+# and a line says so. JOBS is the number of cargo's parallel jobs (all processors if not set).
 PREFIX ?= /usr/local
 BINDIR ?= $(PREFIX)/bin
 LIBDIR ?= $(PREFIX)/lib
@@ -25,10 +25,11 @@ version := 2.0.0
 major := 2
 kit = $(dir $(shell rt doc))
 built := build/dwcheck build/libdwcheck.a build/libdwcheck.so.$(version) build/libdwcheck-dl.a build/dwcheck.pc build/dwcheck-dl.pc
+pages := $(patsubst man/%.md,build/man/%,$(wildcard man/*.md))
 
 .PHONY: all try test packages dist install clean FORCE
 
-all: $(built) build/dwcheck-elf
+all: $(built) build/dwcheck-elf $(pages)
 
 try:
 	@tools/try.sh
@@ -102,6 +103,11 @@ build/%.pc: c/%.pc.in FORCE | build
 	@sed -e 's|@PREFIX@|$(PREFIX)|' -e 's|@LIBDIR@|$(LIBDIR)|' -e 's|@INCLUDEDIR@|$(INCLUDEDIR)|' \
 	    -e 's|@VERSION@|$(version)|' $< >$@
 
+# The manual pages, from man/ and the files that it names. This takes a moment, so it is always done.
+build/man/%: man/%.md FORCE | build
+	@mkdir -p build/man
+	@tools/man.py $* >$@
+
 # If cargo or a package is missing, the old program is deleted, so that `make install` doesn't
 # install it.
 build/dwcheck-elf: build/libdwcheck.a FORCE
@@ -129,9 +135,9 @@ install: all
 	$(INSTALL) -m 644 c/dwcheckConfig.cmake $(DESTDIR)$(LIBDIR)/cmake/dwcheck/
 	sed 's/@VERSION@/$(version)/' c/dwcheckConfigVersion.cmake.in >$(DESTDIR)$(LIBDIR)/cmake/dwcheck/dwcheckConfigVersion.cmake
 	$(INSTALL) -m 644 c/include/dwcheck.h c/include/dwcheck.hpp c/include/dwcheck.cppm c/include/dwcheck-dl.h $(DESTDIR)$(INCLUDEDIR)/
-	$(INSTALL) -m 644 man/dwcheck.1 $(DESTDIR)$(MANDIR)/man1/
-	if [ -f build/dwcheck-elf ]; then $(INSTALL) -m 644 man/dwcheck-elf.1 $(DESTDIR)$(MANDIR)/man1/; fi
-	$(INSTALL) -m 644 man/dwcheck.3 $(DESTDIR)$(MANDIR)/man3/
+	$(INSTALL) -m 644 build/man/dwcheck.1 $(DESTDIR)$(MANDIR)/man1/
+	if [ -f build/dwcheck-elf ]; then $(INSTALL) -m 644 build/man/dwcheck-elf.1 $(DESTDIR)$(MANDIR)/man1/; fi
+	$(INSTALL) -m 644 build/man/dwcheck.3 $(DESTDIR)$(MANDIR)/man3/
 
 clean:
 	rm -rf build

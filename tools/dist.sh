@@ -12,7 +12,7 @@ name=dwcheck-$version-x86_64-linux
 out=build/dist/$name
 
 [ -z "$(git status --porcelain)" ] || { echo "the tree has changes that aren't committed" >&2; exit 1; }
-for file in dwcheck dwcheck-elf libdwcheck.a "libdwcheck.so.$version" libdwcheck-dl.a; do
+for file in dwcheck dwcheck-elf libdwcheck.a "libdwcheck.so.$version" libdwcheck-dl.a man/dwcheck.1 man/dwcheck-elf.1 man/dwcheck.3; do
     [ -f "build/$file" ] || { echo "build/$file isn't there: run make first" >&2; exit 1; }
 done
 
@@ -83,8 +83,8 @@ relocatable dwcheck-dl
 put 644 lib/cmake/dwcheck c/dwcheckConfig.cmake
 sed "s/@VERSION@/$version/" c/dwcheckConfigVersion.cmake.in > "$out/lib/cmake/dwcheck/dwcheckConfigVersion.cmake"
 put 644 share/python python/dwcheck.py
-put 644 share/man/man1 man/dwcheck.1 man/dwcheck-elf.1
-put 644 share/man/man3 man/dwcheck.3
+put 644 share/man/man1 build/man/dwcheck.1 build/man/dwcheck-elf.1
+put 644 share/man/man3 build/man/dwcheck.3
 put 644 share/doc/dwcheck README.md CHANGES.md docs/*.md
 completions bash bash-completion/completions/dwcheck-elf
 completions zsh zsh/site-functions/_dwcheck-elf

@@ -130,7 +130,8 @@ STAGES = [
           environment={"LIBRARY": str(BUILD / "libdwcheck.a")}),
     Stage("examples", "frames of the examples beside those of gdb and eu-stack", "examples/run.sh", counted_lines,
           progress="^(ok .*)", environment=RUST),
-    Stage("lint", "clippy, rustfmt and the heads of files", "rust/lint.sh; tools/files.py --check", counted_lines, progress="^(ok .*)", environment=RUST),
+    Stage("lint", "clippy, rustfmt, the heads of files, the manual pages", "rust/lint.sh; tools/files.py --check; tools/man.py --check",
+          counted_lines, progress="^(ok .*)", environment=RUST),
 ]
 
 

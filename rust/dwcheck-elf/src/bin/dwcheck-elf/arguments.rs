@@ -65,7 +65,7 @@ pub enum Command {
 /// The arguments of `completions`.
 #[derive(Args, Debug)]
 pub struct CompletionsWords {
-    /// The shell
+    /// The shell: bash, elvish, fish, powershell or zsh
     #[arg(value_enum)]
     pub shell: clap_complete::Shell,
 }
@@ -87,7 +87,9 @@ Exit status: 0 nothing found; 1 findings; 2 a bad argument; 3 a file that can't 
 /// What to print in addition to the result.
 #[derive(Args, Clone, Copy, Debug)]
 pub struct Notes {
-    /// List what frame sections have that isn't a rule, and what was read in another way
+    /// Say how often a frame section has what isn't a rule, or is read in another way than it is written: FDEs of
+    /// signal frames, records of length 0, exact copies of an FDE, DW_CFA_def_cfa_register before a rule; in
+    /// .debug_frame, DW_CFA_GNU_args_size and DW_CFA_AARCH64_negate_ra_state
     #[arg(long)]
     pub notes: bool,
 }
@@ -100,7 +102,8 @@ pub struct CheckWords {
     /// List every CIE, FDE and expression of location lists that is refused, not only the first one
     #[arg(long)]
     pub all: bool,
-    /// List the entries of location lists that break no rule but are most likely mistakes
+    /// List the entries of location lists that break no rule but are most likely mistakes, such as two that share
+    /// addresses and have different expressions
     #[arg(long)]
     pub doubtful: bool,
     /// Leave location lists out
@@ -124,7 +127,7 @@ pub struct RowWords {
     pub program: PathBuf,
     /// An address, such as 0x1130, or a function, such as main, main+4 or 'twice(int)+4'
     pub address: String,
-    /// Where the program is loaded
+    /// Where the program is loaded. An address that is a number is as loaded
     #[arg(long, value_name = "ADDRESS", default_value = "0x0")]
     pub load: String,
 }
@@ -132,10 +135,10 @@ pub struct RowWords {
 /// The modules of a process.
 #[derive(Args, Debug)]
 pub struct Modules {
-    /// Where the program is loaded
+    /// Where the program is loaded. An address that is a number is as loaded
     #[arg(long, value_name = "ADDRESS", default_value = "0x0")]
     pub load: String,
-    /// A further module: where it is loaded, and its ELF file
+    /// A further module: where it is loaded, and its ELF file. Can be given several times
     #[arg(long, value_name = "LOAD=FILE")]
     pub module: Vec<OsString>,
 }
@@ -186,7 +189,8 @@ pub struct StackWords {
     /// Only the thread with this id. Can be given several times
     #[arg(long, value_name = "TID")]
     pub tid: Vec<u32>,
-    /// The folder in which the paths of the core file are looked up
+    /// The folder in which the paths of the core file are looked up, and files of debug information, such as a copy of
+    /// another machine's files
     #[arg(long, value_name = "FOLDER", default_value = "/")]
     pub root: PathBuf,
     /// Print at most this many frames of each thread
@@ -207,7 +211,7 @@ pub struct StackWords {
     /// Print the registers of each frame, as far as they are known
     #[arg(long)]
     pub registers: bool,
-    /// Print the parameters and variables of each frame with their values, as far as they are known
+    /// Print the parameters and variables of each frame with their values, as far as they are known; not with --group
     #[arg(long)]
     pub vars: bool,
     /// With --vars: follow structures and arrays this deep
@@ -216,7 +220,7 @@ pub struct StackWords {
     /// Print the stack of several threads once if it is the same
     #[arg(long, conflicts_with = "vars")]
     pub group: bool,
-    /// Write one document of JSON
+    /// Write one document of JSON, whose keys docs/OUTPUT.md lists
     #[arg(long)]
     pub json: bool,
 }
@@ -231,7 +235,7 @@ pub struct VarsWords {
     /// A state file: registers and memory of the process at the address
     #[arg(long, value_name = "FILE", conflicts_with_all = ["core", "pid"])]
     pub state: Option<PathBuf>,
-    /// Where the program is loaded
+    /// Where the program is loaded. An address that is a number is as loaded
     #[arg(long, value_name = "ADDRESS", default_value = "0x0")]
     pub load: String,
     /// A core file of x86-64, i386 or aarch64, instead of a program
@@ -249,10 +253,10 @@ pub struct VarsWords {
     /// The folder in which the paths of the core file are looked up
     #[arg(long, value_name = "FOLDER", default_value = "/")]
     pub root: PathBuf,
-    /// Follow structures and arrays this deep
+    /// Follow structures and arrays this deep, at most 64. What is deeper is {..}
     #[arg(long, value_name = "N", default_value_t = 1)]
     pub depth: usize,
-    /// Write one document of JSON
+    /// Write one document of JSON, whose keys docs/OUTPUT.md lists
     #[arg(long)]
     pub json: bool,
 }
@@ -286,19 +290,20 @@ pub struct LintWords {
     /// Programs, libraries, unlinked objects, and folders of them
     #[arg(required_unless_present = "confirm")]
     pub paths: Vec<PathBuf>,
-    /// Show functions, too, that never give a callee-saved register back
+    /// Show registers, too, that a function never gives back. Without it they aren't counted
     #[arg(long)]
     pub private: bool,
-    /// Show the instructions around each finding, with their rows and what the code says
+    /// Show the instructions around each finding, with their rows and what the code says; ! marks wrong rows
     #[arg(long)]
     pub explain: bool,
     /// Write a line of JSON for each finding, for each file and for the totals
     #[arg(long)]
     pub json: bool,
-    /// Write all findings as a document of SARIF 2.1.0, at their source lines where the program has line tables
+    /// Write all findings as a document of SARIF 2.1.0, which code hosts show at the source line
     #[arg(long, conflicts_with_all = ["json", "explain"])]
     pub sarif: bool,
-    /// Leave out the findings in FILE, the output of an earlier run without --json and --sarif
+    /// Leave out the findings in FILE, the output of an earlier run without --json and --sarif: those of the same file
+    /// name, kind and function
     #[arg(long, value_name = "FILE")]
     pub known: Option<PathBuf>,
     /// Show findings of this kind only, such as 'late push'. Can be given several times
@@ -342,7 +347,7 @@ pub struct TraceWords {
     /// Let a function run to its end after this many instructions without one that is seen for the first time
     #[arg(long, value_name = "N", default_value_t = 3_000)]
     pub idle: u64,
-    /// Show functions, too, that never give a callee-saved register back
+    /// Show registers, too, that a function never gives back
     #[arg(long)]
     pub private: bool,
     /// Write a line for each function: how much of it was judged, and at how many instructions its rows are wrong
@@ -364,13 +369,14 @@ pub struct ReportWords {
     /// ELF files: programs, libraries, unlinked objects, kernel modules
     #[arg(required = true)]
     pub programs: Vec<PathBuf>,
-    /// Write to this file, not to standard output
+    /// Write to this file, not to standard output. It is replaced only when the new one is whole
     #[arg(long, short, value_name = "FILE")]
     pub output: Option<PathBuf>,
     /// Show how the tables of two programs differ, the old one first
     #[arg(long)]
     pub compare: bool,
-    /// Show rows and instructions of this function only. Can be given several times
+    /// Show rows and instructions of this function only, named as in the file or as it is shown. Can be given several
+    /// times
     #[arg(long, value_name = "NAME")]
     pub function: Vec<String>,
 }
@@ -378,17 +384,20 @@ pub struct ReportWords {
 /// The format in which a profile is written.
 #[derive(Clone, Copy, Debug, PartialEq, Eq, ValueEnum)]
 pub enum Format {
-    /// A line for each stack, which flamegraph.pl, inferno and speedscope read
+    /// A line for each stack: the thread's name and the functions, the outermost first, and the sum of the samples'
+    /// periods; flamegraph.pl, inferno and speedscope read it
     Folded,
-    /// The lines of `perf script`
+    /// The lines of `perf script`, for scripts that read these
     Script,
-    /// One page with a flame graph, which any browser shows without a network
+    /// One page with a flame graph, for any browser and without a network: a click zooms, a search marks functions,
+    /// threads and a time range can be selected, and `inverted` shows callers below what ran
     Html,
-    /// speedscope's JSON
+    /// speedscope's JSON, with a profile for each thread
     Speedscope,
-    /// pprof's profile, compressed by gzip
+    /// pprof's profile, compressed by gzip, with all events
     Pprof,
-    /// The JSON of the Firefox Profiler
+    /// The JSON of the Firefox Profiler (its processed format, version 46), with a thread for each; what counts
+    /// nanoseconds is weighed in milliseconds
     Firefox,
     /// A table of the functions that weigh most by themselves
     Top,
@@ -402,7 +411,8 @@ pub struct ProfileWords {
     /// What to write
     #[arg(long, value_enum, default_value_t = Format::Folded)]
     pub format: Format,
-    /// Write to this file, not to standard output
+    /// Write to this file, not to standard output. It is replaced only when the new one is whole; of a run that is
+    /// interrupted nothing is left
     #[arg(long, short, value_name = "FILE")]
     pub output: Option<PathBuf>,
     /// Only threads with this name. Can be given several times
@@ -417,7 +427,8 @@ pub struct ProfileWords {
     /// Only samples between these times in seconds, as --format script shows them; either may be left out
     #[arg(long, value_name = "BEGIN,END")]
     pub time: Option<String>,
-    /// Only this event. Without it, folded stacks are those of the first event
+    /// Only this event. Without it, script and pprof have all events, and the others the first one, which standard
+    /// error says
     #[arg(long, value_name = "NAME")]
     pub event: Option<String>,
     /// Leave out inlined functions
@@ -426,7 +437,7 @@ pub struct ProfileWords {
     /// Show files and lines of source code
     #[arg(long)]
     pub lines: bool,
-    /// The most frames of a program's stack
+    /// The most frames of a program's stack; those of the kernel don't count
     #[arg(long, value_name = "N", default_value_t = dwcheck_elf::profile::MOST_FRAMES)]
     pub max_stack: usize,
     /// Say why stacks have no more frames: how many for each reason, and with --format script of each
@@ -438,7 +449,7 @@ pub struct ProfileWords {
     /// A list of the kernel's functions: /proc/kallsyms or System.map of the machine that was recorded
     #[arg(long, value_name = "FILE")]
     pub kallsyms: Option<PathBuf>,
-    /// Walk stacks on this many processors, instead of all. The profile is the same
+    /// Walk stacks and read names on this many processors, instead of all. The profile is the same, byte by byte
     #[arg(long, value_name = "N")]
     pub jobs: Option<usize>,
     /// Write no summary, only what is wrong
