@@ -10,7 +10,7 @@ use Rattle.dw_sections.proofs.Lengths.{short_fault, long_fault}
 use Rattle.dw_stack.specs.declared.state.Kind.{Kind}
 use Rattle.dw_stack.specs.Expressions.{Checked, IsOf, IsGoodExpression, IsDepthOf, operations_in}
 use Rattle.dw_stack.specs.FirstFault.{expression_fault}
-use Rattle.dw_stack.proofs.paths.Existing.{each_has_a_depth}
+use Rattle.dw_stack.proofs.Existing.{each_has_a_depth}
 use Rattle.dw_stack.proofs.Unique.{one_depth}
 use Rattle.dw_eval.specs.Numbers.{width_of}
 use Rattle.std.proofs.Math.Path.{fun_ext}

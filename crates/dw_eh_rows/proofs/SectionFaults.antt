@@ -16,7 +16,7 @@ use Rattle.dw_frame.proofs.RecordBounds.{records-ascend}
 use Rattle.dw_rules.specs.ProgramFault.{cie_fault, fde_fault}
 use Rattle.dw_rows.specs.Section.{cies_among, fdes_among, first_fault, cie_at, pointer_fault, fault_by_cie, program_fault, shares, overlap_fault, programs_fault, parts_fault, frame_of, section_fault}
 use Rattle.dw_rows.specs.Overlap.{cie_offset}
-use Rattle.dw_rows.proofs.programs.Standing.{cie-stands, fde-stands}
+use Rattle.dw_rows.proofs.sections.Standing.{cie-stands, fde-stands}
 use Rattle.dw_eh_frame.specs.declared.pointer.Bases.{Bases}
 use Rattle.dw_eh_frame.specs.Copies.{distinct}
 use Rattle.dw_eh_frame.proofs.CopiesFound.{distinct-rise}

@@ -1,4 +1,5 @@
 pub mod Search
+pub mod Faults
 pub mod Elements
 pub mod programs
 pub mod sections

@@ -8,6 +8,5 @@ pub mod Beginnings
 pub mod InForce
 pub mod Goods
 pub mod Programs
-pub mod Standing
 pub mod OneMatch
 pub mod CheckedInPlace

@@ -1,7 +1,7 @@
 -- Sections: their records, overlaps, index and faults.
 pub mod Sweeps
 pub mod Indexes
-pub mod Faults
+pub mod Standing
 pub mod Clashes
 pub mod Parts
 pub mod SectionOrder

@@ -6,6 +6,7 @@ pub mod Walks
 pub mod Verdicts
 pub mod Encoded
 pub mod Stable
+pub mod Existing
 pub mod Whole
 pub mod Unique
 pub mod Bytes

@@ -5,5 +5,4 @@ pub mod Ends
 pub mod Runs
 pub mod Heights
 pub mod InStates
-pub mod Existing
 pub mod Unbranched

@@ -21,7 +21,7 @@ use Rattle.dw_rules.specs.ProgramFault.{standing_at, item_fault, fault_from, ref
 use Rattle.dw_rules.specs.ProgramFault.{fde_fault}
 use Rattle.dw_rows.specs.GoodPrograms.{IsGood, AreGoodExpressions, IsGoodCieProgram, IsGoodFdeProgram}
 use Rattle.dw_stack.proofs.Named.{none_if_good, good_if_none}
-use Rattle.dw_rows.proofs.sections.Faults.{option_or-none}
+use Rattle.dw_rows.proofs.Faults.{option_or-none}
 use Rattle.dw_rows.proofs.rows.RowCursors.{standing_at-none, item-passes}
 use Rattle.dw_rows.proofs.programs.Goods.{Fine, fine-iff, FineCie, fine-cie-iff}
 

@@ -15,7 +15,7 @@ use Rattle.dw_rules.specs.InForce.{Start, location_of, fde_start}
 use Rattle.dw_rules.specs.ProgramFault.{refusal_at, item_fault, fde_fault_from, fde_fault}
 use Rattle.dw_rows.specs.UnwindRows.{rows_up_to, rows_after, rows_of, has_address, Cover}
 use Rattle.dw_rows.proofs.programs.Checking.{passed-from}
-use Rattle.dw_rows.proofs.sections.Faults.{option_or-none}
+use Rattle.dw_rows.proofs.Faults.{option_or-none}
 use Rattle.dw_rows.proofs.rows.RowCursors.{item-passes}
 use Rattle.dw_rows.proofs.programs.Running.{forward}
 

@@ -20,7 +20,7 @@ use Rattle.dw_rows.specs.Clauses.{IsRow, AreRowsFrom, start_in, program_in}
 use Rattle.dw_rows.specs.Section.{FrameSection, IsChecked, covers, rows_in, rows_by_cie, row_of}
 use Rattle.dw_rules.proofs.Elements.{contained-map}
 use Rattle.dw_rows.proofs.sections.Parts.{pointed-in, good-past}
-use Rattle.dw_rows.proofs.sections.Faults.{at-found}
+use Rattle.dw_rows.proofs.Faults.{at-found}
 use Rattle.dw_rows.proofs.programs.Programs.{good-from-cie, good-from-fde}
 use Rattle.dw_rows.proofs.rows.RowsOf.{rows-of-good}
 use Rattle.dw_rows.proofs.expressions.Lending.{lends-in, row-lends}

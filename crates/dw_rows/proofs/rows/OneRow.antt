@@ -15,7 +15,7 @@ use Rattle.dw_rows.specs.Section.{FrameSection, Covers, IsCoverOf, IsChecked, ro
 use Rattle.dw_rows.specs.ExactRows.{HasOneRow}
 use Rattle.dw_rules.proofs.Tables.{rule_list-table, rule_list-same}
 use Rattle.dw_rows.proofs.sections.Parts.{pointed-in, good-past}
-use Rattle.dw_rows.proofs.sections.Faults.{at-found}
+use Rattle.dw_rows.proofs.Faults.{at-found}
 use Rattle.dw_rows.proofs.programs.Programs.{good-from-cie, good-from-fde}
 use Rattle.dw_rows.proofs.rows.Covering.{cover-rows}
 use Rattle.dw_rows.proofs.rows.RowsOf.{rows-of-good, one-row}

@@ -16,7 +16,7 @@ use Rattle.dw_rules.specs.RuleSet.{StoredRules}
 use Rattle.dw_rules.specs.Initial.{AreLeftBy}
 use Rattle.dw_rows.specs.Overlap.{cie_offset, fde_offset, IsAddressIndex, IsKept}
 use Rattle.dw_rows.specs.declared.index.IndexEntry.{IndexEntry}
-use Rattle.dw_rows.proofs.sections.Faults.{option_or-none, none-each}
+use Rattle.dw_rows.proofs.Faults.{option_or-none, none-each}
 use Rattle.dw_rows.proofs.sections.Parts.{parts-pass, covers-once-in}
 use Rattle.dw_rows.proofs.sections.SectionOrder.{cies-ascend, fdes-ascend, cies-sound, fdes-sound}
 

@@ -14,7 +14,7 @@ use Rattle.dw_rows.specs.Section.{first_fault, overlap_fault, shares, SharesAddr
 use Rattle.dw_rows.specs.Overlap.{fde_offset, AreApart, IsApart, Overlaps, IsFirstOverlap}
 use Rattle.dw_frame.specs.Bounds.{Ascends}
 use Rattle.dw_rules.proofs.Search.{ascending-at}
-use Rattle.dw_rows.proofs.sections.Faults.{none-each}
+use Rattle.dw_rows.proofs.Faults.{none-each}
 use Rattle.dw_rows.proofs.sections.Sweeps.{covers-once}
 
 -- two FDEs that pass the test share an address: the higher of their initial locations

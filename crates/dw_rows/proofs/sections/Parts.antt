@@ -10,7 +10,7 @@ use Rattle.dw_rows.specs.Section.{first_fault, cie_at, pointer_fault, program_fa
 use Rattle.dw_rows.specs.Section.{parts_fault, CoversOnce}
 use Rattle.dw_rows.specs.Overlap.{fde_offset}
 use Rattle.dw_frame.specs.Bounds.{Ascends}
-use Rattle.dw_rows.proofs.sections.Faults.{option_or-none, none-each, at-found}
+use Rattle.dw_rows.proofs.Faults.{option_or-none, none-each, at-found}
 use Rattle.dw_rows.proofs.sections.Clashes.{once-covered}
 
 -- no part of the check found a fault

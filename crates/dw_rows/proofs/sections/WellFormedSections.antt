@@ -12,7 +12,7 @@ use Rattle.dw_rows.specs.Section.{cies_among, fdes_among}
 use Rattle.dw_rows.specs.WellFormed.{IsWellFormed}
 use Rattle.dw_rows.specs.Overlap.{cie_offset, fde_offset, AreApart}
 use Rattle.dw_frame.specs.Bounds.{Ascends}
-use Rattle.dw_rows.proofs.sections.Faults.{option_or-none, found-at, at-found, none-each}
+use Rattle.dw_rows.proofs.Faults.{option_or-none, found-at, at-found, none-each}
 use Rattle.dw_rows.proofs.sections.Clashes.{each-none, none-overlap}
 use Rattle.dw_rows.proofs.sections.Parts.{PartsPass, parts-pass, pass-parts, pointed-in, good-past, covers-once-in}
 use Rattle.dw_rows.proofs.programs.Programs.{good-from-cie, cie-from-good, good-from-fde, fde-from-good}

@@ -3,7 +3,7 @@ use Rattle.std.specs.Prelude.{Err}
 use Rattle.std.specs.List.{flat_map}
 use Rattle.std.specs.String.{string_bytes}
 use Rattle.dw_stack.specs.Located.{LocatedExpression}
-use Rattle.dw_stack.proofs.paths.Existing.{each_has_a_depth}
+use Rattle.dw_stack.proofs.Existing.{each_has_a_depth}
 use Rattle.dw_loclists.specs.Reading.{ListSection, IsChecked, located_in}
 use Rattle.dw_loclists.proofs.Standing.{good-expressions}
 use Rattle.dw_check.specs.Report.{AreLines, summary_text}

@@ -9,7 +9,7 @@ use Rattle.dw_rows.specs.Section.{parts_fault, section_fault, frame_of, placed_r
 use Rattle.dw_rules.specs.Initial.{AreLeftBy}
 use Rattle.dw_rows.specs.Overlap.{cie_offset, fde_offset, IsAddressIndex}
 use Rattle.dw_frame.specs.Bounds.{Ascends}
-use Rattle.dw_rows.proofs.programs.Standing.{section-answered}
+use Rattle.dw_rows.proofs.sections.Standing.{section-answered}
 use Rattle.dw_rows.proofs.sections.SectionOrder.{cies-ascend, fdes-ascend}
 use Rattle.dw_rows.proofs.sections.CheckedSections.{kept}
 use Rattle.dw_rows.proofs.checked_frame.check_frame.Goals as goal

@@ -5,7 +5,7 @@ use Rattle.dw_frame.specs.Bounds.{Ascends}
 use Rattle.dw_frame.specs.declared.entry.CommonInformationEntry.{CommonInformationEntry}
 use Rattle.dw_rows.specs.Overlap.{cie_offset}
 use Rattle.dw_rows.specs.Section.{cie_at}
-use Rattle.dw_rows.proofs.sections.Faults.{found-at}
+use Rattle.dw_rows.proofs.Faults.{found-at}
 use Rattle.dw_rules.proofs.Elements.{contains-map}
 use Rattle.dw_rows.proofs.Elements.{read-map}
 use Rattle.dw_rows.proofs.cie_search.place_near.Goals as goal

@@ -5,7 +5,7 @@ use Rattle.dw_frame.specs.Views.{cie_of}
 use Rattle.dw_frame.specs.declared.entry.CommonInformationEntry.{CommonInformationEntry}
 use Rattle.dw_rows.specs.Overlap.{cie_offset}
 use Rattle.dw_rules.proofs.Search.{searched-found, searched-none}
-use Rattle.dw_rows.proofs.sections.Faults.{found-at, absent-at}
+use Rattle.dw_rows.proofs.Faults.{found-at, absent-at}
 use Rattle.dw_rules.proofs.Elements.{ascending-back, contains-map, contained-map}
 use Rattle.dw_rows.proofs.Elements.{read-map, some-element}
 use Rattle.dw_rows.proofs.cie_search.place_of_cie.Goals as goal

@@ -1,5 +1,5 @@
 use Rattle.dw_rules.proofs.AbiRules.{abi-stands}
-use Rattle.dw_rows.proofs.programs.Standing.{cie-stands, fde-stands, section-stands}
+use Rattle.dw_rows.proofs.sections.Standing.{cie-stands, fde-stands, section-stands}
 use Rattle.dw_rows.proofs.laws.frame_faults_stand_inside.Goals as goal
 
 pub returns : goal.returns

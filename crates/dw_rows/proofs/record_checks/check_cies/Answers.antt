@@ -5,7 +5,7 @@ use Rattle.dw_rules.specs.Expressions.{expressions_of, cie_expressions}
 use Rattle.dw_rules.specs.ProgramFault.{cie_fault}
 use Rattle.dw_rules.specs.ProgramState.{IsLeftBy}
 use Rattle.dw_rows.proofs.Elements.{front-map}
-use Rattle.dw_rows.proofs.sections.Faults.{passed, drop-at}
+use Rattle.dw_rows.proofs.Faults.{passed, drop-at}
 use Rattle.dw_rules.proofs.Initials.{left-one}
 use Rattle.dw_rows.proofs.record_checks.check_cies.Goals as goal
 

@@ -4,7 +4,7 @@ use Rattle.dw_frame.specs.Records.{Cie, Fde}
 use Rattle.dw_bytes.specs.declared.fault.FaultKind.TheVariants.{NoSuchCie}
 use Rattle.dw_rows.specs.Section.{cie_at, pointer_fault}
 use Rattle.dw_rules.proofs.Elements.{contains-map}
-use Rattle.dw_rows.proofs.sections.Faults.{none-each}
+use Rattle.dw_rows.proofs.Faults.{none-each}
 use Rattle.dw_rows.proofs.record_checks.check_fdes.Goals as goal
 
 none-refused : (cies : List Cie) (f : Fde) → cie_at cies f.cie_pointer ≡ None → pointer_fault cies f ≡ None → ⊥

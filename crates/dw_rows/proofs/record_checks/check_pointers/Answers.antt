@@ -6,7 +6,7 @@ use Rattle.dw_frame.specs.Records.{Fde}
 use Rattle.dw_frame.specs.Views.{cie_of, fde_of}
 use Rattle.dw_rows.specs.Section.{cie_at, pointer_fault}
 use Rattle.dw_rows.proofs.Elements.{read-map, some-element}
-use Rattle.dw_rows.proofs.sections.Faults.{passed}
+use Rattle.dw_rows.proofs.Faults.{passed}
 use Rattle.dw_rows.proofs.record_checks.check_pointers.Goals as goal
 
 -- an FDE whose CIE was found at an index has no CIE_pointer fault

@@ -1,4 +1,4 @@
-use Rattle.dw_stack.proofs.paths.Existing.{each_has_a_depth}
+use Rattle.dw_stack.proofs.Existing.{each_has_a_depth}
 use Rattle.dw_stack.proofs.laws.each_has_a_depth.Goals as goal
 
 pub returns : goal.returns

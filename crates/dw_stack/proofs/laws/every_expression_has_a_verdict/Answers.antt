@@ -1,5 +1,5 @@
 use Rattle.std.proofs.Common.{None, inl, inr}
-use Rattle.dw_stack.proofs.paths.Existing.{every_expression_has_a_verdict}
+use Rattle.dw_stack.proofs.Existing.{every_expression_has_a_verdict}
 use Rattle.dw_stack.proofs.laws.every_expression_has_a_verdict.Goals as goal
 
 pub returns : goal.returns

@@ -7,7 +7,7 @@ use Rattle.dw_rows.proofs.sections.Parts.{pointed-in, good-past}
 use Rattle.dw_frame.specs.Bounds.{Ascends}
 use Rattle.dw_rows.specs.Overlap.{cie_offset}
 use Rattle.dw_rows.specs.RowCursors.{Lends}
-use Rattle.dw_rows.proofs.sections.Faults.{at-found}
+use Rattle.dw_rows.proofs.Faults.{at-found}
 use Rattle.dw_rows.proofs.expressions.Lending.{lends-in}
 use Rattle.dw_rows.proofs.sections.CheckedSections.{checked-parts, checked-cies-ascend}
 use Rattle.dw_rows.proofs.checked_frame.CheckedFrame.begin_with_cie.Goals as goal
