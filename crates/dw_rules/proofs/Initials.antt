@@ -1,5 +1,5 @@
 -- Rule sets that share one list of entries, and the rules that a section's CIEs leave.
-use Rattle.std.proofs.Common.{◌≡◌, ℕ, zero, suc, ◌≤◌, List, [], ◌∷◌, ◌++◌, length, drop, Some, None, refl, sym, ap, ◌∙◌, subst, arith}
+use Rattle.std.proofs.Common.{◌≡◌, ℕ, zero, suc, ◌<◌, ◌≤◌, List, [], ◌∷◌, ◌++◌, length, drop, Some, None, refl, sym, ap, ◌∙◌, subst, arith}
 use Rattle.std.specs.Prelude.{slice_get, slice_range}
 use Rattle.std.proofs.lemmas.List.{map-append, length-append, length-map, take-append-le, drop_at}
 use Rattle.std.proofs.lemmas.List.Sums.{sum_by-append}
@@ -11,6 +11,7 @@ use Rattle.dw_rules.specs.declared.register_rules.TheConstants.{MAX_RULES}
 use Rattle.dw_rules.specs.declared.initial_rules.RuleSpan.{RuleSpan}
 use Rattle.dw_rules.specs.Rules.{IsTable}
 use Rattle.dw_rules.specs.RuleSet.{StoredRules}
+use Rattle.dw_rules.specs.SavedRules.{ArePlain}
 use Rattle.dw_rules.specs.Views.{entry_of, entries_of}
 use Rattle.dw_rules.specs.ProgramState.{IsLeftBy}
 use Rattle.dw_rules.specs.Initial.{AreLeftBy, stored_in_span, stored_in_spans, IsSpan, AreSpans, AreAllEntries}
@@ -29,6 +30,7 @@ span-grown entries more s h = record {
   within = omega (arith, h.within, length-append entries more);
   few = h.few;
   table = subst (λ l. IsTable 0 (entries_of l)) (sym (range-front entries more s.start s.end h.within)) h.table;
+  plain = λ some. subst (λ l. ArePlain l s.plain_below) (sym (range-front entries more s.start s.end h.within)) (h.plain some);
 }
 
 spans-grown : (entries more : List RuleEntry) (spans : List RuleSpan) → AreSpans entries spans → AreSpans (entries ++ more) spans
@@ -60,8 +62,9 @@ pub record Pushed (entries more : List RuleEntry) (spans : List RuleSpan) (s : R
       ++ record { cfa = (stored_in_span entries s).cfa; rules = entries_of more } ∷ []
 
 pub pushed : (entries more : List RuleEntry) (spans : List RuleSpan) (s : RuleSpan) → AreAllEntries entries spans → s.start ≡ length entries
-    → s.end ≡ length (entries ++ more) → length more ≤ MAX_RULES → IsTable 0 (entries_of more) → Pushed entries more spans s
-pushed entries more spans s all here there few table =
+    → s.end ≡ length (entries ++ more) → length more ≤ MAX_RULES → IsTable 0 (entries_of more)
+    → (0 < s.plain_below → ArePlain more s.plain_below) → Pushed entries more spans s
+pushed entries more spans s all here there few table plain =
     let long = length-append entries more in
     let rules : slice_range (entries ++ more) s.start s.end ≡ more = range-back entries more s.start s.end here there in
     let one : IsSpan (entries ++ more) s = record {
@@ -69,6 +72,7 @@ pushed entries more spans s all here there few table =
       within = omega (arith, there);
       few = omega (arith, here, there, long);
       table = subst (λ l. IsTable 0 (entries_of l)) (sym rules) table;
+      plain = λ some. subst (λ l. ArePlain l s.plain_below) (sym rules) (plain some);
     } in
     let last : stored_in_span (entries ++ more) s ≡ record { cfa = (stored_in_span entries s).cfa; rules = entries_of more } =
     ap (λ l. record { cfa = (stored_in_span entries s).cfa; rules = entries_of l }) rules in

@@ -5,8 +5,10 @@ ghost use Rattle.std.specs.Prelude.{◌≡◌, ◌<◌, ◌≤◌, [], ◌∷◌
 ghost use Rattle.std.specs.Bool.{OnTrue};
 ghost use Rattle.std.specs.Option.{option_map};
 ghost use Rattle.dw_rules.specs.Rules.{IsTable};
+ghost use Rattle.dw_rules.specs.SavedRules.{ArePlain};
 ghost use Rattle.dw_rules.specs.Views.{stored_cfa_of, entries_of};
 
+use crate::plain_rules::plain_below;
 use crate::register_rules::{MAX_RULES, RuleEntry, RuleKind};
 use crate::rule_set::RuleSet;
 use crate::stored_rule::StoredCfa;
@@ -14,12 +16,24 @@ use std::alloc::{AllocError, Global};
 use std::marker::Model;
 
 /// The CFA rule of a rule set, and where its register rules are in the shared array of entries:
-/// from index `start` up to but not including `end`.
+/// from index `start` up to but not including `end`. `plain_below` is that of `LentRules`.
 #[derive(Clone, Copy)]
 pub struct RuleSpan {
     pub cfa: Option<StoredCfa>,
     pub start: usize,
     pub end: usize,
+    pub plain_below: u16,
+}
+
+/// A rule set that is lent by the list that has it: the CFA's rule, and the entries of the register
+/// rules.
+#[derive(Drop)]
+pub struct LentRules<'t> {
+    pub cfa: Option<StoredCfa>,
+    pub entries: &'t [RuleEntry],
+    /// If this isn't 0, each entry says that a register below it is saved relative to the CFA. It
+    /// was found out when the rule set was stored, so that a look-up needn't look at all entries.
+    pub plain_below: u16,
 }
 
 /// A list of rule sets. In a checked section they are the rules that the initial instructions of
@@ -61,12 +75,13 @@ impl InitialRules {
             (λ _. self.new ≡ self.old) }
     {
         let start = self.entries.len();
-        self.entries
-            .extend_from_slice(rules.register_rules().as_slice())?;
+        let entries = rules.register_rules().as_slice();
+        self.entries.extend_from_slice(entries)?;
         let span = RuleSpan {
             cfa: rules.cfa(),
             start,
             end: self.entries.len(),
+            plain_below: plain_below(entries),
         };
         if self.spans.push(span).is_err() {
             self.entries.truncate(start);
@@ -104,20 +119,24 @@ impl InitialRules {
         self.spans.len()
     }
 
-    /// Borrows the rule set at index `place`: the CFA's rule, and the entries of the register
-    /// rules.
+    /// Borrows the rule set at index `place`.
     #[inline(always)]
-    pub fn lend(&self, place: usize) -> (Option<StoredCfa>, &[RuleEntry])
+    pub fn lend(&self, place: usize) -> LentRules<'_>
         requires { place < length self.now }
         ensures rules { slice_get self.now place ≡ Some (record {
-          cfa = option_map stored_cfa_of result.0;
-          rules = entries_of (result.1).now;
+          cfa = option_map stored_cfa_of result.cfa;
+          rules = entries_of result.entries.now;
         }) }
-        ensures few { length (result.1).now ≤ MAX_RULES }
-        ensures table { IsTable 0 (entries_of (result.1).now) }
+        ensures few { length result.entries.now ≤ MAX_RULES }
+        ensures table { IsTable 0 (entries_of result.entries.now) }
+        ensures plain { 0 < result.plain_below → ArePlain result.entries.now result.plain_below }
     {
-        let span = self.spans[place];
-        (span.cfa, &self.entries[span.start..span.end])
+        let span = &self.spans[place];
+        LentRules {
+            cfa: span.cfa,
+            entries: &self.entries[span.start..span.end],
+            plain_below: span.plain_below,
+        }
     }
 
     /// Whether the rule set at index `place` equals `rules`.
@@ -125,8 +144,9 @@ impl InitialRules {
         requires { place < length self.now }
         ensures { OnTrue result (slice_get self.now place ≡ Some rules.now) }
     {
-        let (cfa, entries) = self.lend(place);
-        same_cfa(cfa, rules.cfa()) && same_entries(entries, rules.register_rules().as_slice())
+        let lent = self.lend(place);
+        same_cfa(lent.cfa, rules.cfa())
+            && same_entries(lent.entries, rules.register_rules().as_slice())
     }
 }
 

@@ -22,7 +22,7 @@ mod unwind_state;
 pub use abi::{Abi, MAX_KEPT};
 pub use borrowed_expressions::BorrowedExpressions;
 pub use effect::{InstructionEffect, instruction_effect};
-pub use initial_rules::{InitialRules, RuleSpan};
+pub use initial_rules::{InitialRules, LentRules, RuleSpan};
 pub use owned_expressions::{ExpressionList, OwnedExpression, OwnedExpressions};
 pub use plain_rules::PlainRules;
 pub use register_rules::{MAX_RULES, RuleEntry};

@@ -1,6 +1,6 @@
 //! The rules of a row that only says where registers are saved.
 
-ghost use Rattle.std.specs.Prelude.{◌≡◌, ◌<◌, All, IfSome, map};
+ghost use Rattle.std.specs.Prelude.{◌≡◌, ◌<◌, ◌∷◌, ◌++◌, [], All, IfSome, map};
 ghost use Rattle.std.specs.Bool.{OnTrue};
 ghost use Rattle.dw_rules.specs.SavedRules.{ArePlain, as_saved};
 ghost use Rattle.dw_rules.specs.Views.{entries_of};
@@ -34,7 +34,6 @@ impl<'t> Model for PlainRules<'t> {
 }
 
 /// Whether each rule says that a register below `limit` is saved relative to the CFA.
-#[inline(always)]
 fn are_plain(entries: &[RuleEntry], limit: u16) -> bool
     ensures { OnTrue result (ArePlain entries.now limit) }
 {
@@ -49,9 +48,38 @@ fn are_plain(entries: &[RuleEntry], limit: u16) -> bool
     true
 }
 
+/// A number that is above all registers of the entries, if each says that its register is saved
+/// relative to the CFA. 0 if one says anything else, if there are no entries, or if there is no such
+/// number.
+pub(crate) fn plain_below(entries: &[RuleEntry]) -> u16
+    ensures { 0 < result → ArePlain entries.now result }
+{
+    let Some(last) = entries.last() else {
+        return 0;
+    };
+    // Entries are in ascending order of registers.
+    let Some(limit) = last.register.checked_add(1) else {
+        return 0;
+    };
+    if are_plain(entries, limit) {
+        return limit;
+    }
+    0
+}
+
 impl<'t> PlainRules<'t> {
-    /// The rules of these entries, if each is of the kind `Offset`, for a register below `limit`.
+    /// The rules of these entries. Each of them is of the kind `Offset`, for a register below
+    /// `below`.
     #[inline(always)]
+    pub(crate) fn known(entries: &'t [RuleEntry], below: u16) -> Self
+        requires { ArePlain entries.now below }
+        ensures rules { entries_of entries.now ≡ map as_saved result }
+        ensures below { All (λ saved. saved.0 < below) result }
+    {
+        PlainRules { entries }
+    }
+
+    /// The rules of these entries, if each is of the kind `Offset`, for a register below `limit`.
     pub fn of(entries: &'t [RuleEntry], limit: u16) -> Option<Self>
         ensures rules { IfSome result (λ plain. entries_of entries.now ≡ map as_saved plain) }
         ensures below { IfSome result (All (λ saved. saved.0 < limit)) }
@@ -60,6 +88,20 @@ impl<'t> PlainRules<'t> {
             return Some(PlainRules { entries });
         }
         None
+    }
+
+    /// The last rule, which is that of the greatest register, and the rules before it. None if there
+    /// are no rules.
+    #[inline(always)]
+    pub fn split_last(&self) -> Option<((u16, i64), PlainRules<'t>)>
+        ensures { IfSome result (λ split. self.now ≡ split.1 ++ split.0 ∷ []) }
+    {
+        match self.entries {
+            [] => None,
+            [others @ .., last] => {
+                Some(((last.register, last.offset), PlainRules { entries: others }))
+            }
+        }
     }
 
     /// The same rules once more.

@@ -229,6 +229,7 @@ impl<'f, 'a> UnwindTableRow<'f, 'a> {
             row.end,
             row.cfa,
             row.rules.as_slice(),
+            0,
             row.expressions,
         )
     }

@@ -4,7 +4,7 @@ ghost use Rattle.std.specs.Prelude.{◌≡◌, ◌≤◌, ◌+◌, ◌<◌, IfSo
 ghost use Rattle.dw_rules.specs.Abi.{or_rule, rule_under, rules_under};
 ghost use Rattle.dw_rules.specs.AbiViews.{roles_of};
 ghost use Rattle.dw_rules.specs.Rules.{IsTable, RuleOver, rule_in};
-ghost use Rattle.dw_rules.specs.SavedRules.{as_saved};
+ghost use Rattle.dw_rules.specs.SavedRules.{ArePlain, as_saved};
 ghost use Rattle.dw_rules.specs.Views.{rule_of, cfa_rule_of, entries_of, stored_cfa_of};
 ghost use Rattle.dw_rules.specs.RowsWithExpressions.{row_with_expressions, LendsCfa, LendsEach, IsRuleOfKind};
 ghost use Rattle.dw_rules.specs.RowsWithExpressions.{IsCfaOfKind, IsEntryOfKind};
@@ -38,11 +38,13 @@ pub struct UnwindRow<'t, 'a> {
     end: u64,
     cfa: StoredCfa,
     rules: &'t [RuleEntry],
+    /// If this isn't 0, each rule says that a register below it is saved relative to the CFA.
+    plain_below: u16,
     expressions: RowExpressions<'t, 'a>,
 }
 
 impl<'t, 'a> Model for UnwindRow<'t, 'a> {
-    ghost use Rattle.std.specs.Prelude.{Some, length, ◌≤◌};
+    ghost use Rattle.std.specs.Prelude.{Some, length, ◌<◌, ◌≤◌};
     ghost use Rattle.dw_rules.specs.Rules.{Row, IsTable};
 
     ghost Value = { Row };
@@ -51,6 +53,7 @@ impl<'t, 'a> Model for UnwindRow<'t, 'a> {
     ghost use Rattle.dw_rules.specs.Views.{stored_cfa_of, entries_of};
     ghost use Rattle.dw_rules.specs.RowsWithExpressions.{row_with_expressions, LendsCfa, LendsEach};
     ghost use Rattle.dw_rules.specs.RowExpressions.{row_expressions};
+    ghost use Rattle.dw_rules.specs.SavedRules.{ArePlain};
 
     ghost view = { λ row. row_with_expressions (row_expressions row.expressions) (record {
       start = row.start;
@@ -62,23 +65,28 @@ impl<'t, 'a> Model for UnwindRow<'t, 'a> {
     ghost invariant = { λ row. LendsCfa (row_expressions row.expressions) (stored_cfa_of row.cfa)
         × LendsEach (row_expressions row.expressions) (entries_of row.rules.now)
         × IsTable 0 (entries_of row.rules.now)
-        × (length row.rules.now ≤ MAX_RULES) };
+        × (length row.rules.now ≤ MAX_RULES)
+        × (0 < row.plain_below → ArePlain row.rules.now row.plain_below) };
 }
 
 impl<'t, 'a> UnwindRow<'t, 'a> {
     /// A row with the given addresses and rules. For each expression offset in the rules,
-    /// `expressions` must have the expression that begins there.
+    /// `expressions` must have the expression that begins there. `plain_below` is 0, or a number that
+    /// is above all registers of the rules, if each rule says that its register is saved relative to
+    /// the CFA.
     pub fn new(
         start: u64,
         end: u64,
         cfa: StoredCfa,
         rules: &'t [RuleEntry],
+        plain_below: u16,
         expressions: RowExpressions<'t, 'a>,
     ) -> Self
         requires cfa { LendsCfa (row_expressions expressions) (stored_cfa_of cfa) }
         requires rules { LendsEach (row_expressions expressions) (entries_of rules.now) }
         requires table { IsTable 0 (entries_of rules.now) }
         requires few { length rules.now ≤ MAX_RULES }
+        requires plain { 0 < plain_below → ArePlain rules.now plain_below }
         ensures { result ≡ row_with_expressions (row_expressions expressions.entry) (record {
           start = start;
           end = end;
@@ -91,6 +99,7 @@ impl<'t, 'a> UnwindRow<'t, 'a> {
             end,
             cfa,
             rules,
+            plain_below,
             expressions,
         }
     }
@@ -136,6 +145,9 @@ impl<'t, 'a> UnwindRow<'t, 'a> {
         ensures below { IfSome result (All (λ saved. saved.0 < limit)) }
         ensures ascending { IsTable 0 self.now.rules }
     {
+        if 0 < self.plain_below && self.plain_below <= limit {
+            return Some(PlainRules::known(self.rules, self.plain_below));
+        }
         PlainRules::of(self.rules, limit)
     }
 

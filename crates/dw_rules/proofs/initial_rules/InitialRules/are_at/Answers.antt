@@ -13,11 +13,11 @@ so false fact then = tt
 
 pub returns-then-same_cfa : goal.returns-then-same_cfa
 returns-then-same_cfa c =
-    so c.same_entries.result c.same_entries.ensures (λ (same : c.lend-cfa.result.1.now ≡ c.as_slice.result.now).
-    let cfa : option_map stored_cfa_of c.lend-cfa.result.0 ≡ c.args.rules.now.cfa =
+    so c.same_entries.result c.same_entries.ensures (λ (same : c.lend-lent.result.entries.now ≡ c.as_slice.result.now).
+    let cfa : option_map stored_cfa_of c.lend-lent.result.cfa ≡ c.args.rules.now.cfa =
     ap (λ (o : Option StoredCfa). option_map stored_cfa_of o) c.if-same_cfa.ensures ∙ sym c.cfa.ensures in
-    let rules : entries_of c.lend-cfa.result.1.now ≡ c.args.rules.now.rules =
+    let rules : entries_of c.lend-lent.result.entries.now ≡ c.args.rules.now.rules =
     ap entries_of same ∙ c.as_slice.ensures.entries ∙ c.register_rules.ensures in
-    let k : StoredRules = record { cfa = option_map stored_cfa_of c.lend-cfa.result.0; rules = entries_of c.lend-cfa.result.1.now } in
+    let k : StoredRules = record { cfa = option_map stored_cfa_of c.lend-lent.result.cfa; rules = entries_of c.lend-lent.result.entries.now } in
     let all : k ≡ c.args.rules.now = λ i. record { cfa = cfa i; rules = rules i } in
-    c.lend-cfa.ensures.rules ∙ ap Some all)
+    c.lend-lent.ensures.rules ∙ ap Some all)

@@ -19,3 +19,14 @@ pub returns-clause-ascending : goal.returns-clause-ascending
 returns-clause-ascending c =
     subst (λ (rules : List (ℕ × Rule)). IsTable 0 rules) (ap (λ (row : Row). row.rules) c.self.view_is)
     (table-with (row_expressions c.self.inside.expressions) 0 (entries_of c.self.inside.rules.now) c.self.invariant.2)
+
+-- the same if the rules are known to be plain
+pub returns-then-self-limit-clause-rules : goal.returns-then-self-limit-clause-rules
+returns-then-self-limit-clause-rules c =
+    let es = row_expressions c.self.inside.expressions in
+    sym (ap (λ (row : Row). row.rules) c.self.view_is) ∙ ap (rules_with_expressions es) c.known.ensures.rules ∙ saved-given es c.known.result
+
+pub returns-then-self-limit-clause-ascending : goal.returns-then-self-limit-clause-ascending
+returns-then-self-limit-clause-ascending c =
+    subst (λ (rules : List (ℕ × Rule)). IsTable 0 rules) (ap (λ (row : Row). row.rules) c.self.view_is)
+    (table-with (row_expressions c.self.inside.expressions) 0 (entries_of c.self.inside.rules.now) c.self.invariant.2)
