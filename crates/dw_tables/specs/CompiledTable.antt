@@ -1,6 +1,6 @@
 -- All rows of a section in order of address, as a compiled table stores them. No contract of a
 -- public call uses this file.
-use Rattle.std.specs.Prelude.{map, ◌≡◌, ℕ, ◌+◌, ◌*◌, ◌<◌, ◌≤◌, List, [], ◌∷◌, ◌++◌, length, All, IfSome, Option, Some, None, find, slice_get, slice_index_or}
+use Rattle.std.specs.Prelude.{map, ◌≡◌, ℕ, ◌+◌, ◌-◌, ◌*◌, ◌<◌, ◌≤◌, List, [], ◌∷◌, ◌++◌, length, All, IfSome, Option, Some, None, find, slice_get, slice_index_or}
 use Rattle.std.specs.List.{sum_by}
 use Rattle.std.specs.List.Sorted.{IsNonDecreasingBy}
 use Rattle.dw_frame.specs.Records.{Cie, Fde}
@@ -199,6 +199,14 @@ pub record IsStartCount (starts : List ℕ) (a count : ℕ) : Type 0 where
   pub bound : count ≤ length starts
   pub below : (k d : ℕ) → k < count → slice_index_or starts k d ≤ a
   pub above : (k d : ℕ) → count ≤ k → k < length starts → a < slice_index_or starts k d
+
+-- The address `a` is between two starts: the last one of the first `count` is at or below it, and
+-- the next one is above it.
+pub record IsBracketed (starts : List ℕ) (a count : ℕ) : Type 0 where
+  pub some : 0 < count
+  pub more : count < length starts
+  pub low : (d : ℕ) → slice_index_or starts (count - 1) d ≤ a
+  pub high : (d : ℕ) → a < slice_index_or starts count d
 
 -- entries in order, each of which refers to a stored rule set
 pub record AreEntries (entries : List TableEntry) (sets : List StoredSet) : Type 0 where

@@ -1,6 +1,8 @@
 //! A compact list of the addresses at which the entries of a compiled table begin.
 
 ghost use Rattle.std.specs.Prelude.{◌≡◌, ◌+◌, ◌<◌, ◌≤◌, [], ◌∷◌, ◌++◌, IfSome, IsTrue, MatchResult, length, slice_index_or, ℕ};
+ghost use Rattle.std.specs.Bool.{OnTrue};
+ghost use Rattle.dw_tables.specs.CompiledTable.{IsBracketed};
 
 use std::alloc::{AllocError, Global};
 use std::marker::Model;
@@ -113,6 +115,20 @@ impl Starts {
         } else {
             far[place - near.len()]
         }
+    }
+
+    /// Whether the address at index `count - 1` is at or below `address`, and the one at index
+    /// `count` above it. False if the two aren't both near.
+    #[inline(always)]
+    pub fn has_between(&self, count: usize, address: u64) -> bool
+        ensures { OnTrue result (IsBracketed self.now address count) }
+    {
+        let near = self.near.as_slice();
+        if count == 0 || count >= near.len() || address < self.base {
+            return false;
+        }
+        let offset = address - self.base;
+        u64::from(near[count - 1]) <= offset && offset < u64::from(near[count])
     }
 
     /// `base`, and the distances from `base` of the addresses that are stored in four bytes. Those

@@ -4,9 +4,10 @@ ghost use Rattle.std.specs.Prelude.{◌≡◌, ◌<◌, ◌≤◌, [], ◌∷◌
 ghost use Rattle.std.specs.Bool.{OnTrue};
 ghost use Rattle.std.specs.Option.{option_map};
 ghost use Rattle.dw_rules.specs.Rules.{IsTable};
+ghost use Rattle.dw_rules.specs.SavedRules.{ArePlain};
 ghost use Rattle.dw_rules.specs.Views.{stored_cfa_of, entries_of};
 
-use dw_rules::{InitialRules, MAX_RULES, RuleEntry, RuleSet, StoredCfa};
+use dw_rules::{InitialRules, LentRules, MAX_RULES, RuleSet};
 use std::alloc::{AllocError, Global};
 use std::marker::Model;
 
@@ -74,23 +75,23 @@ impl RuleSets {
         self.registers.len()
     }
 
-    /// Borrows the rule set at index `place`: the CFA's rule, the entries of the register rules,
-    /// and the return address register.
+    /// Borrows the rule set at index `place`, with its return address register.
     #[inline(always)]
-    pub fn lend(&self, place: usize) -> (Option<StoredCfa>, &[RuleEntry], u16)
+    pub fn lend(&self, place: usize) -> (LentRules<'_>, u16)
         requires { place < length self.now }
         ensures rules { slice_get self.now place ≡ Some (record {
           rules = record {
-            cfa = option_map stored_cfa_of result.0;
-            rules = entries_of (result.1).now;
+            cfa = option_map stored_cfa_of (result.0).cfa;
+            rules = entries_of (result.0).entries.now;
           };
-          register = result.2;
+          register = result.1;
         }) }
-        ensures few { length (result.1).now ≤ MAX_RULES }
-        ensures table { IsTable 0 (entries_of (result.1).now) }
+        ensures few { length (result.0).entries.now ≤ MAX_RULES }
+        ensures table { IsTable 0 (entries_of (result.0).entries.now) }
+        ensures plain { 0 < (result.0).plain_below
+            → ArePlain (result.0).entries.now (result.0).plain_below }
     {
-        let (cfa, entries) = self.rules.lend(place);
-        (cfa, entries, self.registers[place])
+        (self.rules.lend(place), self.registers[place])
     }
 
     /// Whether the element at index `place` has these rules and this return address register.

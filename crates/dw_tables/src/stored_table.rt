@@ -223,12 +223,19 @@ impl StoredTable {
             return None;
         }
         let entry = self.entries.at(after - 1);
-        let (cfa, rules, register) = self.sets.lend(entry.set as usize);
-        match cfa {
+        let (lent, register) = self.sets.lend(entry.set as usize);
+        match lent.cfa {
             Some(cfa) => {
                 let end = self.entries.start_at(after);
                 Some((
-                    UnwindRow::new(entry.start, end, cfa, rules, expressions),
+                    UnwindRow::new(
+                        entry.start,
+                        end,
+                        cfa,
+                        lent.entries,
+                        lent.plain_below,
+                        expressions,
+                    ),
                     register,
                 ))
             }

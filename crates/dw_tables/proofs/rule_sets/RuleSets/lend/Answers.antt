@@ -8,8 +8,8 @@ use Rattle.dw_tables.specs.CompiledTable.{StoredSet}
 use Rattle.dw_tables.proofs.RuleSets.{zipped-length, zipped-at}
 use Rattle.dw_tables.proofs.rule_sets.RuleSets.lend.Goals as goal
 
-pub lend-cfa-requires : goal.lend-cfa-requires
-lend-cfa-requires c =
+pub lend-requires : goal.lend-requires
+lend-requires c =
     omega (
       arith,
       c.requires,
@@ -30,7 +30,7 @@ index-requires c =
 
 pub returns-clause-rules : goal.returns-clause-rules
 returns-clause-rules c =
-    let k : StoredRules = record { cfa = option_map stored_cfa_of c.lend-cfa.result.0; rules = entries_of c.lend-cfa.result.1.now } in
+    let k : StoredRules = record { cfa = option_map stored_cfa_of c.lend.result.cfa; rules = entries_of c.lend.result.entries.now } in
     subst (λ (l : List StoredSet). slice_get l c.args.place ≡ Some (record { rules = k; register = c.index.result.now })) c.self.view_is
     (zipped-at c.self.inside.rules c.self.inside.registers.items c.args.place k c.index.result.now c.self.invariant
     (omega (
@@ -39,4 +39,4 @@ returns-clause-rules c =
       c.self.invariant,
       zipped-length c.self.inside.rules c.self.inside.registers.items c.self.invariant,
       ap (λ (l : List StoredSet). length l) c.self.view_is,
-    )) (sym (get_or_from_slice_get c.self.inside.rules c.args.place k k c.lend-cfa.ensures.rules)) c.index.ensures)
+    )) (sym (get_or_from_slice_get c.self.inside.rules c.args.place k k c.lend.ensures.rules)) c.index.ensures)

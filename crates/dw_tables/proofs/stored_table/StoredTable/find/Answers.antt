@@ -19,8 +19,8 @@ use Rattle.dw_tables.proofs.stored_table.StoredTable.find.Goals as goal
 rows-of : {t u : StoredRows} → t ≡ u → t.rows ≡ u.rows
 rows-of is = ap (λ (t : StoredRows). t.rows) is
 
-pub lend-cfa-requires : goal.lend-cfa-requires
-lend-cfa-requires c =
+pub lend-register-requires : goal.lend-register-requires
+lend-register-requires c =
     let entries = c.self.inside.entries in
     let d : TableEntry = record { start = 0; set = 0 } in
     let n = c.count_up_to_near-after.result - 1 in
@@ -45,34 +45,34 @@ returns-then-after-eq0 c =
 pub new-requires-clause-cfa : goal.new-requires-clause-cfa
 new-requires-clause-cfa c =
     let k : StoredSet = record {
-      rules = record { cfa = option_map stored_cfa_of c.lend-cfa.result.0; rules = entries_of c.lend-cfa.result.1.now };
-      register = c.lend-cfa.result.2;
+      rules = record { cfa = option_map stored_cfa_of c.lend-register.result.0.cfa; rules = entries_of c.lend-register.result.0.entries.now };
+      register = c.lend-register.result.1;
     } in
     let cfa : k.rules.cfa ≡ Some (stored_cfa_of c.in-Some.cfa) = ap (λ (o : Option StoredCfa). option_map stored_cfa_of o) c.in-Some.is in
     cfa-lent (row_expressions c.args.expressions) c.args.self.now.rows c.args.address _ (stored_cfa_of c.in-Some.cfa) c.requires
     (row-read c.self.inside.entries c.self.inside.sets c.args.self.now.rows c.args.address c.count_up_to_near-after.result c.start_at-end.result
     c.at-entry.result k (stored_cfa_of c.in-Some.cfa) (rows-of c.self.view_is) c.count_up_to_near-after.ensures (omega arith)
-    (omega (arith, c.count.ensures, c.count_up_to_near-after.ensures.bound)) c.at-entry.ensures c.lend-cfa.ensures.rules
+    (omega (arith, c.count.ensures, c.count_up_to_near-after.ensures.bound)) c.at-entry.ensures c.lend-register.ensures.rules
     c.start_at-end.ensures cfa) cfa
 
 pub new-requires-clause-rules : goal.new-requires-clause-rules
 new-requires-clause-rules c =
     let k : StoredSet = record {
-      rules = record { cfa = option_map stored_cfa_of c.lend-cfa.result.0; rules = entries_of c.lend-cfa.result.1.now };
-      register = c.lend-cfa.result.2;
+      rules = record { cfa = option_map stored_cfa_of c.lend-register.result.0.cfa; rules = entries_of c.lend-register.result.0.entries.now };
+      register = c.lend-register.result.1;
     } in
     let cfa : k.rules.cfa ≡ Some (stored_cfa_of c.in-Some.cfa) = ap (λ (o : Option StoredCfa). option_map stored_cfa_of o) c.in-Some.is in
     rules-lent (row_expressions c.args.expressions) c.args.self.now.rows c.args.address _ c.requires
     (row-read c.self.inside.entries c.self.inside.sets c.args.self.now.rows c.args.address c.count_up_to_near-after.result c.start_at-end.result
     c.at-entry.result k (stored_cfa_of c.in-Some.cfa) (rows-of c.self.view_is) c.count_up_to_near-after.ensures (omega arith)
-    (omega (arith, c.count.ensures, c.count_up_to_near-after.ensures.bound)) c.at-entry.ensures c.lend-cfa.ensures.rules
+    (omega (arith, c.count.ensures, c.count_up_to_near-after.ensures.bound)) c.at-entry.ensures c.lend-register.ensures.rules
     c.start_at-end.ensures cfa)
 
 pub returns-in-Some : goal.returns-in-Some
 returns-in-Some c =
     let k : StoredSet = record {
-      rules = record { cfa = option_map stored_cfa_of c.lend-cfa.result.0; rules = entries_of c.lend-cfa.result.1.now };
-      register = c.lend-cfa.result.2;
+      rules = record { cfa = option_map stored_cfa_of c.lend-register.result.0.cfa; rules = entries_of c.lend-register.result.0.entries.now };
+      register = c.lend-register.result.1;
     } in
     let es = row_expressions c.args.expressions in
     let start = c.at-entry.result.start in
@@ -82,7 +82,7 @@ returns-in-Some c =
     let found : find (has c.args.address) c.args.self.now.rows ≡ Some (row_between start end k.rules, k.register) =
     row-read c.self.inside.entries c.self.inside.sets c.args.self.now.rows c.args.address c.count_up_to_near-after.result end
     c.at-entry.result k (stored_cfa_of c.in-Some.cfa) (rows-of c.self.view_is) c.count_up_to_near-after.ensures (omega arith)
-    (omega (arith, c.count.ensures, c.count_up_to_near-after.ensures.bound)) c.at-entry.ensures c.lend-cfa.ensures.rules
+    (omega (arith, c.count.ensures, c.count_up_to_near-after.ensures.bound)) c.at-entry.ensures c.lend-register.ensures.rules
     c.start_at-end.ensures cfa in
     let is : Row × ℕ → Option (Row × ℕ) = λ x. Some x in
     ap (λ (row : Row). is (row, k.register)) (c.new.ensures ∙ ap (λ (o : Option PlacedCfa). row_with_expressions es (with o)) (sym cfa))
@@ -91,10 +91,10 @@ returns-in-Some c =
 pub returns-in-None : goal.returns-in-None
 returns-in-None c =
     let k : StoredSet = record {
-      rules = record { cfa = option_map stored_cfa_of c.lend-cfa.result.0; rules = entries_of c.lend-cfa.result.1.now };
-      register = c.lend-cfa.result.2;
+      rules = record { cfa = option_map stored_cfa_of c.lend-register.result.0.cfa; rules = entries_of c.lend-register.result.0.entries.now };
+      register = c.lend-register.result.1;
     } in
     let es = row_expressions c.args.expressions in
     sym (ap (option_map (found_with_expressions es)) (none-read c.self.inside.entries c.self.inside.sets c.args.self.now.rows c.args.address
     c.count_up_to_near-after.result c.at-entry.result k (rows-of c.self.view_is) c.count_up_to_near-after.ensures (omega arith) c.at-entry.ensures
-    c.lend-cfa.ensures.rules (ap (λ (o : Option StoredCfa). option_map stored_cfa_of o) c.in-None.is)))
+    c.lend-register.ensures.rules (ap (λ (o : Option StoredCfa). option_map stored_cfa_of o) c.in-None.is)))

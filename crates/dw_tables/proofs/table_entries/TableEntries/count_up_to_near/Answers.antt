@@ -5,12 +5,12 @@ use Rattle.dw_tables.specs.CompiledTable.{entry_start, IsEntryCount}
 use Rattle.dw_tables.proofs.TableEntries.{paired-sorted, paired-count}
 use Rattle.dw_tables.proofs.table_entries.TableEntries.count_up_to_near.Goals as goal
 
-pub is_count-requires : goal.is_count-requires
-is_count-requires c =
+pub is_near_count-requires : goal.is_near_count-requires
+is_near_count-requires c =
     paired-sorted c.self.inside.starts c.self.inside.sets c.self.invariant.even
     (subst (IsNonDecreasingBy entry_start) (sym c.self.view_is) c.requires)
 
-pub returns-then-is_count : goal.returns-then-is_count
-returns-then-is_count c =
+pub returns-then-is_near_count : goal.returns-then-is_near_count
+returns-then-is_near_count c =
     subst (λ (l : List TableEntry). IsEntryCount l c.args.address c.args.hint.now) c.self.view_is
-    (paired-count c.self.inside.starts c.self.inside.sets c.args.address _ c.self.invariant.even c.if-is_count.ensures)
+    (paired-count c.self.inside.starts c.self.inside.sets c.args.address _ c.self.invariant.even c.if-is_near_count.ensures)
