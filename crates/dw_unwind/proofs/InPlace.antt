@@ -1,19 +1,21 @@
 -- Steps in place: contents that stay where they are, and rules that only read memory.
-use Rattle.std.proofs.Common.{◌≡◌, ◌≢◌, ℕ, ◌+◌, ◌<◌, ◌≤◌, ◌%◌, ◌^◌, ◌==◌, Bool, true, false, if◌then◌else◌, List, [], ◌∷◌}
+use Rattle.std.proofs.Common.{◌≡◌, ◌≢◌, ℕ, ◌+◌, ◌<◌, ◌≤◌, ◌%◌, ◌^◌, ◌==◌, Bool, true, false, if◌then◌else◌, List, [], ◌∷◌, ◌++◌}
 use Rattle.std.proofs.Common.{refl, sym, ap, subst, ◌∙◌, add-one, arith, drop, drop-cons}
 use Rattle.std.proofs.Common.{◌||◌, length, get_or, map, replicate, set, suc, zero, ℤ}
 use Rattle.std.specs.Prelude.{IfSome, Option, Some, None, pos}
 use Rattle.std.proofs.lemmas.Bool.Decides.{nat_tests}
-use Rattle.std.proofs.lemmas.List.{get_or-set_other, get_or-set_same, drop_all}
+use Rattle.std.proofs.lemmas.List.{get_or-set_other, get_or-set_same, drop_all, map-append}
 use Rattle.dw_bytes.specs.declared.target.Target.{Target}
 use Rattle.dw_rules.specs.Abi.{Abi, abi_of, is_among, rule_under}
-use Rattle.dw_rules.specs.Rules.{Rule, offset, rule_in}
-use Rattle.dw_unwind.specs.Caller.{Answer, IsRegister, content_plus, machine}
+use Rattle.dw_stack.specs.Located.{LocatedExpression}
+use Rattle.dw_rules.specs.Rules.{IsTable, Rule, default, offset, rule_in}
+use Rattle.dw_eval.specs.World.{World}
+use Rattle.dw_unwind.specs.Caller.{Answer, IsRegister, content_plus, machine, value}
 use Rattle.dw_unwind.specs.Contents.{HasContents, Overlays, abi_rules, content_changed}
 use Rattle.dw_rules.specs.SavedRules.{Saved, as_saved}
 use Rattle.dw_unwind.specs.Walks.{content_of}
 use Rattle.dw_unwind.specs.declared.usual_step.TheConstants.{LITTLE_64}
-use Rattle.dw_unwind.proofs.Contents.{all-zero, role-content, role-is, role_answer}
+use Rattle.dw_unwind.proofs.Contents.{all-zero, overlays-next, role-content, role-is, role_answer}
 
 -- ---- contents that stay where they are
 
@@ -59,58 +61,94 @@ pub saved-under : (abi : Abi) (rules : List (ℕ × Rule)) (number : ℕ) (n : �
     → rule_under abi rules number ≡ offset n
 saved-under abi rules number n is = rw is refl
 
+-- ---- the last one of a row's rules
+
+last-above : (low : ℕ) (rules : List (ℕ × Rule)) (n : ℕ) (x : Rule) → IsTable low (rules ++ (n, x) ∷ []) → low ≤ n
+last-above low [] n x table = table.0
+last-above low (entry ∷ rules) n x table = omega (arith, table.0, last-above (entry.0 + 1) rules n x table.3)
+
+same-number : (n : ℕ) → (n == n) ≡ true
+same-number n = grind (arith, nat_tests)
+
+lower-number : (m n : ℕ) → m + 1 ≤ n → (m == n) ≡ false
+lower-number m n le = grind (arith, nat_tests)
+
+-- the rule of the register whose entry is the last one
+last-rule : (low : ℕ) (rules : List (ℕ × Rule)) (n : ℕ) (x : Rule) → IsTable low (rules ++ (n, x) ∷ [])
+    → rule_in (rules ++ (n, x) ∷ []) n ≡ x
+last-rule low [] n x table = ap (λ (b : Bool). if b then x else default) (same-number n)
+last-rule low (entry ∷ rules) n x table =
+    ap (λ (b : Bool). if b then entry.1 else rule_in (rules ++ (n, x) ∷ []) n)
+    (lower-number entry.0 n (last-above (entry.0 + 1) rules n x table.3)) ∙ last-rule (entry.0 + 1) rules n x table.3
+
+pub last-saved : (rules saved : List Saved) (n : ℕ) (o : ℤ) → rules ≡ saved ++ (n, o) ∷ []
+    → IsTable {E = LocatedExpression} 0 (map as_saved rules) → rule_in {E = LocatedExpression} (map as_saved rules) n ≡ offset o
+last-saved rules saved n o whole table =
+    let all : map as_saved rules ≡ map as_saved saved ++ (n, offset o) ∷ [] =
+    ap (λ (l : List Saved). map as_saved l) whole ∙ map-append as_saved saved ((n, o) ∷ []) in
+    ap (λ (l : List (ℕ × Rule)). rule_in l n) all
+    ∙ last-rule 0 (map as_saved saved) n (offset o) (subst (λ (l : List (ℕ × Rule)). IsTable 0 l) all table)
+
+overlays-both : (e : World) (cfa : Answer) (rules later : List (ℕ × Rule)) (base middle final : ℕ → Option ℕ)
+    → Overlays e cfa rules base middle → Overlays e cfa later middle final → Overlays e cfa (rules ++ later) base final
+overlays-both e cfa [] later base middle final over after = subst (λ (f : ℕ → Option ℕ). Overlays e cfa later f final) (sym over) after
+overlays-both e cfa (entry ∷ rules) later base middle final over after = (
+  over.0,
+  over.1,
+  overlays-both e cfa rules later (content_changed base entry.0 (content_of over.0)) middle final over.2 after,
+)
+
+-- the contents by all rules, once the content by the last one was written after those by the others
+pub overlays-last : (e : World) (cfa : Answer) (rules saved : List Saved) (n content : ℕ) (o : ℤ) (base middle final : ℕ → Option ℕ)
+    → rules ≡ saved ++ (n, o) ∷ [] → IsRegister e cfa n (offset o) (value content) → Overlays e cfa (map as_saved saved) base middle
+    → ((r : ℕ) → final r ≡ content_changed middle n (Some content) r) → Overlays e cfa (map as_saved rules) base final
+overlays-last e cfa rules saved n content o base middle final whole gives over changed =
+    subst (λ (l : List (ℕ × Rule)). Overlays e cfa l base final)
+    (sym (ap (λ (l : List Saved). map as_saved l) whole ∙ map-append as_saved saved ((n, o) ∷ [])))
+    (overlays-both e cfa (map as_saved saved) ((n, offset o) ∷ []) base middle final over
+    (overlays-next e cfa ((n, offset o) ∷ []) [] n (offset o) (value content) (Some content) middle final final refl gives changed refl refl))
+
 -- ---- flags that are kept where there is a mark
 
 -- the flags before index `i` are done, and the others are those of `old`
-pub record ArePickedTo (marks : List Bool) (old flags : List ℕ) (i : ℕ) : Type 0 where
+pub record ArePickedTo (marks old flags : List ℕ) (i : ℕ) : Type 0 where
   pub length_is : length flags ≡ length old
-  pub done : (r : ℕ) → r < i → get_or flags r 0 ≡ (if get_or marks r false then get_or old r 0 else 0)
+  pub done : (r : ℕ) → r < i → (get_or flags r 0 == 0) ≡ ((get_or old r 0 == 0) || (get_or marks r 0 == 0))
   pub others : (r : ℕ) → i ≤ r → get_or flags r 0 ≡ get_or old r 0
 
 -- ---- marks
 
-pub all-false : (n r : ℕ) → get_or (replicate n false) r false ≡ false
-all-false zero r = refl
-all-false (suc n) zero = refl
-all-false (suc n) (suc r) = all-false n r
-
 unequal : (n r : ℕ) → (n == r) ≡ false → r ≢ n
 unequal n r is = grind (arith, nat_tests)
 
-pub set-marks : (marks : List Bool) (n r : ℕ) → n < length marks → get_or (set marks n true) r false ≡ ((n == r) || get_or marks r false)
+pub set-marks : (marks : List ℕ) (n r : ℕ) → n < length marks → get_or (set marks n 1) r 0 ≡ (if n == r then 1 else get_or marks r 0)
 set-marks marks n r lt = go (n == r) refl
   where
-    go : (here : Bool) → (n == r) ≡ here → get_or (set marks n true) r false ≡ (here || get_or marks r false)
+    go : (here : Bool) → (n == r) ≡ here → get_or (set marks n 1) r 0 ≡ (if here then 1 else get_or marks r 0)
     go true is =
         let same : n ≡ r = grind (arith, nat_tests) in
-        subst (λ (k : ℕ). get_or (set marks n true) k false ≡ true) same (get_or-set_same marks n true false lt)
-    go false is = get_or-set_other marks n r true false (unequal n r is)
+        subst (λ (k : ℕ). get_or (set marks n 1) k 0 ≡ 1) same (get_or-set_same marks n 1 0 lt)
+    go false is = get_or-set_other marks n r 1 0 (unequal n r is)
 
-pub marks-next : (marks next : List Bool) (numbers : List ℕ) (i r : ℕ) → i < length numbers
-    → get_or next r false ≡ ((get_or numbers i 0 == r) || get_or marks r false)
-    → (get_or next r false || is_among r (drop (i + 1) numbers)) ≡ (get_or marks r false || is_among r (drop i numbers))
+pub marks-first : (numbers : List ℕ) (n r : ℕ)
+    → ◌≡◌ {A = ℕ} (if is_among r numbers then 1 else get_or (replicate n 0) r 0) (if is_among r numbers then 1 else 0)
+marks-first numbers n r = ap (λ (x : ℕ). if is_among r numbers then 1 else x) (all-zero n r)
+
+pub marks-next : (marks next : List ℕ) (numbers : List ℕ) (i r : ℕ) → i < length numbers
+    → get_or next r 0 ≡ (if get_or numbers i 0 == r then 1 else get_or marks r 0)
+    → (if is_among r (drop (i + 1) numbers) then 1 else get_or next r 0) ≡ (if is_among r (drop i numbers) then 1 else get_or marks r 0)
 marks-next marks next numbers i r lt is =
     let n = get_or numbers i 0 in
     let cut : drop i numbers ≡ n ∷ drop (i + 1) numbers = rw (add-one) (drop-cons numbers i 0 lt) in
-    ap (λ (b : Bool). b || is_among r (drop (i + 1) numbers)) is
-    ∙ go (n == r) (get_or marks r false) (is_among r (drop (i + 1) numbers))
-    ∙ ap (λ (l : List ℕ). get_or marks r false || is_among r l) (sym cut)
+    ap (λ (x : ℕ). if is_among r (drop (i + 1) numbers) then 1 else x) is
+    ∙ go (n == r) (is_among r (drop (i + 1) numbers))
+    ∙ ap (λ (l : List ℕ). if is_among r l then 1 else get_or marks r 0) (sym cut)
   where
-    go : (here marked later : Bool) → ((here || marked) || later) ≡ (marked || (here || later))
-    go true true later = refl
-    go true false later = refl
-    go false true later = refl
-    go false false later = refl
-
-pub marks-all : (marks : List Bool) (numbers : List ℕ) (i r : ℕ) → length numbers ≤ i
-    → (get_or marks r false || is_among r (drop i numbers)) ≡ is_among r numbers → get_or marks r false ≡ is_among r numbers
-marks-all marks numbers i r le is =
-    let none : drop i numbers ≡ [] = drop_all i numbers le in
-    go (get_or marks r false) ∙ ap (λ (l : List ℕ). get_or marks r false || is_among r l) (sym none) ∙ is
-  where
-    go : (b : Bool) → b ≡ (b || false)
-    go true = refl
-    go false = refl
+    go : (here later : Bool) → (if later then 1 else (if here then 1 else get_or marks r 0)) ≡ (if here || later then 1 else get_or marks r 0)
+    go true true = refl
+    go true false = refl
+    go false true = refl
+    go false false = refl
 
 -- ---- flags of listed registers
 

@@ -1,23 +1,23 @@
 -- Callee-saved registers that are marked by number.
-use Rattle.std.specs.Prelude.{◌≡◌, ◌<◌, ◌==◌, ◌||◌, if◌then◌else◌, ℕ, Bool, false, List, length}
+use Rattle.std.specs.Prelude.{◌≡◌, ◌<◌, ◌==◌, ◌||◌, if◌then◌else◌, ℕ, List, length}
 use Rattle.std.proofs.Math.ListN.{get_or}
 use Rattle.dw_rules.specs.Abi.{is_among}
 use Rattle.dw_unwind.specs.declared.register_file.TheConstants.{PLACES}
 
--- exactly the registers with these numbers are marked, of those that have a place
-pub record AreMarksOf (numbers : List ℕ) (marks : List Bool) : Type 0 where
+-- exactly the registers with these numbers are marked, by a 1, of those that have a place
+pub record AreMarksOf (numbers marks : List ℕ) : Type 0 where
   pub length_is : length marks ≡ PLACES
-  pub each : (r : ℕ) → r < PLACES → get_or marks r false ≡ is_among r numbers
+  pub each : (r : ℕ) → r < PLACES → get_or marks r 0 ≡ (if is_among r numbers then 1 else 0)
 
 -- `new` has the marks of `old` and one for the register `number`, if that has a place
-pub record IsMarked (number : ℕ) (old new : List Bool) : Type 0 where
+pub record IsMarked (number : ℕ) (old new : List ℕ) : Type 0 where
   pub length_is : length new ≡ length old
-  pub each : (r : ℕ) → r < PLACES → get_or new r false ≡ ((number == r) || get_or old r false)
+  pub each : (r : ℕ) → r < PLACES → get_or new r 0 ≡ (if number == r then 1 else get_or old r 0)
 
--- each flag of `new` is that of `old` where there is a mark, else 0
-pub record ArePicked (marks : List Bool) (old new : List ℕ) : Type 0 where
+-- a flag of `new` is 0 exactly if that of `old` is 0 or there is no mark
+pub record ArePicked (marks old new : List ℕ) : Type 0 where
   pub length_is : length new ≡ length old
-  pub each : (r : ℕ) → get_or new r 0 ≡ (if get_or marks r false then get_or old r 0 else 0)
+  pub each : (r : ℕ) → (get_or new r 0 == 0) ≡ ((get_or old r 0 == 0) || (get_or marks r 0 == 0))
 
 -- The flag of the register `number`, if that has a place, is what it is in `old`, and the others are
 -- those of `flags`.

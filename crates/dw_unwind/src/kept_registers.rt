@@ -7,12 +7,13 @@ use crate::register_file::PLACES;
 use std::marker::Model;
 
 /// The callee-saved registers of an ABI. For a walk, those that have a place in a `RegisterFile` are
-/// also marked by number, so that a step leaves all contents where they are at once. For one step,
-/// marking them would take longer than the step saves.
+/// also marked by number, so that each step can clear the flags of all other registers without
+/// going through the list. For a single step, making the marks takes longer than that saves.
 #[derive(Drop)]
 pub struct KeptRegisters<'a> {
     numbers: &'a [u16],
-    marks: Option<[bool; PLACES]>,
+    /// 1 for a register that is among them, else 0.
+    marks: Option<[u8; PLACES]>,
 }
 
 impl<'a> Model for KeptRegisters<'a> {
@@ -27,21 +28,21 @@ impl<'a> Model for KeptRegisters<'a> {
 }
 
 /// Marks a register, if it has a place.
-fn mark(marks: &mut [bool; PLACES], number: u16)
+fn mark(marks: &mut [u8; PLACES], number: u16)
     ensures { IsMarked number marks.old marks.new }
 {
     let place = usize::from(number);
     if place >= PLACES {
         return;
     }
-    marks[place] = true;
+    marks[place] = 1;
 }
 
 /// Marks registers by number. Those without a place are left out.
-fn marks_of(numbers: &[u16]) -> [bool; PLACES]
+fn marks_of(numbers: &[u16]) -> [u8; PLACES]
     ensures { AreMarksOf numbers.now result }
 {
-    let mut marks = [false; PLACES];
+    let mut marks = [0; PLACES];
     for number in numbers {
         mark(&mut marks, *number);
     }
@@ -59,7 +60,7 @@ impl<'a> KeptRegisters<'a> {
         }
     }
 
-    /// The callee-saved registers `numbers`, for one step.
+    /// The callee-saved registers `numbers`, for one step. This differs from `new` only in time.
     #[inline(always)]
     pub fn for_one_step(numbers: &'a [u16]) -> Self
         ensures { result ≡ numbers.now }
@@ -80,7 +81,7 @@ impl<'a> KeptRegisters<'a> {
 
     /// Which registers that have a place are among them; none if they aren't marked.
     #[inline(always)]
-    pub(crate) fn marks(&self) -> Option<&[bool; PLACES]>
+    pub(crate) fn marks(&self) -> Option<&[u8; PLACES]>
         ensures { IfSome result (λ marks. AreMarksOf self.now marks.now) }
     {
         match &self.marks {

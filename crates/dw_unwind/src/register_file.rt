@@ -1,6 +1,6 @@
 //! The registers of a frame by number, for walks that give no registers.
 
-ghost use Rattle.std.specs.Prelude.{◌≡◌, ◌<◌, ◌≤◌, ◌^◌, ℕ, All, IfSome, IsSome, None, if◌then◌else◌};
+ghost use Rattle.std.specs.Prelude.{◌≡◌, ◌<◌, ◌≤◌, ◌^◌, ◌==◌, ◌||◌, ℕ, All, IfSome, IsSome, None, if◌then◌else◌};
 ghost use Rattle.std.specs.Bool.{OnFalse, OnTrue};
 ghost use Rattle.dw_rules.specs.Abi.{is_among};
 ghost use Rattle.dw_unwind.specs.Contents.{content_changed, contents_in};
@@ -39,15 +39,22 @@ impl Model for RegisterFile {
     ghost inverse = { λ f. record { contents = f.contents; known = f.known } };
 }
 
-/// Clears the flags that aren't marked. A flag is read whether it is marked or not, so that there
-/// is no branch, and many flags are done at once.
+/// The lower one of two numbers.
 #[inline(always)]
-fn keep_marked(flags: &mut [u8; PLACES], marks: &[bool; PLACES])
+fn lower(one: u8, other: u8) -> u8
+    ensures { (result == 0) ≡ ((one == 0) || (other == 0)) }
+{
+    if one < other { one } else { other }
+}
+
+/// Clears the flags that aren't marked: each becomes the lower one of itself and its mark. A
+/// processor has an instruction for that, which does 16 flags at once.
+#[inline(always)]
+fn keep_marked(flags: &mut [u8; PLACES], marks: &[u8; PLACES])
     ensures { ArePicked marks.now flags.old flags.new }
 {
     for place in 0..PLACES {
-        let flag = flags[place];
-        flags[place] = if marks[place] { flag } else { 0 };
+        flags[place] = lower(flags[place], marks[place]);
     }
 }
 

@@ -60,12 +60,18 @@ fn plain_cfa(rule: CfaRule<'_>, file: &RegisterFile) -> Option<u64>
     Some(width.offset(file.register(register)?, offset))
 }
 
-/// The offset from the CFA at which the register `number` is saved, if it is.
+/// The offset from the CFA at which the register `number` is saved, if it is. The register that this
+/// is asked for is the return address's, which is usually the last one with a rule.
 #[inline(always)]
 fn offset_of(rules: PlainRules<'_>, number: u16) -> Option<i64>
+    requires { IsTable {E = LocatedExpression} 0 (map as_saved rules) }
     ensures { IfSome result (λ n. rule_in {E = LocatedExpression}
         (map as_saved rules.entry) number ≡ RuleOver.offset n) }
 {
+    let ((last, last_offset), _) = rules.split_last()?;
+    if last == number {
+        return Some(last_offset);
+    }
     for (register, offset) in rules {
         if register == number {
             return Some(offset);
@@ -89,6 +95,34 @@ fn saved_into<R: Registers, M: Memory>(
     for (number, offset) in rules {
         into.set(number, content_of(saved(present, cfa, offset)));
     }
+}
+
+/// What `saved_into` does. The register `number` is saved by one of the rules, and its content,
+/// which was read before, is `content`: if its rule is the last one, it isn't read again.
+#[inline(always)]
+fn saved_into_with<R: Registers, M: Memory>(
+    present: &Present<'_, R, M>,
+    cfa: Answer,
+    rules: PlainRules<'_>,
+    number: u16,
+    content: u64,
+    into: &mut RegisterFile,
+)
+    requires places { All (λ register. register.0 < PLACES) rules }
+    requires table { IsTable {E = LocatedExpression} 0 (map as_saved rules) }
+    requires content { IsRegister (machine_in R.contents M.bytes present.now) (answer_in cfa) number
+        (rule_in (map as_saved rules) number) (value content) }
+    ensures { Overlays (machine_in R.contents M.bytes present.now) (answer_in cfa)
+        (map as_saved rules.entry) (contents_in into.old) (contents_in into.new) }
+{
+    if let Some(((last, _), others)) = rules.split_last() {
+        if last == number {
+            saved_into(present, cfa, others, into);
+            into.set(number, Some(content));
+            return;
+        }
+    }
+    saved_into(present, cfa, rules, into);
 }
 
 /// Makes the contents of a frame's registers those that the registers which the ABI names have in
@@ -122,7 +156,8 @@ fn abi_in_place<M: Memory>(
 }
 
 /// Makes the contents of a frame's registers those of its caller's registers. The frame's CFA is
-/// `cfa`, and its row has the rules `rules`.
+/// `cfa`, and its row has the rules `rules`. One of them saves the register `number`, whose content
+/// is `content`.
 #[inline(always)]
 fn rules_in_place<M: Memory>(
     memory: &M,
@@ -130,11 +165,16 @@ fn rules_in_place<M: Memory>(
     kept: &KeptRegisters<'_>,
     stack_pointer: Option<u16>,
     rules: PlainRules<'_>,
+    number: u16,
+    content: u64,
     file: &mut RegisterFile,
 )
     requires places { All (λ register. register.0 < PLACES) rules }
     requires table { IsTable {E = LocatedExpression} 0 (map as_saved rules) }
     requires pointer { IfSome stack_pointer (λ number. number < PLACES) }
+    requires content { (registers : ℕ → Option ℕ) → IsRegister
+        (machine LITTLE_64 registers (M.bytes memory.now)) (value cfa) number
+        (rule_in (map as_saved rules) number) (value content) }
     ensures { HasContents (machine LITTLE_64 (contents_in file.old) (M.bytes memory.now))
         (value cfa) (rule_under (abi_of kept.now stack_pointer) (map as_saved rules.entry))
         (contents_in file.new) }
@@ -145,7 +185,8 @@ fn rules_in_place<M: Memory>(
         registers: &NoRegisters,
         memory,
     };
-    saved_into(&present, Answer::Value(cfa), rules, file);
+    let cfa = Answer::Value(cfa);
+    saved_into_with(&present, cfa, rules, number, content, file);
 }
 
 /// Whether the target is that of nearly all programs.
@@ -218,7 +259,16 @@ pub fn step_in_place<T: UnwindRows, M: Memory>(
     let rules = row.plain_rules(PLACES as u16)?;
     let offset = offset_of(rules.again(), number)?;
     let return_address = saved_number(memory, cfa, offset)?;
-    rules_in_place(memory, cfa, kept, stack_pointer, rules, file);
+    rules_in_place(
+        memory,
+        cfa,
+        kept,
+        stack_pointer,
+        rules,
+        number,
+        return_address,
+        file,
+    );
     file.ends();
     Some(Unwound {
         cfa: Answer::Value(cfa),

@@ -1,14 +1,10 @@
-use Rattle.std.proofs.Common.{◌||◌, ◌∙◌, Bool, ap, refl}
-use Rattle.dw_rules.specs.Abi.{is_among}
+use Rattle.std.proofs.Common.{◌∙◌, get_or, refl}
 use Rattle.dw_unwind.specs.declared.register_file.TheConstants.{PLACES}
-use Rattle.dw_unwind.proofs.InPlace.{all-false, marks-all, marks-next}
+use Rattle.dw_unwind.proofs.InPlace.{listed-all, marks-first, marks-next}
 use Rattle.dw_unwind.proofs.kept_registers.marks_of.Goals as goal
 
 pub loop-number-init : goal.loop-number-init
-loop-number-init c = record {
-  long = refl;
-  each = λ r lt. ap (λ (b : Bool). b || is_among r c.args.numbers.now) (all-false PLACES r);
-}
+loop-number-init c = record { long = refl; each = λ r lt. marks-first c.args.numbers.now PLACES r }
 
 pub loop-number-preserved : goal.loop-number-preserved
 loop-number-preserved c = record {
@@ -20,6 +16,6 @@ loop-number-preserved c = record {
 pub returns : goal.returns
 returns c = record {
   length_is = c.loop-number.invariant.long;
-  each = λ r lt. marks-all c.loop-number.marks c.args.numbers.now c.loop-number.number-index r c.loop-number-test.false
+  each = λ r lt. listed-all c.args.numbers.now c.loop-number.number-index r 1 (get_or c.loop-number.marks r 0) _ c.loop-number-test.false
       (c.loop-number.invariant.each r lt);
 }

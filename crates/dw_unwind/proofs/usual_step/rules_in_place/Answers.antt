@@ -15,6 +15,6 @@ returns g c =
     let memory = g.M.Memory.bytes c.args.memory.now in
     let cfa = value c.args.cfa in
     overlaid (machine LITTLE_64 old memory) cfa (map as_saved c.args.rules) 0 (abi_rules (abi_of c.args.kept.now c.args.stack_pointer))
-    (contents_in c.abi_in_place.new.file) (contents_in c.saved_into.new.into) c.requires.table c.abi_in_place.ensures
-    (overlays-by LITTLE_64 (λ r. None) old memory cfa c.args.rules (contents_in c.abi_in_place.new.file) (contents_in c.saved_into.new.into)
-    c.saved_into.ensures)
+    (contents_in c.abi_in_place.new.file) (contents_in c.saved_into_with.new.into) c.requires.table c.abi_in_place.ensures
+    (overlays-by LITTLE_64 (λ r. None) old memory cfa c.args.rules (contents_in c.abi_in_place.new.file) (contents_in c.saved_into_with.new.into)
+    c.saved_into_with.ensures)

@@ -15,6 +15,15 @@ pub rules_in_place-requires-clause-table : goal.rules_in_place-requires-clause-t
 rules_in_place-requires-clause-table g c =
     subst (λ (rules : List (ℕ × Rule)). IsTable 0 rules) c.in_ok-rules.ensures.rules c.plain_rules.ensures.ascending
 
+pub rules_in_place-requires-clause-content : goal.rules_in_place-requires-clause-content
+rules_in_place-requires-clause-content g c = λ registers.
+    let e = machine LITTLE_64 registers (g.M.Memory.bytes c.args.memory.now) in
+    let n = c.in_ok-row.number in
+    let found = value c.in_ok-return_address.return_address in
+    let same : to_z w64 (of_z w64 c.in_ok-offset.offset) ≡ c.in_ok-offset.offset = search rules in
+    let saved = subst (λ (l : List Saved). rule_in (map as_saved l) n ≡ offset c.in_ok-offset.offset) c.again.ensures c.in_ok-offset.ensures in
+    subst (λ (x : Rule). IsRegister e (value c.in_ok-cfa.cfa) n x found) (ap offset same ∙ sym saved) (c.in_ok-return_address.ensures registers n)
+
 pub returns-clause-steps : goal.returns-clause-steps
 returns-clause-steps g c =
     let old = contents_in c.args.file.now in
