@@ -1,16 +1,19 @@
 -- Lemmas about the row of an address, from the module whose range contains the address.
 use Rattle.std.proofs.Common.{◌≡◌, ℕ, suc, List, [], ◌∷◌, Bool, true, false, Option, Some, None, refl, sym, subst, ap, ◌∙◌, arith}
-use Rattle.std.specs.Prelude.{cond, Contains, IfSome}
+use Rattle.std.specs.Prelude.{◌↔◌, cond, Contains, IfSome}
 use Rattle.std.specs.Option.{option_and_then, option_map}
 use Rattle.std.proofs.lemmas.List.Elements.{All-contains}
 use Rattle.dw_bytes.specs.declared.target.Target.{Target}
+use Rattle.dw_rules.specs.Abi.{Abi}
 use Rattle.dw_rules.specs.Rules.{Row}
 use Rattle.dw_tables.specs.UnwindTables.{row_at}
 use Rattle.dw_rows.specs.RowLookups.{IsRowUnder}
+use Rattle.dw_unwind.specs.Caller.{Caller, UnwindsBy, machine}
 use Rattle.dw_unwind.specs.Modules.{as_linked}
+use Rattle.dw_unwind.specs.Walks.{over_rows}
 use Rattle.dw_process.specs.declared.loaded_module.LoadedModule.{LoadedModule}
 use Rattle.dw_process.specs.ModuleMaps.{is_in, module_at}
-use Rattle.dw_process.specs.Processes.{AreModulesOf, IsFoundIn, ProcessState, found_at, found_with, row_in}
+use Rattle.dw_process.specs.Processes.{AreModulesOf, IsFoundIn, ProcessState, found_at, found_with, row_in, row_of_module}
 
 some_inside : {X : Type 0} (x y : X) → Some x ≡ Some y → x ≡ y
 some_inside x y is = cc
@@ -40,7 +43,7 @@ module _ (p : ProcessState) (are : AreModulesOf p.target p.next_id p.modules) (a
   nothing_found is =
       ap (λ (o : Option LoadedModule). option_and_then (λ m. option_map (found_with p.target m) (row_at m.rows (as_linked m.rows.target m.load_address a))) o) is
 
-  its_target : (m : LoadedModule) → Some m ≡ module_at p.modules a → m.rows.target ≡ p.target
+  pub its_target : (m : LoadedModule) → Some m ≡ module_at p.modules a → m.rows.target ≡ p.target
   its_target m is = All-contains (λ (m : LoadedModule). m.rows.target ≡ p.target) p.modules m are.targets (found_among p.modules a m is)
 
   its_row : (m : LoadedModule) → Some m ≡ module_at p.modules a → (o : Option (Row × ℕ))
@@ -49,17 +52,10 @@ module _ (p : ProcessState) (are : AreModulesOf p.target p.next_id p.modules) (a
 
   module _ (m : LoadedModule) (is : Some m ≡ module_at p.modules a) (o : Option (Row × ℕ))
       (row : o ≡ row_at m.rows (as_linked p.target m.load_address a)) where
-    pub its_row_in : o ≡ row_in p a
-    its_row_in =
-        its_row m is o row ∙ ap (λ (o : Option LoadedModule). option_and_then (λ m. row_at m.rows (as_linked m.rows.target m.load_address a)) o) is
-
     pub its_row_found : option_map (found_with p.target m) o ≡ found_at p a
     its_row_found =
         ap (λ (o : Option (Row × ℕ)). option_map (found_with p.target m) o) (its_row m is o row)
         ∙ ap (λ (o : Option LoadedModule). option_and_then (λ m. option_map (found_with p.target m) (row_at m.rows (as_linked m.rows.target m.load_address a))) o) is
-
-    pub under : IfSome o (λ found. IsRowUnder m.rows.target found.0) → IfSome o (λ found. IsRowUnder p.target found.0)
-    under h = subst (λ (t : Target). IfSome o (λ found. IsRowUnder t found.0)) (its_target m is) h
 
   pub its_module : (m : LoadedModule) → Some m ≡ module_at p.modules a → (row : Row) (register : ℕ)
       → Some (row, register) ≡ row_at m.rows (as_linked p.target m.load_address a) → IsRowUnder m.rows.target row
@@ -75,3 +71,14 @@ module _ (p : ProcessState) (are : AreModulesOf p.target p.next_id p.modules) (a
     row = sym (its_row m is (Some (row, register)) found);
     under = h;
   }
+
+-- unwinding with the rows of the module of the address, and with those of the process
+pub its_unwindings : (p : ProcessState) (m : LoadedModule) (abi : Abi) (memory registers : ℕ → Option ℕ) (a : ℕ) (caller : Option Caller)
+    → Some m ≡ module_at p.modules a → m.rows.target ≡ p.target
+    → over_rows m.rows.target (λ a found. found ≡ row_of_module m a) abi memory registers a caller
+    ↔ over_rows p.target (λ a found. found ≡ row_in p a) abi memory registers a caller
+its_unwindings p m abi memory registers a caller is target =
+    let same : row_of_module m a ≡ row_in p a = ap (λ (o : Option LoadedModule). option_and_then (λ m. row_of_module m a) o) is in (
+      λ h. (h.0, h.1 ∙ same, subst (λ (t : Target). UnwindsBy (machine t registers memory) abi h.0 caller) target h.2),
+      λ h. (h.0, h.1 ∙ sym same, subst (λ (t : Target). UnwindsBy (machine t registers memory) abi h.0 caller) (sym target) h.2),
+    )

@@ -11,7 +11,7 @@ ghost use Rattle.dw_unwind.specs.Modules.{over_tables};
 ghost use Rattle.dw_unwind.specs.Walks.{over_rows};
 ghost use Rattle.dw_process.specs.FirstRows.{HasRowInRange, first_row, tables_of};
 ghost use Rattle.dw_process.specs.ModuleMaps.{AreInOrder, is_in, module_at};
-ghost use Rattle.dw_process.specs.Processes.{AreModulesOf, ProcessState, row_in};
+ghost use Rattle.dw_process.specs.Processes.{AreModulesOf, ProcessState, row_in, row_of_module};
 ghost use Rattle.dw_process.specs.Ranges.{IsRangeFor};
 ghost use Rattle.dw_process.specs.declared.loaded_module.LoadedModule.{LoadedModule};
 
@@ -19,6 +19,17 @@ ghost use Rattle.dw_process.specs.declared.loaded_module.LoadedModule.{LoadedMod
 pub fn one_module_has_the_address()
     ensures { (modules : List LoadedModule) (address : ℕ) (m : LoadedModule) → AreInOrder modules
         → Contains modules m → is_in m.range address ≡ true → module_at modules address ≡ Some m }
+{}
+
+/// Unwinding at an address with the rows of the module whose range contains the address is the same
+/// as unwinding with the rows of the process.
+pub fn the_module_of_the_address_unwinds()
+    ensures { (p : ProcessState) (m : LoadedModule) (abi : Abi) (memory registers : ℕ → Option ℕ)
+        (address : ℕ) (caller : Option Caller) → Some m ≡ module_at p.modules address
+        → m.rows.target ≡ p.target
+        → over_rows m.rows.target (λ a found. found ≡ row_of_module m a) abi memory registers
+        address caller
+        ↔ over_rows p.target (λ a found. found ≡ row_in p a) abi memory registers address caller }
 {}
 
 /// A module with the range of its section's FDEs has rows only for addresses in its range, at

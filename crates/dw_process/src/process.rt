@@ -11,6 +11,7 @@ use crate::address_range::AddressRange;
 use crate::found_row::FoundRow;
 use crate::loaded_module::LoadedModule;
 use crate::module_map::ModuleMap;
+use crate::module_rows::ModuleRows;
 use crate::ranges::range_for;
 use crate::refusal::Refusal;
 use crate::row_cache::ProcessSlot;
@@ -135,6 +136,21 @@ impl Process {
         self.modules.at(address)
     }
 
+    /// The module whose range contains the address, for a step of a walk; none if there is no such
+    /// module. `slot` says which module it may be: the one that the look-up before found, or the one
+    /// of a hint. If one of the two is right, no search is needed. If not, a search follows. If
+    /// there is a module, `slot` has its index afterwards. Any slot will do.
+    #[inline(always)]
+    pub fn module_near(&self, address: u64, slot: &mut ProcessSlot) -> Option<ModuleRows<'_>>
+        ensures module { result ≡ module_at self.now.modules address }
+        ensures target { IfSome result (λ m. m.rows.target ≡ self.now.target) }
+    {
+        match self.modules.at_near(address, slot) {
+            Some(module) => Some(ModuleRows::new(self.target, module)),
+            None => None,
+        }
+    }
+
     /// Checks a `.debug_frame` section of fewer than 2^32 bytes, encoded for the process's target,
     /// compiles it, and adds it as a module, loaded at `load_address`. Returns the module's id,
     /// which no other module of this process has had. `cookie` is a number of the caller's own.
@@ -239,20 +255,7 @@ impl Process {
         ensures found { IfSome result (IsFoundIn self.now address) }
     {
         let mut slot = ProcessSlot::new();
-        self.row_for_address_near(address, &mut slot)
-    }
-
-    /// What `row_for_address` returns. `slot` says where the row may be: in the module that an
-    /// earlier look-up found, or where a hint says, which is what an earlier look-up left there, in
-    /// this process or in another one, or any other hint. If it is right, as it usually is for an
-    /// address that was looked up before, no search is needed. If not, a search follows, and the
-    /// slot is set if there is such a module.
-    #[inline(always)]
-    pub fn row_for_address_near(&self, address: u64, slot: &mut ProcessSlot) -> Option<FoundRow<'_>>
-        ensures row { result ≡ found_at self.now address }
-        ensures found { IfSome result (IsFoundIn self.now address) }
-    {
-        let Some(found) = self.modules.at_near(address, slot) else {
+        let Some(found) = self.modules.at_near(address, &mut slot) else {
             return None;
         };
         let linked = as_linked(self.target, found.load_address, address);
@@ -278,21 +281,8 @@ impl Process {
     pub fn is_signal_frame(&self, address: u64) -> bool
         ensures { result ≡ is_signal_in self.now address }
     {
-        let mut slot = ProcessSlot::new();
-        self.is_signal_frame_near(address, &mut slot)
-    }
-
-    /// What `is_signal_frame` returns. `slot` is that of `row_for_address_near`.
-    #[inline(always)]
-    pub fn is_signal_frame_near(&self, address: u64, slot: &mut ProcessSlot) -> bool
-        ensures { result ≡ is_signal_in self.now address }
-    {
-        match self.modules.at_near(address, slot) {
-            Some(found) => {
-                let target = found.rows.target();
-                let linked = as_linked(target, found.load_address, address);
-                found.signals.has(linked)
-            }
+        match self.module_near(address, &mut ProcessSlot::new()) {
+            Some(module) => module.is_signal_frame(address),
             None => false,
         }
     }
@@ -340,11 +330,9 @@ impl UnwindRows for Process {
         address: u64,
         slot: &'p mut ProcessSlot,
     ) -> Option<(UnwindRow<'p, 'p>, u16)> {
-        let Some(found) = self.modules.at_near(address, slot) else {
+        let Some(module) = self.module_near(address, slot) else {
             return None;
         };
-        let linked = as_linked(self.target, found.load_address, address);
-        let hint = &mut slot.hint.entry_count;
-        found.rows.row_and_return_register_near(linked, hint)
+        module.row_near(address, &mut slot.hint.entry_count)
     }
 }

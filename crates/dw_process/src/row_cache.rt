@@ -31,12 +31,12 @@ impl RowHint {
 }
 
 /// Where a look-up in a process begins: in the module that the look-up before found, and then where
-/// a hint says. Callers of a frame are often in its module, which then needs no search. Any slot
-/// will do, as any hint will.
+/// a hint says. The caller of a frame is often in the same module, which then needs no search. Any
+/// slot will do, as any hint will.
 #[derive(Clone, Copy, Drop)]
 pub struct ProcessSlot {
     pub(crate) last_module: u32,
-    /// A hint for the next look-up, and afterwards where that look-up found its row.
+    /// A hint for the next look-up. If that finds a row, the hint says afterwards where.
     pub hint: RowHint,
 }
 

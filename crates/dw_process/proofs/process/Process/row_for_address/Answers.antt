@@ -2,7 +2,7 @@ use Rattle.std.proofs.Common.{ℕ, Some, None, ap, ◌∙◌, subst}
 use Rattle.dw_tables.specs.UnwindTables.{row_at}
 use Rattle.dw_process.specs.Processes.{IsFoundIn, ProcessState, found_at, found_with}
 use Rattle.dw_process.proofs.Finding.{its_module, its_row_found}
-use Rattle.dw_process.proofs.process.Process.row_for_address_near.Goals as goal
+use Rattle.dw_process.proofs.process.Process.row_for_address.Goals as goal
 
 pub returns-in-Some-row_and_return_register_near-clause-row : goal.returns-in-Some-row_and_return_register_near-clause-row
 returns-in-Some-row_and_return_register_near-clause-row c =

@@ -1,0 +1,91 @@
+//! The module of a process that has an address, for a step of a walk.
+
+ghost use Rattle.std.specs.Prelude.{◌≡◌, IfSome, Some};
+ghost use Rattle.dw_rows.specs.RowLookups.{IsRowUnder};
+ghost use Rattle.dw_process.specs.Processes.{is_signal_in_module, row_of_module};
+
+use crate::loaded_module::LoadedModule;
+use crate::row_cache::NO_HINT;
+use dw_bytes::Target;
+use dw_rows::UnwindRow;
+use dw_unwind::{UnwindRows, as_linked};
+use std::marker::Model;
+
+/// The module of a process whose range contains an address. A step of a walk asks for the row of
+/// its address, and whether the address is one of a signal frame. By this it looks for the module
+/// only once. `Process::module_near` gives it.
+#[derive(Drop)]
+pub struct ModuleRows<'p> {
+    /// The target of the module's table, and of its process.
+    target: Target,
+    module: &'p LoadedModule,
+}
+
+impl<'p> Model for ModuleRows<'p> {
+    ghost use Rattle.std.specs.Prelude.{◌≡◌};
+    ghost use Rattle.dw_process.specs.declared.loaded_module.LoadedModule.{LoadedModule};
+
+    ghost Value = { LoadedModule };
+
+    ghost view = { λ m. m.module.now };
+
+    ghost invariant = { λ m. m.module.now.rows.target ≡ m.target };
+}
+
+impl<'p> ModuleRows<'p> {
+    /// The rows of a module whose table has this target.
+    #[inline(always)]
+    pub(crate) fn new(target: Target, module: &'p LoadedModule) -> Self
+        requires { module.now.rows.target ≡ target }
+        ensures { result ≡ module.now }
+    {
+        ModuleRows { target, module }
+    }
+
+    /// The row of an address as loaded and its return address register; none if the module has no
+    /// row there. `hint` is that of `UnwindTable::row_and_return_register_near`.
+    #[inline(always)]
+    pub fn row_near(&self, address: u64, hint: &mut u32) -> Option<(UnwindRow<'p, 'p>, u16)>
+        ensures row { result ≡ row_of_module self.now address }
+        ensures under { IfSome result (λ found. IsRowUnder self.now.rows.target found.0) }
+    {
+        let linked = as_linked(self.target, self.module.load_address, address);
+        self.module.rows.row_and_return_register_near(linked, hint)
+    }
+
+    /// Whether an address as loaded is one of a signal frame (`Process::is_signal_frame`).
+    #[inline(always)]
+    pub fn is_signal_frame(&self, address: u64) -> bool
+        ensures { result ≡ is_signal_in_module (Some self.now) address }
+    {
+        let linked = as_linked(self.target, self.module.load_address, address);
+        self.module.signals.has(linked)
+    }
+}
+
+/// Looks rows up in the module. A slot is a hint of where the row may be.
+impl<'p> UnwindRows for ModuleRows<'p> {
+    type Slot = u32;
+
+    ghost use Rattle.std.specs.Prelude.{◌≡◌};
+    ghost use Rattle.dw_process.specs.Processes.{row_of_module};
+
+    ghost target_of = { λ m. m.rows.target };
+
+    ghost finds = { λ m address found. found ≡ row_of_module m address };
+
+    #[inline(always)]
+    fn rows_target(&self) -> Target {
+        self.target
+    }
+
+    #[inline(always)]
+    fn slot(&self) -> u32 {
+        NO_HINT
+    }
+
+    #[inline(always)]
+    fn find_row<'f>(&'f self, address: u64, slot: &'f mut u32) -> Option<(UnwindRow<'f, 'f>, u16)> {
+        self.row_near(address, slot)
+    }
+}
