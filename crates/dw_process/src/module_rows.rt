@@ -5,7 +5,7 @@ ghost use Rattle.dw_rows.specs.RowLookups.{IsRowUnder};
 ghost use Rattle.dw_process.specs.Processes.{is_signal_in_module, row_of_module};
 
 use crate::loaded_module::LoadedModule;
-use crate::row_cache::NO_HINT;
+use crate::row_cache::ProcessSlot;
 use dw_bytes::Target;
 use dw_rows::UnwindRow;
 use dw_unwind::{UnwindRows, as_linked};
@@ -43,13 +43,18 @@ impl<'p> ModuleRows<'p> {
     }
 
     /// The row of an address as loaded and its return address register; none if the module has no
-    /// row there. `hint` is that of `UnwindTable::row_and_return_register_near`.
+    /// row there. The slot's hint says where the row may be, and afterwards where it is.
     #[inline(always)]
-    pub fn row_near(&self, address: u64, hint: &mut u32) -> Option<(UnwindRow<'p, 'p>, u16)>
+    pub fn row_near(
+        &self,
+        address: u64,
+        slot: &mut ProcessSlot,
+    ) -> Option<(UnwindRow<'p, 'p>, u16)>
         ensures row { result ≡ row_of_module self.now address }
         ensures under { IfSome result (λ found. IsRowUnder self.now.rows.target found.0) }
     {
         let linked = as_linked(self.target, self.module.load_address, address);
+        let hint = &mut slot.hint.entry_count;
         self.module.rows.row_and_return_register_near(linked, hint)
     }
 
@@ -63,9 +68,9 @@ impl<'p> ModuleRows<'p> {
     }
 }
 
-/// Looks rows up in the module. A slot is a hint of where the row may be.
+/// Looks rows up in the module. The slot is the one that the module was looked up with.
 impl<'p> UnwindRows for ModuleRows<'p> {
-    type Slot = u32;
+    type Slot = ProcessSlot;
 
     ghost use Rattle.std.specs.Prelude.{◌≡◌};
     ghost use Rattle.dw_process.specs.Processes.{row_of_module};
@@ -80,12 +85,16 @@ impl<'p> UnwindRows for ModuleRows<'p> {
     }
 
     #[inline(always)]
-    fn slot(&self) -> u32 {
-        NO_HINT
+    fn slot(&self) -> ProcessSlot {
+        ProcessSlot::new()
     }
 
     #[inline(always)]
-    fn find_row<'f>(&'f self, address: u64, slot: &'f mut u32) -> Option<(UnwindRow<'f, 'f>, u16)> {
+    fn find_row<'f>(
+        &'f self,
+        address: u64,
+        slot: &'f mut ProcessSlot,
+    ) -> Option<(UnwindRow<'f, 'f>, u16)> {
         self.row_near(address, slot)
     }
 }

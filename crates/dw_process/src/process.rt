@@ -333,6 +333,6 @@ impl UnwindRows for Process {
         let Some(module) = self.module_near(address, slot) else {
             return None;
         };
-        module.row_near(address, &mut slot.hint.entry_count)
+        module.row_near(address, slot)
     }
 }

@@ -1,10 +1,12 @@
 //! A cursor: where a walk up a stack is, as plain data that C owns.
 
-ghost use Rattle.std.specs.Prelude.{◌≡◌, ◌≢◌, ◌+◌, ◌≤◌, ◌<◌, ◌⊎◌, ℕ, IfNone, IfSome, IsSome, List, None, Option, Some, if◌then◌else◌, length};
+ghost use Rattle.std.specs.Prelude.{◌≡◌, ◌≢◌, ◌+◌, ◌≤◌, ◌<◌, ◌⊎◌, ℕ, IfNone, IfSome, IsSome, List, MatchOption, None, Option, Some, if◌then◌else◌, length};
 ghost use Rattle.std.specs.Bool.{OnTrue, OnFalse};
 ghost use Rattle.dw_process.specs.Processes.{ProcessState, is_signal_in};
 ghost use Rattle.dw_rules.specs.Abi.{Abi, abi_of};
-ghost use Rattle.dw_unwind.specs.Contents.{contents_in};
+ghost use Rattle.dw_unwind.specs.Caller.{value};
+ghost use Rattle.dw_unwind.specs.CallerViews.{answer_in};
+ghost use Rattle.dw_unwind.specs.Contents.{UnwindsTo, contents_in};
 ghost use Rattle.dw_unwind.specs.MissingPlaces.{LacksPlace};
 ghost use Rattle.dw_unwind.specs.Walks.{first_place};
 ghost use Rattle.dw_unwind.specs.declared.frames.Stop.{Stop as Why};
@@ -28,7 +30,7 @@ use dw_c_types::status::{DONE, NO_PLACE, NONE, REFUSED};
 use dw_eval::{Memory, Registers};
 use dw_process::{NoHints, Process, ProcessSlot, RowHints};
 use dw_unwind::{
-    KeptRegisters, PLACES, RegisterFile, Stop, Unwinder, return_address, step_in_place,
+    KeptRegisters, PLACES, RegisterFile, Stop, Unwinder, Unwound, return_address, step_in_place,
 };
 
 /// The frame is looked up at its own address.
@@ -145,16 +147,12 @@ pub(crate) fn without_bits(bits: u64, address: u64) -> u64
     address & !bits
 }
 
-/// The stage of a cursor at the caller of a frame that was looked up at `address`.
+/// The stage of a cursor at the caller of a frame, which is a signal frame or not.
 #[inline(always)]
-fn stage_of_caller(process: &Process, address: u64, slot: &mut ProcessSlot) -> u32
-    ensures { result ≡ (if is_signal_in process.now address then EXACT else CALLER) }
+fn stage_of_caller(is_signal_frame: bool) -> u32
+    ensures { result ≡ (if is_signal_frame then EXACT else CALLER) }
 {
-    if process.is_signal_frame_near(address, slot) {
-        EXACT
-    } else {
-        CALLER
-    }
+    if is_signal_frame { EXACT } else { CALLER }
 }
 
 /// The stage of a cursor whose walk has ended for this reason.
@@ -208,7 +206,7 @@ fn step_by_copy<M: Memory>(
         Ok(next) => {
             cursor.registers = into;
             cursor.address = without_bits(bits, next);
-            cursor.stage = stage_of_caller(process, address, &mut ProcessSlot::new());
+            cursor.stage = stage_of_caller(process.is_signal_frame(address));
         }
         Err(stop) => cursor.stage = stage_after(stop),
     }
@@ -227,6 +225,35 @@ fn end_uncovered(cursor: &mut CCursor, out: &mut CFrame)
 {
     *out = c_frame_of(brief(cursor.address, None));
     cursor.stage = stage_after(Stop::NotCovered);
+}
+
+/// Takes a usual step (`step_in_place`) with the rows of the module that has the address. Returns
+/// also whether the frame is a signal frame. None if the step isn't a usual one, or there is no
+/// caller; then no content has changed.
+#[inline(always)]
+fn step_in_module<H: RowHints, M: Memory>(
+    process: &Process,
+    hints: &mut H,
+    slot: &mut ProcessSlot,
+    kept: &KeptRegisters<'_>,
+    stack_pointer: Option<u16>,
+    address: u64,
+    memory: &M,
+    file: &mut RegisterFile,
+) -> Option<(Unwound, bool)>
+    ensures steps { MatchOption result (file.new ≡ file.old) (λ stepped. UnwindsTo
+        (over_process (abi_of kept.now stack_pointer) (M.bytes memory.now) process.now)
+        (contents_in file.old) (Some address) (Some stepped.0) (contents_in file.new)) }
+    ensures known { IfSome result (λ stepped. (next : ℕ)
+        × (answer_in (stepped.0).return_address ≡ value next)) }
+    ensures signal { IfSome result (λ stepped. stepped.1 ≡ is_signal_in process.now address) }
+{
+    dw_process::laws::the_module_of_the_address_unwinds();
+    slot.hint = hints.hint(address);
+    let module = process.module_near(address, slot)?;
+    let unwound = step_in_place(&module, slot, kept, stack_pointer, address, memory, file);
+    hints.set_hint(address, slot.hint);
+    Some((unwound?, module.is_signal_frame(address)))
 }
 
 /// Writes the frame that a cursor is at to `out`, and moves the cursor to the frame's caller. The
@@ -257,16 +284,22 @@ pub(crate) fn step_by<H: RowHints, M: Memory>(
         end_uncovered(cursor, out);
         return DONE;
     };
-    slot.hint = hints.hint(address);
     let file = &mut cursor.registers;
-    let unwound = step_in_place(process, slot, kept, stack_pointer, address, memory, file);
-    hints.set_hint(address, slot.hint);
-    match unwound {
-        Some(unwound) => match return_address(Some(unwound)) {
+    match step_in_module(
+        process,
+        hints,
+        slot,
+        kept,
+        stack_pointer,
+        address,
+        memory,
+        file,
+    ) {
+        Some((unwound, is_signal_frame)) => match return_address(Some(unwound)) {
             Ok(next) => {
                 *out = c_frame_of(brief(cursor.address, Some(unwound)));
                 cursor.address = without_bits(bits, next);
-                cursor.stage = stage_of_caller(process, address, slot);
+                cursor.stage = stage_of_caller(is_signal_frame);
                 DONE
             }
             Err(_) => unreachable!(),
