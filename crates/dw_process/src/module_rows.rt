@@ -45,11 +45,7 @@ impl<'p> ModuleRows<'p> {
     /// The row of an address as loaded and its return address register; none if the module has no
     /// row there. The slot's hint says where the row may be, and afterwards where it is.
     #[inline(always)]
-    pub fn row_near(
-        &self,
-        address: u64,
-        slot: &mut ProcessSlot,
-    ) -> Option<(UnwindRow<'p, 'p>, u16)>
+    pub fn row_near(&self, address: u64, slot: &mut ProcessSlot) -> Option<(UnwindRow<'p, 'p>, u16)>
         ensures row { result ≡ row_of_module self.now address }
         ensures under { IfSome result (λ found. IsRowUnder self.now.rows.target found.0) }
     {
