@@ -1,4 +1,4 @@
-use Rattle.std.proofs.Common.{◌≡◌, ◌∙◌, Option, ap, refl, subst, sym, ℕ}
+use Rattle.std.proofs.Common.{◌≡◌, ◌∙◌, Bool, Option, ap, if◌then◌else◌, refl, subst, sym, ℕ}
 use Rattle.std.specs.Prelude.{option_map}
 use Rattle.dw_rules.specs.Abi.{abi_of}
 use Rattle.dw_unwind.specs.Contents.{UnwindsTo, contents_in}
@@ -27,7 +27,8 @@ returns-in-Ok-return_address-clause-done g c = λ _.
     let f : WalkedFrame = record { address = old.address; caller = option_map (caller_with h.found) c.in-Ok.unwound } in
     let shown : c.c_frame_of.result ≡ cframe_of f = c.c_frame_of.ensures ∙ ap cframe_by (c.brief.ensures h.found) in
     step-goes u old new c.c_frame_of.result c.in-Ok.unwound (contents_in c.contents_into.new.into) c.args.address
-    c.in-Ok-return_address.next h c.requires shown c.in-Ok-return_address.ensures c.stage_of_caller-cursor.ensures c.without_bits-cursor.ensures refl
+    c.in-Ok-return_address.next h c.requires shown c.in-Ok-return_address.ensures
+    (c.stage_of_caller-cursor.ensures ∙ ap (λ (b : Bool). if b then 0 else 1) c.is_signal_frame.ensures) c.without_bits-cursor.ensures refl
 
 pub returns-in-Err-clause-done : goal.returns-in-Err-clause-done
 returns-in-Err-clause-done g c = λ _.
