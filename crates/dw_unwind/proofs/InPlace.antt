@@ -1,21 +1,22 @@
 -- Steps in place: contents that stay where they are, and rules that only read memory.
 use Rattle.std.proofs.Common.{◌≡◌, ◌≢◌, ℕ, ◌+◌, ◌<◌, ◌≤◌, ◌%◌, ◌^◌, ◌==◌, Bool, true, false, if◌then◌else◌, List, [], ◌∷◌, ◌++◌}
-use Rattle.std.proofs.Common.{refl, sym, ap, subst, ◌∙◌, add-one, arith, drop, drop-cons}
+use Rattle.std.proofs.Common.{◌⊎◌, inl, inr, refl, sym, ap, subst, ◌∙◌, add-one, arith, drop, drop-cons}
 use Rattle.std.proofs.Common.{◌||◌, length, get_or, map, replicate, set, suc, zero, ℤ}
 use Rattle.std.specs.Prelude.{IfSome, Option, Some, None, pos}
 use Rattle.std.proofs.lemmas.Bool.Decides.{nat_tests}
 use Rattle.std.proofs.lemmas.List.{get_or-set_other, get_or-set_same, drop_all, map-append}
 use Rattle.dw_bytes.specs.declared.target.Target.{Target}
-use Rattle.dw_rules.specs.Abi.{Abi, abi_of, is_among, rule_under}
+use Rattle.dw_rules.specs.Abi.{Abi, abi_of, is_among, or_rule, rule_under}
 use Rattle.dw_stack.specs.Located.{LocatedExpression}
 use Rattle.dw_rules.specs.Rules.{IsTable, Rule, default, offset, rule_in}
 use Rattle.dw_eval.specs.World.{World}
 use Rattle.dw_unwind.specs.Caller.{Answer, IsRegister, content_plus, machine, value}
 use Rattle.dw_unwind.specs.Contents.{HasContents, Overlays, abi_rules, content_changed}
 use Rattle.dw_rules.specs.SavedRules.{Saved, as_saved}
+use Rattle.dw_unwind.specs.UsualSteps.{IsLeftOf}
 use Rattle.dw_unwind.specs.Walks.{content_of}
 use Rattle.dw_unwind.specs.declared.usual_step.TheConstants.{LITTLE_64}
-use Rattle.dw_unwind.proofs.Contents.{all-zero, overlays-next, role-content, role-is, role_answer}
+use Rattle.dw_unwind.proofs.Contents.{all-zero, overlaid, overlays-next, role-content, role-is, role_answer}
 
 -- ---- contents that stay where they are
 
@@ -99,7 +100,7 @@ overlays-both e cfa (entry ∷ rules) later base middle final over after = (
 )
 
 -- the contents by all rules, once the content by the last one was written after those by the others
-pub overlays-last : (e : World) (cfa : Answer) (rules saved : List Saved) (n content : ℕ) (o : ℤ) (base middle final : ℕ → Option ℕ)
+overlays-last : (e : World) (cfa : Answer) (rules saved : List Saved) (n content : ℕ) (o : ℤ) (base middle final : ℕ → Option ℕ)
     → rules ≡ saved ++ (n, o) ∷ [] → IsRegister e cfa n (offset o) (value content) → Overlays e cfa (map as_saved saved) base middle
     → ((r : ℕ) → final r ≡ content_changed middle n (Some content) r) → Overlays e cfa (map as_saved rules) base final
 overlays-last e cfa rules saved n content o base middle final whole gives over changed =
@@ -107,6 +108,40 @@ overlays-last e cfa rules saved n content o base middle final whole gives over c
     (sym (ap (λ (l : List Saved). map as_saved l) whole ∙ map-append as_saved saved ((n, o) ∷ [])))
     (overlays-both e cfa (map as_saved saved) ((n, offset o) ∷ []) base middle final over
     (overlays-next e cfa ((n, offset o) ∷ []) [] n (offset o) (value content) (Some content) middle final final refl gives changed refl refl))
+
+-- a register gets once more the content that its rule gives
+has-again : (e : World) (cfa : Answer) (f : ℕ → Rule) (n : ℕ) (a : Answer) (base final : ℕ → Option ℕ) → IsRegister e cfa n (f n) a
+    → HasContents e cfa f base → ((r : ℕ) → final r ≡ content_changed base n (content_of a) r) → HasContents e cfa f final
+has-again e cfa f n a base final is has changed r = go (n == r) refl
+  where
+    go : (here : Bool) → (n == r) ≡ here → (y : Answer) × IsRegister e cfa r (f r) y × (final r ≡ content_of y)
+    go true at =
+        let same : n ≡ r = grind (arith, nat_tests) in
+        (a, subst (λ (k : ℕ). IsRegister e cfa k (f k) a) same is, changed r ∙ ap (λ (b : Bool). if b then content_of a else base r) at)
+    go false at =
+        let h = has r in (h.0, h.1, changed r ∙ ap (λ (b : Bool). if b then content_of a else base r) at ∙ h.2)
+
+-- the contents by all rules, once the rules that are left were followed and the content that had
+-- been read before was written
+pub left-has : (e : World) (cfa : Answer) (f : ℕ → Rule) (rules left : List Saved) (n content : ℕ) (o : ℤ) (base middle final : ℕ → Option ℕ)
+    → IsTable {E = LocatedExpression} 0 (map as_saved rules) → IsLeftOf rules n o left → IsRegister e cfa n (offset o) (value content)
+    → HasContents e cfa f base → Overlays e cfa (map as_saved left) base middle
+    → ((r : ℕ) → final r ≡ content_changed middle n (Some content) r)
+    → HasContents e cfa (λ r. or_rule (rule_in (map as_saved rules) r) (f r)) final
+left-has e cfa f rules left n content o base middle final table is gives has over changed = go is.others
+  where
+    all : ℕ → Rule
+    all = λ r. or_rule (rule_in (map as_saved rules) r) (f r)
+
+    go : (rules ≡ left ++ (n, o) ∷ []) ⊎ (rules ≡ left) → HasContents e cfa all final
+    go (inl whole) =
+        overlaid e cfa (map as_saved rules) 0 f base final table has
+        (overlays-last e cfa rules left n content o base middle final whole gives over changed)
+    go (inr same) =
+        let each = subst (λ (l : List Saved). Overlays e cfa (map as_saved l) base middle) (sym same) over in
+        has-again e cfa all n (value content) middle final
+        (subst (λ (x : Rule). IsRegister e cfa n x (value content)) (sym (ap (λ (x : Rule). or_rule x (f n)) is.rule)) gives)
+        (overlaid e cfa (map as_saved rules) 0 f base middle table has each) changed
 
 -- ---- flags that are kept where there is a mark
 

@@ -25,6 +25,8 @@ pub mod PackedRegisters
 pub mod Contents
 -- which registers have no place among those contents
 pub mod MissingPlaces
+-- the rules that are left when the return address was read
+pub mod UsualSteps
 -- callee-saved registers that are marked by number
 pub mod KeptRegisters
 -- translates the code's frames and walks

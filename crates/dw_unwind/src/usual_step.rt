@@ -1,16 +1,17 @@
 //! The usual step of a walk: the contents of the callee-saved registers stay where they are, and
 //! the registers that the row saves in memory are read.
 
-ghost use Rattle.std.specs.Prelude.{◌≡◌, ◌<◌, ℕ, All, IfSome, MatchOption, Option, Some, map};
+ghost use Rattle.std.specs.Prelude.{◌≡◌, ◌<◌, ℕ, ℤ, All, IfSome, List, MatchOption, Option, Some, map};
 ghost use Rattle.std.specs.Bool.{OnTrue};
 ghost use Rattle.dw_rules.specs.Abi.{abi_of, rule_under};
 ghost use Rattle.dw_rules.specs.Rules.{IsTable, RuleOver, rule_in};
-ghost use Rattle.dw_rules.specs.SavedRules.{as_saved};
+ghost use Rattle.dw_rules.specs.SavedRules.{Saved, as_saved};
 ghost use Rattle.dw_rules.specs.Views.{cfa_rule_of};
 ghost use Rattle.dw_stack.specs.Located.{LocatedExpression};
 ghost use Rattle.dw_unwind.specs.Caller.{IsCfa, IsRegister, machine, value};
 ghost use Rattle.dw_unwind.specs.CallerViews.{answer_in, machine_in};
 ghost use Rattle.dw_unwind.specs.Contents.{HasContents, Overlays, UnwindsTo, abi_rules, contents_in};
+ghost use Rattle.dw_unwind.specs.UsualSteps.{IsLeftOf};
 ghost use Rattle.dw_unwind.specs.Walks.{over_rows};
 
 use crate::caller_contents::{content_of, pointed, saved};
@@ -60,24 +61,40 @@ fn plain_cfa(rule: CfaRule<'_>, file: &RegisterFile) -> Option<u64>
     Some(width.offset(file.register(register)?, offset))
 }
 
-/// The offset from the CFA at which the register `number` is saved, if it is. The register that this
-/// is asked for is the return address's, which is usually the last one with a rule.
+/// The offset from the CFA at which the register `number` is saved, if it is.
 #[inline(always)]
 fn offset_of(rules: PlainRules<'_>, number: u16) -> Option<i64>
-    requires { IsTable {E = LocatedExpression} 0 (map as_saved rules) }
     ensures { IfSome result (λ n. rule_in {E = LocatedExpression}
         (map as_saved rules.entry) number ≡ RuleOver.offset n) }
 {
-    let ((last, last_offset), _) = rules.split_last()?;
-    if last == number {
-        return Some(last_offset);
-    }
     for (register, offset) in rules {
         if register == number {
             return Some(offset);
         }
     }
     None
+}
+
+/// The offset from the CFA at which the register `number` is saved, if it is, and the rules that are
+/// left to follow once its content was read. It is the return address's register, whose rule is
+/// usually the last one. Then that rule is left out; otherwise all rules are left.
+#[inline(always)]
+fn return_rule<'t>(rules: PlainRules<'t>, number: u16) -> Option<(i64, PlainRules<'t>)>
+    requires places { All (λ register. register.0 < PLACES) rules }
+    requires table { IsTable {E = LocatedExpression} 0 (map as_saved rules) }
+    ensures rule { IfSome result (λ split. IsLeftOf rules.entry number split.0 split.1) }
+    ensures places { IfSome result (λ split. All (λ register. register.0 < PLACES) split.1) }
+    ensures place { IfSome result (λ _. number < PLACES) }
+{
+    let ((last, last_offset), others) = rules.split_last()?;
+    if last == number {
+        return Some((last_offset, others));
+    }
+    if usize::from(number) >= PLACES {
+        return None;
+    }
+    let offset = offset_of(rules.again(), number)?;
+    Some((offset, rules))
 }
 
 /// Gives each register in `rules` the content that is saved for it.
@@ -95,34 +112,6 @@ fn saved_into<R: Registers, M: Memory>(
     for (number, offset) in rules {
         into.set(number, content_of(saved(present, cfa, offset)));
     }
-}
-
-/// What `saved_into` does. The register `number` is saved by one of the rules, and its content,
-/// which was read before, is `content`: if its rule is the last one, it isn't read again.
-#[inline(always)]
-fn saved_into_with<R: Registers, M: Memory>(
-    present: &Present<'_, R, M>,
-    cfa: Answer,
-    rules: PlainRules<'_>,
-    number: u16,
-    content: u64,
-    into: &mut RegisterFile,
-)
-    requires places { All (λ register. register.0 < PLACES) rules }
-    requires table { IsTable {E = LocatedExpression} 0 (map as_saved rules) }
-    requires content { IsRegister (machine_in R.contents M.bytes present.now) (answer_in cfa) number
-        (rule_in (map as_saved rules) number) (value content) }
-    ensures { Overlays (machine_in R.contents M.bytes present.now) (answer_in cfa)
-        (map as_saved rules.entry) (contents_in into.old) (contents_in into.new) }
-{
-    if let Some(((last, _), others)) = rules.split_last() {
-        if last == number {
-            saved_into(present, cfa, others, into);
-            into.set(number, Some(content));
-            return;
-        }
-    }
-    saved_into(present, cfa, rules, into);
 }
 
 /// Makes the contents of a frame's registers those that the registers which the ABI names have in
@@ -156,28 +145,28 @@ fn abi_in_place<M: Memory>(
 }
 
 /// Makes the contents of a frame's registers those of its caller's registers. The frame's CFA is
-/// `cfa`, and its row has the rules `rules`. One of them saves the register `number`, whose content
-/// is `content`.
+/// `cfa`. The register `number` is saved in memory by one of the row's rules, and its content, which
+/// was read before, is `content`. The row's other rules are `left`, or are among them.
 #[inline(always)]
 fn rules_in_place<M: Memory>(
     memory: &M,
     cfa: u64,
     kept: &KeptRegisters<'_>,
     stack_pointer: Option<u16>,
-    rules: PlainRules<'_>,
+    left: PlainRules<'_>,
     number: u16,
     content: u64,
     file: &mut RegisterFile,
 )
-    requires places { All (λ register. register.0 < PLACES) rules }
-    requires table { IsTable {E = LocatedExpression} 0 (map as_saved rules) }
+    requires places { All (λ register. register.0 < PLACES) left }
+    requires place { number < PLACES }
     requires pointer { IfSome stack_pointer (λ number. number < PLACES) }
-    requires content { (registers : ℕ → Option ℕ) → IsRegister
-        (machine LITTLE_64 registers (M.bytes memory.now)) (value cfa) number
-        (rule_in (map as_saved rules) number) (value content) }
-    ensures { HasContents (machine LITTLE_64 (contents_in file.old) (M.bytes memory.now))
-        (value cfa) (rule_under (abi_of kept.now stack_pointer) (map as_saved rules.entry))
-        (contents_in file.new) }
+    ensures { (rules : List Saved) (n : ℤ) → IsTable {E = LocatedExpression} 0 (map as_saved rules)
+        → IsLeftOf rules number n left.entry
+        → IsRegister (machine LITTLE_64 (contents_in file.old) (M.bytes memory.now)) (value cfa)
+        number (RuleOver.offset n) (value content)
+        → HasContents (machine LITTLE_64 (contents_in file.old) (M.bytes memory.now)) (value cfa)
+        (rule_under (abi_of kept.now stack_pointer) (map as_saved rules)) (contents_in file.new) }
 {
     abi_in_place(memory, cfa, kept, stack_pointer, file);
     let present = Present {
@@ -185,8 +174,8 @@ fn rules_in_place<M: Memory>(
         registers: &NoRegisters,
         memory,
     };
-    let cfa = Answer::Value(cfa);
-    saved_into_with(&present, cfa, rules, number, content, file);
+    saved_into(&present, Answer::Value(cfa), left, file);
+    file.set(number, Some(content));
 }
 
 /// Whether the target is that of nearly all programs.
@@ -257,14 +246,14 @@ pub fn step_in_place<T: UnwindRows, M: Memory>(
     let (row, number) = rows.find_row(address, slot)?;
     let cfa = plain_cfa(row.cfa(), file)?;
     let rules = row.plain_rules(PLACES as u16)?;
-    let offset = offset_of(rules.again(), number)?;
+    let (offset, left) = return_rule(rules, number)?;
     let return_address = saved_number(memory, cfa, offset)?;
     rules_in_place(
         memory,
         cfa,
         kept,
         stack_pointer,
-        rules,
+        left,
         number,
         return_address,
         file,
