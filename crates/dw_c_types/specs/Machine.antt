@@ -1,8 +1,9 @@
 -- The registers, the memory and the ABI that C passes.
-use Rattle.std.specs.Prelude.{ℕ, ◌/◌, ◌%◌, ◌^◌, ◌==◌, Bool, false, if◌then◌else◌, List, [], ◌∷◌, slice_get, Option, Some, None}
+use Rattle.std.specs.Prelude.{◌≡◌, ℕ, ◌/◌, ◌%◌, ◌^◌, ◌==◌, Bool, false, if◌then◌else◌, List, [], ◌∷◌, slice_get, Option, Some, None}
 use Rattle.std.specs.Option.{option_or}
 use Rattle.dw_bytes.specs.declared.fault.Fault.{Fault}
 use Rattle.dw_eval.specs.MemoryBlocks.{block_byte}
+use Rattle.dw_eval.specs.declared.memory_block.MemoryBlock.{MemoryBlock}
 use Rattle.dw_rules.specs.Abi.{Abi, abi_of, abi_fault}
 use Rattle.dw_c_types.specs.declared.memory.CBlock.{CBlock}
 use Rattle.dw_c_types.specs.declared.state.CState.{CState}
@@ -24,6 +25,10 @@ register_in contents known n = if is_known known n then slice_get contents n els
 abbrev pub byte_in : List CBlock → ℕ → Option ℕ
 byte_in [] a = None
 byte_in (b ∷ blocks) a = option_or (block_byte b.base b.bytes.now a) (byte_in blocks a)
+
+-- each byte of the block `first` is the one that these blocks have at its address
+abbrev pub HasBytesOf : MemoryBlock → List CBlock → Type 0
+HasBytesOf first blocks = (a byte : ℕ) → block_byte first.base first.bytes.now a ≡ Some byte → byte_in blocks a ≡ Some byte
 
 -- ---- the state of a stopped thread
 

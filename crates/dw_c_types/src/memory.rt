@@ -3,6 +3,7 @@
 use byteorder::{BigEndian, ByteOrder, LittleEndian};
 use dw_bytes::Order;
 use dw_eval::{Memory, MemoryBlock};
+use std::marker::Model;
 
 /// Known bytes of memory; the first is at address `base`.
 #[repr(C)]
@@ -27,11 +28,26 @@ impl<'a> CBlock<'a> {
     }
 }
 
-/// Memory whose known bytes are those of `blocks`. If several blocks contain an address, the byte
-/// of the first of these blocks counts.
+/// Memory whose known bytes are those of a list of blocks. If several blocks contain an address,
+/// the byte of the first of these blocks counts.
 #[derive(Drop)]
 pub struct Blocks<'m, 'a> {
-    pub blocks: &'m [CBlock<'a>],
+    blocks: &'m [CBlock<'a>],
+    /// The bytes of the first block; none if there is no block. They are here a second time because
+    /// the first block is usually the stack, and most reads are there.
+    first: MemoryBlock<'a>,
+}
+
+impl<'m, 'a> Model for Blocks<'m, 'a> {
+    ghost use Rattle.std.specs.Prelude.{List};
+    ghost use Rattle.dw_c_types.specs.declared.memory.CBlock.{CBlock};
+    ghost use Rattle.dw_c_types.specs.Machine.{HasBytesOf};
+
+    ghost Value = { List CBlock };
+
+    ghost view = { λ m. m.blocks.now };
+
+    ghost invariant = { λ m. HasBytesOf m.first m.blocks.now };
 }
 
 impl<'m, 'a> Blocks<'m, 'a> {
@@ -39,8 +55,26 @@ impl<'m, 'a> Blocks<'m, 'a> {
     ghost use Rattle.dw_eval.specs.World.{IsSize, number_at};
     ghost use Rattle.dw_c_types.specs.Machine.{byte_in};
 
+    /// The memory of these blocks.
+    #[inline(always)]
+    pub fn new(blocks: &'m [CBlock<'a>]) -> Self
+        ensures { result ≡ blocks.now }
+    {
+        let first = match blocks.split_first() {
+            Some((first, _)) => MemoryBlock {
+                base: first.base,
+                bytes: first.bytes,
+            },
+            None => MemoryBlock {
+                base: 0,
+                bytes: &[],
+            },
+        };
+        Blocks { blocks, first }
+    }
+
     fn byte(&self, address: u64) -> Option<u8>
-        ensures { result ≡ byte_in self.now.blocks.now address }
+        ensures { result ≡ byte_in self.now address }
     {
         for block in self.blocks {
             if let Some(byte) = block.byte(address) {
@@ -51,23 +85,14 @@ impl<'m, 'a> Blocks<'m, 'a> {
     }
 
     /// Reads a number from the first block. `None` if that block doesn't contain all of its bytes.
-    /// `read` tries this first because the first block is usually the stack, and most reads are
-    /// there.
     #[inline(always)]
     fn read_first(&self, address: u64, size: u8, order: Order) -> Option<u64>
         requires size { IsSize size }
         requires within { address + size ≤ 2 ^ 64 }
         ensures { IfSome result (λ number.
-            number_at (byte_in self.now.blocks.now) order address size ≡ Some number) }
+            number_at (byte_in self.now) order address size ≡ Some number) }
     {
-        let Some((first, _)) = self.blocks.split_first() else {
-            return None;
-        };
-        let block = MemoryBlock {
-            base: first.base,
-            bytes: first.bytes,
-        };
-        block.read(address, size, order)
+        self.first.read(address, size, order)
     }
 
     /// Reads a number byte by byte, since its bytes may be in different blocks. `None` if there is
@@ -76,7 +101,7 @@ impl<'m, 'a> Blocks<'m, 'a> {
     fn read_by_bytes(&self, address: u64, size: u8, order: Order) -> Option<u64>
         requires size { IsSize size }
         requires within { address + size ≤ 2 ^ 64 }
-        ensures { result ≡ number_at (byte_in self.now.blocks.now) order address size }
+        ensures { result ≡ number_at (byte_in self.now) order address size }
     {
         let mut bytes = [0; 8];
         for index in 0..size {
@@ -93,7 +118,7 @@ impl<'m, 'a> Blocks<'m, 'a> {
 impl<'m, 'a> Memory for Blocks<'m, 'a> {
     ghost use Rattle.dw_c_types.specs.Machine.{byte_in};
 
-    ghost bytes = { λ b. byte_in b.blocks.now };
+    ghost bytes = { λ b. byte_in b };
 
     #[inline(always)]
     fn read(&self, address: u64, size: u8, order: Order) -> Option<u64> {

@@ -131,12 +131,11 @@ impl<'a> CState<'a> {
     }
 
     /// The known memory.
+    #[inline(always)]
     pub fn memory(&self) -> Blocks<'a, 'a>
-        ensures { byte_in result.blocks.now ≡ memory_of self.now }
+        ensures { byte_in result ≡ memory_of self.now }
     {
-        Blocks {
-            blocks: self.blocks,
-        }
+        Blocks::new(self.blocks)
     }
 
     /// The number of the stack pointer register; none if it has none.

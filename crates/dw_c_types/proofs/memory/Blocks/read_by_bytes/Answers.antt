@@ -9,14 +9,14 @@ use Rattle.dw_c_types.proofs.memory.Blocks.read_by_bytes.Goals as goal
 
 pub returns-in_err-bytes : goal.returns-in_err-bytes
 returns-in_err-bytes c =
-    let memory = byte_in c.args.self.now.blocks.now in
+    let memory = byte_in c.args.self.now in
     let none : memory (c.args.address + c.loop-index.index) ≡ None = search (rules, c.in_err-bytes.ensures) in
     let stops = gathered_stops memory c.args.address c.args.size c.loop-index.index (take c.loop-index.index c.loop-index.bytes) (omega arith) c.loop-index.invariant.gathered none in
     search (rules, ap (option_map (number c.args.order c.args.size)) stops)
 
 pub loop-index-preserved : goal.loop-index-preserved
 loop-index-preserved c =
-    let memory = byte_in c.args.self.now.blocks.now in
+    let memory = byte_in c.args.self.now in
     let i = c.loop-index.index in
     let b = c.in_ok-bytes.field-0 in
     let some : memory (c.args.address + i) ≡ Some b = search (rules, c.in_ok-bytes.ensures) in
@@ -29,7 +29,7 @@ loop-index-preserved c =
 
 pub returns-in-Little : goal.returns-in-Little
 returns-in-Little c =
-    let memory = byte_in c.args.self.now.blocks.now in
+    let memory = byte_in c.args.self.now in
     let bytes = c.loop-index.bytes in
     let size = c.args.size in
     let count : c.from-count.result ≡ size = search rules in
@@ -41,7 +41,7 @@ returns-in-Little c =
 
 pub returns-in-Big : goal.returns-in-Big
 returns-in-Big c =
-    let memory = byte_in c.args.self.now.blocks.now in
+    let memory = byte_in c.args.self.now in
     let bytes = c.loop-index.bytes in
     let size = c.args.size in
     let count : c.from-count.result ≡ size = search rules in
