@@ -114,7 +114,7 @@ impl ModuleMap {
     }
 
     /// What `at` returns. `slot` has two guesses of the module's index. If both are wrong, a search
-    /// follows. If there is a module, `slot.last_module` is its index afterwards.
+    /// follows. If there is a module, `slot` has its index afterwards.
     #[inline(always)]
     pub fn at_near(&self, address: u64, slot: &mut ProcessSlot) -> Option<&LoadedModule>
         ensures { option_map (λ m. m.now) result ≡ module_at self.now address }
@@ -122,6 +122,7 @@ impl ModuleMap {
         // The module of the frame before is asked first. A processor foresees that it is the right
         // one, and goes on without waiting for the hint.
         if let Some(near) = self.at_guess(slot.last_module, address) {
+            slot.hint.module_index = slot.last_module;
             return Some(near);
         }
         if let Some(near) = self.at_guess(slot.hint.module_index, address) {
@@ -135,7 +136,7 @@ impl ModuleMap {
         let module = &self.modules[after - 1];
         if address <= module.range.last {
             slot.last_module = u32::try_from(after - 1).unwrap_or(NO_HINT);
-            slot.is_changed = true;
+            slot.hint.module_index = slot.last_module;
             return Some(module);
         }
         None

@@ -5,7 +5,7 @@ ghost use Rattle.dw_rows.specs.RowLookups.{IsRowUnder};
 ghost use Rattle.dw_process.specs.Processes.{is_signal_in_module, row_of_module};
 
 use crate::loaded_module::LoadedModule;
-use crate::row_cache::{ProcessSlot, RowHint};
+use crate::row_cache::ProcessSlot;
 use dw_bytes::Target;
 use dw_rows::UnwindRow;
 use dw_unwind::{UnwindRows, as_linked};
@@ -43,27 +43,15 @@ impl<'p> ModuleRows<'p> {
     }
 
     /// The row of an address as loaded and its return address register; none if the module has no
-    /// row there. The slot is the one that the module was found with. Its hint says where the row may
-    /// be; if a search follows, the hint says afterwards where the search has found it.
+    /// row there. The slot's hint says where the row may be, and afterwards where it is.
     #[inline(always)]
     pub fn row_near(&self, address: u64, slot: &mut ProcessSlot) -> Option<(UnwindRow<'p, 'p>, u16)>
         ensures row { result ≡ row_of_module self.now address }
         ensures under { IfSome result (λ found. IsRowUnder self.now.rows.target found.0) }
     {
         let linked = as_linked(self.target, self.module.load_address, address);
-        let mut count = slot.hint.entry_count;
-        let row = self
-            .module
-            .rows
-            .row_and_return_register_near(linked, &mut count);
-        if count != slot.hint.entry_count || slot.is_changed {
-            slot.hint = RowHint {
-                module_index: slot.last_module,
-                entry_count: count,
-            };
-            slot.is_changed = true;
-        }
-        row
+        let hint = &mut slot.hint.entry_count;
+        self.module.rows.row_and_return_register_near(linked, hint)
     }
 
     /// Whether an address as loaded is one of a signal frame (`Process::is_signal_frame`).

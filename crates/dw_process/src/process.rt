@@ -139,7 +139,7 @@ impl Process {
     /// The module whose range contains the address, for a step of a walk; none if there is no such
     /// module. `slot` says which module it may be: the one that the look-up before found, or the one
     /// of a hint. If one of the two is right, no search is needed. If not, a search follows. If
-    /// there is a module, the next look-up with `slot` looks there first. Any slot will do.
+    /// there is a module, `slot` has its index afterwards. Any slot will do.
     #[inline(always)]
     pub fn module_near(&self, address: u64, slot: &mut ProcessSlot) -> Option<ModuleRows<'_>>
         ensures module { result ≡ module_at self.now.modules address }

@@ -36,10 +36,8 @@ impl RowHint {
 #[derive(Clone, Copy, Drop)]
 pub struct ProcessSlot {
     pub(crate) last_module: u32,
-    /// A hint for the next look-up. If a row is found by a search, the hint says afterwards where.
+    /// A hint for the next look-up. If that finds a row, the hint says afterwards where.
     pub hint: RowHint,
-    /// Whether a search has changed the hint. A look-up never makes it false.
-    pub is_changed: bool,
 }
 
 impl ProcessSlot {
@@ -51,7 +49,6 @@ impl ProcessSlot {
         ProcessSlot {
             last_module: NO_HINT,
             hint: RowHint::none(),
-            is_changed: false,
         }
     }
 }

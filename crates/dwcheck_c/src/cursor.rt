@@ -250,12 +250,9 @@ fn step_in_module<H: RowHints, M: Memory>(
 {
     dw_process::laws::the_module_of_the_address_unwinds();
     slot.hint = hints.hint(address);
-    slot.is_changed = false;
     let module = process.module_near(address, slot)?;
     let unwound = step_in_place(&module, slot, kept, stack_pointer, address, memory, file);
-    if slot.is_changed {
-        hints.set_hint(address, slot.hint);
-    }
+    hints.set_hint(address, slot.hint);
     Some((unwound?, module.is_signal_frame(address)))
 }
 
