@@ -6,6 +6,7 @@ mod eh_frame;
 mod found_row;
 pub mod laws;
 mod loaded_module;
+mod module_guesses;
 mod module_map;
 mod module_rows;
 mod process;

@@ -8,6 +8,7 @@ ghost use Rattle.dw_process.specs.ModuleMaps.{AreInOrder, IsPlaceFor, IsProper, 
 
 use crate::address_range::AddressRange;
 use crate::loaded_module::LoadedModule;
+use crate::module_guesses::ModuleGuesses;
 use crate::row_cache::{NO_HINT, ProcessSlot};
 use std::alloc::{AllocError, Global};
 use std::marker::Model;
@@ -19,6 +20,7 @@ use std::marker::Model;
 pub(crate) struct ModuleMap {
     firsts: Vec<u64>,
     modules: Vec<LoadedModule>,
+    guesses: ModuleGuesses,
 }
 
 impl Model for ModuleMap {
@@ -77,6 +79,7 @@ impl ModuleMap {
         ModuleMap {
             firsts: Vec::new(alloc),
             modules: Vec::new(alloc),
+            guesses: ModuleGuesses::none(),
         }
     }
 
@@ -113,8 +116,9 @@ impl ModuleMap {
         None
     }
 
-    /// What `at` returns. `slot` has two guesses of the module's index. If both are wrong, a search
-    /// follows. If there is a module, `slot` has its index afterwards.
+    /// What `at` returns. `slot` has two guesses of the module's index, and there is a third one
+    /// (`ModuleGuesses`). If all are wrong, a search follows. If there is a module, `slot` has its
+    /// index afterwards.
     #[inline(always)]
     pub fn at_near(&self, address: u64, slot: &mut ProcessSlot) -> Option<&LoadedModule>
         ensures { option_map (λ m. m.now) result ≡ module_at self.now address }
@@ -127,6 +131,12 @@ impl ModuleMap {
         }
         if let Some(near) = self.at_guess(slot.hint.module_index, address) {
             slot.last_module = slot.hint.module_index;
+            return Some(near);
+        }
+        let guess = self.guesses.at(address);
+        if let Some(near) = self.at_guess(guess, address) {
+            slot.last_module = guess;
+            slot.hint.module_index = guess;
             return Some(near);
         }
         let after = count_up_to(self.firsts.as_slice(), address);
@@ -166,14 +176,15 @@ impl ModuleMap {
         ensures inserted { IfOk result (λ _. self.new ≡ insert self.old place added) }
         ensures same { IfErr result (λ _. self.new ≡ self.old) }
     {
-        let first = added.range.first;
-        if self.firsts.insert(place, first).is_err() {
+        let range = added.range;
+        if self.firsts.insert(place, range.first).is_err() {
             return Err(AllocError);
         }
         if self.modules.insert(place, added).is_err() {
             let _ = self.firsts.remove(place);
             return Err(AllocError);
         }
+        self.guesses.note_inserted(place, range);
         Ok(())
     }
 
@@ -184,6 +195,7 @@ impl ModuleMap {
     {
         let _ = self.firsts.remove(place);
         let _ = self.modules.remove(place);
+        self.guesses.note_removed(place);
     }
 
     /// Makes another map with the same modules, which shares their tables. None if there isn't
@@ -206,6 +218,10 @@ impl ModuleMap {
             };
             modules.push(shared).ok()?;
         }
-        Some(ModuleMap { firsts, modules })
+        Some(ModuleMap {
+            firsts,
+            modules,
+            guesses: self.guesses.copy(),
+        })
     }
 }

@@ -11,8 +11,8 @@ kept : {X : Type 0} (xs ys : X) (b : Bool) → b ≡ true → cond b xs ys ≡ x
 kept xs ys true is = refl
 kept xs ys false is = cc
 
-pub invariant_of-self-else-is_err-2 : goal.invariant_of-self-else-is_err-2
-invariant_of-self-else-is_err-2 c =
+pub invariant_of-self-2 : goal.invariant_of-self-2
+invariant_of-self-2 c =
     let firsts = c.self.inside.firsts.items in
     let modules = c.self.inside.modules.items in
     let place = c.args.place in
