@@ -15,11 +15,10 @@ ghost use Rattle.dw_c_types.specs.ProcessWalks.{WalksBy, over_process, through_p
 ghost use Rattle.dw_c_types.specs.declared.answer.CFrame.{CFrame as Slot};
 ghost use Rattle.dwcheck_c.specs.WalkCursors.{place_of};
 
-use crate::cursor::{CALLER, CCursor, EXACT, fill, has_places, step_by, without_bits};
+use crate::cursor::{CALLER, CCursor, EXACT, Stepped, fill, has_places, step_by, without_bits};
 use crate::listed_registers::{ListedRegisters, looked_up_after};
 use dw_c_types::answer::{CFrame, c_frame_of};
 use dw_c_types::state::Contents;
-use dw_c_types::status::DONE;
 use dw_eval::{Memory, Registers};
 use dw_process::{Process, ProcessSlot, RowHints};
 use dw_rows::Abi;
@@ -141,31 +140,35 @@ fn write_steps<H: RowHints, M: Memory>(
     let mut last = ProcessSlot::new();
     while count < slots.len() {
         let out = &mut slots[count];
-        if step_by(
+        match step_by(
             process, hints, &mut last, kept, pointer, bits, cursor, memory, out,
-        ) != DONE
-        {
-            let looked_up = cursor.looked_up();
-            let (numbers, file) = (kept.numbers(), &cursor.registers);
-            return write_more(
-                process,
-                numbers,
-                pointer,
-                bits,
-                cursor.address,
-                looked_up,
-                file,
-                memory,
-                slots,
-                count,
-            );
-        }
-        count += 1;
-        if count == slots.len() {
-            return (count, Stop::Limit);
-        }
-        if let Some(stop) = cursor.stop() {
-            return (count, stop);
+        ) {
+            Stepped::ToCaller => count += 1,
+            Stepped::Ended => {
+                count += 1;
+                if count == slots.len() {
+                    return (count, Stop::Limit);
+                }
+                if let Some(stop) = cursor.stop() {
+                    return (count, stop);
+                }
+            }
+            Stepped::NoPlace => {
+                let looked_up = cursor.looked_up();
+                let (numbers, file) = (kept.numbers(), &cursor.registers);
+                return write_more(
+                    process,
+                    numbers,
+                    pointer,
+                    bits,
+                    cursor.address,
+                    looked_up,
+                    file,
+                    memory,
+                    slots,
+                    count,
+                );
+            }
         }
     }
     (count, Stop::Limit)

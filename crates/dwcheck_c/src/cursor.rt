@@ -17,6 +17,7 @@ ghost use Rattle.dw_c_types.specs.Frames.{IsBacktrace, cframe_of, stop_number};
 ghost use Rattle.dw_c_types.specs.Machine.{abi_fault_of, abi_in, is_known, memory_of, register_in, registers_of};
 ghost use Rattle.dw_c_types.specs.ProcessWalks.{over_process, through_held, through_process, without_bits};
 ghost use Rattle.dwcheck_c.specs.declared.cursor.CCursor.{CCursor as Cursor};
+ghost use Rattle.dwcheck_c.specs.declared.cursor.Stepped.{Stepped as Step};
 ghost use Rattle.dwcheck_c.specs.WalkCursors.{AreSteps, WalkHasEnded, IsStep, IsStepBy, LacksPlaceIn, looked_up_by, place_from, place_of, registers_in};
 ghost use Rattle.dwcheck_c.specs.Lent.{Reads, loan_of, read_by};
 
@@ -63,6 +64,17 @@ pub struct FramePlace {
 }
 
 const _: () = prove!(size_of::<FramePlace>() == size_of::<CFrame>());
+
+/// What a step of a cursor has done.
+#[derive(Clone, Copy, PartialEq, Eq)]
+pub(crate) enum Stepped {
+    /// It has written a frame, and the cursor is at the frame's caller.
+    ToCaller,
+    /// It has written a frame, which may be the last one.
+    Ended,
+    /// It has done nothing: a register of the caller has no place in a cursor.
+    NoPlace,
+}
 
 /// Whether the register `number` is known.
 fn is_known(known: &[u8], number: usize) -> bool
@@ -180,15 +192,15 @@ fn step_by_copy<M: Memory>(
     cursor: &mut CCursor,
     memory: &M,
     out: &mut CFrame,
-) -> u32
+) -> Stepped
     requires { looked_up_by cursor.old.stage cursor.old.address ≡ Some address }
-    ensures done { result ≡ DONE → IsStepBy (through_process (abi_of kept.now stack_pointer)
+    ensures done { result ≢ Step.NoPlace → IsStepBy (through_process (abi_of kept.now stack_pointer)
         (M.bytes memory.now) bits process.now) cursor.old cursor.new out.new }
-    ensures lacks { result ≡ NO_PLACE → LacksPlace (over_process (abi_of kept.now stack_pointer)
+    ensures goes { result ≡ Step.ToCaller → cursor.new.stage ≤ CALLER }
+    ensures lacks { result ≡ Step.NoPlace → LacksPlace (over_process (abi_of kept.now stack_pointer)
         (M.bytes memory.now) process.now) (registers_in cursor.old)
         (looked_up_by cursor.old.stage cursor.old.address) }
-    ensures codes { (result ≡ DONE) ⊎ (result ≡ NO_PLACE) }
-    ensures unwritten { result ≢ DONE → (cursor.new ≡ cursor.old) × (out.new ≡ out.old) }
+    ensures unwritten { result ≡ Step.NoPlace → (cursor.new ≡ cursor.old) × (out.new ≡ out.old) }
 {
     let mut into = RegisterFile::none();
     let Ok(unwound) = process.contents_into(
@@ -199,7 +211,7 @@ fn step_by_copy<M: Memory>(
         memory,
         &mut into,
     ) else {
-        return NO_PLACE;
+        return Stepped::NoPlace;
     };
     *out = c_frame_of(brief(cursor.address, unwound));
     match return_address(unwound) {
@@ -207,10 +219,13 @@ fn step_by_copy<M: Memory>(
             cursor.registers = into;
             cursor.address = without_bits(bits, next);
             cursor.stage = stage_of_caller(process.is_signal_frame(address));
+            Stepped::ToCaller
         }
-        Err(stop) => cursor.stage = stage_after(stop),
+        Err(stop) => {
+            cursor.stage = stage_after(stop);
+            Stepped::Ended
+        }
     }
-    DONE
 }
 
 /// Writes the frame that a cursor is at to `out`, where the frame has no caller, and ends the walk.
@@ -270,19 +285,19 @@ pub(crate) fn step_by<H: RowHints, M: Memory>(
     cursor: &mut CCursor,
     memory: &M,
     out: &mut CFrame,
-) -> u32
+) -> Stepped
     requires { cursor.old.stage ≤ CALLER }
-    ensures done { result ≡ DONE → IsStepBy (through_process (abi_of kept.now stack_pointer)
+    ensures done { result ≢ Step.NoPlace → IsStepBy (through_process (abi_of kept.now stack_pointer)
         (M.bytes memory.now) bits process.now) cursor.old cursor.new out.new }
-    ensures lacks { result ≡ NO_PLACE → LacksPlace (over_process (abi_of kept.now stack_pointer)
+    ensures goes { result ≡ Step.ToCaller → cursor.new.stage ≤ CALLER }
+    ensures lacks { result ≡ Step.NoPlace → LacksPlace (over_process (abi_of kept.now stack_pointer)
         (M.bytes memory.now) process.now) (registers_in cursor.old)
         (looked_up_by cursor.old.stage cursor.old.address) }
-    ensures codes { (result ≡ DONE) ⊎ (result ≡ NO_PLACE) }
-    ensures unwritten { result ≢ DONE → (cursor.new ≡ cursor.old) × (out.new ≡ out.old) }
+    ensures unwritten { result ≡ Step.NoPlace → (cursor.new ≡ cursor.old) × (out.new ≡ out.old) }
 {
     let Some(address) = cursor.looked_up() else {
         end_uncovered(cursor, out);
-        return DONE;
+        return Stepped::Ended;
     };
     let file = &mut cursor.registers;
     match step_in_module(
@@ -300,7 +315,7 @@ pub(crate) fn step_by<H: RowHints, M: Memory>(
                 *out = c_frame_of(brief(cursor.address, Some(unwound)));
                 cursor.address = without_bits(bits, next);
                 cursor.stage = stage_of_caller(is_signal_frame);
-                DONE
+                Stepped::ToCaller
             }
             Err(_) => unreachable!(),
         },
@@ -336,7 +351,7 @@ fn step_of(process: &Process, cursor: &mut CCursor, state: &CState<'_>, out: &mu
         return NONE;
     }
     let kept = KeptRegisters::for_one_step(state.kept);
-    step_by(
+    match step_by(
         process,
         &mut NoHints,
         &mut ProcessSlot::new(),
@@ -346,7 +361,10 @@ fn step_of(process: &Process, cursor: &mut CCursor, state: &CState<'_>, out: &mu
         cursor,
         &state.memory(),
         out,
-    )
+    ) {
+        Stepped::ToCaller | Stepped::Ended => DONE,
+        Stepped::NoPlace => NO_PLACE,
+    }
 }
 
 /// Takes a step through a closed process, which has no modules: the frame has no caller.
