@@ -97,6 +97,7 @@ impl<'m, 'a> Blocks<'m, 'a> {
 
     /// Reads a number byte by byte, since its bytes may be in different blocks. `None` if there is
     /// a byte that no block contains.
+    #[cold]
     #[inline(never)]
     fn read_by_bytes(&self, address: u64, size: u8, order: Order) -> Option<u64>
         requires size { IsSize size }

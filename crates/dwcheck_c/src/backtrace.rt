@@ -71,6 +71,7 @@ fn write_rest<R: Registers, M: Memory>(
 
 /// Goes on with a walk as `write_rest` does, with the ABI that has the callee-saved registers
 /// `kept` and the stack pointer `pointer`.
+#[cold]
 #[inline(never)]
 fn write_more<R: Registers, M: Memory>(
     process: &Process,

@@ -182,6 +182,7 @@ fn stage_after(stop: Stop) -> u32
 
 /// Moves a cursor to the caller of its frame, which is looked up at `address`, in a way that needs
 /// a second file for the caller's registers.
+#[cold]
 #[inline(never)]
 fn step_by_copy<M: Memory>(
     process: &Process,
@@ -229,6 +230,8 @@ fn step_by_copy<M: Memory>(
 }
 
 /// Writes the frame that a cursor is at to `out`, where the frame has no caller, and ends the walk.
+#[cold]
+#[inline(never)]
 fn end_uncovered(cursor: &mut CCursor, out: &mut CFrame)
     ensures cursor { cursor.new ≡ record {
       registers = cursor.old.registers;
