@@ -15,8 +15,9 @@ ghost use Rattle.dw_c_types.specs.ProcessWalks.{WalksBy, over_process, through_p
 ghost use Rattle.dw_c_types.specs.declared.answer.CFrame.{CFrame as Slot};
 ghost use Rattle.dwcheck_c.specs.WalkCursors.{place_of};
 
-use crate::cursor::{CALLER, CCursor, EXACT, Stepped, fill, has_places, step_by, without_bits};
+use crate::cursor::{CALLER, CCursor, EXACT, Stepped, fill, has_places, other_step};
 use crate::listed_registers::{ListedRegisters, looked_up_after};
+use crate::usual_steps::{usual_step, without_bits};
 use dw_c_types::answer::{CFrame, c_frame_of};
 use dw_c_types::state::Contents;
 use dw_eval::{Memory, Registers};
@@ -119,6 +120,60 @@ pub(crate) fn brief(address: u64, unwound: Option<Unwound>) -> BriefFrame
     }
 }
 
+/// Takes usual steps from where `cursor` is, and writes the frames to `slots`, of which `from` have
+/// been written. Returns how many have been written when `slots` is full, or when the next step isn't
+/// a usual one.
+#[inline(always)]
+fn write_usual_steps<H: RowHints, M: Memory>(
+    process: &Process,
+    hints: &mut H,
+    slot: &mut ProcessSlot,
+    kept: &KeptRegisters<'_>,
+    pointer: Option<u16>,
+    bits: u64,
+    cursor: &mut CCursor,
+    memory: &M,
+    slots: &mut [CFrame],
+    from: usize,
+) -> usize
+    requires begun { cursor.old.stage ≤ CALLER }
+    requires within { from ≤ length slots.old }
+    ensures left { (first : Place) (old : List Slot)
+        → IsLeftAt (through_process (abi_of kept.now pointer) (M.bytes memory.now) bits process.now)
+        first (place_of cursor.old) old slots.old from
+        → IsLeftAt (through_process (abi_of kept.now pointer) (M.bytes memory.now) bits process.now)
+        first (place_of cursor.new) old slots.new result }
+    ensures begun { cursor.new.stage ≤ CALLER }
+    ensures more { from ≤ result }
+    ensures within { result ≤ length slots.new }
+    ensures long { length slots.new ≡ length slots.old }
+{
+    let mut address = cursor.address;
+    let mut stage = cursor.stage;
+    let mut count = from;
+    while count < slots.len() {
+        let file = &mut cursor.registers;
+        match usual_step(
+            process, hints, slot, kept, pointer, bits, address, stage, memory, file,
+        ) {
+            Some(step) => {
+                slots[count] = step.frame;
+                address = step.address;
+                stage = step.stage;
+                count += 1;
+            }
+            None => {
+                cursor.address = address;
+                cursor.stage = stage;
+                return count;
+            }
+        }
+    }
+    cursor.address = address;
+    cursor.stage = stage;
+    count
+}
+
 /// Walks up a stack from where `cursor` is, and writes its frames to `slots`, as many as fit.
 /// Returns the number of frames written, and why there are no more. If a register has no place in
 /// the cursor, `write_more` walks on.
@@ -138,25 +193,19 @@ fn write_steps<H: RowHints, M: Memory>(
         bits process.now) (place_of cursor.old) slots.old slots.new result.0 (stop_number result.1) }
 {
     let mut count = 0;
-    let mut last = ProcessSlot::new();
-    while count < slots.len() {
-        let out = &mut slots[count];
-        match step_by(
-            process, hints, &mut last, kept, pointer, bits, cursor, memory, out,
-        ) {
-            Stepped::ToCaller => count += 1,
-            Stepped::Ended => {
-                count += 1;
-                if count == slots.len() {
-                    return (count, Stop::Limit);
-                }
-                if let Some(stop) = cursor.stop() {
-                    return (count, stop);
-                }
-            }
+    let mut slot = ProcessSlot::new();
+    loop {
+        count = write_usual_steps(
+            process, hints, &mut slot, kept, pointer, bits, cursor, memory, slots, count,
+        );
+        if count == slots.len() {
+            return (count, Stop::Limit);
+        }
+        let (numbers, out) = (kept.numbers(), &mut slots[count]);
+        match other_step(process, numbers, pointer, bits, cursor, memory, out) {
             Stepped::NoPlace => {
                 let looked_up = cursor.looked_up();
-                let (numbers, file) = (kept.numbers(), &cursor.registers);
+                let file = &cursor.registers;
                 return write_more(
                     process,
                     numbers,
@@ -170,9 +219,15 @@ fn write_steps<H: RowHints, M: Memory>(
                     count,
                 );
             }
+            Stepped::ToCaller | Stepped::Ended => count += 1,
+        }
+        if count == slots.len() {
+            return (count, Stop::Limit);
+        }
+        if let Some(stop) = cursor.stop() {
+            return (count, stop);
         }
     }
-    (count, Stop::Limit)
 }
 
 /// Without signal frames and signed bits, a walk through the modules of a process is one of

@@ -1,12 +1,10 @@
 //! A cursor: where a walk up a stack is, as plain data that C owns.
 
-ghost use Rattle.std.specs.Prelude.{◌≡◌, ◌≢◌, ◌+◌, ◌≤◌, ◌<◌, ◌⊎◌, ℕ, IfNone, IfSome, IsSome, List, MatchOption, None, Option, Some, if◌then◌else◌, length};
+ghost use Rattle.std.specs.Prelude.{◌≡◌, ◌≢◌, ◌+◌, ◌≤◌, ◌<◌, ◌⊎◌, ℕ, IfNone, IfSome, IsSome, List, None, Option, Some, length};
 ghost use Rattle.std.specs.Bool.{OnTrue, OnFalse};
-ghost use Rattle.dw_process.specs.Processes.{ProcessState, is_signal_in};
+ghost use Rattle.dw_process.specs.Processes.{ProcessState};
 ghost use Rattle.dw_rules.specs.Abi.{Abi, abi_of};
-ghost use Rattle.dw_unwind.specs.Caller.{value};
-ghost use Rattle.dw_unwind.specs.CallerViews.{answer_in};
-ghost use Rattle.dw_unwind.specs.Contents.{UnwindsTo, contents_in};
+ghost use Rattle.dw_unwind.specs.Contents.{contents_in};
 ghost use Rattle.dw_unwind.specs.MissingPlaces.{LacksPlace};
 ghost use Rattle.dw_unwind.specs.Walks.{first_place};
 ghost use Rattle.dw_unwind.specs.declared.frames.Stop.{Stop as Why};
@@ -15,7 +13,7 @@ ghost use Rattle.dw_c_types.specs.Slots.{put_into};
 ghost use Rattle.dw_c_types.specs.Faults.{Reports};
 ghost use Rattle.dw_c_types.specs.Frames.{IsBacktrace, cframe_of, stop_number};
 ghost use Rattle.dw_c_types.specs.Machine.{abi_fault_of, abi_in, is_known, memory_of, register_in, registers_of};
-ghost use Rattle.dw_c_types.specs.ProcessWalks.{over_process, through_held, through_process, without_bits};
+ghost use Rattle.dw_c_types.specs.ProcessWalks.{over_process, through_held, through_process};
 ghost use Rattle.dwcheck_c.specs.declared.cursor.CCursor.{CCursor as Cursor};
 ghost use Rattle.dwcheck_c.specs.declared.cursor.Stepped.{Stepped as Step};
 ghost use Rattle.dwcheck_c.specs.WalkCursors.{AreSteps, WalkHasEnded, IsStep, IsStepBy, LacksPlaceIn, looked_up_by, place_from, place_of, registers_in};
@@ -24,15 +22,14 @@ ghost use Rattle.dwcheck_c.specs.Lent.{Reads, loan_of, read_by};
 use crate::backtrace::brief;
 use crate::process_reader::{LentProcess, put};
 use crate::read_right::Right;
+use crate::usual_steps::{looked_up_at, stage_of_caller, usual_step, without_bits};
 use dw_c_types::answer::{CFrame, c_frame_of};
 use dw_c_types::fault::{CFault, IN_ABI, report};
 use dw_c_types::state::{CState, Contents};
 use dw_c_types::status::{DONE, NO_PLACE, NONE, REFUSED};
 use dw_eval::{Memory, Registers};
 use dw_process::{NoHints, Process, ProcessSlot, RowHints};
-use dw_unwind::{
-    KeptRegisters, PLACES, RegisterFile, Stop, Unwinder, Unwound, return_address, step_in_place,
-};
+use dw_unwind::{KeptRegisters, PLACES, RegisterFile, Stop, Unwinder, return_address};
 
 /// The frame is looked up at its own address.
 pub const EXACT: u32 = 0;
@@ -126,11 +123,7 @@ impl CCursor {
     pub(crate) fn looked_up(&self) -> Option<u64>
         ensures { result ≡ looked_up_by self.now.stage self.now.address }
     {
-        if self.stage == EXACT {
-            Some(self.address)
-        } else {
-            self.address.checked_sub(1)
-        }
+        looked_up_at(self.stage, self.address)
     }
 
     /// Why the walk has ended; none if it hasn't. Any stage above 4 counts as 5.
@@ -151,22 +144,6 @@ impl CCursor {
     }
 }
 
-/// A return address without the bits that sign it.
-#[inline(always)]
-pub(crate) fn without_bits(bits: u64, address: u64) -> u64
-    ensures { result ≡ without_bits bits address }
-{
-    address & !bits
-}
-
-/// The stage of a cursor at the caller of a frame, which is a signal frame or not.
-#[inline(always)]
-fn stage_of_caller(is_signal_frame: bool) -> u32
-    ensures { result ≡ (if is_signal_frame then EXACT else CALLER) }
-{
-    if is_signal_frame { EXACT } else { CALLER }
-}
-
 /// The stage of a cursor whose walk has ended for this reason.
 fn stage_after(stop: Stop) -> u32
     ensures { result ≡ stop_number stop + 1 }
@@ -182,7 +159,6 @@ fn stage_after(stop: Stop) -> u32
 
 /// Moves a cursor to the caller of its frame, which is looked up at `address`, in a way that needs
 /// a second file for the caller's registers.
-#[cold]
 #[inline(never)]
 fn step_by_copy<M: Memory>(
     process: &Process,
@@ -230,8 +206,6 @@ fn step_by_copy<M: Memory>(
 }
 
 /// Writes the frame that a cursor is at to `out`, where the frame has no caller, and ends the walk.
-#[cold]
-#[inline(never)]
 fn end_uncovered(cursor: &mut CCursor, out: &mut CFrame)
     ensures cursor { cursor.new ≡ record {
       registers = cursor.old.registers;
@@ -245,33 +219,42 @@ fn end_uncovered(cursor: &mut CCursor, out: &mut CFrame)
     cursor.stage = stage_after(Stop::NotCovered);
 }
 
-/// Takes a usual step (`step_in_place`) with the rows of the module that has the address. Returns
-/// also whether the frame is a signal frame. None if the step isn't a usual one, or there is no
-/// caller; then no content has changed.
-#[inline(always)]
-fn step_in_module<H: RowHints, M: Memory>(
+/// Writes the frame that a cursor is at to `out`, and moves the cursor to the frame's caller, where
+/// the step isn't a usual one.
+#[cold]
+#[inline(never)]
+pub(crate) fn other_step<M: Memory>(
     process: &Process,
-    hints: &mut H,
-    slot: &mut ProcessSlot,
-    kept: &KeptRegisters<'_>,
+    kept: &[u16],
     stack_pointer: Option<u16>,
-    address: u64,
+    bits: u64,
+    cursor: &mut CCursor,
     memory: &M,
-    file: &mut RegisterFile,
-) -> Option<(Unwound, bool)>
-    ensures steps { MatchOption result (file.new ≡ file.old) (λ stepped. UnwindsTo
-        (over_process (abi_of kept.now stack_pointer) (M.bytes memory.now) process.now)
-        (contents_in file.old) (Some address) (Some stepped.0) (contents_in file.new)) }
-    ensures known { IfSome result (λ stepped. (next : ℕ)
-        × (answer_in (stepped.0).return_address ≡ value next)) }
-    ensures signal { IfSome result (λ stepped. stepped.1 ≡ is_signal_in process.now address) }
+    out: &mut CFrame,
+) -> Stepped
+    requires { cursor.old.stage ≤ CALLER }
+    ensures done { result ≢ Step.NoPlace → IsStepBy (through_process (abi_of kept.now stack_pointer)
+        (M.bytes memory.now) bits process.now) cursor.old cursor.new out.new }
+    ensures goes { result ≡ Step.ToCaller → cursor.new.stage ≤ CALLER }
+    ensures lacks { result ≡ Step.NoPlace → LacksPlace (over_process (abi_of kept.now stack_pointer)
+        (M.bytes memory.now) process.now) (registers_in cursor.old)
+        (looked_up_by cursor.old.stage cursor.old.address) }
+    ensures unwritten { result ≡ Step.NoPlace → (cursor.new ≡ cursor.old) × (out.new ≡ out.old) }
 {
-    dw_process::laws::the_module_of_the_address_unwinds();
-    slot.hint = hints.hint(address);
-    let module = process.module_near(address, slot)?;
-    let unwound = step_in_place(&module, slot, kept, stack_pointer, address, memory, file);
-    hints.set_hint(address, slot.hint);
-    Some((unwound?, module.is_signal_frame(address)))
+    let Some(address) = cursor.looked_up() else {
+        end_uncovered(cursor, out);
+        return Stepped::Ended;
+    };
+    step_by_copy(
+        process,
+        kept,
+        stack_pointer,
+        bits,
+        address,
+        cursor,
+        memory,
+        out,
+    )
 }
 
 /// Writes the frame that a cursor is at to `out`, and moves the cursor to the frame's caller. The
@@ -298,44 +281,26 @@ pub(crate) fn step_by<H: RowHints, M: Memory>(
         (looked_up_by cursor.old.stage cursor.old.address) }
     ensures unwritten { result ≡ Step.NoPlace → (cursor.new ≡ cursor.old) × (out.new ≡ out.old) }
 {
-    let Some(address) = cursor.looked_up() else {
-        end_uncovered(cursor, out);
-        return Stepped::Ended;
-    };
     let file = &mut cursor.registers;
-    match step_in_module(
+    if let Some(next) = usual_step(
         process,
         hints,
         slot,
         kept,
         stack_pointer,
-        address,
+        bits,
+        cursor.address,
+        cursor.stage,
         memory,
         file,
     ) {
-        Some((unwound, is_signal_frame)) => match return_address(Some(unwound)) {
-            Ok(next) => {
-                *out = c_frame_of(brief(cursor.address, Some(unwound)));
-                cursor.address = without_bits(bits, next);
-                cursor.stage = stage_of_caller(is_signal_frame);
-                Stepped::ToCaller
-            }
-            Err(_) => unreachable!(),
-        },
-        None => {
-            let kept = kept.numbers();
-            step_by_copy(
-                process,
-                kept,
-                stack_pointer,
-                bits,
-                address,
-                cursor,
-                memory,
-                out,
-            )
-        }
+        *out = next.frame;
+        cursor.address = next.address;
+        cursor.stage = next.stage;
+        return Stepped::ToCaller;
     }
+    let kept = kept.numbers();
+    other_step(process, kept, stack_pointer, bits, cursor, memory, out)
 }
 
 /// Calls `step_by` with the memory and the ABI of `state`, if the walk hasn't ended.

@@ -23,3 +23,4 @@ mod right_part;
 mod rule_bytes;
 mod signals;
 mod stacks;
+mod usual_steps;

@@ -1,7 +1,7 @@
 use Rattle.std.proofs.Common.{◌≡◌, ◌+◌, ◌-◌, ◌^◌, ◌<◌, arith}
 use Rattle.std.specs.Prelude.{bit_and}
 use Rattle.std.proofs.lemmas.Nat.{and-not, and_comm}
-use Rattle.dwcheck_c.proofs.cursor.without_bits.Goals as goal
+use Rattle.dwcheck_c.proofs.usual_steps.without_bits.Goals as goal
 
 pub returns : goal.returns
 returns c =
