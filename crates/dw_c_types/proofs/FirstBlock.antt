@@ -1,11 +1,13 @@
 -- A number that is read from the first block alone is the number that is read from all blocks.
-use Rattle.std.proofs.Common.{◌≡◌, ℕ, zero, suc, ◌+◌, List, Option, Some, None, IfSome, refl, sym}
+use Rattle.std.proofs.Common.{◌≡◌, ◌∙◌, ℕ, zero, suc, ◌+◌, ◌≤◌, List, Option, Some, None, IfSome, ap, drop, length, refl, sym, take}
 use Rattle.std.specs.Option.{option_map}
 use Rattle.dw_bytes.specs.declared.target.Order.{Order}
+use Rattle.dw_bytes.specs.declared.target.Order.TheVariants.{Little}
 use Rattle.dw_bytes.specs.Encoding.{number}
 use Rattle.dw_eval.specs.MemoryBlocks.{block_byte}
 use Rattle.dw_eval.specs.World.{prepend_if_known, bytes_from, number_at}
 use Rattle.dw_eval.specs.declared.memory_block.MemoryBlock.{MemoryBlock}
+use Rattle.dw_eval.proofs.Windows.{window_in}
 use Rattle.dw_c_types.specs.Machine.{HasBytesOf, byte_in}
 use Rattle.dw_c_types.specs.declared.memory.CBlock.{CBlock}
 
@@ -35,3 +37,13 @@ if_first_has first blocks (Some v) order at n within is =
     let part = block_byte first.base first.bytes.now in
     of_bytes order n v (bytes_from part at n) (bytes_from (byte_in blocks) at n)
     (λ l. same_bytes part (byte_in blocks) within n at l) (sym is)
+
+-- a word of the first block
+pub word_in : (first : MemoryBlock) (blocks : List CBlock) (at i v : ℕ) → HasBytesOf first blocks → at ≡ first.base + i
+    → i + 8 ≤ length first.bytes.now → v ≡ number Little 8 (take 8 (drop i first.bytes.now)) → number_at (byte_in blocks) Little at 8 ≡ Some v
+word_in first blocks at i v within place le is =
+    let bytes = first.bytes.now in
+    let part = block_byte first.base bytes in
+    let here : bytes_from part at 8 ≡ Some (take 8 (drop i bytes)) =
+    ap (λ (a : ℕ). bytes_from part a 8) place ∙ window_in first.base bytes 8 i le in
+    ap (option_map (number Little 8)) (same_bytes part (byte_in blocks) within 8 at (take 8 (drop i bytes)) here) ∙ ap Some (sym is)

@@ -1,5 +1,5 @@
 -- The registers, the memory and the ABI that C passes.
-use Rattle.std.specs.Prelude.{◌≡◌, ℕ, ◌/◌, ◌%◌, ◌^◌, ◌==◌, Bool, false, if◌then◌else◌, List, [], ◌∷◌, slice_get, Option, Some, None}
+use Rattle.std.specs.Prelude.{◌≡◌, ◌<◌, ◌≤◌, ◌+◌, length, ℕ, ◌/◌, ◌%◌, ◌^◌, ◌==◌, Bool, false, if◌then◌else◌, List, [], ◌∷◌, slice_get, Option, Some, None}
 use Rattle.std.specs.Option.{option_or}
 use Rattle.dw_bytes.specs.declared.fault.Fault.{Fault}
 use Rattle.dw_eval.specs.MemoryBlocks.{block_byte}
@@ -29,6 +29,11 @@ byte_in (b ∷ blocks) a = option_or (block_byte b.base b.bytes.now a) (byte_in 
 -- each byte of the block `first` is the one that these blocks have at its address
 abbrev pub HasBytesOf : MemoryBlock → List CBlock → Type 0
 HasBytesOf first blocks = (a byte : ℕ) → block_byte first.base first.bytes.now a ≡ Some byte → byte_in blocks a ≡ Some byte
+
+-- a word of 8 bytes that begins less than `starts` above the start of the block is in the block
+pub record HasWords (block : MemoryBlock) (starts : ℕ) : Type 0 where
+  pub inside : 0 < starts → starts + 7 ≤ length block.bytes.now
+  pub below : block.base + starts < 2 ^ 64
 
 -- ---- the state of a stopped thread
 

@@ -1,5 +1,7 @@
 //! The blocks of memory that C passes, and reads from them.
 
+ghost use Rattle.dw_c_types.specs.Machine.{HasWords};
+
 use byteorder::{BigEndian, ByteOrder, LittleEndian};
 use dw_bytes::Order;
 use dw_eval::{Memory, MemoryBlock};
@@ -36,22 +38,35 @@ pub struct Blocks<'m, 'a> {
     /// The bytes of the first block; none if there is no block. They are here a second time because
     /// the first block is usually the stack, and most reads are there.
     first: MemoryBlock<'a>,
+    /// A word of 8 bytes that begins less than this above the start of the first block is in that
+    /// block.
+    word_starts: u64,
+}
+
+/// How many words of 8 bytes begin in a block, one at each address: as many as are in the block, and
+/// don't pass the greatest address.
+fn word_starts(block: &MemoryBlock<'_>) -> u64
+    ensures { HasWords block.now result }
+{
+    let inside = (block.bytes.len() as u64).saturating_sub(7);
+    inside.min(u64::MAX - block.base)
 }
 
 impl<'m, 'a> Model for Blocks<'m, 'a> {
     ghost use Rattle.std.specs.Prelude.{List};
     ghost use Rattle.dw_c_types.specs.declared.memory.CBlock.{CBlock};
-    ghost use Rattle.dw_c_types.specs.Machine.{HasBytesOf};
+    ghost use Rattle.dw_c_types.specs.Machine.{HasBytesOf, HasWords};
 
     ghost Value = { List CBlock };
 
     ghost view = { λ m. m.blocks.now };
 
-    ghost invariant = { λ m. HasBytesOf m.first m.blocks.now };
+    ghost invariant = { λ m. HasBytesOf m.first m.blocks.now × HasWords m.first m.word_starts };
 }
 
 impl<'m, 'a> Blocks<'m, 'a> {
     ghost use Rattle.std.specs.Prelude.{◌≡◌, ◌^◌, ◌+◌, ◌≤◌, IfSome, Some};
+    ghost use Rattle.dw_bytes.specs.declared.target.Order.TheVariants.{Little};
     ghost use Rattle.dw_eval.specs.World.{IsSize, number_at};
     ghost use Rattle.dw_c_types.specs.Machine.{byte_in};
 
@@ -70,7 +85,12 @@ impl<'m, 'a> Blocks<'m, 'a> {
                 bytes: &[],
             },
         };
-        Blocks { blocks, first }
+        let word_starts = word_starts(&first);
+        Blocks {
+            blocks,
+            first,
+            word_starts,
+        }
     }
 
     fn byte(&self, address: u64) -> Option<u8>
@@ -84,7 +104,23 @@ impl<'m, 'a> Blocks<'m, 'a> {
         None
     }
 
-    /// Reads a number from the first block. `None` if that block doesn't contain all of its bytes.
+    /// Reads a little-endian number of 8 bytes from the first block. `None` if that block doesn't
+    /// contain all of its bytes, or if one of them has the greatest address. Nearly all reads are of
+    /// this kind, and take one comparison.
+    #[inline(always)]
+    fn read_word(&self, address: u64) -> Option<u64>
+        ensures { IfSome result (λ number.
+            number_at (byte_in self.now) Little address 8 ≡ Some number) }
+    {
+        let offset = address.wrapping_sub(self.first.base);
+        if offset >= self.word_starts {
+            return None;
+        }
+        let at = offset as usize;
+        Some(LittleEndian::read_u64(&self.first.bytes[at..at + 8]))
+    }
+
+    /// Reads a number from the first block. `None` if it isn't found there.
     #[inline(always)]
     fn read_first(&self, address: u64, size: u8, order: Order) -> Option<u64>
         requires size { IsSize size }
@@ -92,7 +128,10 @@ impl<'m, 'a> Blocks<'m, 'a> {
         ensures { IfSome result (λ number.
             number_at (byte_in self.now) order address size ≡ Some number) }
     {
-        self.first.read(address, size, order)
+        match order {
+            Order::Little if size == 8 => self.read_word(address),
+            _ => self.first.read(address, size, order),
+        }
     }
 
     /// Reads a number byte by byte, since its bytes may be in different blocks. `None` if there is
