@@ -116,27 +116,30 @@ impl ModuleMap {
         None
     }
 
-    /// What `at` returns. `slot` has two guesses of the module's index, and there is a third one
+    /// What `at` returns. `slot` has three guesses of the module's index, and there is another one
     /// (`ModuleGuesses`). If all are wrong, a search follows. If there is a module, `slot` has its
     /// index afterwards.
     #[inline(always)]
     pub fn at_near(&self, address: u64, slot: &mut ProcessSlot) -> Option<&LoadedModule>
         ensures { option_map (λ m. m.now) result ≡ module_at self.now address }
     {
-        // The module of the frame before is asked first. A processor foresees that it is the right
-        // one, and goes on without waiting for the hint.
+        // The modules of the frames before are asked first. A processor foresees which one is right,
+        // and goes on without waiting for the hint.
         if let Some(near) = self.at_guess(slot.last_module, address) {
             slot.hint.module_index = slot.last_module;
             return Some(near);
         }
+        if let Some(near) = self.at_guess(slot.module_before, address) {
+            slot.go_to(slot.module_before);
+            return Some(near);
+        }
         if let Some(near) = self.at_guess(slot.hint.module_index, address) {
-            slot.last_module = slot.hint.module_index;
+            slot.go_to(slot.hint.module_index);
             return Some(near);
         }
         let guess = self.guesses.at(address);
         if let Some(near) = self.at_guess(guess, address) {
-            slot.last_module = guess;
-            slot.hint.module_index = guess;
+            slot.go_to(guess);
             return Some(near);
         }
         let after = count_up_to(self.firsts.as_slice(), address);
@@ -145,8 +148,7 @@ impl ModuleMap {
         }
         let module = &self.modules[after - 1];
         if address <= module.range.last {
-            slot.last_module = u32::try_from(after - 1).unwrap_or(NO_HINT);
-            slot.hint.module_index = slot.last_module;
+            slot.go_to(u32::try_from(after - 1).unwrap_or(NO_HINT));
             return Some(module);
         }
         None

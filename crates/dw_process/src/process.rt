@@ -137,9 +137,9 @@ impl Process {
     }
 
     /// The module whose range contains the address, for a step of a walk; none if there is no such
-    /// module. `slot` says which module it may be: the one that the look-up before found, or the one
-    /// of a hint. If one of the two is right, no search is needed. If not, a search follows. If
-    /// there is a module, `slot` has its index afterwards. Any slot will do.
+    /// module. `slot` says which module it may be: one that the look-ups before found, or the one of
+    /// a hint. If one of these is right, no search is needed. If there is a module, the next look-up
+    /// with `slot` begins with it. Any slot will do.
     #[inline(always)]
     pub fn module_near(&self, address: u64, slot: &mut ProcessSlot) -> Option<ModuleRows<'_>>
         ensures module { result ≡ module_at self.now.modules address }

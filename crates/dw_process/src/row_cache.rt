@@ -30,12 +30,13 @@ impl RowHint {
     }
 }
 
-/// Where a look-up in a process begins: in the module that the look-up before found, and then where
-/// a hint says. The caller of a frame is often in the same module, which then needs no search. Any
-/// slot will do, as any hint will.
+/// Where a look-up in a process begins: in the module that the look-up before found, then in the
+/// module before that one, and then where a hint says. The caller of a frame is often in one of
+/// these two modules, which then needs no search. Any slot will do, as any hint will.
 #[derive(Clone, Copy, Drop)]
 pub struct ProcessSlot {
     pub(crate) last_module: u32,
+    pub(crate) module_before: u32,
     /// A hint for the next look-up. If that finds a row, the hint says afterwards where.
     pub hint: RowHint,
 }
@@ -48,8 +49,17 @@ impl ProcessSlot {
     {
         ProcessSlot {
             last_module: NO_HINT,
+            module_before: NO_HINT,
             hint: RowHint::none(),
         }
+    }
+
+    /// Takes note that a look-up has found a module that isn't the last one.
+    #[inline(always)]
+    pub(crate) fn go_to(&mut self, index: u32) {
+        self.module_before = self.last_module;
+        self.last_module = index;
+        self.hint.module_index = index;
     }
 }
 
