@@ -63,6 +63,8 @@ WITHOUT_LAW = {
     "dw_rows.sections.Indexes": "AreDistinct entry-placed",
     # any run of a program: the rules that it leaves name expressions of the section
     "dw_rows.expressions.Lending": "lends-kept",
+    # any block: where the bytes from an address on are
+    "dw_eval.Windows": "window_in",
     # any list that is written to an array, as far as it fits
     "dw_c_types.Putting": "comes puts-length puts_next puts_no_more puts_shown",
     # any list of effects: no instruction is refused exactly if the list is good

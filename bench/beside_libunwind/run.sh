@@ -8,8 +8,8 @@
 # Each SECTION is a raw .debug_frame section. It becomes another module, which every look-up of
 # bench_walk searches before the modules of the program. If Debian's libdw-dev is installed, elfutils'
 # dwfl_getthread_frames is timed on the same stack. These variables may be set:
-#   PREFIX   the folder to which `make install` installed libdwcheck: then dwcheck_backtrace and
-#            dwcheck_row_at are timed too
+#   PREFIX   the folder to which `make install` installed libdwcheck: then dwcheck_backtrace,
+#            dwcheck_backtrace_cached and dwcheck_row_at are timed too
 #   WORK     a folder; what is built stays there
 #   LIBRARY  a file to link instead of building crates/dw_times
 # This needs x86-64, gcc and Debian's libunwind-dev (apt-get install libunwind-dev).

@@ -228,33 +228,55 @@ static void rows_through_c(const LoadedSection *module, uint64_t frame_count)
     dwcheck_process_close(&process);
 }
 
-/* Times the walk with dwcheck_backtrace of libdwcheck, as a C program would call it. It must find
-   the same frames as bench_walk. */
+static dwcheck_frame found[PLACES];
+
+/* The nanoseconds a frame of walks of at most `limit` frames, their start included: with a cache
+   that the walks before have filled, or without one if `cache` is NULL. */
+static double time_of_walks(const dwcheck_process *process, const WalkStart *start, const dwcheck_state *state, size_t limit, dwcheck_cache *cache)
+{
+    double time = 1e30;
+    for (int round = 0; round < ROUNDS * WALKS; round++) {
+        size_t count = 0;
+        uint32_t stop;
+        dwcheck_fault fault;
+        double begun = now();
+        uint32_t done = cache ? dwcheck_backtrace_cached(process, start->address, state, found, limit, &count, &stop, cache, &fault)
+                              : dwcheck_backtrace(process, start->address, state, found, limit, &count, &stop, &fault);
+        time = least(time, (now() - begun) / (double)count);
+        if (done != DWCHECK_DONE)
+            status = 1;
+    }
+    return time;
+}
+
+/* Times walks with dwcheck_backtrace and dwcheck_backtrace_cached of libdwcheck, as a C program would
+   call them. They must find the same frames as bench_walk. */
 static void through_c(const LoadedSection *first, size_t count, const WalkStart *start)
 {
     static const uint8_t known[] = {0xff, 0xff, 0x01};
     static const uint16_t kept[] = {3, 6, 12, 13, 14, 15};
-    static dwcheck_frame found[PLACES];
+    static dwcheck_cache cache;
     dwcheck_process process = DWCHECK_CLOSED;
     dwcheck_fault fault;
     dwcheck_block stack = {start->base, start->stack, start->stack_count};
     dwcheck_state state = {start->contents, start->register_count, known, sizeof known, &stack, 1, kept, 6, 7, 1, 0, 0};
     size_t frame_count = 0;
     uint32_t stop;
-    double time = 1e30;
     for (size_t i = 0; i < count; i++)
         add_module(&process, &first[i], first[i].load_address);
-    for (int round = 0; round < ROUNDS * WALKS; round++) {
-        double begun = now();
-        if (dwcheck_backtrace(&process, start->address, &state, found, PLACES, &frame_count, &stop, &fault) != DWCHECK_DONE)
-            status = 1;
-        time = least(time, (now() - begun) / (double)frame_count);
+    for (size_t limit = PLACES; limit > 0; limit = limit == PLACES ? 25 : limit == 25 ? 4 : 0) {
+        double time = time_of_walks(&process, start, &state, limit, NULL);
+        printf("  ns a frame through C, at most %zu frames: %.1f; with a cache %.1f\n", limit, time,
+               time_of_walks(&process, start, &state, limit, &cache));
     }
-    for (size_t i = 0; i < frame_count; i++)
-        if (found[i].address != frames[i].address || found[i].cfa.value != frames[i].cfa)
-            status = 1;
-    printf("  ns a frame through C: %.1f; %zu modules; %zu frames, stop %u; %s\n", time, count, frame_count, stop,
-           status ? "not ours" : "ours");
+    for (int cached = 0; cached < 2; cached++) {
+        uint32_t done = cached ? dwcheck_backtrace_cached(&process, start->address, &state, found, PLACES, &frame_count, &stop, &cache, &fault)
+                               : dwcheck_backtrace(&process, start->address, &state, found, PLACES, &frame_count, &stop, &fault);
+        for (size_t i = 0; i < frame_count; i++)
+            if (done != DWCHECK_DONE || found[i].address != frames[i].address || found[i].cfa.value != frames[i].cfa)
+                status = 1;
+    }
+    printf("  %zu modules; %zu frames, stop %u; %s\n", count, frame_count, stop, status ? "not ours" : "ours");
     dwcheck_process_close(&process);
 }
 #endif

@@ -956,6 +956,10 @@ static void fill(uint8_t many[24 + 24 * 1000]) {
     }
 }
 
+/* What a process with one module takes besides its table, at most: the structures around it, and 4 KB by
+   which the module of an address is guessed. */
+enum { PROCESS = 5000 };
+
 /* `room` is what a table takes: 16 bytes for each row and for the end of the last one, 64 for each set
    of rules and 16 for each register's rule in it, and 24 and its length for an expression. Here there
    are three sets: that of 1,000 rows, that of a row whose CFA is an expression of two bytes, and the
@@ -973,7 +977,7 @@ static void room_bounds_what_a_table_takes(void) {
     IS(add_section(&p, many, sizeof many, least - 1), DWCHECK_NO_ROOM);
     IS(used - before, 0);
     IS(add_section(&p, many, sizeof many, least), DWCHECK_DONE);
-    IS(used - before <= (long)least + 1000, 1);
+    IS(used - before <= (long)least + PROCESS, 1);
     IS(dwcheck_row_at(&p, 0x3f8ff, &row, rules, 4), DWCHECK_DONE); IS(row.cfa.kind, DWCHECK_RULE_VAL_EXPRESSION);
     dwcheck_process_close(&p);
     IS(used - before, 0);
@@ -1002,7 +1006,7 @@ static void room_bounds_expressions_and_rules(void) {
     for (int i = 0; i < RULES; i++) memcpy(at + 24 + 4 * i, (uint8_t[]){0x41, 5, (uint8_t)(20 + i), 2}, 4);
     IS(add_section(&p, s, sizeof s, least - 1), DWCHECK_NO_ROOM);
     IS(add_section(&p, s, sizeof s, least), DWCHECK_DONE);
-    IS(used - before <= (long)least + 1000, 1);
+    IS(used - before <= (long)least + PROCESS, 1);
     dwcheck_process_close(&p);
     IS(used - before, 0);
 }
@@ -1017,7 +1021,7 @@ static void share_copies_no_table(void) {
     before = given;
     IS(add_section(&p, many, sizeof many, room), DWCHECK_DONE); IS(given - before > 16000, 1);
     before = given;
-    IS(dwcheck_process_share(&p, &q), DWCHECK_DONE); IS(given - before < 1000, 1);
+    IS(dwcheck_process_share(&p, &q), DWCHECK_DONE); IS(given - before < PROCESS, 1);
     dwcheck_process_close(&p);
     IS(dwcheck_row_at(&q, 0x1000 + 0x100 * 999, &row, rules, 4), DWCHECK_DONE); IS(row.start, 0x1000 + 0x100 * 999);
     dwcheck_process_close(&q);
