@@ -16,4 +16,3 @@ returns-in_default-clause-done g c = λ _.
     step-uncovered u old c.end_uncovered.new.cursor c.end_uncovered.new.out
     (subst (λ (at : Option ℕ). UnwindsAt u.callers (registers_in old) at None) (sym c.in_default.is ∙ c.looked_up.ensures) refl)
     c.end_uncovered.ensures.cursor c.end_uncovered.ensures.frame
-
