@@ -3,6 +3,7 @@
 ghost use Rattle.std.specs.Prelude.{◌<◌};
 
 use crate::address_range::AddressRange;
+use crate::row_cache::MULTIPLIER;
 
 /// How many guesses there are, in 4 KB.
 const GUESSES: usize = 2048;
@@ -10,17 +11,14 @@ const GUESSES: usize = 2048;
 /// By how many bits a product is shifted to the right to give a number below `GUESSES`.
 const SHIFT: u32 = 53;
 
-/// About 2^64 divided by the golden ratio. The products of numbers of blocks with this number are
-/// spread well over their highest bits.
-const MULTIPLIER: u64 = 0x9e37_79b9_7f4a_7c15;
-
 /// By how many bits an address is shifted to the right to give the number of its block of 1 MB.
 const BLOCK_SHIFT: u32 = 20;
 
-/// Guesses of which module has an address. Memory is divided into blocks of 1 MB. For each block
-/// that has an address of a module, there is the module's index, at a place that the number of the
-/// block determines. If two blocks share a place, or two modules a block, the later one has it. A
-/// look-up checks a guess, so a wrong one costs time, and changes no answer.
+/// Guesses of which module has an address. Memory is divided into blocks of 1 MB. For a block that
+/// has an address of a module, there is the module's index, at a place that the number of the block
+/// determines. If two blocks share a place, or two modules a block, the later one has it. A module
+/// of more than 2 GB has guesses for its first blocks only, and one with an index above 65,535 has
+/// none. A look-up checks a guess, so a wrong one costs time, and changes no answer.
 ///
 /// A search among 1,000 modules takes as long as the rest of a look-up, since each of its steps has
 /// to wait for the one before. A guess takes two loads, and the processor goes on while they are

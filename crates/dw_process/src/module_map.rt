@@ -123,8 +123,8 @@ impl ModuleMap {
     pub fn at_near(&self, address: u64, slot: &mut ProcessSlot) -> Option<&LoadedModule>
         ensures { option_map (λ m. m.now) result ≡ module_at self.now address }
     {
-        // The modules of the frames before are asked first. A processor foresees which one is right,
-        // and goes on without waiting for the hint.
+        // The last two modules that were found are tried first. A processor predicts which one is
+        // right, and goes on without waiting for the hint.
         if let Some(near) = self.at_guess(slot.last_module, address) {
             slot.hint.module_index = slot.last_module;
             return Some(near);

@@ -12,8 +12,8 @@ use dw_unwind::{UnwindRows, as_linked};
 use std::marker::Model;
 
 /// The module of a process whose range contains an address. A step of a walk asks for the row of
-/// its address, and whether the address is one of a signal frame. By this it looks for the module
-/// only once. `Process::module_near` gives it.
+/// its address, and whether the address is one of a signal frame. With this it looks the module up
+/// only once (`Process::module_near`).
 #[derive(Drop)]
 pub struct ModuleRows<'p> {
     /// The target of the module's table, and of its process.
@@ -64,7 +64,7 @@ impl<'p> ModuleRows<'p> {
     }
 }
 
-/// Looks rows up in the module. The slot is the one that the module was looked up with.
+/// Looks rows up in the module. Of a slot only the hint of where the row may be is used.
 impl<'p> UnwindRows for ModuleRows<'p> {
     type Slot = ProcessSlot;
 

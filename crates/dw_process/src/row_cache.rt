@@ -1,5 +1,5 @@
-//! Where a process may have the row of an address: in the module of the row before, or where a hint
-//! says.
+//! Where a process may have the row of an address: in one of the last two modules that were found,
+//! or where a hint says.
 
 ghost use Rattle.std.specs.Prelude.{◌≡◌, ◌<◌, replicate};
 ghost use Rattle.dw_process.specs.RowCaches.{hint_at, no_hint, place_of as its_place};
@@ -30,9 +30,9 @@ impl RowHint {
     }
 }
 
-/// Where a look-up in a process begins: in the module that the look-up before found, then in the
-/// module before that one, and then where a hint says. The caller of a frame is often in one of
-/// these two modules, which then needs no search. Any slot will do, as any hint will.
+/// Where a look-up in a process begins: in the module that the last look-up found, then in the last
+/// other module that was found, and then where a hint says. The caller of a frame is often in one
+/// of these two modules, which then needs no search. Any slot will do, as any hint will.
 #[derive(Clone, Copy, Drop)]
 pub struct ProcessSlot {
     pub(crate) last_module: u32,
@@ -105,7 +105,7 @@ const SHIFT: u32 = 55;
 
 /// About 2^64 divided by the golden ratio. The products of addresses with this number are spread
 /// well over their highest bits.
-const MULTIPLIER: u64 = 0x9e37_79b9_7f4a_7c15;
+pub(crate) const MULTIPLIER: u64 = 0x9e37_79b9_7f4a_7c15;
 
 /// Up to 512 hints, each at a place that its address determines; if two addresses share a place,
 /// the later one has it. A cache is plain data: any bytes are valid, and a new one is all zeros.
