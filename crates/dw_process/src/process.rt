@@ -138,8 +138,8 @@ impl Process {
 
     /// The module whose range contains the address, for a step of a walk; none if there is no such
     /// module. `slot` says which module it may be: one of the last two that were found, or that of
-    /// a hint. If none of these is right, a guess by blocks of addresses follows, and then a search.
-    /// Any slot will do.
+    /// a hint. If none of them is right, a guess by blocks of addresses follows, then a search. Any
+    /// slot will do.
     #[inline(always)]
     pub fn module_near(&self, address: u64, slot: &mut ProcessSlot) -> Option<ModuleRows<'_>>
         ensures module { result ≡ module_at self.now.modules address }
