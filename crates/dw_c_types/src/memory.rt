@@ -43,8 +43,8 @@ pub struct Blocks<'m, 'a> {
     word_starts: u64,
 }
 
-/// How many words of 8 bytes begin in a block, one at each address: as many as are in the block, and
-/// don't pass the greatest address.
+/// At how many addresses, from the start of a block on, a word of 8 bytes begins that is in the
+/// block. None of them is the greatest address, so adding them to `base` doesn't overflow.
 fn word_starts(block: &MemoryBlock<'_>) -> u64
     ensures { HasWords block.now result }
 {
@@ -105,8 +105,7 @@ impl<'m, 'a> Blocks<'m, 'a> {
     }
 
     /// Reads a little-endian number of 8 bytes from the first block. `None` if that block doesn't
-    /// contain all of its bytes, or if one of them has the greatest address. Nearly all reads are of
-    /// this kind, and take one comparison.
+    /// contain all of its bytes. Nearly all reads are of this kind, and take one comparison.
     #[inline(always)]
     fn read_word(&self, address: u64) -> Option<u64>
         ensures { IfSome result (λ number.

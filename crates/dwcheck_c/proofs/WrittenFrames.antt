@@ -144,18 +144,6 @@ full u first p old new count h many = record {
   stop_is = refl;
 }
 
--- the frames before a place fill the slots
-pub left-fills : (u : Unwinding) (first p : Place) (old new : List CFrame) (count : ℕ)
-    → IsLeftAt u first p old new count → count ≡ length new → AreWritten u first old new count (stop_number Limit)
-left-fills u first p old new count h many = record {
-  frames = h.frames;
-  why = Limit;
-  walks = walks-to-limit u first (length old) h.frames h.are (h.counted ∙ many ∙ h.long);
-  written = h.written;
-  count_is = sym h.counted;
-  stop_is = refl;
-}
-
 -- the walk ends with the last frame
 pub ends : (u : Unwinding) (first p : Place) (last : WalkedFrame) (old new : List CFrame) (count : ℕ) (stop : Stop)
     → HasGiven u first p last old new count → count < length new → stop_of_caller last.caller ≡ Some stop

@@ -120,9 +120,9 @@ pub(crate) fn brief(address: u64, unwound: Option<Unwound>) -> BriefFrame
     }
 }
 
-/// Takes usual steps from where `cursor` is, and writes the frames to `slots`, of which `from` have
-/// been written. Returns how many have been written when `slots` is full, or when the next step isn't
-/// a usual one.
+/// Takes usual steps from where `cursor` is, and writes the frames to `slots`; the first `from`
+/// have been written already. Returns how many have been written when `slots` is full, or when the
+/// next step isn't a usual one.
 #[inline(always)]
 fn write_usual_steps<H: RowHints, M: Memory>(
     process: &Process,
@@ -219,7 +219,7 @@ fn write_steps<H: RowHints, M: Memory>(
                     count,
                 );
             }
-            Stepped::ToCaller | Stepped::Ended => count += 1,
+            Stepped::Written => count += 1,
         }
         if count == slots.len() {
             return (count, Stop::Limit);

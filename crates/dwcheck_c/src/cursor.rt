@@ -28,7 +28,7 @@ use dw_c_types::fault::{CFault, IN_ABI, report};
 use dw_c_types::state::{CState, Contents};
 use dw_c_types::status::{DONE, NO_PLACE, NONE, REFUSED};
 use dw_eval::{Memory, Registers};
-use dw_process::{NoHints, Process, ProcessSlot, RowHints};
+use dw_process::{NoHints, Process, ProcessSlot};
 use dw_unwind::{KeptRegisters, PLACES, RegisterFile, Stop, Unwinder, return_address};
 
 /// The frame is looked up at its own address.
@@ -63,12 +63,9 @@ pub struct FramePlace {
 const _: () = prove!(size_of::<FramePlace>() == size_of::<CFrame>());
 
 /// What a step of a cursor has done.
-#[derive(Clone, Copy, PartialEq, Eq)]
 pub(crate) enum Stepped {
-    /// It has written a frame, and the cursor is at the frame's caller.
-    ToCaller,
-    /// It has written a frame, which may be the last one.
-    Ended,
+    /// It has written a frame, and the cursor is at the frame's caller, or its walk has ended.
+    Written,
     /// It has done nothing: a register of the caller has no place in a cursor.
     NoPlace,
 }
@@ -173,7 +170,6 @@ fn step_by_copy<M: Memory>(
     requires { looked_up_by cursor.old.stage cursor.old.address ≡ Some address }
     ensures done { result ≢ Step.NoPlace → IsStepBy (through_process (abi_of kept.now stack_pointer)
         (M.bytes memory.now) bits process.now) cursor.old cursor.new out.new }
-    ensures goes { result ≡ Step.ToCaller → cursor.new.stage ≤ CALLER }
     ensures lacks { result ≡ Step.NoPlace → LacksPlace (over_process (abi_of kept.now stack_pointer)
         (M.bytes memory.now) process.now) (registers_in cursor.old)
         (looked_up_by cursor.old.stage cursor.old.address) }
@@ -196,13 +192,10 @@ fn step_by_copy<M: Memory>(
             cursor.registers = into;
             cursor.address = without_bits(bits, next);
             cursor.stage = stage_of_caller(process.is_signal_frame(address));
-            Stepped::ToCaller
         }
-        Err(stop) => {
-            cursor.stage = stage_after(stop);
-            Stepped::Ended
-        }
+        Err(stop) => cursor.stage = stage_after(stop),
     }
+    Stepped::Written
 }
 
 /// Writes the frame that a cursor is at to `out`, where the frame has no caller, and ends the walk.
@@ -219,8 +212,8 @@ fn end_uncovered(cursor: &mut CCursor, out: &mut CFrame)
     cursor.stage = stage_after(Stop::NotCovered);
 }
 
-/// Writes the frame that a cursor is at to `out`, and moves the cursor to the frame's caller, where
-/// the step isn't a usual one.
+/// Writes the frame that a cursor is at to `out`, and moves the cursor to the frame's caller. This
+/// is for steps that aren't usual ones. It works for any step, but is slower.
 #[cold]
 #[inline(never)]
 pub(crate) fn other_step<M: Memory>(
@@ -235,7 +228,6 @@ pub(crate) fn other_step<M: Memory>(
     requires { cursor.old.stage ≤ CALLER }
     ensures done { result ≢ Step.NoPlace → IsStepBy (through_process (abi_of kept.now stack_pointer)
         (M.bytes memory.now) bits process.now) cursor.old cursor.new out.new }
-    ensures goes { result ≡ Step.ToCaller → cursor.new.stage ≤ CALLER }
     ensures lacks { result ≡ Step.NoPlace → LacksPlace (over_process (abi_of kept.now stack_pointer)
         (M.bytes memory.now) process.now) (registers_in cursor.old)
         (looked_up_by cursor.old.stage cursor.old.address) }
@@ -243,7 +235,7 @@ pub(crate) fn other_step<M: Memory>(
 {
     let Some(address) = cursor.looked_up() else {
         end_uncovered(cursor, out);
-        return Stepped::Ended;
+        return Stepped::Written;
     };
     step_by_copy(
         process,
@@ -257,14 +249,10 @@ pub(crate) fn other_step<M: Memory>(
     )
 }
 
-/// Writes the frame that a cursor is at to `out`, and moves the cursor to the frame's caller. The
-/// frame's row is looked up with the help of `hints`, and of `slot`, which may have the module of
-/// the frame before.
+/// Writes the frame that a cursor is at to `out`, and moves the cursor to the frame's caller.
 #[inline(always)]
-pub(crate) fn step_by<H: RowHints, M: Memory>(
+fn step_by<M: Memory>(
     process: &Process,
-    hints: &mut H,
-    slot: &mut ProcessSlot,
     kept: &KeptRegisters<'_>,
     stack_pointer: Option<u16>,
     bits: u64,
@@ -275,7 +263,6 @@ pub(crate) fn step_by<H: RowHints, M: Memory>(
     requires { cursor.old.stage ≤ CALLER }
     ensures done { result ≢ Step.NoPlace → IsStepBy (through_process (abi_of kept.now stack_pointer)
         (M.bytes memory.now) bits process.now) cursor.old cursor.new out.new }
-    ensures goes { result ≡ Step.ToCaller → cursor.new.stage ≤ CALLER }
     ensures lacks { result ≡ Step.NoPlace → LacksPlace (over_process (abi_of kept.now stack_pointer)
         (M.bytes memory.now) process.now) (registers_in cursor.old)
         (looked_up_by cursor.old.stage cursor.old.address) }
@@ -284,8 +271,8 @@ pub(crate) fn step_by<H: RowHints, M: Memory>(
     let file = &mut cursor.registers;
     if let Some(next) = usual_step(
         process,
-        hints,
-        slot,
+        &mut NoHints,
+        &mut ProcessSlot::new(),
         kept,
         stack_pointer,
         bits,
@@ -297,7 +284,7 @@ pub(crate) fn step_by<H: RowHints, M: Memory>(
         *out = next.frame;
         cursor.address = next.address;
         cursor.stage = next.stage;
-        return Stepped::ToCaller;
+        return Stepped::Written;
     }
     let kept = kept.numbers();
     other_step(process, kept, stack_pointer, bits, cursor, memory, out)
@@ -321,8 +308,6 @@ fn step_of(process: &Process, cursor: &mut CCursor, state: &CState<'_>, out: &mu
     let kept = KeptRegisters::for_one_step(state.kept);
     match step_by(
         process,
-        &mut NoHints,
-        &mut ProcessSlot::new(),
         &kept,
         state.pointer(),
         state.signed_bits,
@@ -330,7 +315,7 @@ fn step_of(process: &Process, cursor: &mut CCursor, state: &CState<'_>, out: &mu
         &state.memory(),
         out,
     ) {
-        Stepped::ToCaller | Stepped::Ended => DONE,
+        Stepped::Written => DONE,
         Stepped::NoPlace => NO_PLACE,
     }
 }

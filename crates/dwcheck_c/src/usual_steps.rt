@@ -54,8 +54,8 @@ pub(crate) fn stage_of_caller(is_signal_frame: bool) -> u32
     if is_signal_frame { EXACT } else { CALLER }
 }
 
-/// Takes a usual step (`step_in_place`) with the rows of the module that has the address. Returns
-/// also whether the frame is a signal frame. None if the step isn't a usual one, or there is no
+/// Takes a usual step (`step_in_place`) with the rows of the module that has the address. Also
+/// returns whether the frame is a signal frame. None if the step isn't a usual one, or there is no
 /// caller; then no content has changed.
 #[inline(always)]
 fn step_in_module<H: RowHints, M: Memory>(
@@ -83,11 +83,11 @@ fn step_in_module<H: RowHints, M: Memory>(
     Some((unwound?, module.is_signal_frame(address)))
 }
 
-/// Takes a step from the frame at `address`, if the step is a usual one (`step_in_place`). `stage` is
-/// that of a cursor at the frame. The contents in `file` become those of the caller's registers. If
-/// the step isn't a usual one, the result is none, and no content has changed. The address and the
-/// stage are passed by value so that a walk has them in registers: each step has to wait for the
-/// address that the one before has found.
+/// Takes a step from the frame at `address`, if the step is a usual one (`step_in_place`). `stage`
+/// is that of a cursor at the frame. The contents in `file` become those of the caller's registers.
+/// If the step isn't a usual one, the result is none, and no content has changed. The address and
+/// the stage are passed by value so that a walk has them in registers: each step has to wait for
+/// the address that the one before has found.
 #[inline(always)]
 pub(crate) fn usual_step<H: RowHints, M: Memory>(
     process: &Process,

@@ -1,4 +1,4 @@
-use Rattle.std.proofs.Common.{◌≡◌, ◌≢◌, ◌⊎◌, ◌∙◌, ◌+◌, ◌≤◌, List, arith, inl, inr, subst, sym, ℕ}
+use Rattle.std.proofs.Common.{◌≡◌, ◌≢◌, ◌∙◌, ◌+◌, ◌≤◌, List, arith, subst, sym, ℕ}
 use Rattle.std.specs.Prelude.{slice_set}
 use Rattle.std.proofs.lemmas.List.{length-set}
 use Rattle.dw_rules.specs.Abi.{abi_of}
@@ -8,14 +8,13 @@ use Rattle.dw_c_types.specs.Frames.{stop_number}
 use Rattle.dw_c_types.specs.ProcessWalks.{Unwinding, through_process}
 use Rattle.dwcheck_c.specs.WalkCursors.{IsStepBy, place_of}
 use Rattle.dwcheck_c.specs.declared.cursor.Stepped.{Stepped}
-use Rattle.dwcheck_c.specs.declared.cursor.Stepped.TheVariants.{Ended, NoPlace, ToCaller}
+use Rattle.dwcheck_c.specs.declared.cursor.Stepped.TheVariants.{NoPlace, Written}
 use Rattle.dwcheck_c.proofs.CursorWalks.{step-place, step-stop, step-why}
-use Rattle.dwcheck_c.proofs.WrittenFrames.{ends, fills, gives, left-at, left-fills}
+use Rattle.dwcheck_c.proofs.WrittenFrames.{ends, fills, full, gives, left-at}
 use Rattle.dwcheck_c.proofs.backtrace.write_steps.Goals as goal
 
-has-stepped : (s : Stepped) → (s ≡ ToCaller) ⊎ (s ≡ Ended) → s ≢ NoPlace
-has-stepped s (inl is) none = let other : ToCaller ≡ NoPlace = sym is ∙ none in cc
-has-stepped s (inr is) none = let other : Ended ≡ NoPlace = sym is ∙ none in cc
+has-written : (s : Stepped) → s ≡ Written → s ≢ NoPlace
+has-written s is none = let other : Written ≡ NoPlace = sym is ∙ none in cc
 
 pub returns-then-count-slots : goal.returns-then-count-slots
 returns-then-count-slots g c =
@@ -23,7 +22,7 @@ returns-then-count-slots g c =
     through_process (abi_of c.args.kept.now c.args.pointer) (g.M.Memory.bytes c.args.memory.now) c.args.bits c.args.process.now in
     let first : Place = place_of c.args.cursor.now in
     let w = c.write_usual_steps-count in
-    left-fills u first (place_of w.new.cursor) c.args.slots.now w.new.slots w.result (w.ensures.left first c.args.slots.now c.loop-count.invariant.left)
+    full u first (place_of w.new.cursor) c.args.slots.now w.new.slots w.result (w.ensures.left first c.args.slots.now c.loop-count.invariant.left)
     c.if-count-slots.true
 
 pub returns-then-count-slots-2 : goal.returns-then-count-slots-2
@@ -37,7 +36,7 @@ returns-then-count-slots-2 g c =
     let left = w.ensures.left first c.args.slots.now c.loop-count.invariant.left in
     let h : IsStepBy u w.new.cursor c.other_step.new.cursor out = subst (λ (kept : List ℕ). IsStepBy
     (through_process (abi_of kept c.args.pointer) (g.M.Memory.bytes c.args.memory.now) c.args.bits c.args.process.now) w.new.cursor
-    c.other_step.new.cursor out) c.numbers-numbers.ensures (c.other_step.ensures.done (has-stepped c.other_step.result c.in-ToCaller.is)) in
+    c.other_step.new.cursor out) c.numbers-numbers.ensures (c.other_step.ensures.done (has-written c.other_step.result c.in-Written.is)) in
     fills u first p h.walked c.args.slots.now (slice_set slots count out) (count + 1)
     (gives u first p h.walked c.args.slots.now slots count out left h.is h.shown) c.if-count-slots-2.true
 
@@ -52,7 +51,7 @@ returns-in-Some g c =
     let left = w.ensures.left first c.args.slots.now c.loop-count.invariant.left in
     let h : IsStepBy u w.new.cursor c.other_step.new.cursor out = subst (λ (kept : List ℕ). IsStepBy
     (through_process (abi_of kept c.args.pointer) (g.M.Memory.bytes c.args.memory.now) c.args.bits c.args.process.now) w.new.cursor
-    c.other_step.new.cursor out) c.numbers-numbers.ensures (c.other_step.ensures.done (has-stepped c.other_step.result c.in-ToCaller.is)) in
+    c.other_step.new.cursor out) c.numbers-numbers.ensures (c.other_step.ensures.done (has-written c.other_step.result c.in-Written.is)) in
     let more : 2 ≤ c.other_step.new.cursor.stage = omega (arith, c.in-Some.ensures.ended) in
     let said = step-why u w.new.cursor c.other_step.new.cursor out h more in
     let same : c.in-Some.stop ≡ said.0 = c.in-Some.ensures.why said.0 said.1 in
@@ -74,7 +73,7 @@ loop-count-preserved g c =
     let left = w.ensures.left first c.args.slots.now c.loop-count.invariant.left in
     let h : IsStepBy u w.new.cursor c.other_step.new.cursor out = subst (λ (kept : List ℕ). IsStepBy
     (through_process (abi_of kept c.args.pointer) (g.M.Memory.bytes c.args.memory.now) c.args.bits c.args.process.now) w.new.cursor
-    c.other_step.new.cursor out) c.numbers-numbers.ensures (c.other_step.ensures.done (has-stepped c.other_step.result c.in-ToCaller.is)) in
+    c.other_step.new.cursor out) c.numbers-numbers.ensures (c.other_step.ensures.done (has-written c.other_step.result c.in-Written.is)) in
     let le : c.other_step.new.cursor.stage ≤ 1 = c.in_default.ensures.none in
     record {
       left = left-at u first p (place_of c.other_step.new.cursor) h.walked c.args.slots.now (slice_set slots count out) (count + 1)
