@@ -230,8 +230,8 @@ static void rows_through_c(const LoadedSection *module, uint64_t frame_count)
 
 static dwcheck_frame found[PLACES];
 
-/* The nanoseconds a frame of walks of at most `limit` frames, their start included: with a cache
-   that the walks before have filled, or without one if `cache` is NULL. */
+/* How many nanoseconds a frame takes in walks of at most `limit` frames, their start included: with a
+   cache that the walks before have filled, or without one if `cache` is NULL. */
 static double time_of_walks(const dwcheck_process *process, const WalkStart *start, const dwcheck_state *state, size_t limit, dwcheck_cache *cache)
 {
     double time = 1e30;

@@ -30,10 +30,11 @@
    - The proofs cover calls in threads, but not a call in a signal handler that interrupts another one with the same
      process, nor in the child of a fork, nor one that is left, nor later changes of a process on which a call was
      left. c/tests/readers.c tests all of these.
-   - The stack is large enough. As measured on x86-64, dwcheck_backtrace and dwcheck_backtrace_cached take 2.8 KB,
-     dwcheck_unwind 7.1 KB and dwcheck_cursor_step 0.6 KB; if a rule is an expression, 4.7, 8.7 and 3.8 KB; and the
-     first two take 19 KB if a register of 96 or more is known. dwcheck_process_add takes 84 KB, dwcheck_check and
-     dwcheck_report 40 KB, dwcheck_cursor_step_with 21 KB, dwcheck_evaluate 12 KB, and every other call less than 4 KB.
+   - The stack is large enough. As measured on x86-64, dwcheck_backtrace and dwcheck_backtrace_cached take 1.7 KB,
+     dwcheck_unwind 7.2 KB and dwcheck_cursor_step 1.6 KB; if a rule is an expression, 3.7, 7.6 and 3.6 KB; and the
+     first two take 18 KB if a register of 96 or more is known. dwcheck_process_add takes 84 KB, dwcheck_check and
+     dwcheck_report 40 KB, dwcheck_cursor_step_with 21 KB, dwcheck_evaluate 12 KB, dwcheck_process_share 5 KB, and
+     every other call less than 4 KB.
    - Fields called `reserved` are set to 0. A later version may give them a meaning.
 
    Only DONE writes what a call gives or changes, and only REFUSED writes `fault`, unless the call says otherwise. Only
