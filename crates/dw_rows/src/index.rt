@@ -1,7 +1,7 @@
 //! An index of FDEs in order of address: how it is made, and how it finds overlaps and the FDE of
 //! an address.
 
-ghost use Rattle.std.specs.Prelude.{◌≡◌, ◌+◌, ◌*◌, ◌<◌, ◌≤◌, length, map, All, MatchBool, MatchOption, IfOk, filter, nat_lt, option_map};
+ghost use Rattle.std.specs.Prelude.{◌≡◌, ◌+◌, ◌*◌, ◌<◌, length, map, All, MatchBool, MatchOption, IfOk, filter, nat_lt, option_map};
 ghost use Rattle.dw_frame.specs.Views.{fde_of};
 ghost use Rattle.dw_rows.specs.Section.{CoversOnce, IsCoverOf};
 ghost use Rattle.dw_rows.specs.Overlap.{fde_offset, fde_at, IsStride, IsCountUpTo, IsEntry, IsAddressIndex, ClashWithin, ApartWithin};

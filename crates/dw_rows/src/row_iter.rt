@@ -2,7 +2,7 @@
 
 ghost use Rattle.std.specs.Prelude.{◌≡◌, None};
 ghost use Rattle.dw_frame.specs.Views.{cie_of, fde_of};
-ghost use Rattle.dw_rules.specs.ProgramFault.{cie_fault, fde_fault};
+ghost use Rattle.dw_rules.specs.ProgramFault.{fde_fault};
 ghost use Rattle.dw_rows.specs.UnwindRows.{rows_of};
 
 use crate::checked_frame::CheckedFrame;
@@ -50,7 +50,7 @@ impl<'f, 'a> Rows<'f, 'a> {
     ghost use Rattle.std.specs.Prelude.{◌≡◌, None, Some, [], ◌∷◌, Contains};
     ghost use Rattle.std.specs.Bool.{OnTrue, OnFalse};
     ghost use Rattle.dw_frame.specs.Views.{cie_of, fde_of};
-    ghost use Rattle.dw_rules.specs.ProgramFault.{cie_fault, fde_fault};
+    ghost use Rattle.dw_rules.specs.ProgramFault.{fde_fault};
     ghost use Rattle.dw_rows.specs.UnwindRows.{rows_of};
     ghost use Rattle.dw_rows.specs.Section.{cie_in, rows_in};
 

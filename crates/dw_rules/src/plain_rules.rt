@@ -1,6 +1,6 @@
 //! The rules of a row that only says where registers are saved.
 
-ghost use Rattle.std.specs.Prelude.{◌≡◌, ◌<◌, ◌∷◌, ◌++◌, [], All, IfSome, map};
+ghost use Rattle.std.specs.Prelude.{◌≡◌, ◌<◌, ◌∷◌, ◌++◌, [], All, IfSome, MatchOption, map};
 ghost use Rattle.std.specs.Bool.{OnTrue};
 ghost use Rattle.dw_rules.specs.SavedRules.{ArePlain, as_saved};
 ghost use Rattle.dw_rules.specs.Views.{entries_of};
@@ -49,8 +49,8 @@ fn are_plain(entries: &[RuleEntry], limit: u16) -> bool
 }
 
 /// A number that is above all registers of the entries, if each says that its register is saved
-/// relative to the CFA. 0 if one says anything else, if there are no entries, or if there is no such
-/// number.
+/// relative to the CFA. 0 if one says anything else, if there are no entries, or if there is no
+/// such number.
 pub(crate) fn plain_below(entries: &[RuleEntry]) -> u16
     ensures { 0 < result → ArePlain entries.now result }
 {
@@ -90,11 +90,11 @@ impl<'t> PlainRules<'t> {
         None
     }
 
-    /// The last rule, which is that of the greatest register, and the rules before it. None if there
-    /// are no rules.
+    /// The last rule, which is that of the greatest register, and the rules before it. None if
+    /// there are no rules.
     #[inline(always)]
     pub fn split_last(&self) -> Option<((u16, i64), PlainRules<'t>)>
-        ensures { IfSome result (λ split. self.now ≡ split.1 ++ split.0 ∷ []) }
+        ensures { MatchOption result (self.now ≡ []) (λ split. self.now ≡ split.1 ++ split.0 ∷ []) }
     {
         match self.entries {
             [] => None,

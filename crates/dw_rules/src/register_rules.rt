@@ -1,6 +1,6 @@
 //! The register rules of a row, in order of register.
 
-ghost use Rattle.std.specs.Prelude.{◌≡◌, ◌≢◌, ℕ, ◌+◌, ◌<◌, ◌≤◌, ◌==◌, [], List, ◌-◌, length, take, slice_get, insert, remove, slice_range, ◌∷◌, ◌++◌, MatchResult};
+ghost use Rattle.std.specs.Prelude.{◌≡◌, ℕ, ◌+◌, ◌<◌, ◌≤◌, ◌==◌, [], List, ◌-◌, length, take, insert, remove, slice_range, ◌++◌, MatchResult};
 ghost use Rattle.std.specs.List.{remove_range};
 ghost use Rattle.dw_bytes.specs.declared.fault.FaultKind.{FaultKind};
 ghost use Rattle.std.specs.Bool.{OnTrue, OnFalse};

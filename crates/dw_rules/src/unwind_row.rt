@@ -71,9 +71,9 @@ impl<'t, 'a> Model for UnwindRow<'t, 'a> {
 
 impl<'t, 'a> UnwindRow<'t, 'a> {
     /// A row with the given addresses and rules. For each expression offset in the rules,
-    /// `expressions` must have the expression that begins there. `plain_below` is 0, or a number that
-    /// is above all registers of the rules, if each rule says that its register is saved relative to
-    /// the CFA.
+    /// `expressions` must have the expression that begins there. `plain_below` is 0, or a number
+    /// that is above all registers of the rules, if each rule says that its register is saved
+    /// relative to the CFA.
     pub fn new(
         start: u64,
         end: u64,
