@@ -30,8 +30,8 @@ byte_in (b ∷ blocks) a = option_or (block_byte b.base b.bytes.now a) (byte_in 
 abbrev pub HasBytesOf : MemoryBlock → List CBlock → Type 0
 HasBytesOf first blocks = (a byte : ℕ) → block_byte first.base first.bytes.now a ≡ Some byte → byte_in blocks a ≡ Some byte
 
--- A word of 8 bytes that begins less than `starts` above the start of the block is in the block, and
--- begins below 2^64 - 1.
+-- A word of 8 bytes that begins less than `starts` above the start of the block is in the block,
+-- and begins below 2^64 - 1.
 pub record HasWords (block : MemoryBlock) (starts : ℕ) : Type 0 where
   pub inside : 0 < starts → starts + 7 ≤ length block.bytes.now
   pub below : block.base + starts < 2 ^ 64

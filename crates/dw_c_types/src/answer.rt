@@ -1,10 +1,10 @@
 //! C's structs for a frame and for what is known of a CFA, a return address or a register, and the
 //! conversions to them.
 
-ghost use Rattle.std.specs.Prelude.{◌≡◌, option_map};
+ghost use Rattle.std.specs.Prelude.{◌≡◌};
 ghost use Rattle.dw_unwind.specs.CallerViews.{answer_in};
 ghost use Rattle.dw_unwind.specs.WalkViews.{brief_in};
-ghost use Rattle.dw_c_types.specs.Frames.{canswer_of, cframe_by, optional_canswer, stop_number};
+ghost use Rattle.dw_c_types.specs.Frames.{canswer_of, cframe_by, stop_number};
 
 use dw_unwind::{Answer, BriefFrame, Stop};
 

@@ -1,6 +1,6 @@
 -- Lemmas about the row of an address, from the module whose range contains the address.
 use Rattle.std.proofs.Common.{◌≡◌, ℕ, suc, List, [], ◌∷◌, Bool, true, false, Option, Some, None, refl, sym, subst, ap, ◌∙◌, arith}
-use Rattle.std.specs.Prelude.{◌↔◌, cond, Contains, IfSome}
+use Rattle.std.specs.Prelude.{◌↔◌, cond, Contains}
 use Rattle.std.specs.Option.{option_and_then, option_map}
 use Rattle.std.proofs.lemmas.List.Elements.{All-contains}
 use Rattle.dw_bytes.specs.declared.target.Target.{Target}

@@ -1,7 +1,7 @@
 //! Laws about the modules of a process. Each is a function that does nothing: its contract is the
 //! law.
 
-ghost use Rattle.std.specs.Prelude.{◌≡◌, ◌↔◌, ◌<◌, ◌^◌, ℕ, true, All, Contains, IfSome, List, None, Option, Some};
+ghost use Rattle.std.specs.Prelude.{◌≡◌, ◌↔◌, ◌<◌, ◌^◌, ℕ, true, All, Contains, List, None, Option, Some};
 ghost use Rattle.dw_eval.specs.Numbers.{width_of};
 ghost use Rattle.dw_rules.specs.Abi.{Abi};
 ghost use Rattle.dw_rows.specs.Section.{FrameSection};

@@ -1,11 +1,9 @@
 //! The range of a module: the addresses from the first to the last one that the FDEs of the
 //! module's section cover.
 
-ghost use Rattle.std.specs.Prelude.{◌≡◌, ◌<◌, ◌≤◌, ◌^◌, ◌⊎◌, ℕ, Contains, IfNone, IfSome, MatchOption};
+ghost use Rattle.std.specs.Prelude.{◌≡◌, ◌<◌, ◌≤◌, ◌^◌, ◌⊎◌, IfNone, IfSome, MatchOption};
 ghost use Rattle.dw_eval.specs.Numbers.{width_of};
-ghost use Rattle.dw_rows.specs.Section.{Covers};
 ghost use Rattle.dw_unwind.specs.Modules.{as_linked as linked_of};
-ghost use Rattle.dw_process.specs.ModuleMaps.{IsProper};
 ghost use Rattle.dw_process.specs.Ranges.{CoversNone, HasNoRange, IsRangeFor, IsSpanOf};
 
 use crate::address_range::AddressRange;

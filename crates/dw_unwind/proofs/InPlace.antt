@@ -1,7 +1,7 @@
 -- Steps in place: contents that stay where they are, and rules that only read memory.
 use Rattle.std.proofs.Common.{◌≡◌, ◌≢◌, ℕ, ◌+◌, ◌<◌, ◌≤◌, ◌%◌, ◌^◌, ◌==◌, Bool, true, false, if◌then◌else◌, List, [], ◌∷◌, ◌++◌}
 use Rattle.std.proofs.Common.{◌⊎◌, inl, inr, refl, sym, ap, subst, ◌∙◌, add-one, arith, drop, drop-cons}
-use Rattle.std.proofs.Common.{◌||◌, length, get_or, map, replicate, set, suc, zero, ℤ}
+use Rattle.std.proofs.Common.{◌||◌, length, get_or, map, replicate, set, ℤ}
 use Rattle.std.specs.Prelude.{IfSome, Option, Some, None, pos}
 use Rattle.std.proofs.lemmas.Bool.Decides.{nat_tests}
 use Rattle.std.proofs.lemmas.List.{get_or-set_other, get_or-set_same, drop_all, map-append}

@@ -19,8 +19,8 @@ pub record ArePicked (marks old new : List ℕ) : Type 0 where
   pub length_is : length new ≡ length old
   pub each : (r : ℕ) → (get_or new r 0 == 0) ≡ ((get_or old r 0 == 0) || (get_or marks r 0 == 0))
 
--- The flag of the register `number`, if that has a place, is what it is in `old`, and the others are
--- those of `flags`.
+-- The flag of the register `number`, if that has a place, is what it is in `old`, and the others
+-- are those of `flags`.
 pub record IsRestored (number : ℕ) (old flags new : List ℕ) : Type 0 where
   pub length_is : length new ≡ length flags
   pub each : (r : ℕ) → r < PLACES → get_or new r 0 ≡ (if number == r then get_or old r 0 else get_or flags r 0)

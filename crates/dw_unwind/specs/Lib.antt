@@ -25,7 +25,7 @@ pub mod PackedRegisters
 pub mod Contents
 -- which registers have no place among those contents
 pub mod MissingPlaces
--- the rules that are left when the return address was read
+-- the rules that are left once the return address has been read
 pub mod UsualSteps
 -- callee-saved registers that are marked by number
 pub mod KeptRegisters

@@ -6,8 +6,8 @@ ghost use Rattle.dw_unwind.specs.KeptRegisters.{AreMarksOf, IsMarked};
 use crate::register_file::PLACES;
 use std::marker::Model;
 
-/// The callee-saved registers of an ABI. For a walk, those that have a place in a `RegisterFile` are
-/// also marked by number, so that each step can clear the flags of all other registers without
+/// The callee-saved registers of an ABI. For a walk, those that have a place in a `RegisterFile`
+/// are also marked by number, so that each step can clear the flags of all other registers without
 /// going through the list. For a single step, making the marks takes longer than that saves.
 #[derive(Drop)]
 pub struct KeptRegisters<'a> {

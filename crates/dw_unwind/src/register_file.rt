@@ -47,8 +47,8 @@ fn lower(one: u8, other: u8) -> u8
     if one < other { one } else { other }
 }
 
-/// Clears the flags that aren't marked: each becomes the lower one of itself and its mark. A
-/// processor has an instruction for that, which does 16 flags at once.
+/// Clears the flags that aren't marked: each becomes the lower one of itself and its mark.
+/// Processors have an instruction that does this for 16 flags at once.
 #[inline(always)]
 fn keep_marked(flags: &mut [u8; PLACES], marks: &[u8; PLACES])
     ensures { ArePicked marks.now flags.old flags.new }

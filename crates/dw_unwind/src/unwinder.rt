@@ -1,6 +1,6 @@
 //! The trait `Unwinder`, for types that can find the caller of a frame.
 
-ghost use Rattle.std.specs.Prelude.{◌≡◌, ℕ, IfOk, IfSome, OnErr, Some, option_map};
+ghost use Rattle.std.specs.Prelude.{ℕ, IfOk, IfSome, OnErr, Some, option_map};
 ghost use Rattle.dw_rules.specs.Abi.{abi_of};
 ghost use Rattle.dw_rules.specs.AbiViews.{roles_of};
 ghost use Rattle.dw_unwind.specs.CallerFits.{CallerFits};
@@ -16,10 +16,10 @@ use crate::unwinding::{Unwound, unwind_into};
 use dw_eval::{Memory, Registers};
 use dw_rows::Abi;
 
-/// Finds the caller of a frame, for `unwind`, `backtrace` and `Walk`. It is implemented by a checked
-/// section (as `&CheckedFrame`), by a compiled table or another source of rows (as `&UnwindTable`),
-/// and by the modules of a process (as `&[Module<T>]`). Other crates can't implement this trait: it
-/// writes registers to a `RegisterList`, which is private to this crate.
+/// Finds the caller of a frame, for `unwind`, `backtrace` and `Walk`. It is implemented by a
+/// checked section (as `&CheckedFrame`), by a compiled table or another source of rows (as
+/// `&UnwindTable`), and by the modules of a process (as `&[Module<T>]`). Other crates can't
+/// implement this trait: it writes registers to a `RegisterList`, which is private to this crate.
 pub trait Unwinder {
     ghost use Rattle.std.specs.Prelude.{ℕ, Option};
     ghost use Rattle.dw_rules.specs.Abi.{Abi};

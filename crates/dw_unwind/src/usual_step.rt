@@ -75,9 +75,9 @@ fn offset_of(rules: PlainRules<'_>, number: u16) -> Option<i64>
     None
 }
 
-/// The offset from the CFA at which the register `number` is saved, if it is, and the rules that are
-/// left to follow once its content was read. It is the return address's register, whose rule is
-/// usually the last one. Then that rule is left out; otherwise all rules are left.
+/// The offset from the CFA at which the register `number`, that of the return address, is saved,
+/// and the rules to follow once its content has been read. Its rule is left out if it is the last
+/// one, as usual; otherwise all rules are left. None if it isn't saved.
 #[inline(always)]
 fn return_rule<'t>(rules: PlainRules<'t>, number: u16) -> Option<(i64, PlainRules<'t>)>
     requires places { All (λ register. register.0 < PLACES) rules }
@@ -145,8 +145,8 @@ fn abi_in_place<M: Memory>(
 }
 
 /// Makes the contents of a frame's registers those of its caller's registers. The frame's CFA is
-/// `cfa`. The register `number` is saved in memory by one of the row's rules, and its content, which
-/// was read before, is `content`. The row's other rules are `left`, or are among them.
+/// `cfa`. The register `number` is saved in memory by one of the row's rules, and its content,
+/// which was read before, is `content`. The row's other rules are `left`, or are among them.
 #[inline(always)]
 fn rules_in_place<M: Memory>(
     memory: &M,

@@ -1,6 +1,6 @@
 //! A walk up the stack, frame by frame.
 
-ghost use Rattle.std.specs.Prelude.{◌≡◌, ℕ, IfOk, IfSome, MatchOption, MatchResult, Some, option_map};
+ghost use Rattle.std.specs.Prelude.{◌≡◌, ℕ, IfOk, IfSome, MatchResult, Some, option_map};
 ghost use Rattle.std.specs.Option.{IsSomeAnd};
 ghost use Rattle.dw_rules.specs.AbiViews.{roles_of};
 ghost use Rattle.dw_unwind.specs.Caller.{value};
@@ -10,7 +10,7 @@ ghost use Rattle.dw_unwind.specs.UnwoundViews.{caller_with, stop_of_unwound};
 ghost use Rattle.dw_unwind.specs.Walks.{IsFrameAt, UnwindsAt, address_before, first_place};
 ghost use Rattle.dw_unwind.specs.Contents.{place_before};
 ghost use Rattle.dw_unwind.specs.WalkSteps.{GivesNext, UnwindsFrom, about_to_give, frame_at, has_given, having_given, stop_of};
-ghost use Rattle.dw_unwind.specs.WalkViews.{brief_in, brief_of, frame_in};
+ghost use Rattle.dw_unwind.specs.WalkViews.{frame_in};
 
 use crate::frame_registers::FrameRegisters;
 use crate::frames::{BriefFrame, Frame, Stop};

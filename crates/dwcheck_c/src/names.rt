@@ -1,7 +1,6 @@
 //! The C calls that give the name of a fault and the version of the interface.
 
-ghost use Rattle.std.specs.Prelude.{◌≡◌, ◌≢◌, ◌≤◌, ◌==◌, ◌⊎◌, IfSome, Some, find, length};
-ghost use Rattle.std.specs.Option.{IsSomeAnd};
+ghost use Rattle.std.specs.Prelude.{◌≡◌, ◌≢◌, ◌≤◌, ◌==◌, IfSome, Some, find, length};
 ghost use Rattle.dw_bytes.specs.Faults.{number_of};
 ghost use Rattle.dw_bytes.specs.Names.{name_of};
 ghost use Rattle.dw_bytes.specs.declared.fault.FaultKind.{FaultKind as OfKind};

@@ -7,7 +7,6 @@ ghost use Rattle.dw_bytes.specs.declared.fault.Fault.{Fault};
 ghost use Rattle.dw_bytes.specs.declared.target.Target.{Target};
 ghost use Rattle.dw_process.specs.Processes.{removed};
 ghost use Rattle.dw_c_types.specs.Faults.{cfault_of};
-ghost use Rattle.dw_c_types.specs.Targets.{target_by};
 ghost use Rattle.dwcheck_c.specs.Handles.{held_in, modules_of};
 ghost use Rattle.dwcheck_c.specs.Lent.{Reads, loan_of};
 ghost use Rattle.dwcheck_c.specs.LoadedModules.{HasFault, IsAddedBy, IsModuleAdded, IsModuleRefused, IsRefusedBy, IsTargetFor, kind_by};

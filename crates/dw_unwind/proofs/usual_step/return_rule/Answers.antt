@@ -1,4 +1,4 @@
-use Rattle.std.proofs.Common.{◌∷◌, ◌≡◌, ◌<◌, [], add-one, arith, inl, length, rules, subst, sym, w64, ℕ, ℤ, List}
+use Rattle.std.proofs.Common.{◌∷◌, ◌≡◌, ◌<◌, [], arith, inl, rules, subst, sym, w64, ℕ, ℤ, List}
 use Rattle.std.specs.Prelude.{All}
 use mir.Val.{to_z, of_z}
 use Rattle.std.proofs.lemmas.List.{get_or_append_left, length-append}

@@ -1,11 +1,10 @@
-use Rattle.std.proofs.Common.{◌≡◌, ◌∙◌, ℕ, ℤ, List, Some, ap, arith, map, rules, subst, sym, w64}
+use Rattle.std.proofs.Common.{◌≡◌, ◌∙◌, ℕ, ℤ, List, Some, arith, rules, subst, sym, w64}
 use mir.Val.{to_z, of_z}
 use Rattle.dw_bytes.specs.declared.target.Target.{Target}
 use Rattle.dw_rules.specs.Abi.{abi_of, rule_under}
 use Rattle.dw_rules.specs.Rules.{IsTable, Rule, offset, rule_in}
 use Rattle.dw_unwind.specs.Caller.{IsCaller, IsRegister, machine, value}
 use Rattle.dw_unwind.specs.Contents.{HasContents, contents_in}
-use Rattle.dw_rules.specs.SavedRules.{Saved, as_saved}
 use Rattle.dw_unwind.specs.declared.usual_step.TheConstants.{LITTLE_64}
 use Rattle.dw_unwind.proofs.Contents.{by_contents}
 use Rattle.dw_unwind.proofs.InPlace.{saved-under}

@@ -1,5 +1,4 @@
 use Rattle.std.proofs.Common.{◌∙◌, ap}
-use Rattle.dw_bytes.specs.declared.target.Target.{Target}
 use Rattle.dw_process.specs.declared.loaded_module.LoadedModule.{LoadedModule}
 use Rattle.dw_process.specs.Processes.{ProcessState}
 use Rattle.dw_process.proofs.Finding.{its_target}
