@@ -1,10 +1,13 @@
 -- The entries of a compiled table, which are stored as a list of starts and a list of rule set
 -- numbers.
-use Rattle.std.proofs.Common.{◌≡◌, ℕ, zero, suc, ◌<◌, List, [], ◌∷◌, ◌++◌, length, get_or, refl, sym, ap, arith, Some}
-use Rattle.std.specs.Prelude.{slice_get}
+use Rattle.std.proofs.Common.{◌≡◌, ℕ, zero, suc, ◌<◌, ◌-◌, List, [], ◌∷◌, ◌++◌, length, get_or, refl, sym, ap, arith, Some, ◌∙◌}
+use Rattle.std.specs.Prelude.{Option, slice_get}
+use Rattle.std.specs.Option.{option_map}
 use Rattle.std.specs.List.Sorted.{IsNonDecreasingBy}
+use Rattle.std.proofs.lemmas.Option.{slice_get-get_or}
+use Rattle.dw_tables.specs.declared.table_entries.EntrySpan.{EntrySpan}
 use Rattle.dw_tables.specs.declared.table_entries.TableEntry.{TableEntry}
-use Rattle.dw_tables.specs.CompiledTable.{paired, entry_start, IsEntryCount, IsStartCount}
+use Rattle.dw_tables.specs.CompiledTable.{AreAround, IsEntryCount, IsSpanOf, IsStartCount, entry_start, paired}
 
 pub paired-length : (starts sets : List ℕ) → length starts ≡ length sets → length (paired starts sets) ≡ length starts
 paired-length [] sets even = refl
@@ -52,3 +55,42 @@ paired-count starts sets a count even c =
       below = λ k d lt. omega (arith, c.below k 0 lt, paired-start starts sets k 0 d even (omega (arith, c.bound)));
       above = λ k d le lt. omega (arith, c.above k 0 le (omega arith), paired-start starts sets k 0 d even (omega arith));
     }
+
+-- the span between two starts next to each other, if exactly `count` starts are at or below `a`
+pub counted-span : (starts sets : List ℕ) (a count : ℕ) (span : EntrySpan) → length starts ≡ length sets
+    → IsEntryCount (paired starts sets) a count → 0 < count → count < length starts
+    → ((d : ℕ) → get_or starts (count - 1) d ≡ span.start) → ((d : ℕ) → get_or starts count d ≡ span.end)
+    → ((d : ℕ) → get_or sets (count - 1) d ≡ span.set) → IsSpanOf (paired starts sets) a span
+counted-span starts sets a count span even counted some more start_is end_is set_is =
+    let d : TableEntry = record { start = 0; set = 0 } in
+    let long = paired-length starts sets even in
+    record {
+      count = count;
+      counted = counted;
+      some = some;
+      more = omega (arith, more, long);
+      entry =
+          paired-at starts sets (count - 1) span.start span.set even (omega (arith, more)) (sym (start_is span.start))
+          (sym (set_is span.set));
+      next =
+          ap (λ (o : Option TableEntry). option_map entry_start o) (slice_get-get_or (paired starts sets) count d (omega (arith, more, long)))
+          ∙ ap Some (paired-start starts sets count span.end d even more ∙ end_is span.end);
+    }
+
+-- exactly `count` starts are at or below an address that two starts next to each other are around
+pub count-around : (starts : List ℕ) (a count low high : ℕ) → IsNonDecreasingBy (λ x. x) starts
+    → AreAround starts a count low high → IsStartCount starts a count
+count-around starts a count low high up around = record {
+  bound = omega (arith, around.more);
+  below = λ k d lt. omega (arith, up k (count - 1) d (omega (arith, lt, around.some)) (omega (arith, around.more)), around.low_is d, around.below);
+  above = λ k d le lt. omega (arith, up count k d le lt, around.high_is d, around.above);
+}
+
+-- the span between two starts that are around the address `a`
+pub span-around : (starts sets : List ℕ) (a count : ℕ) (span : EntrySpan) → length starts ≡ length sets
+    → IsNonDecreasingBy (λ x. x) starts → AreAround starts a count span.start span.end
+    → ((d : ℕ) → get_or sets (count - 1) d ≡ span.set) → IsSpanOf (paired starts sets) a span
+span-around starts sets a count span even up around set_is =
+    counted-span starts sets a count span even
+    (paired-count starts sets a count even (count-around starts a count span.start span.end up around)) around.some around.more
+    around.low_is around.high_is set_is

@@ -2,11 +2,13 @@
 -- public call uses this file.
 use Rattle.std.specs.Prelude.{map, ◌≡◌, ℕ, ◌+◌, ◌-◌, ◌*◌, ◌<◌, ◌≤◌, List, [], ◌∷◌, ◌++◌, length, All, IfSome, Option, Some, None, find, slice_get, slice_index_or}
 use Rattle.std.specs.List.{sum_by}
+use Rattle.std.specs.Option.{option_map}
 use Rattle.std.specs.List.Sorted.{IsNonDecreasingBy}
 use Rattle.dw_frame.specs.Records.{Cie, Fde}
 use Rattle.dw_stack.specs.Located.{LocatedExpression}
 use Rattle.dw_tables.specs.declared.table_room.Unmade.{Unmade}
 use Rattle.dw_tables.specs.declared.table_room.Unmade.TheVariants.{Memory, Room}
+use Rattle.dw_tables.specs.declared.table_entries.EntrySpan.{EntrySpan}
 use Rattle.dw_tables.specs.declared.table_entries.TableEntry.{TableEntry}
 use Rattle.dw_rules.specs.Rules.{PlacedCfa, PlacedRow, Row}
 use Rattle.dw_rules.specs.Effects.{Effect}
@@ -207,6 +209,26 @@ pub record IsBracketed (starts : List ℕ) (a count : ℕ) : Type 0 where
   pub more : count < length starts
   pub low : (d : ℕ) → slice_index_or starts (count - 1) d ≤ a
   pub high : (d : ℕ) → a < slice_index_or starts count d
+
+-- The address `a` is between two starts: `low`, which is the last one of the first `count`, is at
+-- or below it, and `high`, which is the next one, is above it.
+pub record AreAround (starts : List ℕ) (a count low high : ℕ) : Type 0 where
+  pub some : 0 < count
+  pub more : count < length starts
+  pub low_is : (d : ℕ) → slice_index_or starts (count - 1) d ≡ low
+  pub high_is : (d : ℕ) → slice_index_or starts count d ≡ high
+  pub below : low ≤ a
+  pub above : a < high
+
+-- The span is that of the entry that has the address `a`: the last one that begins at or below it.
+-- It isn't the last one of all, so the next one begins where the span ends.
+pub record IsSpanOf (entries : List TableEntry) (a : ℕ) (span : EntrySpan) : Type 0 where
+  pub count : ℕ
+  pub counted : IsEntryCount entries a count
+  pub some : 0 < count
+  pub more : count < length entries
+  pub entry : slice_get entries (count - 1) ≡ Some (record { start = span.start; set = span.set })
+  pub next : option_map entry_start (slice_get entries count) ≡ Some span.end
 
 -- entries in order, each of which refers to a stored rule set
 pub record AreEntries (entries : List TableEntry) (sets : List StoredSet) : Type 0 where

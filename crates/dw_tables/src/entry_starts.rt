@@ -2,7 +2,7 @@
 
 ghost use Rattle.std.specs.Prelude.{◌≡◌, ◌+◌, ◌<◌, ◌≤◌, [], ◌∷◌, ◌++◌, IfSome, IsTrue, MatchResult, length, slice_index_or, ℕ};
 ghost use Rattle.std.specs.Bool.{OnTrue};
-ghost use Rattle.dw_tables.specs.CompiledTable.{IsBracketed};
+ghost use Rattle.dw_tables.specs.CompiledTable.{AreAround, IsBracketed};
 
 use std::alloc::{AllocError, Global};
 use std::marker::Model;
@@ -129,6 +129,24 @@ impl Starts {
         }
         let offset = address - self.base;
         u64::from(near[count - 1]) <= offset && offset < u64::from(near[count])
+    }
+
+    /// The addresses at index `count - 1` and at index `count`, if `has_between` is true of them.
+    #[inline(always)]
+    pub fn around(&self, count: usize, address: u64) -> Option<(u64, u64)>
+        ensures { IfSome result (λ found. AreAround self.now address count found.0 found.1) }
+    {
+        let near = self.near.as_slice();
+        if count == 0 || count >= near.len() || address < self.base {
+            return None;
+        }
+        let offset = address - self.base;
+        let low = u64::from(near[count - 1]);
+        let high = u64::from(near[count]);
+        if low <= offset && offset < high {
+            return Some((self.base + low, self.base + high));
+        }
+        None
     }
 
     /// `base`, and the distances from `base` of the addresses that are stored in four bytes. Those

@@ -7,7 +7,7 @@ ghost use Rattle.dw_rules.specs.Rules.{IsTable};
 ghost use Rattle.dw_rules.specs.SavedRules.{ArePlain};
 ghost use Rattle.dw_rules.specs.Views.{stored_cfa_of, entries_of};
 
-use dw_rules::{InitialRules, LentRules, MAX_RULES, RuleSet};
+use dw_rules::{InitialRules, LentRules, MAX_RULES, RuleSet, StoredCfa};
 use std::alloc::{AllocError, Global};
 use std::marker::Model;
 
@@ -92,6 +92,20 @@ impl RuleSets {
             → ArePlain (result.0).entries.now (result.0).plain_below }
     {
         (self.rules.lend(place), self.registers[place])
+    }
+
+    /// Whether the rule set at index `place` is a usual one: its CFA is a register plus an offset,
+    /// and it has rules, each of which says that a register is saved relative to the CFA. No
+    /// contract says so: it affects only time.
+    #[inline(always)]
+    pub fn is_usual(&self, place: usize) -> bool
+        requires { place < length self.now }
+    {
+        let (lent, _) = self.lend(place);
+        let Some(StoredCfa::RegisterAndOffset { .. }) = lent.cfa else {
+            return false;
+        };
+        lent.plain_below > 0
     }
 
     /// Whether the element at index `place` has these rules and this return address register.

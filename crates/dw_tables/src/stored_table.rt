@@ -1,17 +1,17 @@
 //! All rows of a section in order of address, as a compiled table stores them. The rules refer to
 //! an expression by its offset in the section.
 
-ghost use Rattle.std.specs.Prelude.{◌≡◌, ◌+◌, ◌*◌, ◌≤◌, Contains, IfOk, IfErr, All, find, length};
+ghost use Rattle.std.specs.Prelude.{◌≡◌, ◌+◌, ◌*◌, ◌≤◌, Contains, IfOk, IfErr, IfSome, Some, All, find, length};
 ghost use Rattle.std.specs.Option.{option_map};
 ghost use Rattle.dw_frame.specs.Views.{fde_of};
 ghost use Rattle.dw_rules.specs.RowExpressions.{row_expressions};
 ghost use Rattle.dw_tables.specs.UnwindTables.{has, fde_bytes, all_rows_bytes};
 ghost use Rattle.dw_tables.specs.CompiledTable.{IsPushed, IsTableUpTo, IsClosedAt, IsBegunAt, IsFilled, ArePlacedRows, AreEntries, rows_to};
-ghost use Rattle.dw_tables.specs.CompiledTable.{LendsFound, found_with_expressions, LacksRoom, entry_bytes, stored_bytes};
+ghost use Rattle.dw_tables.specs.CompiledTable.{IsSpanOf, LendsFound, found_with_expressions, LacksRoom, entry_bytes, stored_bytes};
 
 use crate::rule_numbers::RuleNumbers;
 use crate::rule_sets::RuleSets;
-use crate::table_entries::{TableEntries, TableEntry};
+use crate::table_entries::{EntrySpan, TableEntries, TableEntry};
 use crate::table_room::{Unmade, less_room};
 use dw_frame::FrameDescriptionEntry;
 use dw_rows::{CheckedFrame, begin_rows, next_range};
@@ -184,6 +184,36 @@ impl Model for StoredTable {
     ghost invariant = { λ t. AreEntries t.entries t.sets };
 }
 
+/// The row of the entry that has `address`, and its return address register. None if the entry's
+/// rule set has no CFA rule: then no row covers the address. `span` is the entry's, and says where
+/// the row begins and ends.
+#[inline(always)]
+fn row_of_span<'t, 'a>(
+    entries: &TableEntries,
+    sets: &'t RuleSets,
+    address: u64,
+    span: EntrySpan,
+    expressions: RowExpressions<'t, 'a>,
+) -> Option<(UnwindRow<'t, 'a>, u16)>
+    requires entries { AreEntries entries.now sets.now }
+    requires span { IsSpanOf entries.now address span }
+    requires lends { All (LendsFound (row_expressions expressions))
+        (rows_to sets.now entries.now 0) }
+    ensures { result ≡ option_map (found_with_expressions (row_expressions expressions.entry))
+        (find (has address) (rows_to sets.now entries.now 0)) }
+{
+    let (lent, register) = sets.lend(span.set as usize);
+    let row = UnwindRow::new(
+        span.start,
+        span.end,
+        lent.cfa?,
+        lent.entries,
+        lent.plain_below,
+        expressions,
+    );
+    Some((row, register))
+}
+
 impl StoredTable {
     /// Compiles the rows of a checked section into at most `room` bytes. Spare capacity of arrays
     /// isn't counted.
@@ -241,5 +271,26 @@ impl StoredTable {
             }
             None => None,
         }
+    }
+
+    /// What `find` returns, if a search of few steps finds the row, and its rule set is a usual one
+    /// (`RuleSets::is_usual`); otherwise none. Nearly all rows that compilers write for x86-64 are
+    /// usual. All that this calls is inlined, so a caller saves no registers for calls.
+    #[inline(always)]
+    pub fn find_usual<'t, 'a>(
+        &'t self,
+        address: u64,
+        expressions: RowExpressions<'t, 'a>,
+    ) -> Option<(UnwindRow<'t, 'a>, u16)>
+        requires { All (LendsFound (row_expressions expressions)) self.now.rows }
+        ensures { IfSome result (λ found. Some found
+            ≡ option_map (found_with_expressions (row_expressions expressions.entry))
+            (find (has address) self.now.rows)) }
+    {
+        let span = self.entries.usual_span(address)?;
+        if !self.sets.is_usual(span.set as usize) {
+            return None;
+        }
+        row_of_span(&self.entries, &self.sets, address, span, expressions)
     }
 }

@@ -1,7 +1,7 @@
 //! All rows of a checked section in order of address, compiled into a table that makes look-ups
 //! fast.
 
-ghost use Rattle.std.specs.Prelude.{◌≡◌, ◌+◌, ◌*◌, ◌≤◌, ◌<◌, IfOk, IfErr, IfSome, IfNone, length};
+ghost use Rattle.std.specs.Prelude.{◌≡◌, ◌+◌, ◌*◌, ◌≤◌, ◌<◌, IfOk, IfErr, IfSome, IfNone, Some, length};
 ghost use Rattle.std.specs.Option.{option_map};
 ghost use Rattle.std.specs.List.{sum_by};
 ghost use Rattle.dw_tables.specs.UnwindTables.{row_at, expression_bytes, table_bytes, IsTableOf};
@@ -163,6 +163,20 @@ impl UnwindTable {
     {
         let expressions = RowExpressions::Owned(&self.expressions);
         self.stored_table.find(address, hint, expressions)
+    }
+
+    /// What `row_and_return_register` returns, for nearly all rows that compilers write for x86-64:
+    /// a search of few steps finds the row, its CFA is a register plus an offset, and each rule
+    /// says that a register is saved relative to the CFA. After `None`, ask
+    /// `row_and_return_register`: there may be a row. All that this calls is inlined, so a caller
+    /// that asks here first saves no registers for a call.
+    #[inline(always)]
+    pub fn usual_row_and_return_register(&self, address: u64) -> Option<(UnwindRow<'_, '_>, u16)>
+        ensures row { IfSome result (λ found. row_at self.now address ≡ Some found) }
+        ensures under { IfSome result (λ found. IsRowUnder self.now.target found.0) }
+    {
+        let expressions = RowExpressions::Owned(&self.expressions);
+        self.stored_table.find_usual(address, expressions)
     }
 
     /// The row of an address, or `None` if no FDE covers the address. The row's rules and

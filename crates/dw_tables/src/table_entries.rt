@@ -1,10 +1,10 @@
 //! The entries of a compiled table. They say which rules hold from which address on.
 
-ghost use Rattle.std.specs.Prelude.{◌≡◌, ◌+◌, ◌*◌, ◌<◌, ◌≤◌, [], ◌∷◌, ◌++◌, IfOk, length, slice_get, slice_index_or, Some, ℕ};
+ghost use Rattle.std.specs.Prelude.{◌≡◌, ◌+◌, ◌*◌, ◌<◌, ◌≤◌, [], ◌∷◌, ◌++◌, IfOk, IfSome, length, slice_get, slice_index_or, Some, ℕ};
 ghost use Rattle.std.specs.Bool.{OnTrue};
 ghost use Rattle.std.specs.Option.{option_map};
 ghost use Rattle.std.specs.List.Sorted.{IsNonDecreasingBy};
-ghost use Rattle.dw_tables.specs.CompiledTable.{IsEntryCount, IsStartCount, entry_start};
+ghost use Rattle.dw_tables.specs.CompiledTable.{IsEntryCount, IsSpanOf, IsStartCount, entry_start};
 
 use crate::entry_starts::Starts;
 use crate::rule_set_numbers::SetNumbers;
@@ -16,6 +16,15 @@ use std::marker::Model;
 #[derive(Clone, Copy)]
 pub struct TableEntry {
     pub start: u64,
+    pub set: u32,
+}
+
+/// Where a rule set holds: the one with number `set` does from `start` up to, but not including,
+/// `end`, where the next entry begins.
+#[derive(Clone, Copy)]
+pub struct EntrySpan {
+    pub start: u64,
+    pub end: u64,
     pub set: u32,
 }
 
@@ -182,8 +191,8 @@ fn is_count(starts: &Starts, count: usize, address: u64) -> bool
     false
 }
 
-/// Whether exactly `count` starts are at or below `address`, if the starts on both sides are near.
-/// Otherwise the result is false. This takes a few instructions, where `is_count` takes some 30.
+/// Whether exactly `count` starts are at or below `address`. False also if the address isn't
+/// between two near starts. This takes a few instructions, `is_count` about 30.
 #[inline(always)]
 fn is_near_count(starts: &Starts, count: usize, address: u64) -> bool
     requires { IsNonDecreasingBy (λ x. x) starts.now }
@@ -324,8 +333,8 @@ impl TableEntries {
     }
 
     /// How many entries begin at or below `address`. `hint` is a guess of this count. If it is
-    /// wrong, or if an entry next to it begins 2^32 or more above the first one, a search follows,
-    /// and `hint` becomes the count.
+    /// wrong, or if the address isn't between two near starts (`Starts`), a search follows, and
+    /// `hint` becomes the count.
     #[inline(always)]
     pub fn count_up_to_near(&self, address: u64, hint: &mut u32) -> usize
         requires { IsNonDecreasingBy entry_start self.now }
@@ -339,6 +348,24 @@ impl TableEntries {
         // A count with more than 32 bits can't be a hint.
         *hint = u32::try_from(count).unwrap_or(NO_HINT);
         count
+    }
+
+    /// The span of the entry that has `address`: the last one that begins at or below it. None if
+    /// the guess by blocks is wrong, or if the address isn't between two near starts. All that this
+    /// calls is inlined.
+    #[inline(always)]
+    pub fn usual_span(&self, address: u64) -> Option<EntrySpan>
+        requires { IsNonDecreasingBy entry_start self.now }
+        ensures { IfSome result (IsSpanOf self.now address) }
+    {
+        let (base, offsets) = self.starts.near();
+        let count = self.blocks.guess(base, offsets, address);
+        let (start, end) = self.starts.around(count, address)?;
+        Some(EntrySpan {
+            start,
+            end,
+            set: self.sets.at(count - 1),
+        })
     }
 
     /// The entry at index `place`.
