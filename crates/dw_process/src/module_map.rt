@@ -1,6 +1,6 @@
 //! The modules of a process in order of address, and the module of an address.
 
-ghost use Rattle.std.specs.Prelude.{◌≡◌, ◌<◌, ◌≤◌, ◌⊎◌, ◌+◌, ◌*◌, ◌-◌, [], ℕ, IfErr, IfOk, IfSome, MatchResult, Some, length, slice_index_or};
+ghost use Rattle.std.specs.Prelude.{◌≡◌, ◌<◌, ◌+◌, ◌*◌, ◌-◌, [], IfErr, IfOk, IfSome, Some, length};
 ghost use Rattle.std.specs.List.{insert, remove};
 ghost use Rattle.std.specs.List.Sorted.{IsNonDecreasingBy};
 ghost use Rattle.std.specs.Option.{option_map};
@@ -114,6 +114,18 @@ impl ModuleMap {
             }
         }
         None
+    }
+
+    /// What `at` returns, if the guess by blocks of addresses is right (`ModuleGuesses`), as it
+    /// usually is. An only module needs no guess, for which a processor would have to wait.
+    #[inline(always)]
+    pub fn guessed(&self, address: u64) -> Option<&LoadedModule>
+        ensures { IfSome result (λ near. Some near.now ≡ module_at self.now address) }
+    {
+        if self.modules.len() == 1 {
+            return self.at_guess(0, address);
+        }
+        self.at_guess(self.guesses.at(address), address)
     }
 
     /// What `at` returns. `slot` has three guesses of the module's index, and there is another one

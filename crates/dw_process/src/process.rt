@@ -2,7 +2,7 @@
 
 ghost use Rattle.std.specs.List.{list_any, position};
 ghost use Rattle.std.specs.Option.{option_map};
-ghost use Rattle.std.specs.Prelude.{◌==◌, ◌≡◌, ◌<◌, ◌^◌, All, IfErr, IfOk, IfSome, length};
+ghost use Rattle.std.specs.Prelude.{◌==◌, ◌≡◌, ◌<◌, ◌^◌, All, IfErr, IfOk, IfSome, Some, length};
 ghost use Rattle.dw_process.specs.ModuleMaps.{AreInOrder, module_at};
 ghost use Rattle.dw_process.specs.Processes.{AreDistinct, IsAdded, IsAddedWith, IsFoundIn, IsReady, found_at, is_signal_in, no_modules, removed};
 ghost use Rattle.dw_process.specs.Refusals.{IsRefused, IsRefusedWith};
@@ -273,6 +273,31 @@ impl Process {
             }),
             None => None,
         }
+    }
+
+    /// What `row_for_address` returns, for nearly all rows that compilers write for x86-64: the
+    /// guess of the module is right, and the module's table has a usual row
+    /// (`UnwindTable::usual_row_and_return_register`). After none, ask `row_for_address`: there may
+    /// be a row. All that this calls is inlined, so a caller that asks here first saves no
+    /// registers for a call.
+    #[inline(always)]
+    pub fn usual_row_for_address(&self, address: u64) -> Option<FoundRow<'_>>
+        ensures row { IfSome result (λ found. found_at self.now address ≡ Some found) }
+        ensures found { IfSome result (IsFoundIn self.now address) }
+    {
+        let Some(found) = self.modules.guessed(address) else {
+            return None;
+        };
+        let linked = as_linked(self.target, found.load_address, address);
+        let (row, return_register) = found.rows.usual_row_and_return_register(linked)?;
+        Some(FoundRow {
+            id: found.id,
+            cookie: found.cookie,
+            load_address: found.load_address,
+            target: self.target,
+            row,
+            return_register,
+        })
     }
 
     /// Whether an address as loaded is one of a signal frame: a frame that a signal handler returns

@@ -54,6 +54,16 @@ impl SharedTable {
         self.table.target()
     }
 
+    /// The table's row at an address, with its return address register, if it is a usual one: see
+    /// the table's call of this name.
+    #[inline(always)]
+    pub fn usual_row_and_return_register(&self, address: u64) -> Option<(UnwindRow<'_, '_>, u16)>
+        ensures row { IfSome result (λ found. row_at self.now address ≡ Some found) }
+        ensures under { IfSome result (λ found. IsRowUnder self.now.target found.0) }
+    {
+        self.table.usual_row_and_return_register(address)
+    }
+
     /// The table's row at an address, with its return address register; none if the table has no
     /// row there. `hint` is that of the table's call of this name.
     #[inline(always)]
