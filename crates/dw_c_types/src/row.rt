@@ -1,6 +1,7 @@
 //! C's structs for a row and for the rule of a register, and the conversions to them.
 
 ghost use Rattle.std.specs.Prelude.{◌≡◌, ◌≤◌, length, map, pos};
+ghost use Rattle.std.specs.Bool.{OnFalse, OnTrue};
 ghost use Rattle.dw_rules.specs.SavedRules.{as_saved};
 ghost use Rattle.dw_rules.specs.Views.{rule_of, cfa_rule_of};
 ghost use Rattle.dw_stack.specs.Certificates.{checked_of};
@@ -161,6 +162,35 @@ fn write_saved(rules: PlainRules<'_>, slots: &mut [CRule]) -> u32
     count
 }
 
+/// What `write_saved` does, if there is room for all rules. So no rule needs a check of its own.
+#[inline(always)]
+fn write_fitting(rules: PlainRules<'_>, slots: &mut [CRule]) -> u32
+    requires few { length rules ≤ MAX_RULES }
+    requires room { MAX_RULES ≤ length slots.old }
+    ensures written { slots.new ≡ put_into (map crule_of (map as_saved rules.entry)) slots.old }
+    ensures count { result ≡ length rules.entry }
+{
+    let mut count: usize = 0;
+    for (register, offset) in rules {
+        slots[count] = saved_rule(register, offset);
+        count += 1;
+    }
+    count as u32
+}
+
+/// What `write_saved` does, in less time if there is room for as many rules as a row may have.
+#[inline(always)]
+fn write_plain(rules: PlainRules<'_>, slots: &mut [CRule]) -> u32
+    requires { length rules ≤ MAX_RULES }
+    ensures written { slots.new ≡ put_into (map crule_of (map as_saved rules.entry)) slots.old }
+    ensures count { result ≡ length rules.entry }
+{
+    if slots.len() < MAX_RULES {
+        return write_saved(rules, slots);
+    }
+    write_fitting(rules, slots)
+}
+
 /// Writes the rules of a row to `slots`, as many as fit. Returns the number of rules.
 #[inline(always)]
 fn write_rules_of(row: &UnwindRow<'_, '_>, slots: &mut [CRule]) -> u32
@@ -170,8 +200,34 @@ fn write_rules_of(row: &UnwindRow<'_, '_>, slots: &mut [CRule]) -> u32
 {
     let rules = row.rules();
     match row.plain_rules(u16::MAX) {
-        Some(plain) => write_saved(plain, slots),
+        Some(plain) => write_plain(plain, slots),
         None => write_rules(rules, slots),
+    }
+}
+
+/// C's struct for a row whose CFA has the rule `cfa`, with the number of its rules.
+#[inline(always)]
+fn c_row_of(found: &FoundRow<'_>, cfa: CRule, count: u32) -> CRow
+    ensures { result ≡ record {
+      id = found.now.id;
+      cookie = found.now.cookie;
+      load_address = found.now.load_address;
+      start = found.now.row.start;
+      end = found.now.row.end;
+      cfa = cfa;
+      return_register = found.now.return_register;
+      count = count;
+    } }
+{
+    CRow {
+        id: found.id,
+        cookie: found.cookie,
+        load_address: found.load_address,
+        start: found.row.start_address(),
+        end: found.row.end_address(),
+        cfa,
+        return_register: u32::from(found.return_register),
+        count,
     }
 }
 
@@ -182,14 +238,35 @@ pub fn write_row(found: &FoundRow<'_>, row: &mut CRow, rules: &mut [CRule])
     ensures few { row.new.count ≤ MAX_RULES }
 {
     let count = write_rules_of(&found.row, rules);
-    *row = CRow {
-        id: found.id,
-        cookie: found.cookie,
-        load_address: found.load_address,
-        start: found.row.start_address(),
-        end: found.row.end_address(),
-        cfa: c_cfa_of(found.row.cfa()),
-        return_register: u32::from(found.return_register),
-        count,
+    *row = c_row_of(found, c_cfa_of(found.row.cfa()), count);
+}
+
+/// A law: a row has few rules.
+#[inline(always)]
+fn rules_are_few(row: &UnwindRow<'_, '_>)
+    ensures { length row.now.rules ≤ MAX_RULES }
+{
+    let _ = row.rules();
+}
+
+/// What `write_row` does, for nearly all rows that compilers write for x86-64: the CFA is a
+/// register plus an offset, and each rule says that a register is saved relative to the CFA.
+/// Otherwise returns false, and writes nothing. The row is written before its rules, so that none
+/// of it has to stay in registers meanwhile.
+#[inline(always)]
+pub fn write_usual_row(found: &FoundRow<'_>, row: &mut CRow, rules: &mut [CRule]) -> bool
+    ensures row { OnTrue result (IsRowOf found.now row.new rules.old rules.new) }
+    ensures few { OnTrue result (row.new.count ≤ MAX_RULES) }
+    ensures unwritten { OnFalse result ((row.new ≡ row.old) × (rules.new ≡ rules.old)) }
+{
+    let CfaRule::RegisterAndOffset { register, offset } = found.row.cfa() else {
+        return false;
     };
+    let Some(plain) = found.row.plain_rules(u16::MAX) else {
+        return false;
+    };
+    rules_are_few(&found.row);
+    *row = c_row_of(found, without_expression(register, 4, offset, 0), 0);
+    row.count = write_plain(plain, rules);
+    true
 }

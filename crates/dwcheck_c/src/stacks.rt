@@ -17,7 +17,7 @@ use crate::read_right::Right;
 use dw_c_types::answer::{CFrame, stop_code};
 use dw_c_types::callers::{CCaller, CRegister, caller_through, write_caller};
 use dw_c_types::fault::{CFault, IN_ABI, report};
-use dw_c_types::row::{CRow, CRule, write_row};
+use dw_c_types::row::{CRow, CRule, write_row, write_usual_row};
 use dw_c_types::state::CState;
 use dw_c_types::status::{DONE, NONE, REFUSED};
 use dw_process::{NoHints, Process, RowCache, RowHints};
@@ -52,6 +52,41 @@ pub struct CountPlace {
 
 const _: () = prove!(size_of::<CountPlace>() == size_of::<usize>());
 
+/// Writes the row of `address` to `row`, and its rules to `rules`, if it is a usual one
+/// (`Process::usual_row_for_address`, `write_usual_row`). Otherwise returns false, and writes
+/// nothing. All that this calls is inlined into `dwcheck_row_at`.
+#[inline(always)]
+fn write_usual(process: &Process, address: u64, row: &mut CRow, rules: &mut [CRule]) -> bool
+    ensures row { OnTrue result (IsSomeAnd (found_in (Some process.now) address)
+        (λ found. IsRowOf found row.new rules.old rules.new)) }
+    ensures few { OnTrue result (row.new.count ≤ 128) }
+    ensures unwritten { OnFalse result ((row.new ≡ row.old) × (rules.new ≡ rules.old)) }
+{
+    let Some(found) = process.usual_row_for_address(address) else {
+        return false;
+    };
+    write_usual_row(&found, row, rules)
+}
+
+/// Does what `dwcheck_row_at` does, for any row. Returns `DONE` or `NONE`.
+#[inline(never)]
+fn write_any(process: &Process, address: u64, row: &mut CRow, rules: &mut [CRule]) -> u32
+    ensures row { result ≡ DONE → IsSomeAnd (found_in (Some process.now) address)
+        (λ found. IsRowOf found row.new rules.old rules.new) }
+    ensures few { result ≡ DONE → row.new.count ≤ 128 }
+    ensures none { result ≡ NONE → found_in (Some process.now) address ≡ None }
+    ensures codes { (result ≡ DONE) ⊎ (result ≡ NONE) }
+    ensures unwritten { result ≡ NONE → (row.new ≡ row.old) × (rules.new ≡ rules.old) }
+{
+    match process.row_for_address(address) {
+        Some(found) => {
+            write_row(&found, row, rules);
+            DONE
+        }
+        None => NONE,
+    }
+}
+
 /// Finds the row of `address`, an address as loaded. Writes the row to `row`, and the rules of its
 /// registers to `rules`, as many as fit.
 #[unsafe(no_mangle)]
@@ -73,12 +108,10 @@ pub extern "C" fn dwcheck_row_at(
     let Some(part) = process.take(&mut row.right) else {
         return NONE;
     };
-    let status = match part.get().row_for_address(address) {
-        Some(found) => {
-            write_row(&found, &mut row.row, rules);
-            DONE
-        }
-        None => NONE,
+    let status = if write_usual(part.get(), address, &mut row.row, rules) {
+        DONE
+    } else {
+        write_any(part.get(), address, &mut row.row, rules)
     };
     put(part, &mut row.right);
     status
