@@ -117,7 +117,8 @@ impl ModuleMap {
     }
 
     /// What `at` returns, if the guess by blocks of addresses is right (`ModuleGuesses`), as it
-    /// usually is. An only module needs no guess, for which a processor would have to wait.
+    /// usually is; otherwise none. If there is only one module, it is the guess. Then the blocks
+    /// aren't read, which would make a processor wait.
     #[inline(always)]
     pub fn guessed(&self, address: u64) -> Option<&LoadedModule>
         ensures { IfSome result (λ near. Some near.now ≡ module_at self.now address) }

@@ -54,7 +54,8 @@ const _: () = prove!(size_of::<CountPlace>() == size_of::<usize>());
 
 /// Writes the row of `address` to `row`, and its rules to `rules`, if it is a usual one
 /// (`Process::usual_row_for_address`, `write_usual_row`). Otherwise returns false, and writes
-/// nothing. All that this calls is inlined into `dwcheck_row_at`.
+/// nothing. All that this calls is inlined into `dwcheck_row_at`, but for what writes rules to
+/// fewer than 128 slots.
 #[inline(always)]
 fn write_usual(process: &Process, address: u64, row: &mut CRow, rules: &mut [CRule]) -> bool
     ensures row { OnTrue result (IsSomeAnd (found_in (Some process.now) address)
