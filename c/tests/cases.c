@@ -880,6 +880,28 @@ static void rules_of_each_kind(void) {
     dwcheck_process_close(&p);
 }
 
+/* A row as compilers write it (DWARF 5, 6.4.2.2 and 6.4.2.3): def_cfa r7 + 48; offset r3, r6, r12, r16. With
+   room for any row, without it, and with one slot only. */
+static void rules_of_saved_registers(void) {
+    static const uint16_t numbers[4] = {3, 6, 12, 16};
+    static const int64_t offsets[4] = {-32, -24, -16, -8};
+    static const size_t rooms[3] = {DWCHECK_MAX_RULES, DWCHECK_MAX_RULES - 1, 1};
+    dwcheck_process p = DWCHECK_CLOSED;
+    uint8_t section[80];
+    size_t i, n;
+    IS(add_section(&p, section, section_with("\x0c\x07\x30\x83\x04\x86\x03\x8c\x02\x90\x01", 11, section), room), DWCHECK_DONE);
+    for (n = 0; n < 3; n++) {
+        dwcheck_rule found[DWCHECK_MAX_RULES];
+        dwcheck_row row;
+        memset(found, 0x55, sizeof found);
+        IS(dwcheck_row_at(&p, 0x1010, &row, found, rooms[n]), DWCHECK_DONE); IS(row.count, 4);
+        IS(row.cfa.kind, DWCHECK_RULE_VAL_OFFSET); IS(row.cfa.reg, 7); IS(row.cfa.offset, 48); IS(row.return_reg, 16);
+        for (i = 0; i < 4 && i < rooms[n]; i++) { IS(found[i].kind, DWCHECK_RULE_OFFSET); IS(found[i].reg, numbers[i]); IS(found[i].offset, offsets[i]); }
+        IS(found[i].reg, 0x5555);
+    }
+    dwcheck_process_close(&p);
+}
+
 static void walk_of(const char *instructions, size_t length, size_t keeps) {
     dwcheck_process p = DWCHECK_CLOSED;
     uint8_t section[80];
@@ -1106,6 +1128,7 @@ int main(void) {
     one_list();
     reads_past_the_top();
     rules_of_each_kind();
+    rules_of_saved_registers();
     ends_of_walks();
     big_endian();
     refused_calls_keep_no_memory();
