@@ -374,7 +374,7 @@ pub extern "C" fn dwcheck_cursor_init(
 /// Writes the frame that a cursor is at to `frame`, and moves the cursor to the frame's caller. The
 /// memory and the ABI are those of `state`, the registers those of the cursor. Returns `NONE` if
 /// the cursor's walk has ended, and `NO_PLACE` if a register of the caller with a number of 96 or
-/// more has a rule.
+/// more would be known.
 #[unsafe(no_mangle)]
 pub extern "C" fn dwcheck_cursor_step(
     process: &LentProcess,

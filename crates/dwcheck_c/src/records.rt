@@ -1,6 +1,6 @@
 //! The C call that reads a record of a frame section.
 
-ghost use Rattle.std.specs.Prelude.{◌≡◌, ◌≢◌, ◌≤◌, ◌<◌, ◌+◌, ◌^◌, ◌⊎◌, MatchResult, None, length};
+ghost use Rattle.std.specs.Prelude.{◌≡◌, ◌≢◌, ◌≤◌, ◌<◌, ◌+◌, ◌^◌, ◌⊎◌, IsSome, MatchResult, None, length};
 ghost use Rattle.dw_bytes.specs.Encoding.{max_address};
 ghost use Rattle.dw_bytes.specs.declared.fault.Fault.{Fault};
 ghost use Rattle.dw_eh_frame.specs.Records.{eh_cie, eh_fde};
@@ -213,8 +213,12 @@ pub extern "C" fn dwcheck_record_at(
     ensures none { result ≡ NONE → length module.now.frame.now ≤ offset }
     ensures inside { (result ≡ DONE) ⊎ (result ≡ REFUSED) → offset < length module.now.frame.now }
     ensures target { result ≡ BAD_TARGET → target_by module.now.order module.now.address_size ≡ None }
+    ensures good { result ≢ BAD_TARGET → result ≢ TOO_LONG → result ≢ BAD_KIND
+        → IsSome (target_by module.now.order module.now.address_size) }
     ensures kind { result ≡ BAD_KIND → kind_by module.now.kind ≡ None }
+    ensures known { result ≢ BAD_KIND → result ≢ TOO_LONG → IsSome (kind_by module.now.kind) }
     ensures long { result ≡ TOO_LONG → 2 ^ 32 ≤ length module.now.frame.now }
+    ensures short { result ≢ TOO_LONG → length module.now.frame.now < 2 ^ 32 }
     ensures codes { (result ≡ DONE) ⊎ (result ≡ REFUSED) ⊎ (result ≡ NONE) ⊎ (result ≡ BAD_TARGET)
         ⊎ (result ≡ BAD_KIND) ⊎ (result ≡ TOO_LONG) }
     ensures unwritten { result ≢ DONE → record.new ≡ record.old }
