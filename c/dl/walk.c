@@ -4,6 +4,7 @@
 
 #include <errno.h>
 #include <signal.h>
+#include <string.h>
 #include <sys/syscall.h>
 #include <ucontext.h>
 #include <unistd.h>
@@ -104,20 +105,29 @@ static void prepare(struct walk *walk) {
         walk->stack = stack_from(pointer, is_signal ? RED_ZONE : 0);
 }
 
-/* Walks from the frame with these registers, of which those are known that have a bit in `known`. Leaves
-   out the first `skipped` frames, and writes the addresses of the others. */
-static int walk_from(const uint64_t registers[REGISTERS], const uint8_t known[3], int skipped, void **addresses, int size) {
+/* The frame that a walk begins with: its registers, of which those are known that have a bit in `known`;
+   whether its address is the interrupted one or, if not, a return address; the size of its red zone; and how
+   many frames are left out. */
+struct start {
+    uint64_t registers[REGISTERS];
+    uint8_t known[3];
+    int is_exact, red_zone, skipped;
+};
+
+/* Walks from a frame, and writes the addresses of the frames. It isn't inlined: so what it writes is below
+   the stack that dwcheck_dl_backtrace lets it read. */
+__attribute__((noinline)) static int walk_from(const struct start *start, void **addresses, int size) {
     static const uint16_t kept[] = {RBX, RBP, R12, R13, R14, R15};
     struct walk walk;
-    walk.stack = stack_from(registers[RSP], RED_ZONE);
-    walk.state = (dwcheck_state){.contents = registers, .contents_length = REGISTERS, .known = known, .known_length = 3,
-                                 .blocks = &walk.stack, .blocks_length = 1, .kept = kept,
+    walk.stack = stack_from(start->registers[RSP], (uint64_t)start->red_zone);
+    walk.state = (dwcheck_state){.contents = start->registers, .contents_length = REGISTERS, .known = start->known,
+                                 .known_length = sizeof start->known, .blocks = &walk.stack, .blocks_length = 1, .kept = kept,
                                  .kept_length = sizeof kept / sizeof *kept, .stack_pointer = RSP, .has_stack_pointer = 1};
     dwcheck_frame frame;
     dwcheck_fault fault;
-    int count = 0;
+    int count = 0, skipped = start->skipped;
     const dwcheck_process *process = dwcheck_dl_begin();
-    if (dwcheck_cursor_init(&walk.cursor, registers[RIP], &walk.state, 1, &fault) == DWCHECK_DONE)
+    if (dwcheck_cursor_init(&walk.cursor, start->registers[RIP], &walk.state, (uint32_t)start->is_exact, &fault) == DWCHECK_DONE)
         while (count < size && step(&walk, process, &frame) == DWCHECK_DONE) {
             if (walk.cursor.stage <= DWCHECK_CURSOR_CALLER) prepare(&walk);
             if (skipped > 0) skipped--;
@@ -127,20 +137,32 @@ static int walk_from(const uint64_t registers[REGISTERS], const uint8_t known[3]
     return count;
 }
 
+/* Whether a thread was interrupted where it has called a null pointer: nothing is mapped there. The call has
+   pushed its return address, and done nothing else. Then goes back to the frame that made the call. */
+static int leave_null_call(struct start *start) {
+    dwcheck_block stack = block_at(start->registers[RSP], FIRST_PAGES);
+    if (start->registers[RIP] >= PAGE || stack.length < sizeof(uint64_t)) return 0;
+    memcpy(&start->registers[RIP], stack.bytes, sizeof(uint64_t));
+    start->registers[RSP] += sizeof(uint64_t);
+    start->is_exact = 0;
+    return 1;
+}
+
 int dwcheck_dl_backtrace_from(const void *context, void **addresses, int size) {
     static const int places[REGISTERS] = {REG_RAX, REG_RDX, REG_RCX, REG_RBX, REG_RSI, REG_RDI, REG_RBP, REG_RSP, REG_R8,
                                           REG_R9,  REG_R10, REG_R11, REG_R12, REG_R13, REG_R14, REG_R15, REG_RIP};
-    static const uint8_t known[3] = {0xff, 0xff, 1};
     const ucontext_t *interrupted = context;
-    uint64_t registers[REGISTERS];
-    for (int i = 0; i < REGISTERS; i++) registers[i] = (uint64_t)interrupted->uc_mcontext.gregs[places[i]];
-    return walk_from(registers, known, 0, addresses, size);
+    struct start start = {.known = {0xff, 0xff, 1}, .is_exact = 1, .red_zone = RED_ZONE};
+    for (int i = 0; i < REGISTERS; i++) start.registers[i] = (uint64_t)interrupted->uc_mcontext.gregs[places[i]];
+    void *first = (void *)(uintptr_t)start.registers[RIP];
+    if (size <= 0 || !leave_null_call(&start)) return walk_from(&start, addresses, size);
+    addresses[0] = first;
+    return 1 + walk_from(&start, addresses + 1, size - 1);
 }
 
 /* It isn't inlined, so that its own frame is the one that is left out. */
 __attribute__((noinline)) int dwcheck_dl_backtrace(void **addresses, int size) {
-    static const uint8_t known[3] = {1 << RBX | 1 << RBP | 1 << RSP, 0xf0, 1};
-    uint64_t registers[REGISTERS] = {0};
+    struct start start = {.known = {1 << RBX | 1 << RBP | 1 << RSP, 0xf0, 1}, .is_exact = 1, .skipped = 1};
     __asm__ volatile("movq %%rbx, 24(%0)\n\t"
                      "movq %%rbp, 48(%0)\n\t"
                      "movq %%rsp, 56(%0)\n\t"
@@ -152,9 +174,9 @@ __attribute__((noinline)) int dwcheck_dl_backtrace(void **addresses, int size) {
                      "1:\n\t"
                      "movq %%rax, 128(%0)"
                      :
-                     : "r"(registers)
+                     : "r"(start.registers)
                      : "rax", "memory");
-    int count = walk_from(registers, known, 1, addresses, size);
+    int count = walk_from(&start, addresses, size);
     __asm__ volatile("" ::: "memory"); /* so that the call above isn't a jump */
     return count;
 }

@@ -3,9 +3,9 @@
    dlmopen makes) and their tables, and notices which modules have come and gone. It is plain C over the
    calls of dwcheck.h, for x86-64 Linux with glibc. It is tested and not proved.
 
-   A program calls dwcheck_dl_update once at its beginning, and again after dlopen and dlclose. From
-   then on any thread may walk at any time, also in a signal handler, and also while another thread
-   updates.
+   A program calls dwcheck_dl_update at its beginning, and again after dlopen and dlclose; or now and
+   then, since libraries may make these calls. A walk ends at a module that no update has seen. Any thread
+   may walk at any time, also in a signal handler, and also while another thread updates.
 
    Of each module the .eh_frame section is used, which lies in memory. If the module's file is still the
    one that was loaded, and has a .debug_frame section that is longer and isn't refused, that one is used
@@ -28,24 +28,27 @@ typedef struct dwcheck_dl_counts { uint32_t modules, added, removed, left_out; }
    If none came or went, the call returns at once. `counts` may be NULL. Returns DWCHECK_DONE; or
    DWCHECK_NO_MEMORY: then some may have been added or removed, and the next update does the rest. The
    call takes a lock and allocates, so neither a signal handler nor the child of a fork in a program with
-   threads may make it. The loader keeps its modules while the call looks at them. */
+   threads may make it. The loader keeps its modules while the call looks at them. It takes some 90 KB of
+   stack. */
 uint32_t dwcheck_dl_update(dwcheck_dl_counts *counts);
 
 /* The modules of the last update, for the calls of dwcheck.h that read a process. They are valid until
-   the same thread calls dwcheck_dl_end. Each dwcheck_dl_begin needs one dwcheck_dl_end, or else no
-   table is freed any more; so a walk mustn't be left by siglongjmp. Before the first update there are
-   no modules. Signal handlers may make both calls. The cookie of a module is a pointer to the name of
-   its file, which is never freed. */
+   the dwcheck_dl_end that belongs to this call. Such pairs of calls may be nested, as they are in a signal
+   handler. Without its dwcheck_dl_end, no table is freed any more; so a walk mustn't be left by
+   siglongjmp. Before the first update there are no modules. Signal handlers may make both calls. The
+   cookie of a module is a pointer to the name of its file, which is never freed. */
 const dwcheck_process *dwcheck_dl_begin(void);
 void dwcheck_dl_end(void);
 
 /* Writes the return addresses of the calling thread's stack to `addresses`, at most `size`, and returns
-   their number. The first is in the function that makes the call. So it can replace backtrace of
-   <execinfo.h>. Signal handlers may make the call. It takes some 4 KB of stack. */
+   their number, which is 0 before the first update. The first is in the function that makes the call. So it
+   can replace backtrace of <execinfo.h>. To find the line of a call, look up its return address minus 1.
+   Signal handlers may make the call. It takes up to 5 KB of stack. */
 int dwcheck_dl_backtrace(void **addresses, int size);
 
 /* The same from where a signal has interrupted the calling thread: `context` is the third argument of
-   its handler. The first address is that of the interrupted instruction. */
+   its handler. The first address is that of the interrupted instruction. If it is 0, a null pointer was
+   called, and the second address is in the function that made the call. */
 int dwcheck_dl_backtrace_from(const void *context, void **addresses, int size);
 
 /* The memory that can be read from `address` on, as a block for a walk: up to the end of the pages without

@@ -138,6 +138,39 @@ static void test_overflow(void) {
     sigaction(SIGSEGV, &before, NULL);
 }
 
+/* ---- a call of a null pointer */
+
+static void (*volatile missing)(void);
+static sigjmp_buf after_null_call;
+static void *before_null_call[FRAMES];
+static int count_before;
+
+/* The first address is 0, and the second in the function that made the call, from which on the stack is
+   what glibc has found there. */
+static void on_null_call(int signal, siginfo_t *info, void *context) {
+    (void)signal, (void)info;
+    void *ours[FRAMES];
+    int our_count = dwcheck_dl_backtrace_from(context, ours, FRAMES);
+    IS(our_count, count_before + 1);
+    IS(ours[0], 0);
+    IS((uintptr_t)ours[1] - (uintptr_t)before_null_call[0] < 100, 1);
+    if (our_count == count_before + 1) IS(memcmp(ours + 2, before_null_call + 1, (size_t)(count_before - 1) * sizeof *ours), 0);
+    IS(dwcheck_dl_backtrace_from(context, ours, 1), 1);
+    siglongjmp(after_null_call, 1);
+}
+
+static void call_null(void) {
+    count_before = backtrace(before_null_call, FRAMES);
+    if (sigsetjmp(after_null_call, 1) == 0) missing();
+}
+
+static void test_null_call(void) {
+    struct sigaction action = {.sa_sigaction = on_null_call, .sa_flags = SA_SIGINFO}, before;
+    sigaction(SIGSEGV, &action, &before);
+    deep(DEPTH, call_null);
+    sigaction(SIGSEGV, &before, NULL);
+}
+
 /* ---- libraries that come and go */
 
 static const char *library_name;
@@ -221,6 +254,7 @@ int main(int count, char **arguments) {
     pthread_join(thread, NULL);
     test_signals();
     test_overflow();
+    test_null_call();
     test_stack();
     come_and_go();
     test_threads();
