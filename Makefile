@@ -74,7 +74,7 @@ build/libdwcheck_c.a: build/library.stamp
 # The thin part in C: calls that allow NULL for empty arrays, each of which calls the proved one of the
 # same name, which libdwcheck.a has as proved_..; a step that asks for memory; and texts.
 build/%.o: c/%.c c/include/dwcheck.h | build
-	@$(CC) -std=gnu11 -O2 -fPIC -Wall -Wextra -Ic/include -c $< -o $@
+	@$(CC) -std=gnu11 -O2 -fPIC -fstack-clash-protection -Wall -Wextra -Ic/include -c $< -o $@
 
 # libdwcheck.a joins the library that rt made, that part, and the kit's liblibc_c.a, a few lines of C
 # through which the library calls malloc and free.
@@ -85,15 +85,17 @@ build/libdwcheck.a: build/libdwcheck_c.a build/null.o build/read.o build/texts.o
 	@printf 'create $@\naddlib build/libdwcheck_proved.a\naddmod build/null.o\naddmod build/read.o\naddmod build/texts.o\naddlib $(kit)c/liblibc_c.a\nsave\nend\n' | \
 	    $(AR) -M
 
+# Its symbols are bound when it is loaded, since the dynamic linker would take 3 KB of a signal handler's
+# stack to bind one in a walk.
 build/libdwcheck.so.$(version): build/libdwcheck.a c/dwcheck.map
-	$(CC) -shared -Wl,-z,defs -Wl,-soname,libdwcheck.so.$(major) -Wl,--version-script=c/dwcheck.map \
+	$(CC) -shared -Wl,-z,defs -Wl,-z,now -Wl,-soname,libdwcheck.so.$(major) -Wl,--version-script=c/dwcheck.map \
 	    -Wl,--whole-archive $< -Wl,--no-whole-archive -o $@
 
 # The library that finds the modules of the running process. It is plain C, and has rows for itself.
 build/libdwcheck-dl.a: $(wildcard c/dl/*.[ch]) c/include/dwcheck.h c/include/dwcheck-dl.h | build
 	@mkdir -p build/dl
 	@for source in c/dl/*.c; do \
-	    $(CC) -std=gnu11 -O2 -fPIC -fasynchronous-unwind-tables -Wall -Wextra -Ic/include -c $$source \
+	    $(CC) -std=gnu11 -O2 -fPIC -fstack-clash-protection -fasynchronous-unwind-tables -Wall -Wextra -Ic/include -c $$source \
 	        -o build/dl/$$(basename $$source .c).o || exit 1; \
 	done
 	@rm -f $@

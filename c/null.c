@@ -1,7 +1,7 @@
 /* The calls of dwcheck.h that take arrays. In the proofs an array has an address even if it is empty,
    so each call here replaces NULL by an address for the proved one of the same name, which the
    Makefile calls proved_dwcheck_.. in libdwcheck.a. If no pointer is NULL, that is a few instructions
-   and a jump. */
+   and a jump; dwcheck_evaluate always copies the state. */
 #include "dwcheck.h"
 
 /* Any address that isn't NULL and is a multiple of each type's alignment. It isn't read. */
