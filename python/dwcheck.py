@@ -17,6 +17,8 @@ An input that isn't well formed raises `Refused`; running out of memory raises `
 import ctypes as c
 import ctypes.util
 import os
+import threading
+from contextlib import contextmanager
 from dataclasses import dataclass, field
 from typing import Callable, Dict, Iterator, List, NamedTuple, Optional, Tuple
 
@@ -142,6 +144,8 @@ class Record(NamedTuple):
 
 
 def _module(section, load_address, eh_frame, is_aarch64, order, address_size, addresses, cookie):
+    if addresses and addresses[0] >= addresses[1]:
+        raise ValueError("`addresses` has none")
     return _Module(frame=section, frame_length=len(section), load_address=load_address, cookie=cookie, room=_NO_BOUND, order=order,
                    address_size=address_size, has_range=addresses is not None, first=addresses[0] if addresses else 0,
                    last=addresses[1] - 1 if addresses else 0, kind=0 if eh_frame is None else 2 if is_aarch64 else 1,
@@ -210,7 +214,7 @@ class Row:
 
 @dataclass
 class Abi:
-    """The callee-saved registers, the stack pointer, and the register that stands for the return address."""
+    """The callee-saved registers, and the stack pointer."""
 
     kept: Tuple[int, ...]
     stack_pointer: Optional[int]
@@ -239,10 +243,19 @@ class Walk:
 
 
 class Process:
-    """The modules of a process, each with its rows compiled."""
+    """The modules of a process, each with its rows compiled. Threads may share it: each call waits for those
+    of other threads. `read` of a walk may look rows up in the process, but not change it."""
 
     def __init__(self, order: int = LITTLE, address_size: int = 8):
         self.order, self.address_size, self._handle = order, address_size, _Handle()
+        self._lock, self._walks = threading.RLock(), 0
+
+    @contextmanager
+    def _changing(self):
+        with self._lock:
+            if self._walks:
+                raise Error("`read` can't change the process that it reads for")
+            yield
 
     def add(self, section: bytes, load_address: int = 0, eh_frame: Optional[int] = None, is_aarch64: bool = False,
             addresses: Optional[Tuple[int, int]] = None, cookie: int = 0) -> int:
@@ -251,20 +264,23 @@ class Process:
         or for those that its section covers."""
         module = _module(section, load_address, eh_frame, is_aarch64, self.order, self.address_size, addresses, cookie)
         number, fault = _u64(), _Fault()
-        _check(_library.dwcheck_process_add(c.byref(self._handle), c.byref(module), c.byref(number), c.byref(fault)), fault)
+        with self._changing():
+            _check(_library.dwcheck_process_add(c.byref(self._handle), c.byref(module), c.byref(number), c.byref(fault)), fault)
         return number.value
 
     def remove(self, module: int) -> bool:
         """Removes the module with this id, and returns whether there was one."""
-        return _library.dwcheck_process_remove(c.byref(self._handle), _u64(module)) == _DONE
+        with self._changing():
+            return _library.dwcheck_process_remove(c.byref(self._handle), _u64(module)) == _DONE
 
     def row(self, address: int) -> Optional[Row]:
         """The row of an address as loaded, or None."""
         row, rules = _Row(), (_Rule * 128)()
-        if _library.dwcheck_row_at(c.byref(self._handle), _u64(address), c.byref(row), rules, _size(128)) != _DONE:
-            return None
-        by_register = {rule.reg: self._rule(address, rule.reg, rule, rule.source) for rule in rules[: row.count]}
-        cfa = self._rule(address, 0x10000, row.cfa, row.cfa.reg)
+        with self._lock:
+            if _library.dwcheck_row_at(c.byref(self._handle), _u64(address), c.byref(row), rules, _size(128)) != _DONE:
+                return None
+            by_register = {rule.reg: self._rule(address, rule.reg, rule, rule.source) for rule in rules[: row.count]}
+            cfa = self._rule(address, 0x10000, row.cfa, row.cfa.reg)
         return Row(row.start, row.end, cfa, by_register, row.return_reg, row.id, row.cookie, row.load_address)
 
     def _rule(self, address, number, rule, register):
@@ -289,21 +305,27 @@ class Process:
                        has_stack_pointer=abi.stack_pointer is not None)
         cursor, fault = _Cursor(), _Fault()
         _check(_library.dwcheck_cursor_init(c.byref(cursor), _u64(address), c.byref(state), exact, c.byref(fault)), fault)
-        return self._steps(cursor, state, read, limit)
+        with self._lock:
+            self._walks += 1
+            try:
+                return self._steps(cursor, state, read, limit)
+            finally:
+                self._walks -= 1
 
     def _steps(self, cursor, state, read, limit):
         raised = []
 
         def into(_, address, slots, length):
             try:
-                found = read(address, length)
-            except Exception as error:  # it can't pass through C
+                found = None if raised else read(address, length)
+                found = b"" if found is None else bytes(memoryview(found))
+                if len(found) < length:
+                    return False
+                c.memmove(slots, found, length)
+                return True
+            except BaseException as error:  # it can't pass through C
                 raised.append(error)
                 return False
-            if found is None or len(found) < length:
-                return False
-            c.memmove(slots, found, length)
-            return True
 
         reader = _Reader(read=_READ(into), order=self.order, address_size=self.address_size)
         walk, frame = Walk(), _Frame()
@@ -322,7 +344,8 @@ class Process:
 
     def close(self) -> None:
         """Releases all modules. A closed process may be used again."""
-        _library.dwcheck_process_close(c.byref(self._handle))
+        with self._changing():
+            _library.dwcheck_process_close(c.byref(self._handle))
 
     def __enter__(self):
         return self

@@ -42,6 +42,10 @@ class Rows(unittest.TestCase):
             self.assertEqual((row.rules[6].kind, row.rules[6].offset), ("offset", -16))
             self.assertIsNone(process.row(0x11020))
 
+    def test_a_range_without_addresses_is_refused(self):
+        with self.assertRaises(ValueError):
+            dwcheck.Process().add(WORKED, addresses=(0, 0))
+
     def test_a_removed_module_has_no_rows(self):
         process = dwcheck.Process()
         number = process.add(WORKED)
@@ -105,6 +109,27 @@ class Walks(unittest.TestCase):
     def test_an_exception_of_read_comes_out(self):
         with self.assertRaises(ZeroDivisionError):
             self.walk(read=lambda address, length: 1 // 0)
+        with self.assertRaises(KeyboardInterrupt):
+            self.walk(read=self.interrupted)
+        with self.assertRaises(TypeError):
+            self.walk(read=lambda address, length: "12345678")
+
+    @staticmethod
+    def interrupted(address, length):
+        raise KeyboardInterrupt
+
+    def test_memory_is_anything_like_bytes(self):
+        for kind in (bytearray, memoryview):
+            walk = self.walk(read=lambda address, length: kind(self.read(address, length) or b""))
+            self.assertEqual(walk.frames, self.walk().frames)
+
+    def test_read_cant_change_the_process(self):
+        process = dwcheck.Process()
+        number = process.add(WORKED)
+        for change in (process.close, lambda: process.remove(number), lambda: process.add(WORKED)):
+            with self.assertRaises(dwcheck.Error):
+                process.walk(0x1010, {6: 0x7000, 7: 0x6ff0}, lambda address, length: change())
+        self.assertIsNotNone(process.row(0x1010))
 
 
 if __name__ == "__main__":
