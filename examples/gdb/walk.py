@@ -1,6 +1,6 @@
-"""A command for gdb, `dwcheck`: prints the stack of the selected thread, as the library walks it. The
-library asks for the memory of each step, and gdb reads it: from a process, a core file, or a target
-at the other end of a line. Only the tables are read whole, from the memory of each module.
+"""A command for gdb, `dwcheck`: prints the stack of the selected thread, as the library walks it, on
+x86-64. The library asks for the memory of each step, and gdb reads it: from a process, a core file, or a
+target at the other end of a line. Only the tables are read whole, from the memory of each module.
 
     (gdb) source walk.py
     (gdb) dwcheck /usr/local/lib/libdwcheck.so
@@ -11,7 +11,7 @@ import struct
 import gdb
 
 DONE, EH_FRAME, LITTLE = 0, 1, 0
-PT_LOAD, PT_GNU_EH_FRAME, PCREL_SDATA4, FRAMES = 1, 0x6474E550, 0x1B, 256
+PT_LOAD, EXECUTABLE, PT_GNU_EH_FRAME, PCREL_SDATA4, FRAMES = 1, 1, 0x6474E550, 0x1B, 256
 # DWARF's numbers of registers on x86-64, and the names that gdb has for them
 NAMES = "rax rdx rcx rbx rsi rdi rbp rsp r8 r9 r10 r11 r12 r13 r14 r15 rip".split()
 KEPT, STACK_POINTER = (c.c_uint16 * 6)(3, 6, 12, 13, 14, 15), 7
@@ -52,12 +52,12 @@ def read(_, address, into, length):
 
 def section_of(base, segments):
     """The address and the bytes of the .eh_frame section of a module; the address counts from `base`."""
-    header = [vaddr for kind, vaddr, _ in segments if kind == PT_GNU_EH_FRAME]
+    header = [vaddr for kind, _, vaddr, _ in segments if kind == PT_GNU_EH_FRAME]
     start = memory(base + header[0], 8) if header else None
     if start is None or start[1] != PCREL_SDATA4:
         return None
     first = header[0] + 4 + struct.unpack("<i", start[4:])[0]
-    end = max(vaddr + length for kind, vaddr, length in segments if kind == PT_LOAD and vaddr <= first)
+    end = max(vaddr + length for kind, _, vaddr, length in segments if kind == PT_LOAD and vaddr <= first)
     at, part = 0, memory(base + first, end - first)
     while part and at + 4 <= len(part):
         length = struct.unpack_from("<I", part, at)[0]
@@ -67,29 +67,33 @@ def section_of(base, segments):
     return first, part[:at] if part else b""
 
 
+def add_module(library, process, base):
+    """Adds the module whose ELF header is at `base`, if there is one."""
+    start = memory(base, 64)
+    if start is None or start[:4] != b"\x7fELF":
+        return
+    kind, at, count = struct.unpack_from("<H", start, 16)[0], struct.unpack_from("<Q", start, 32)[0], struct.unpack_from("<H", start, 56)[0]
+    load = base if kind == 3 else 0
+    entries = (struct.unpack_from("<IIQQQQ", memory(base + at, 56 * count), 56 * i) for i in range(count))
+    segments = [(kind, flags, vaddr, length) for kind, flags, _, vaddr, _, length in entries]
+    code = [(load + vaddr, load + vaddr + length) for kind, flags, vaddr, length in segments if kind == PT_LOAD and flags & EXECUTABLE]
+    found = section_of(load, segments)
+    if found and code:
+        module = Module(frame=found[1], frame_length=len(found[1]), load_address=load, first=min(code)[0], last=max(code)[1] - 1,
+                        room=2**64 - 1, order=LITTLE, address_size=8, has_range=1, kind=EH_FRAME, section_address=found[0])
+        library.dwcheck_process_add(c.byref(process), c.byref(module), c.byref(u64()), c.byref(Fault()))
+
+
 def add_modules(library, process):
-    """Adds each module whose ELF header is mapped: its code is in a later mapping of the same file."""
-    base, name = None, None
+    """Adds each module that is mapped: the first mapping of its file has its ELF header. A line has the first
+    and the last address, the length, the offset in the file, of a process the permissions, and the file."""
+    names = set()
     for line in gdb.execute("info proc mappings", to_string=True).splitlines():
         words = line.split()
-        if len(words) < 6 or not words[0].startswith("0x"):
+        if len(words) < 5 or not words[0].startswith("0x") or int(words[3], 16) != 0 or words[-1] in names:
             continue
-        first, end, offset = int(words[0], 16), int(words[1], 16), int(words[3], 16)
-        if offset == 0 and words[-1] != name:
-            base, name = first, words[-1]
-            start = memory(base, 64)
-            if start is None or start[:4] != b"\x7fELF":
-                base = None
-        if base is None or "x" not in words[4] or words[-1] != name:
-            continue
-        kind, at, count = struct.unpack_from("<H", start, 16)[0], struct.unpack_from("<Q", start, 32)[0], struct.unpack_from("<H", start, 56)[0]
-        load = base if kind == 3 else 0
-        entries = (struct.unpack_from("<IIQQQQ", memory(base + at, 56 * count), 56 * i) for i in range(count))
-        found = section_of(load, [(entry[0], entry[3], entry[5]) for entry in entries])
-        if found:
-            module = Module(frame=found[1], frame_length=len(found[1]), load_address=load, first=first, last=end - 1, room=2**64 - 1,
-                            order=LITTLE, address_size=8, has_range=1, kind=EH_FRAME, section_address=found[0])
-            library.dwcheck_process_add(c.byref(process), c.byref(module), c.byref(u64()), c.byref(Fault()))
+        names.add(words[-1])
+        add_module(library, process, int(words[0], 16))
 
 
 def frames(path):
