@@ -12,7 +12,7 @@
 #include <unistd.h>
 
 /* The red zone of 128 bytes below the stack pointer belongs to the interrupted function. */
-enum { DEPTH = 10, FRAMES = 64, ALTERNATE = 8192, GUARD = 4096, RED_ZONE = 128 };
+enum { DEPTH = 10, FRAMES = 64, PAGE = 4096, ALTERNATE = 2 * PAGE, RED_ZONE = 128 };
 
 /* ---- writing text: a line is put together here, and written by one call */
 
@@ -93,11 +93,14 @@ static void on_crash(int signal, siginfo_t *why, void *context) {
 }
 
 /* Gives the calling thread an alternate stack for the handler, since its own stack may have no room
-   left. Each thread needs one. If it overflows, it meets a page that can't be used. */
+   left. Each thread needs one, and frees it before it ends: sigaltstack with SS_DISABLE, then munmap. If
+   the stack overflows, it meets a page that can't be used. 8 KB are enough if the kernel needs at most one
+   page of them for what it saves. */
 static int prepare_thread(void) {
-    char *bytes = mmap(NULL, GUARD + ALTERNATE, PROT_READ | PROT_WRITE, MAP_PRIVATE | MAP_ANONYMOUS, -1, 0);
-    if (bytes == MAP_FAILED || mprotect(bytes, GUARD, PROT_NONE) != 0) return 0;
-    return sigaltstack(&(stack_t){.ss_sp = bytes + GUARD, .ss_size = ALTERNATE}, NULL) == 0;
+    size_t saved = (size_t)sysconf(_SC_MINSIGSTKSZ), size = ALTERNATE + (saved > PAGE ? saved / PAGE * PAGE : 0);
+    char *bytes = mmap(NULL, PAGE + size, PROT_READ | PROT_WRITE, MAP_PRIVATE | MAP_ANONYMOUS, -1, 0);
+    if (bytes == MAP_FAILED || mprotect(bytes, PAGE, PROT_NONE) != 0) return 0;
+    return sigaltstack(&(stack_t){.ss_sp = bytes + PAGE, .ss_size = size}, NULL) == 0;
 }
 
 /* ---- the code that crashes */
@@ -119,7 +122,7 @@ int main(void) {
     if (!prepare_thread()) return 1;
     if (dwcheck_dl_update(NULL) != DWCHECK_DONE) return 1;
     struct sigaction action = {.sa_sigaction = on_crash, .sa_flags = SA_SIGINFO | SA_ONSTACK | SA_RESETHAND};
-    sigaction(SIGSEGV, &action, NULL);
+    if (sigaction(SIGSEGV, &action, NULL) != 0) return 1;
     if (pthread_create(&worker, NULL, work, NULL) != 0) return 1;
     pthread_join(worker, NULL);
     return 0;

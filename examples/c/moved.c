@@ -42,17 +42,18 @@ __attribute__((noinline)) static void print_stack(void) {
 #include <dwcheck-dl.h>
 
 __attribute__((noinline)) static void print_stack(void) {
+    /* What a step writes isn't on the stack, since the step reads the stack. */
+    static dwcheck_cursor cursor;
+    static dwcheck_frame frame;
+    static dwcheck_fault fault;
     ucontext_t context;
-    dwcheck_cursor cursor;
-    dwcheck_frame frame;
-    dwcheck_fault fault;
     uint64_t registers[REGISTERS];
-    dwcheck_dl_update(NULL);
+    if (dwcheck_dl_update(NULL) != DWCHECK_DONE) abort();
     getcontext(&context);                                                /* unw_getcontext */
     copy_registers(&context, registers);
     dwcheck_block stack = dwcheck_dl_stack(registers[7]);
     dwcheck_state state = state_of(registers, &stack);
-    dwcheck_cursor_init(&cursor, registers[16], &state, 1, &fault);      /* unw_init_local2 */
+    if (dwcheck_cursor_init(&cursor, registers[16], &state, 1, &fault) != DWCHECK_DONE) abort(); /* unw_init_local2 */
     const dwcheck_process *process = dwcheck_dl_begin();
     while (dwcheck_cursor_step(process, &cursor, &state, &frame) == DWCHECK_DONE /* unw_step */
            && cursor.stage <= DWCHECK_CURSOR_CALLER)

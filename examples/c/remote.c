@@ -82,5 +82,7 @@ void print_stack(const dwcheck_process *process, const dwcheck_reader *reader, c
     dwcheck_fault fault;
     if (dwcheck_cursor_init(&cursor, r->rip, &state, 1, &fault) != DWCHECK_DONE) return;
     for (int i = 0; i < FRAMES && dwcheck_cursor_step_with(process, &cursor, &state, reader, &frame) == DWCHECK_DONE; i++)
-        printf("frame %d 0x%016" PRIx64 " cfa 0x%016" PRIx64 "\n", i, frame.address, frame.cfa.value);
+        if (frame.cfa.kind == DWCHECK_ANSWER_VALUE)
+            printf("frame %d 0x%016" PRIx64 " cfa 0x%016" PRIx64 "\n", i, frame.address, frame.cfa.value);
+        else printf("frame %d 0x%016" PRIx64 "\n", i, frame.address);
 }

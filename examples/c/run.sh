@@ -39,17 +39,19 @@ while frame:
 END
 
 same_as_gdb() { # LEAST: the frames that an example printed are those that gdb printed, and at least LEAST
-    sed -n 's/^frame [0-9]* \(0x[0-9a-f]*\) .*/\1/p' "$out/frames" > "$out/ours"
+    sed -n 's/^frame [0-9]* \(0x[0-9a-f]*\).*/\1/p' "$out/frames" > "$out/ours"
     sed -n 's/^gdb \(0x[0-9a-f]*\)$/\1/p' "$out/gdb" | diff "$out/ours" - && [ "$(wc -l < "$out/ours")" -ge "$1" ]
 }
 
 attached() { # the frames of a process that waits, beside gdb's
     "$out/waiting" &
     sleeper=$!
+    trap 'kill "$sleeper"; rm -rf "$out"' EXIT
     sleep 1 # until it has begun
     "$out/attach" $sleeper > "$out/frames" || return 1
     gdb -q -batch -ex "set backtrace past-main on" -x "$out/frames.py" -p $sleeper > "$out/gdb" 2>&1
     kill $sleeper
+    trap 'rm -rf "$out"' EXIT
     same_as_gdb 5
 }
 

@@ -23,10 +23,11 @@ __attribute__((noinline)) static void print_stack(void) {
     copy_registers(&context, registers);
     dwcheck_block stack = dwcheck_dl_stack(registers[7]);
     dwcheck_state state = state_of(registers, &stack);
-    dwcheck_frame frames[FRAMES];
-    dwcheck_fault fault;
-    size_t count;
-    uint32_t stop;
+    /* What the call writes isn't on the stack, since the call reads the stack. */
+    static dwcheck_frame frames[FRAMES];
+    static dwcheck_fault fault;
+    static size_t count;
+    static uint32_t stop;
     const dwcheck_process *process = dwcheck_dl_begin();
     if (dwcheck_backtrace(process, registers[16], &state, frames, FRAMES, &count, &stop, &fault) != DWCHECK_DONE) abort();
     dwcheck_dl_end();
