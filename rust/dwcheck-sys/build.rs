@@ -17,9 +17,8 @@ const MAJOR: &str = "2";
 /// The same in pkg-config's words.
 const VERSIONS: &str = "dwcheck >= 2 dwcheck < 3";
 
-/// The libraries to link if DWCHECK_LIBS isn't set: one library that has everything, or, if it
-/// isn't there, the C interface and the library through which that calls malloc and free.
-const KNOWN: [&[&str]; 2] = [&["dwcheck"], &["dwcheck_c", "libc_c"]];
+/// The library to link if DWCHECK_LIBS isn't set.
+const LIBRARY: &str = "dwcheck";
 
 fn main() {
     for name in [DIRS, NAMES, "PKG_CONFIG", "PKG_CONFIG_PATH"] {
@@ -54,7 +53,7 @@ fn from_folders(dirs: &OsStr) -> Result<(), String> {
                 .collect();
             find_all(&folders, &names)?
         }
-        Err(_) => find_known(&folders)?,
+        Err(_) => find_all(&folders, &[LIBRARY])?,
     };
     for library in found {
         check_version(&library.folder)?;
@@ -92,18 +91,6 @@ fn check_version(folder: &Path) -> Result<(), String> {
         }
     }
     Ok(())
-}
-
-fn find_known(folders: &[PathBuf]) -> Result<Vec<Found>, String> {
-    for names in KNOWN {
-        if let Ok(found) = find_all(folders, names) {
-            return Ok(found);
-        }
-    }
-    Err(format!(
-        "{} has neither libdwcheck nor both of libdwcheck_c and liblibc_c; {} gives other names",
-        DIRS, NAMES
-    ))
 }
 
 fn find_all(folders: &[PathBuf], names: &[&str]) -> Result<Vec<Found>, String> {

@@ -622,11 +622,12 @@ extern "C" {
     ) -> u32;
 
     /// Writes the caller of the frame at `address`, an address as loaded, by the row that
-    /// dwcheck_row_at gives for it. The address itself is looked up, so to find the caller's own
-    /// caller, pass the caller's return address, without its signed bits, minus 1. The caller's registers go into `registers`
-    /// in ascending order, as many as fit. Returns DONE; NONE if there is no row; or REFUSED if the
-    /// ABI names too many registers or names one twice. Only DONE writes `caller` and `registers`,
-    /// and only REFUSED writes `fault`. The call neither allocates nor frees.
+    /// dwcheck_row_at gives for it. The address itself is looked up. So for the caller's own caller,
+    /// pass the caller's return address without its signed bits, minus 1 unless
+    /// dwcheck_is_signal_frame wrote 1 for `address`. The caller's registers go into `registers` in
+    /// ascending order, as many as fit. Returns DONE; NONE if there is no row; or REFUSED if the ABI
+    /// names too many registers or names one twice. Only DONE writes `caller` and `registers`, and
+    /// only REFUSED writes `fault`. The call neither allocates nor frees.
     pub fn dwcheck_unwind(
         process: *const Process,
         address: u64,

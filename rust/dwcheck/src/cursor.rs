@@ -7,6 +7,7 @@ use crate::state::State;
 use crate::walk::{Frame, Stop};
 use std::any::Any;
 use std::fmt;
+use std::iter::FusedIterator;
 use std::os::raw::c_void;
 use std::panic::{catch_unwind, resume_unwind, AssertUnwindSafe};
 use std::slice;
@@ -313,16 +314,19 @@ impl Process {
             process: self,
             cursor: Cursor::new(address, state)?,
             state: *state,
+            has_failed: false,
         })
     }
 }
 
-/// An iterator over the frames of a stack. [`Process::frames`] makes it.
+/// An iterator over the frames of a stack. [`Process::frames`] makes it. After an error there are no
+/// more frames.
 #[derive(Clone, Debug)]
 pub struct Frames<'a> {
     process: &'a Process,
     cursor: Cursor,
     state: State<'a>,
+    has_failed: bool,
 }
 
 impl Frames<'_> {
@@ -336,6 +340,13 @@ impl Iterator for Frames<'_> {
     type Item = Result<Frame, Error>;
 
     fn next(&mut self) -> Option<Result<Frame, Error>> {
-        self.process.step(&mut self.cursor, &self.state).transpose()
+        if self.has_failed {
+            return None;
+        }
+        let found = self.process.step(&mut self.cursor, &self.state);
+        self.has_failed = found.is_err();
+        found.transpose()
     }
 }
+
+impl FusedIterator for Frames<'_> {}

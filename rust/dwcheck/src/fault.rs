@@ -68,7 +68,8 @@ fault_kinds! {
     ReservedLength = 3,
     /// A CIE's version isn't 1, 3 or 4. Reported at the version byte.
     Version = 4,
-    /// A CIE's augmentation string isn't empty. Reported at the string's first byte.
+    /// A CIE's augmentation isn't empty, or in `.eh_frame` isn't known. Reported at its string, or at
+    /// a pointer without a base.
     Augmentation = 5,
     /// The address size in a CIE or list table isn't the target's. Reported at the address size.
     AddressSize = 6,

@@ -1,10 +1,10 @@
 //! Checks `.debug_frame` and `.debug_loclists` sections of DWARF 5, and unwinds stacks with
 //! `.debug_frame` and `.eh_frame`.
 //!
-//! This is a safe wrapper over the C interface of `dwcheck`, a library whose every function is
-//! proved to meet its contract, to terminate, and to be safe on every input. The proofs cover the
-//! library, except for the C that [`Process::step_with`] runs over proved steps, and the texts of
-//! [`FaultKind::rule`]. They don't cover this crate, which uses `unsafe` to call the C interface.
+//! This is a safe wrapper over the C interface of `dwcheck`, a library that is proved to meet its
+//! contracts, to terminate, and to be safe on every input. The proofs cover the library, except for
+//! the C that [`Process::step_with`] runs over proved steps, and the texts of [`FaultKind::rule`].
+//! They don't cover this crate, which uses `unsafe` to call the C interface.
 //!
 //! - [`check`] checks a frame section and location lists, and [`report`] also says what they contain.
 //! - A [`FrameSection`] is checked by itself, `.eh_frame` too, or read record by record.

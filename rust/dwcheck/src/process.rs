@@ -32,10 +32,10 @@ const EXPRESSION_BYTES: usize = 64;
 /// at once, by `&self`, and no lock is taken. To change modules while others read, change another
 /// process, which [`share`](Process::share) makes without copying the tables.
 ///
-/// As measured on x86-64, [`add`](Process::add) takes 84 KB of stack. The walks take 3 KB, or 19 KB
-/// if a register with a number of 96 or more has a known content, and [`unwind`](Process::unwind)
-/// takes 7 KB; each takes 2 KB more if a rule is an expression. If a thread's stack is too small, the
-/// program ends, as with any stack overflow.
+/// As measured on x86-64, [`add`](Process::add) takes 84 KB of stack. The walks take 2 KB, 4 KB if a
+/// rule is an expression, and 18 KB if a register with a number of 96 or more has a known content;
+/// [`unwind`](Process::unwind) takes 12 KB. If a thread's stack is too small, the program ends, as
+/// with any stack overflow.
 ///
 /// ```
 /// # const SECTION: &[u8] = &[
@@ -73,10 +73,10 @@ unsafe impl Send for Process {}
 
 // SAFETY: the calls that this crate makes with a `&Process` only read: `dwcheck_module_at`,
 // `dwcheck_row_at`, `dwcheck_is_signal_frame`, `dwcheck_rule_bytes`, `dwcheck_unwind`,
-// `dwcheck_backtrace`, `dwcheck_backtrace_cached`, `dwcheck_cursor_step` and `dwcheck_process_share`
-// take the process by a pointer to const, and the library allows any number of them at once, in any
-// threads. The calls that change a process,
-// `dwcheck_process_add`, `_remove` and `_close`, are made with a `&mut Process`.
+// `dwcheck_backtrace`, `dwcheck_backtrace_cached`, `dwcheck_cursor_step`, `dwcheck_cursor_step_with`
+// and `dwcheck_process_share` take the process by a pointer to const, and the library allows any
+// number of them at once, in any threads. The calls that change a process, `dwcheck_process_add`,
+// `_remove` and `_close`, are made with a `&mut Process`.
 unsafe impl Sync for Process {}
 
 impl Process {
@@ -254,8 +254,8 @@ impl Process {
     }
 
     /// Whether an address, as loaded, is one of a signal frame, to which a signal handler returns, by
-    /// the module's `.eh_frame`. Walks ask so of the address that they look up for a frame, and look
-    /// up the caller of a signal frame at its own address, since it was interrupted there.
+    /// the module's `.eh_frame`. A walk makes this test at each address that it looks up. The caller
+    /// of a signal frame was interrupted, so a walk looks it up at its own address.
     pub fn is_signal_frame(&self, address: u64) -> bool {
         let mut flag = 0;
         // SAFETY: the process is only read, and `flag` is a local.
@@ -344,10 +344,10 @@ impl Process {
 
     /// The caller of the frame at an address, by the row that [`row`](Process::row) gives.
     ///
-    /// The result is `None` if there is no row. To find the caller's own caller, call this
-    /// again with [`Caller::known`] as the registers, and with the caller's return address minus
-    /// one, which is an address within the call instruction; or use [`backtrace`]. Memory is
-    /// allocated only for the `Vec` of registers in the returned [`Caller`].
+    /// The result is `None` if there is no row. To find the caller's own caller, call this again with
+    /// [`Caller::known`] as the registers, and with the return address without its signed bits, minus
+    /// one unless this address [is a signal frame's](Process::is_signal_frame); or use [`backtrace`].
+    /// Memory is allocated only for the `Vec` of registers in the returned [`Caller`].
     ///
     /// # Errors
     ///

@@ -288,6 +288,24 @@ fn registers_without_a_place_are_refused_by_a_cursor() {
 }
 
 #[test]
+fn frames_end_after_an_error() {
+    // def_cfa r7 + 16, offset r16, and offset_extended r97 (DWARF 5, 6.4.2.3)
+    let process = process_at(&with_program("0c0710 9001 056102"), 0);
+    let registers = Registers::from([(7, 0x7f00)]);
+    let stack = words(&[5, 0x1010]);
+    let memory = [Block::new(0x7f00, &stack)];
+    let state = State {
+        registers: &registers,
+        memory: &memory,
+        abi: Abi::X86_64,
+    };
+    let mut frames = process.frames(0x1010, &state).unwrap();
+    assert_eq!(frames.next(), Some(Err(Error::NoPlace)));
+    assert_eq!(frames.next(), None);
+    assert_eq!(frames.cursor().address(), 0x1010);
+}
+
+#[test]
 fn walks_into_slots() {
     let process = process_at(&row_1(), 0);
     let registers = Registers::from([(6, 0x7f00)]);
