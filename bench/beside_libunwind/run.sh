@@ -12,7 +12,7 @@
 #            dwcheck_backtrace_cached and dwcheck_row_at are timed too
 #   WORK     a folder; what is built stays there
 #   LIBRARY  a file to link instead of building crates/dw_times
-# This needs x86-64, gcc and Debian's libunwind-dev (apt-get install libunwind-dev).
+# This needs the kit (rt), x86-64, gcc and Debian's libunwind-dev (apt-get install libunwind-dev).
 set -eu
 here=$(cd "$(dirname "$0")" && pwd)
 checkout=$(cd "$here" && git rev-parse --show-toplevel)

@@ -250,8 +250,8 @@ static double time_of_walks(const dwcheck_process *process, const WalkStart *sta
 }
 
 /* Times walks with dwcheck_backtrace and dwcheck_backtrace_cached of libdwcheck, as a C program would
-   call them. They must find the same frames as bench_walk. */
-static void through_c(const LoadedSection *first, size_t count, const WalkStart *start)
+   call them. They must find the same frames as bench_walk, `wanted` of them. */
+static void through_c(const LoadedSection *first, size_t count, const WalkStart *start, uint64_t wanted)
 {
     static const uint8_t known[] = {0xff, 0xff, 0x01};
     static const uint16_t kept[] = {3, 6, 12, 13, 14, 15};
@@ -272,8 +272,10 @@ static void through_c(const LoadedSection *first, size_t count, const WalkStart 
     for (int cached = 0; cached < 2; cached++) {
         uint32_t done = cached ? dwcheck_backtrace_cached(&process, start->address, &state, found, PLACES, &frame_count, &stop, &cache, &fault)
                                : dwcheck_backtrace(&process, start->address, &state, found, PLACES, &frame_count, &stop, &fault);
+        if (done != DWCHECK_DONE || frame_count != wanted)
+            status = 1;
         for (size_t i = 0; i < frame_count; i++)
-            if (done != DWCHECK_DONE || found[i].address != frames[i].address || found[i].cfa.value != frames[i].cfa)
+            if (found[i].address != frames[i].address || found[i].cfa.value != frames[i].cfa)
                 status = 1;
     }
     printf("  %zu modules; %zu frames, stop %u; %s\n", count, frame_count, stop, status ? "not ours" : "ours");
@@ -300,16 +302,16 @@ static __attribute__((noinline)) int measured(void)
     by_elfutils(&start, frame_count);
 #endif
 #ifdef THROUGH_C
-    through_c(sections + section_count - 2, 2, &start);
+    through_c(sections + section_count - 2, 2, &start, frame_count);
     rows_through_c(sections + section_count - 2, frame_count);
 #endif
-    (void)frame_count;
     if (section_count > 2) {
-        compared("with the others in front", sections, section_count, &start, &context);
+        frame_count = compared("with the others in front", sections, section_count, &start, &context);
 #ifdef THROUGH_C
-        through_c(sections, section_count, &start);
+        through_c(sections, section_count, &start, frame_count);
 #endif
     }
+    (void)frame_count;
     free(copy);
     return 1;
 }
