@@ -28,8 +28,9 @@
    - Those calls may be left by siglongjmp, since they hold no lock and no memory. What their pointers without const
      point to is then unspecified.
    - The proofs cover calls in threads, but not a call in a signal handler that interrupts another one with the same
-     process, nor in the child of a fork, nor one that is left, nor later changes of a process on which a call was
-     left. c/tests/readers.c tests all of these.
+     process, in the child of a fork, or that is left, nor later changes of a process on which a call was left:
+     c/tests/readers.c tests all of these. Nor do they cover a walk over a live stack to which other threads write
+     meanwhile.
    - The stack is large enough. As measured on x86-64, dwcheck_backtrace and dwcheck_backtrace_cached take 1.7 KB,
      dwcheck_unwind 7.2 KB and dwcheck_cursor_step 1.6 KB; if a rule is an expression, 3.7, 7.6 and 3.6 KB; and the
      first two take 18 KB if a register of 96 or more is known. dwcheck_process_add takes 84 KB, dwcheck_check and
@@ -37,9 +38,9 @@
      every other call less than 4 KB.
    - Fields called `reserved` are set to 0. A later version may give them a meaning.
 
-   Only DONE writes what a call gives or changes, and only REFUSED writes `fault`, unless the call says otherwise. Only
-   calls that may return NO_MEMORY allocate memory, and dwcheck_cursor_step_with. Only these, dwcheck_process_remove and
-   dwcheck_process_close free memory.
+   A call writes its results only if it returns DONE, and `fault` only if it returns REFUSED, unless its comment says
+   otherwise. Only calls that may return NO_MEMORY allocate memory, and dwcheck_cursor_step_with. Only these,
+   dwcheck_process_remove and dwcheck_process_close free memory.
 
    A later version may add values to enumerations, so treat a value that you don't know as "something else". It may
    add fields to structures, but only in place of fields named `reserved`. Registers are given by their DWARF numbers.
@@ -180,10 +181,10 @@ uint32_t dwcheck_process_add(dwcheck_process *process, const dwcheck_module *mod
    the module's table if no other process shares it. */
 uint32_t dwcheck_process_remove(dwcheck_process *process, uint64_t id);
 
-/* Makes `other` a process with the modules of `process`, after closing what `other` was before. If `process` is
-   closed, `other` is closed too. The modules keep their ids. The tables are shared, not copied, and are freed with the
-   last process that has them. Adding modules to one of the two processes, or removing them, doesn't change the other.
-   Returns DONE; or NO_MEMORY, and then `other` is unchanged. */
+/* Closes `other`, which is a process or DWCHECK_CLOSED, and makes it a process with the modules of `process`. If
+   `process` is closed, `other` is closed too. The modules keep their ids. The tables are shared, not copied, and are
+   freed with the last process that has them. Adding modules to one of the two processes, or removing them, doesn't
+   change the other. Returns DONE; or NO_MEMORY, and then `other` is unchanged. */
 uint32_t dwcheck_process_share(const dwcheck_process *process, dwcheck_process *other);
 
 /* Releases all modules and closes the process. A closed process may be closed again. */
@@ -254,8 +255,8 @@ uint32_t dwcheck_row_at(const dwcheck_process *process, uint64_t address, dwchec
                         size_t rules_length);
 
 /* Writes 1 to `is_signal_frame` if `address`, as loaded, is one of a signal frame, to which a signal handler returns,
-   by the module's .eh_frame, else 0. Walks ask so of the address that they look up for a frame, and look up the caller
-   of a signal frame, which was interrupted, at its own address. Returns DONE. */
+   by the module's .eh_frame, else 0. A walk makes this test at each address that it looks up. The caller of a signal
+   frame was interrupted, so a walk looks it up at its own address. Returns DONE. */
 uint32_t dwcheck_is_signal_frame(const dwcheck_process *process, uint64_t address, uint32_t *is_signal_frame);
 
 /* Writes the bytes of a rule's expression to `bytes`, as many as fit, and their number to `size`. The rule is that of
@@ -305,9 +306,10 @@ typedef struct dwcheck_caller { dwcheck_answer cfa, return_address; uint64_t cou
 
 #define DWCHECK_MAX_REGISTERS 256
 /* Writes the caller of the frame at `address`, an address as loaded, by the row that dwcheck_row_at gives for it. The
-   address itself is looked up, so to find the caller's own caller, pass the caller's return address, without its
-   signed bits, minus 1. The caller's registers go into `registers` in ascending order, as many as fit. Returns DONE;
-   NONE if there is no row; or REFUSED if the ABI names too many registers or names one twice. */
+   address itself is looked up. So for the caller's own caller, pass the caller's return address without its signed
+   bits, minus 1 unless dwcheck_is_signal_frame wrote 1 for `address`. The caller's registers go into `registers` in
+   ascending order, as many as fit. Returns DONE; NONE if there is no row; or REFUSED if the ABI names too many
+   registers or names one twice. */
 uint32_t dwcheck_unwind(const dwcheck_process *process, uint64_t address, const dwcheck_state *state, dwcheck_caller *caller,
                         dwcheck_register *registers, size_t registers_length, dwcheck_fault *fault);
 
@@ -348,8 +350,8 @@ uint32_t dwcheck_backtrace_cached(const dwcheck_process *process, uint64_t addre
                                   dwcheck_frame *frames, size_t frames_length, size_t *count, uint32_t *stop,
                                   dwcheck_cache *cache, dwcheck_fault *fault);
 
-/* The stages of a cursor: the frame is looked up at its address, as it was interrupted or is the first; or at its
-   address minus 1, inside of the call. A greater stage, minus 1, is the reason why the walk has ended. */
+/* The stages of a cursor: a frame that is the first one, or that was interrupted, is looked up at its address; any
+   other at its address minus 1, inside of the call. A greater stage, minus 1, is the reason why the walk has ended. */
 enum { DWCHECK_CURSOR_EXACT = 0, DWCHECK_CURSOR_CALLER = 1 };
 
 /* Where a walk up a stack is: the address of a frame as loaded, and its registers. The value of register n is
@@ -372,7 +374,7 @@ uint32_t dwcheck_cursor_init(dwcheck_cursor *cursor, uint64_t address, const dwc
    are those of `state`, and the registers those of the cursor. Whether the ABI is faulty isn't looked at:
    dwcheck_cursor_init has done that. If there is no caller, the cursor keeps the frame's address and registers, and
    its stage says why. So n steps give what dwcheck_backtrace writes to n frames. Returns DONE; NONE if the walk has
-   ended; or NO_PLACE if a register of the caller with a number of 96 or more has a rule. */
+   ended; or NO_PLACE if a register of the caller with a number of 96 or more would be known. */
 uint32_t dwcheck_cursor_step(const dwcheck_process *process, dwcheck_cursor *cursor, const dwcheck_state *state,
                              dwcheck_frame *frame);
 
