@@ -486,7 +486,7 @@ fn finds_locations(rt: &impl Abort, lists: &CheckedLists<'_>) {
     }
 }
 
-/// A check, followed by every call that doesn't allocate.
+/// A check, followed by calls that don't allocate.
 fn looks_up(rt: &impl Abort, alloc: Global) -> bool {
     let Ok(checked) = check(alloc, &EXPRESSIONS, &PAIR_AND_DEFAULT, LITTLE) else {
         return false;
