@@ -28,7 +28,7 @@ typedef struct dwcheck_dl_counts { uint32_t modules, added, removed, left_out; }
    If none came or went, the call returns at once. `counts` may be NULL. Returns DWCHECK_DONE; or
    DWCHECK_NO_MEMORY: then some may have been added or removed, and the next update does the rest. The
    call takes a lock and allocates, so neither a signal handler nor the child of a fork in a program with
-   threads may make it. The loader keeps its modules while the call looks at them. It takes some 90 KB of
+   threads may make it. The loader keeps its modules while the call looks at them. It takes some 50 KB of
    stack. */
 uint32_t dwcheck_dl_update(dwcheck_dl_counts *counts);
 

@@ -32,7 +32,7 @@ const EXPRESSION_BYTES: usize = 64;
 /// at once, by `&self`, and no lock is taken. To change modules while others read, change another
 /// process, which [`share`](Process::share) makes without copying the tables.
 ///
-/// As measured on x86-64, [`add`](Process::add) takes 84 KB of stack. The walks take 2 KB, 4 KB if a
+/// As measured on x86-64, [`add`](Process::add) takes 50 KB of stack. The walks take 2 KB, 4 KB if a
 /// rule is an expression, and 18 KB if a register with a number of 96 or more has a known content;
 /// [`unwind`](Process::unwind) takes 12 KB. If a thread's stack is too small, the program ends, as
 /// with any stack overflow.
