@@ -1,5 +1,5 @@
-/* dwcheck: checks the .debug_frame and .debug_loclists sections of DWARF 5, unwinds stacks, looks up location lists,
-   and evaluates expressions.
+/* dwcheck: checks .eh_frame sections, and the .debug_frame and .debug_loclists sections of DWARF 5; unwinds stacks,
+   looks up location lists, and evaluates expressions.
 
    Each call, but for the three that give texts and dwcheck_cursor_step_with, is proved to meet its contract, which is
    written at the function of the same name in crates/dwcheck_c/src; before that, a few lines of C replace NULL by an
@@ -35,7 +35,8 @@
      dwcheck_unwind 7.2 KB and dwcheck_cursor_step 1.6 KB; if a rule is an expression, 3.7, 7.6 and 3.6 KB; and the
      first two take 18 KB if a register of 96 or more is known. dwcheck_process_add takes 50 KB, dwcheck_module_check
      45 KB, dwcheck_check and dwcheck_report 40 KB, dwcheck_cursor_step_with 21 KB, dwcheck_evaluate 12 KB,
-     dwcheck_process_share 5 KB, and every other call less than 4 KB.
+     dwcheck_process_share 5 KB, and every other call less than 4 KB. A first call may take 3 KB more, in a program
+     with libdwcheck.a that isn't linked with -Wl,-z,now.
    - Fields called `reserved` are set to 0. A later version may give them a meaning.
 
    A call writes its results only if it returns DONE, and `fault` only if it returns REFUSED, unless its comment says
