@@ -32,10 +32,11 @@ static int is_inside(struct bytes all, uint64_t offset, uint64_t length) {
     return offset <= all.length && length <= all.length - offset;
 }
 
-/* The .debug_frame section of an ELF file; none if the file has no such section, or if the section is
+/* The section of an ELF file with this name; NULL if the file has no such section, or if the section is
    compressed. */
-static struct bytes debug_frame(struct bytes file) {
-    const struct bytes none = {NULL, 0};
+static const ElfW(Shdr) *section_of(struct bytes file, const char *wanted) {
+    const ElfW(Shdr) *const none = NULL;
+    const size_t wanted_size = strlen(wanted) + 1;
     const ElfW(Ehdr) *header = (const void *)file.first;
     if (file.length < sizeof *header || memcmp(file.first, ELFMAG, SELFMAG) != 0) return none;
     if (header->e_ident[EI_CLASS] != ELFCLASS64 || header->e_shentsize != sizeof(ElfW(Shdr))) return none;
@@ -47,12 +48,11 @@ static struct bytes debug_frame(struct bytes file) {
     if (!is_inside(file, names->sh_offset, names->sh_size)) return none;
     for (size_t i = 0; i < header->e_shnum; i++) {
         const ElfW(Shdr) *section = &sections[i];
-        const char wanted[] = ".debug_frame";
-        if (section->sh_name < names->sh_size && names->sh_size - section->sh_name >= sizeof wanted
-            && memcmp(file.first + names->sh_offset + section->sh_name, wanted, sizeof wanted) == 0
+        if (section->sh_name < names->sh_size && names->sh_size - section->sh_name >= wanted_size
+            && memcmp(file.first + names->sh_offset + section->sh_name, wanted, wanted_size) == 0
             && section->sh_type != SHT_NOBITS && !(section->sh_flags & SHF_COMPRESSED)
             && is_inside(file, section->sh_offset, section->sh_size))
-            return (struct bytes){file.first + section->sh_offset, section->sh_size};
+            return section;
     }
     return none;
 }
@@ -135,7 +135,13 @@ static int set_range(dwcheck_module *module, const struct dl_phdr_info *info) {
 }
 
 static uint64_t sum_of(uint64_t sum, const void *bytes, size_t length) {
-    for (size_t i = 0; i < length; i++) sum = (sum ^ ((const unsigned char *)bytes)[i]) * 0x100000001b3;
+    const unsigned char *at = bytes, *end = at + length;
+    for (uint64_t word; (size_t)(end - at) >= sizeof word; at += sizeof word) {
+        memcpy(&word, at, sizeof word);
+        sum = (sum ^ word) * 0x100000001b3;
+        sum ^= sum >> 32;
+    }
+    for (; at != end; at++) sum = (sum ^ *at) * 0x100000001b3;
     return sum;
 }
 
@@ -149,26 +155,39 @@ uint64_t dwcheck_dl_checksum(const struct dl_phdr_info *info) {
             sum = sum_of(sum, (const void *)first, segment->p_filesz < MOST ? segment->p_filesz : MOST);
     }
     struct bytes section = eh_frame(info);
-    sum = sum_of(sum, section.first, section.length < MOST ? section.length : MOST);
+    sum = sum_of(sum, section.first, section.length);
     return sum_of(sum, info->dlpi_name, strlen(info->dlpi_name));
+}
+
+/* Whether the segments of this type that are writable and executable as `flags` say are in memory as they are
+   in the file. */
+static int has_same(struct bytes file, const struct dl_phdr_info *info, uint32_t type, uint32_t flags) {
+    for (size_t i = 0; i < info->dlpi_phnum; i++) {
+        const ElfW(Phdr) *segment = &info->dlpi_phdr[i];
+        uintptr_t first = info->dlpi_addr + segment->p_vaddr, end = end_of_segment(info, first);
+        if (segment->p_type == type && (segment->p_flags & (PF_W | PF_X)) == flags && end != 0 && segment->p_filesz <= end - first
+            && (!is_inside(file, segment->p_offset, segment->p_filesz)
+                || memcmp(file.first + segment->p_offset, (const void *)first, segment->p_filesz) != 0))
+            return 0;
+    }
+    return 1;
 }
 
 /* Whether a file is the one that was loaded: its segments and its notes are those in memory. */
 static int is_loaded(struct bytes file, const struct dl_phdr_info *info) {
     const ElfW(Ehdr) *header = (const void *)file.first;
     size_t size = info->dlpi_phnum * sizeof *info->dlpi_phdr;
-    if (file.length < sizeof *header || header->e_phnum != info->dlpi_phnum || !is_inside(file, header->e_phoff, size)
-        || memcmp(file.first + header->e_phoff, info->dlpi_phdr, size) != 0)
-        return 0;
-    for (size_t i = 0; i < info->dlpi_phnum; i++) {
-        const ElfW(Phdr) *segment = &info->dlpi_phdr[i];
-        uintptr_t first = info->dlpi_addr + segment->p_vaddr, end = end_of_segment(info, first);
-        if (segment->p_type == PT_NOTE && end != 0 && segment->p_filesz <= end - first
-            && (!is_inside(file, segment->p_offset, segment->p_filesz)
-                || memcmp(file.first + segment->p_offset, (const void *)first, segment->p_filesz) != 0))
-            return 0;
-    }
-    return 1;
+    return file.length >= sizeof *header && header->e_phnum == info->dlpi_phnum && is_inside(file, header->e_phoff, size)
+           && memcmp(file.first + header->e_phoff, info->dlpi_phdr, size) == 0 && has_same(file, info, PT_NOTE, 0);
+}
+
+/* The .eh_frame section in memory that a file's section table names: gcc -static writes no PT_GNU_EH_FRAME. */
+static struct bytes eh_frame_by(struct bytes file, const struct dl_phdr_info *info) {
+    const ElfW(Shdr) *section = section_of(file, ".eh_frame");
+    if (section == NULL || !(section->sh_flags & SHF_ALLOC)) return (struct bytes){NULL, 0};
+    uintptr_t first = info->dlpi_addr + section->sh_addr, end = end_of_segment(info, first);
+    if (end == 0 || section->sh_size > end - first) return (struct bytes){NULL, 0};
+    return (struct bytes){(const void *)first, section->sh_size};
 }
 
 /* Adds the module with this section, which is .debug_frame if its address is 0. */
@@ -187,13 +206,19 @@ uint32_t dwcheck_dl_add(dwcheck_process *process, const struct dl_phdr_info *inf
                              .order = DWCHECK_LITTLE, .address_size = sizeof(void *)};
     if (!set_range(&module, info)) return DWCHECK_NONE;
     struct bytes section = eh_frame(info), file = {NULL, 0}, other = {NULL, 0};
-    uint64_t address = (uintptr_t)section.first - info->dlpi_addr;
     if (info->dlpi_name[0] == 0) file = map_file(DWCHECK_DL_PROGRAM);
-    else if (name[0] == '/') file = map_file(name); /* the vDSO has no file, and its name no folder */
-    if (file.first != NULL && is_loaded(file, info)) other = debug_frame(file);
+    else if (strchr(name, '/')) file = map_file(name); /* the vDSO has no file, and its name no folder */
+    if (file.first != NULL && is_loaded(file, info)) {
+        const ElfW(Shdr) *debug_frame = section_of(file, ".debug_frame");
+        if (debug_frame != NULL) other = (struct bytes){file.first + debug_frame->sh_offset, debug_frame->sh_size};
+        if (section.length == 0) section = eh_frame_by(file, info);
+    }
+    uint64_t address = (uintptr_t)section.first - info->dlpi_addr;
     uint32_t status = DWCHECK_REFUSED;
-    if (other.length > section.length) status = add_section(process, &module, other, 0, id);
-    if (status == DWCHECK_REFUSED) status = add_section(process, &module, section, address, id);
+    /* Without a build id among the notes, only its code tells whether the file has been replaced. */
+    if (other.length > section.length && has_same(file, info, PT_LOAD, PF_X))
+        status = add_section(process, &module, other, 0, id);
+    if (status != DWCHECK_DONE) status = add_section(process, &module, section, address, id);
     if (file.first != NULL) munmap((void *)file.first, file.length);
     return status;
 }

@@ -11,7 +11,7 @@ __attribute__((visibility("hidden")))
 uint32_t dwcheck_dl_add(dwcheck_process *process, const struct dl_phdr_info *info, const char *name, uint64_t *id);
 
 /* A number that differs, in all likelihood, between two files that are loaded at the same place: of the
-   segments, the notes, which have the build id, and the beginning of .eh_frame. */
+   segments, the notes, which have the build id, and .eh_frame. */
 __attribute__((visibility("hidden"))) uint64_t dwcheck_dl_checksum(const struct dl_phdr_info *info);
 
 /* The file of the program itself, for which dl_iterate_phdr gives an empty name. It can be opened even if

@@ -5,7 +5,6 @@
 
 #include <limits.h>
 #include <pthread.h>
-#include <sched.h>
 #include <stdatomic.h>
 #include <stdlib.h>
 #include <string.h>
@@ -22,11 +21,13 @@ struct seen {
 struct version {
     dwcheck_process process;
     struct version *older;
+    uint64_t readers_then; /* `readers` after it was published */
 };
 
 static dwcheck_process no_modules;
 static _Atomic(struct version *) newest;
-static atomic_uint reader_count;
+/* The lower 32 bits say how many readers there are, and the upper ones how often the last one has ended. */
+static _Atomic uint64_t readers;
 
 /* Only the thread that holds the lock uses what follows. */
 static pthread_mutex_t lock = PTHREAD_MUTEX_INITIALIZER;
@@ -40,19 +41,22 @@ static size_t names_count, names_room;
    reader at some moment */
 
 const dwcheck_process *dwcheck_dl_begin(void) {
-    atomic_fetch_add(&reader_count, 1);
+    atomic_fetch_add(&readers, 1);
     struct version *version = atomic_load(&newest);
     return version ? &version->process : &no_modules;
 }
 
-void dwcheck_dl_end(void) { atomic_fetch_sub(&reader_count, 1); }
+void dwcheck_dl_end(void) {
+    uint64_t old = atomic_load(&readers);
+    while (!atomic_compare_exchange_weak(&readers, &old, (uint32_t)old == 1 ? old + UINT32_MAX : old - 1)) {}
+}
 
-/* Frees the versions that no reader can have. If there are readers all the time, a later call does. */
+/* Frees the versions that no reader can have: those older than one since whose publishing there was a moment
+   without readers. A later call frees the others. */
 static void free_older(struct version *version) {
-    enum { TRIES = 1000 };
-    for (int i = 0; i < TRIES && atomic_load(&reader_count) != 0; i++) sched_yield();
-    if (atomic_load(&reader_count) != 0) return;
-    while (version->older) {
+    uint64_t now = atomic_load(&readers);
+    while (version && (uint32_t)now != 0 && now >> 32 == version->readers_then >> 32) version = version->older;
+    while (version && version->older) {
         struct version *older = version->older;
         version->older = older->older;
         dwcheck_process_close(&older->process);
@@ -136,8 +140,12 @@ static int look(struct dl_phdr_info *info, size_t size, void *data) {
     uint32_t status = dwcheck_dl_add(update->process, info, name, &new->id);
     if (status == DWCHECK_NO_MEMORY) {
         update->status = status;
-        return 1;
+        update->counts.left_out++;
+        return 0; /* the other modules may fit */
     }
+    /* It has come between the two looks, in the place of another one that has gone. The next update, which looks
+       again, removes that one and adds it. */
+    if (status == DWCHECK_OVERLAPS) return update->counts.left_out++, 0;
     seen_count++;
     new->is_added = status == DWCHECK_DONE;
     if (status == DWCHECK_DONE) update->counts.added++;
@@ -187,18 +195,21 @@ static uint32_t update_all(struct update *update) {
     if (update->status == DWCHECK_DONE) adds = update->adds, subs = update->subs;
     else adds = subs = 0;
     atomic_store(&newest, new);
-    free_older(new);
+    new->readers_then = atomic_load(&readers);
     return update->status;
 }
 
 uint32_t dwcheck_dl_update(dwcheck_dl_counts *counts) {
     struct update update = {.status = DWCHECK_DONE};
-    int is_changed = 1;
+    int is_changed = 1, cancel;
+    pthread_setcancelstate(PTHREAD_CANCEL_DISABLE, &cancel); /* open and close would leave with the lock held */
     pthread_mutex_lock(&lock);
     dl_iterate_phdr(count_changes, &is_changed);
     uint32_t status = is_changed ? update_all(&update) : DWCHECK_DONE;
+    free_older(atomic_load(&newest));
     for (size_t i = 0; i < seen_count; i++) update.counts.modules += (uint32_t)seen[i].is_added;
     pthread_mutex_unlock(&lock);
+    pthread_setcancelstate(cancel, NULL);
     if (counts) *counts = update.counts;
     return status;
 }

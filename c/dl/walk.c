@@ -13,13 +13,16 @@
 #error "dwcheck-dl is for x86-64"
 #endif
 
+/* Rows in both sections: .debug_frame is used in place of .eh_frame if the program has a longer one. */
+__asm__(".cfi_sections .eh_frame, .debug_frame");
+
 /* DWARF's numbers on x86-64: 0 to 15 for the general-purpose registers, 16 for the return address. */
 enum { RBX = 3, RBP = 6, RSP = 7, R12 = 12, R13 = 13, R14 = 14, R15 = 15, RIP = 16, REGISTERS = 17 };
 
 /* ---- which memory can be read. Nothing of it is remembered from one walk to the next, since a program may
    unmap what was a stack. */
 
-enum { PAGE = 4096, RED_ZONE = 128, FIRST_PAGES = 2, MORE_PAGES = 16, MOST_PAGES = 2048 };
+enum { PAGE = 4096, RED_ZONE = 128, SAVED = 256, FIRST_PAGES = 2, MORE_PAGES = 16, MOST_PAGES = 2048 };
 
 /* Whether the page with this number can be read. The kernel reads the new mask before it finds that the
    first argument is none that it knows. So nothing changes, and the error says whether it could read. */
@@ -27,7 +30,7 @@ static int is_readable(uint64_t page) {
     if (page == 0) return 0; /* the address 0 would mean that no mask is given */
     int before = errno;
     long result = syscall(SYS_rt_sigprocmask, ~0, page * PAGE, NULL, 8);
-    int is_fault = result == -1 && errno == EFAULT;
+    int is_fault = result != -1 || errno != EINVAL; /* a sandbox may refuse the call: then nothing is read */
     errno = before;
     return !is_fault;
 }
@@ -63,17 +66,22 @@ static dwcheck_block stack_from(uint64_t pointer, uint64_t red_zone) {
 }
 
 /* Makes a block longer, so that it has what lies below this canonical frame address, or if that isn't known,
-   by some pages. Returns whether it is longer now. */
+   by some pages. If that address is far away or on another stack, the block becomes one with what lies just
+   below it. Returns whether there is more memory now. */
 static int extend(dwcheck_block *block, const dwcheck_answer *cfa) {
-    uint64_t end = end_of(block), pages = MORE_PAGES;
-    if (cfa->kind == DWCHECK_ANSWER_VALUE) {
-        if (cfa->value <= end) return 0;
-        pages = (cfa->value - end) / PAGE + FIRST_PAGES;
-    }
-    if (end % PAGE != 0 || pages > MOST_PAGES) return 0;
-    uint64_t count = count_readable(end / PAGE, pages);
+    uint64_t end = end_of(block), pages = MORE_PAGES, count = 0;
+    int is_known = cfa->kind == DWCHECK_ANSWER_VALUE;
+    if (is_known) pages = cfa->value > end ? (cfa->value - end) / PAGE + FIRST_PAGES : 0;
+    else if (block->length / PAGE >= MOST_PAGES) return 0;
+    if (end % PAGE == 0 && pages <= MOST_PAGES) count = count_readable(end / PAGE, pages);
     block->length += count * PAGE;
-    return count != 0;
+    if (!is_known || (count != 0 && cfa->value <= end_of(block))) return count != 0;
+    uint64_t last = cfa->value - sizeof(uint64_t); /* where the return address usually is */
+    if (last - block->base < block->length) return 0;
+    dwcheck_block other = stack_from(last, SAVED);
+    if (last - other.base >= other.length) return count != 0;
+    *block = other;
+    return 1;
 }
 
 /* ---- walks */

@@ -21,7 +21,8 @@
 extern "C" {
 #endif
 
-/* What an update found. A module is left out if its section is refused or doesn't fit into memory. */
+/* What an update found. A module is left out if its section is refused or doesn't fit into memory; or
+   until the next update, if it has come during this one in the place of another. */
 typedef struct dwcheck_dl_counts { uint32_t modules, added, removed, left_out; } dwcheck_dl_counts;
 
 /* Adds the modules that the loader has mapped since the last call, and removes those that are gone.

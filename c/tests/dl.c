@@ -4,6 +4,7 @@
 #define _GNU_SOURCE
 #include "dwcheck-dl.h"
 
+#include <alloca.h>
 #include <dlfcn.h>
 #include <execinfo.h>
 #include <limits.h>
@@ -138,6 +139,35 @@ static void test_overflow(void) {
     sigaction(SIGSEGV, &before, NULL);
 }
 
+/* ---- other stacks */
+
+/* Calls `f` on another stack, and finds the way back by rbp. */
+__asm__(".pushsection .text\n.type on_stack, @function\n.globl on_stack\non_stack:\n.cfi_startproc\npush %rbp\n.cfi_def_cfa_offset 16\n"
+        ".cfi_offset %rbp, -16\nmov %rsp, %rbp\n.cfi_def_cfa_register %rbp\nmov %rsi, %rsp\ncall *%rdi\nmov %rbp, %rsp\npop %rbp\n"
+        ".cfi_def_cfa %rsp, 8\nret\n.cfi_endproc\n.size on_stack, . - on_stack\n.popsection");
+void on_stack(void (*f)(void), void *top);
+
+static void compare_deep(void) { deep(DEPTH, compare); }
+
+enum { BIG = 12 << 20 };
+
+static void compare_above_a_big_frame(void) {
+    char *bytes = alloca(BIG);
+    __asm__ volatile("" : : "r"(bytes) : "memory");
+    compare_deep();
+    __asm__ volatile("" : : "r"(bytes) : "memory");
+}
+
+static void test_other_stacks(void) {
+    enum { SIZE = 1 << 16 };
+    char *bytes = mmap(NULL, 2 * BIG, PROT_READ | PROT_WRITE, MAP_PRIVATE | MAP_ANONYMOUS, -1, 0), *heap = malloc(SIZE);
+    on_stack(compare_deep, bytes + SIZE);
+    on_stack(compare_deep, (void *)((uintptr_t)(heap + SIZE) & ~(uintptr_t)15));
+    on_stack(compare_above_a_big_frame, bytes + 2 * BIG);
+    free(heap);
+    munmap(bytes, 2 * BIG);
+}
+
 /* ---- a call of a null pointer */
 
 static void (*volatile missing)(void);
@@ -195,6 +225,24 @@ static void come_and_go(void) {
     IS(dwcheck_dl_update(&counts), DWCHECK_DONE);
     IS(counts.removed, 1);
     IS(counts.left_out, 0);
+}
+
+/* A thread that is to be cancelled makes an update, which would otherwise end where it opens a file. */
+static void *update_and_end(void *unused) {
+    pthread_cancel(pthread_self());
+    dwcheck_dl_update(NULL);
+    pthread_testcancel();
+    return unused;
+}
+
+static void test_cancelled_update(void) {
+    void *library = dlopen(library_name, RTLD_NOW), *result = NULL;
+    pthread_t thread;
+    pthread_create(&thread, NULL, update_and_end, NULL);
+    pthread_join(thread, &result);
+    IS(result == PTHREAD_CANCELED, 1);
+    dlclose(library);
+    IS(dwcheck_dl_update(NULL), DWCHECK_DONE);
 }
 
 static atomic_int is_done;
@@ -255,8 +303,10 @@ int main(int count, char **arguments) {
     test_signals();
     test_overflow();
     test_null_call();
+    test_other_stacks();
     test_stack();
     come_and_go();
+    test_cancelled_update();
     test_threads();
     IS(dwcheck_dl_backtrace(&one, 0), 0);
     printf("%d walks, %d wrong\n", atomic_load(&walks), atomic_load(&wrong));

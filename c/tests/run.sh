@@ -48,6 +48,15 @@ dl() { # builds the tests of dwcheck-dl, and runs them with a library that comes
             -pthread -ldl && "$out/dl" "$out/called.so"
 }
 
+linked() { # FLAG..: builds a program that prints how many frames its stack has, with many other functions
+    {
+        printf '#include "dwcheck-dl.h"\n#include <stdio.h>\nint main(void) {\n    void *frames[9];\n    dwcheck_dl_update(NULL);\n'
+        printf '    return printf("%%d frames\\n", dwcheck_dl_backtrace(frames, 9)) < 0;\n}\n'
+        seq 900 | sed 's/.*/int f&(int x); int f&(int x) { return x + &; }/'
+    } | cc -std=gnu11 $strict -O2 "$@" -x c - -x none "$dl_library" "$library" -o "$out/linked" -pthread -ldl &&
+        [ "$("$out/linked")" = "4 frames" ]
+}
+
 wrapper() { # STANDARD: builds the tests of the header for C++, and runs them
     c++ "-std=$1" $strict -O1 -g -fno-exceptions -fno-rtti -fsanitize=address,undefined -fno-sanitize-recover=all \
         "$top/c/tests/wrapper.cc" "$library" -o "$out/wrapper" && "$out/wrapper"
@@ -81,6 +90,8 @@ test_of "the same with the process in memory that can't be written" readers froz
 test_of "steps of a cursor" readers cursor
 test_of "walks with a cache" readers cache
 test_of "stacks of dwcheck-dl are glibc's, while libraries come and go" dl
+test_of "a stack of a static program" linked -static
+test_of "a stack whose rows are in .debug_frame" linked -fno-asynchronous-unwind-tables -g
 test_of "the header for C++ as C++17, beside that for C" wrapper c++17
 test_of "the header for C++ as C++20, whose frames are a range" wrapper c++20
 test_of "the header for C++ as a module of C++20" as_module
