@@ -102,7 +102,8 @@ build/libdwcheck-dl.a: $(wildcard c/dl/*.[ch]) c/include/dwcheck.h c/include/dwc
 	@$(AR) rcs $@ $(patsubst c/dl/%.c,build/dl/%.o,$(wildcard c/dl/*.c))
 
 build/%.pc: c/%.pc.in FORCE | build
-	@sed -e 's|@PREFIX@|$(PREFIX)|' -e 's|@LIBDIR@|$(LIBDIR)|' -e 's|@INCLUDEDIR@|$(INCLUDEDIR)|' \
+	@sed -e 's|@PREFIX@|$(PREFIX)|' -e 's|@LIBDIR@|$(patsubst $(PREFIX)/%,$${prefix}/%,$(LIBDIR))|' \
+	    -e 's|@INCLUDEDIR@|$(patsubst $(PREFIX)/%,$${prefix}/%,$(INCLUDEDIR))|' \
 	    -e 's|@VERSION@|$(version)|' $< >$@
 
 # The manual pages, from man/ and the files that it names. This takes a moment, so it is always done.

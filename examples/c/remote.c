@@ -46,7 +46,9 @@ void add_module(dwcheck_process *process, const dwcheck_reader *reader, uint64_t
     if (!read_at(reader, base, &header, sizeof header) || memcmp(header.e_ident, ELFMAG, SELFMAG) != 0) return;
     if (header.e_phnum > SEGMENTS) return;
     if (!read_at(reader, base + header.e_phoff, segments, header.e_phnum * sizeof *segments)) return;
-    uint64_t load = header.e_type == ET_DYN ? base : 0, end = 0, first = UINT64_MAX, last = 0, id;
+    uint64_t load = base, end = 0, first = UINT64_MAX, last = 0, id;
+    for (int i = header.e_phnum - 1; i >= 0; i--) /* the first segment that is loaded has the header */
+        if (segments[i].p_type == PT_LOAD) load = base - segments[i].p_vaddr + segments[i].p_offset;
     uint64_t at = section_start(reader, load, segments, header.e_phnum);
     for (int i = 0; at != 0 && i < header.e_phnum; i++) {
         uint64_t begin = load + segments[i].p_vaddr;
