@@ -10,7 +10,7 @@ mod trace;
 
 pub use data::DATA_LIMIT;
 pub use maps::Map;
-pub(crate) use maps::{can_differ, Process};
+pub(crate) use maps::{alive, can_differ, Process};
 
 use crate::abi::Abi;
 use crate::core_file::{CoreFile, Thread};
@@ -65,7 +65,7 @@ impl Snapshot {
     /// If no thread can be copied. Single threads that can't be copied are listed in
     /// [`skipped`](Self::skipped).
     pub fn take(pid: u32, wanted: &[u32]) -> Result<Snapshot, LiveError> {
-        Snapshot::copy(pid, wanted, None)
+        in_thread(|| Snapshot::copy(pid, wanted, None))
     }
 
     /// Copies a process as [`take`](Self::take) does, and the memory that it can write to, up to
@@ -75,7 +75,7 @@ impl Snapshot {
     ///
     /// The same.
     pub fn take_with_data(pid: u32, wanted: &[u32]) -> Result<Snapshot, LiveError> {
-        Snapshot::copy(pid, wanted, Some(Vec::new()))
+        in_thread(|| Snapshot::copy(pid, wanted, Some(Vec::new())))
     }
 
     fn copy(pid: u32, wanted: &[u32], data: Option<Vec<(u64, Vec<u8>)>>) -> Result<Snapshot, LiveError> {
@@ -145,6 +145,8 @@ impl Snapshot {
         let stopped = match Stopped::stop(tid) {
             Ok(stopped) => stopped,
             Err(TraceError::Gone) => return,
+            // The kernel refuses those that have ended in the same way.
+            Err(TraceError::NotPermitted) if self.process.has_ended(tid) => return,
             Err(error) => return self.skipped.push((tid, error)),
         };
         let (registers, vectors) = (stopped.registers(self.target, self.abi), stopped.vectors(self.target, self.abi));
@@ -190,6 +192,12 @@ impl Snapshot {
         let begin = pointer.saturating_sub(RED_ZONE).max(map.begin.min(*pointer));
         Some((begin, self.process.memory(begin, (map.end - begin).min(STACK_LIMIT))?))
     }
+}
+
+/// Runs something in a thread of its own. When that ends, the kernel lets go what it traces, also threads that
+/// haven't stopped yet.
+fn in_thread<T: Send>(run: impl FnOnce() -> T + Send) -> T {
+    std::thread::scope(|scope| scope.spawn(run).join()).unwrap_or_else(|panic| std::panic::resume_unwind(panic))
 }
 
 impl fmt::Display for LiveError {

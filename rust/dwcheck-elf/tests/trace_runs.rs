@@ -60,6 +60,25 @@ fn comes_true(is_true: impl Fn() -> bool) -> bool {
     is_true()
 }
 
+/// A program may end before a process that it has made has run at all, as daemons do.
+#[test]
+fn a_process_that_a_program_leaves_behind_goes_on() {
+    if !may_trace_programs() {
+        return;
+    }
+    let folder = Folder::new("trace-daemon");
+    folder.write(
+        "daemon.c",
+        "#include <fcntl.h>\n#include <unistd.h>\nint main(int n, char **words) { if (n != 2 || fork() != 0) _exit(0); usleep(100000); return creat(words[1], 0600) < 0; }",
+    );
+    folder.run("gcc daemon.c -o daemon");
+    for name in ["a", "b", "c", "d", "e", "f", "g", "h"] {
+        let ran = dwcheck_elf(&folder, &format!("trace --output log --module nothing -- ./daemon {}", name));
+        assert_eq!(ran.status, 0, "{}", ran.error);
+        assert!(comes_true(|| folder.file(name).exists()), "{}", name);
+    }
+}
+
 #[test]
 fn output_status_and_signals_are_the_programs_own() {
     if !may_trace_programs() {

@@ -60,6 +60,7 @@ impl Files {
     /// the mapped files themselves, even if they were deleted or replaced, as far as this program may
     /// open these; otherwise the files at their paths.
     pub fn of_live(core: &CoreFile<'_>, pid: u32) -> Self {
+        let pid = crate::live::alive(pid);
         let root = PathBuf::from(format!("/proc/{}/root", pid));
         Files::open(core, &root, |mapping| {
             let mapped = format!("/proc/{}/map_files/{:x}-{:x}", pid, mapping.begin, mapping.end);

@@ -33,6 +33,8 @@ pub struct Map {
 #[derive(Debug)]
 pub(crate) struct Process {
     pub id: u32,
+    /// A thread that has the process's memory.
+    alive: u32,
     pub maps: Vec<Map>,
     /// The auxiliary vector.
     pub auxiliary: Vec<u8>,
@@ -41,18 +43,19 @@ pub(crate) struct Process {
 
 impl Process {
     pub fn read(id: u32) -> Result<Process, LiveError> {
-        let folder = PathBuf::from(format!("/proc/{}", id));
+        let alive = alive(id);
+        let folder = PathBuf::from(format!("/proc/{}", alive));
         let maps = fs::read(folder.join("maps")).map_err(failure)?;
         let auxiliary = fs::read(folder.join("auxv")).map_err(failure)?;
         let maps: Vec<_> = maps.split(|byte| *byte == b'\n').filter_map(map).collect();
-        let mut process = Process { id, maps, auxiliary, name: None };
+        let mut process = Process { id, alive, maps, auxiliary, name: None };
         process.name = process.thread_name(id);
         Ok(process)
     }
 
     /// The byte order, the address size and the calling convention, by the program's file.
     pub fn machine(&self) -> Result<(Target, &'static Abi), LiveError> {
-        let file = fs::File::open(format!("/proc/{}/exe", self.id)).map_err(failure)?;
+        let file = fs::File::open(format!("/proc/{}/exe", self.alive)).map_err(failure)?;
         let size = file.metadata().map_err(LiveError::Unreadable)?.len();
         let bytes = crate::mapped::Bytes::of_file(&file, size).map_err(LiveError::Unreadable)?;
         let program = Program::read(&bytes).map_err(|_| LiveError::Machine)?;
@@ -75,6 +78,13 @@ impl Process {
         Some(String::from_utf8_lossy(&name).trim_end_matches('\n').to_string())
     }
 
+    /// Whether a thread has ended, though it may still be listed.
+    pub fn has_ended(&self, tid: u32) -> bool {
+        let stat = fs::read_to_string(format!("/proc/{}/task/{}/stat", self.id, tid)).unwrap_or_default();
+        // The state follows the name, which is in parentheses.
+        stat.rsplit_once(") ").map_or(true, |(_, rest)| rest.starts_with('Z') || rest.starts_with('X'))
+    }
+
     /// The id of the process that traces this one.
     pub fn tracer(&self) -> Option<u32> {
         let status = fs::read_to_string(format!("/proc/{}/status", self.id)).ok()?;
@@ -87,11 +97,19 @@ impl Process {
     pub fn memory(&self, address: u64, size: u64) -> Option<Vec<u8>> {
         let mut bytes = vec![0; usize::try_from(size).ok()?];
         let remote = RemoteIoVec { base: usize::try_from(address).ok()?, len: bytes.len() };
-        let pid = Pid::from_raw(self.id as i32);
+        let pid = Pid::from_raw(self.alive as i32);
         let count = process_vm_readv(pid, &mut [IoSliceMut::new(&mut bytes)], &[remote]).ok()?;
         bytes.truncate(count);
         Some(bytes).filter(|bytes| !bytes.is_empty())
     }
+}
+
+/// A thread of a process that has its memory: the first one, unless that has ended before others.
+pub(crate) fn alive(id: u32) -> u32 {
+    let has_memory = |tid: &u32| fs::read(format!("/proc/{}/maps", tid)).map_or(false, |maps| !maps.is_empty());
+    let listed = fs::read_dir(format!("/proc/{}/task", id)).into_iter().flatten();
+    let others = listed.filter_map(|entry| entry.ok()?.file_name().to_str()?.parse().ok());
+    std::iter::once(id).chain(others).find(has_memory).unwrap_or(id)
 }
 
 /// Whether the memory of a line of `maps`, by its index, can differ from its file: it can be written to, or it is

@@ -15,6 +15,7 @@ const PATIENCE: Duration = Duration::from_secs(2);
 impl Tracer<'_, '_> {
     /// Lets go of all threads. The program's end is still waited for.
     pub(super) fn release_all(&mut self) {
+        self.is_let_go = true;
         let running = self.threads.values().filter(|thread| !thread.is_stopped);
         running.for_each(|thread| ptrace::interrupt(thread.tid));
         let signals = self.stop_all();
@@ -38,7 +39,10 @@ impl Tracer<'_, '_> {
     fn stop_all(&mut self) -> HashMap<Tid, i32> {
         let begin = Instant::now();
         let mut signals = HashMap::new();
-        while self.threads.values().any(|thread| !thread.is_stopped) && begin.elapsed() < PATIENCE {
+        // What was made, and hasn't stopped for the first time, would be killed with this program.
+        let is_left =
+            |tracer: &Self| !tracer.births.is_empty() || tracer.threads.values().any(|thread| !thread.is_stopped);
+        while is_left(self) && begin.elapsed() < PATIENCE {
             match ptrace::poll() {
                 Ok(Some((tid, report))) => self.stopped_last(tid, report, &mut signals),
                 Ok(None) => std::thread::sleep(Duration::from_micros(200)),
@@ -75,9 +79,20 @@ impl Tracer<'_, '_> {
                     ptrace::message(tid).ok().and_then(|made| Some((made, thread.space.borrow().forked(made).ok()?)));
                 if let Some((made, copy)) = copy {
                     self.births.insert(made, Birth::LetGo(copy));
+                    if self.early.remove(&made) {
+                        self.let_go_first(made);
+                    }
                 }
             }
             _ => {}
+        }
+    }
+
+    /// A thread has stopped after all others were let go: it is new, or didn't stop in time.
+    pub(super) fn let_go_late(&mut self, tid: Tid, report: Report) {
+        self.let_go_first(tid);
+        if self.early.remove(&tid) {
+            ptrace::detach(tid, if let Report::Signal(signal) = report { signal } else { 0 });
         }
     }
 

@@ -91,9 +91,13 @@ impl Tracer<'_, '_> {
     /// Steps a stopped thread up to a system call, or until it is enough. Returns the signal that it gets
     /// when it goes on, 0 if none. `None` if it ended.
     fn sample_window(&mut self, tid: Tid, mut signal: i32) -> Option<i32> {
-        let mut space = Space::of(tid).ok()?;
+        let (mut space, other) = match (Space::of(tid), Space::of(tid)) {
+            (Ok(space), Ok(other)) => (space, other),
+            // It goes on.
+            _ => return Some(signal),
+        };
         space.refresh(&mut self.files);
-        let mut thread = Thread::new(tid, Rc::new(RefCell::new(Space::of(tid).ok()?)));
+        let mut thread = Thread::new(tid, Rc::new(RefCell::new(other)));
         thread.mode = Mode::Stepping;
         thread.registers = ptrace::registers(tid).ok()?;
         thread.here = self.here(&mut space, thread.program_counter());

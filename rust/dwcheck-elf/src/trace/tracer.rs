@@ -53,6 +53,8 @@ pub struct Tracer<'b, 's> {
     /// The first thread of the program.
     pub(super) main: Tid,
     pub(super) end: Option<End>,
+    /// Whether all was let go. What stops afterwards is let go, too.
+    pub(super) is_let_go: bool,
     /// What a user may want to know, and isn't an error.
     pub(super) notes: Vec<String>,
 }
@@ -86,6 +88,7 @@ impl<'b: 's, 's> Tracer<'b, 's> {
             births: HashMap::new(),
             main: 0,
             end: None,
+            is_let_go: false,
             notes: Vec::new(),
         }
     }
@@ -159,6 +162,7 @@ impl Tracer<'_, '_> {
         }
         let mut thread = match self.threads.remove(&tid) {
             Some(thread) => thread,
+            None if self.is_let_go => return self.let_go_late(tid, report),
             None => return self.stopped_first(tid),
         };
         if report == Report::Stop && thread.stretch.is_some() {
