@@ -3,7 +3,8 @@
 
 use crate::debug_info::{self, Slice};
 use crate::program::Program;
-use gimli::{Dwarf, EndianSlice, SectionId};
+use gimli::{Dwarf, EndianSlice, SectionId, Unit};
+use once_cell::unsync::OnceCell;
 use typed_arena::Arena;
 
 /// A line of a source file.
@@ -27,7 +28,15 @@ pub struct At {
 }
 
 /// The debug information of a program.
-pub struct Lines<'a>(addr2line::Context<Slice<'a>>);
+pub struct Lines<'a> {
+    context: addr2line::Context<Slice<'a>>,
+    /// Whether the entries of a unit are deeper than [`DEEPEST`], once that was asked.
+    is_deep: OnceCell<bool>,
+}
+
+/// How deep the entries of a unit may be. `addr2line` reads functions that are inlined in each other by calls in each
+/// other.
+const DEEPEST: isize = 1024;
 
 /// The sections that are read.
 const NEEDED: [SectionId; 10] = [
@@ -60,19 +69,22 @@ impl<'a> Lines<'a> {
         if let Some(shared) = shared {
             dwarf.load_sup(|id| section(shared, id)).ok()?;
         }
-        addr2line::Context::from_dwarf(dwarf).ok().map(Lines)
+        addr2line::Context::from_dwarf(dwarf).ok().map(|context| Lines { context, is_deep: OnceCell::new() })
     }
 
     /// The line of an address. `None` if no table has it.
     pub fn line(&self, address: u64) -> Option<SourceLine> {
-        SourceLine::of(self.0.find_location(address).ok()??)
+        SourceLine::of(self.context.find_location(address).ok()??)
     }
 
     /// The functions at an address, the innermost first. The last one is the function that isn't
     /// inlined.
     pub fn functions(&self, address: u64) -> Vec<At> {
         let mut found = Vec::new();
-        if let Ok(mut frames) = self.0.find_frames(address) {
+        if *self.is_deep.get_or_init(|| is_deep(self.context.dwarf())) {
+            return found;
+        }
+        if let Ok(mut frames) = self.context.find_frames(address) {
             while let Ok(Some(frame)) = frames.next() {
                 let name = frame.function.as_ref().and_then(|function| Some(function.raw_name().ok()?.into_owned()));
                 found.push(At { name, source: frame.location.and_then(SourceLine::of) });
@@ -80,6 +92,26 @@ impl<'a> Lines<'a> {
         }
         found
     }
+}
+
+/// Whether the entries of a unit are too deep.
+fn is_deep(dwarf: &Dwarf<Slice<'_>>) -> bool {
+    let mut units = dwarf.units();
+    let mut headers = std::iter::from_fn(|| units.next().ok().flatten());
+    headers.any(|header| dwarf.unit(header).and_then(|unit| is_deep_unit(&unit)).unwrap_or(false))
+}
+
+fn is_deep_unit(unit: &Unit<Slice<'_>>) -> gimli::Result<bool> {
+    let mut entries = unit.entries_raw(None)?;
+    while !entries.is_empty() {
+        if entries.next_depth() > DEEPEST {
+            return Ok(true);
+        }
+        if let Some(abbreviation) = entries.read_abbreviation()? {
+            entries.skip_attributes(abbreviation.attributes())?;
+        }
+    }
+    Ok(false)
 }
 
 impl SourceLine {

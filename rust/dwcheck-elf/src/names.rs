@@ -31,6 +31,10 @@ pub fn demangled(name: &str) -> Cow<'_, str> {
 }
 
 fn demangled_with(name: &str, options: DemangleOptions) -> Cow<'_, str> {
+    // Each end of a stub takes a call.
+    if name.len() > LONGEST + STUB.len() {
+        return Cow::Borrowed(name);
+    }
     match name.strip_suffix(STUB).map(|function| demangled_with(function, options)) {
         Some(Cow::Owned(function)) => return Cow::Owned(function + STUB),
         Some(Cow::Borrowed(_)) => return Cow::Borrowed(name),

@@ -246,3 +246,14 @@ fn words_and_files_that_are_wrong() {
         assert!(ran.error.contains(error), "{}: {}", words, ran.error);
     }
 }
+
+/// Standard output that can't be written has a status of its own, also for help.
+#[test]
+fn output_that_cant_be_written_is_a_failure() {
+    let folder = Folder::new("full");
+    for words in ["--help", "--version", "completions bash"] {
+        let program = env!("CARGO_BIN_EXE_dwcheck-elf");
+        let status = folder.run(&format!("s=0; {} {} > /dev/full 2> /dev/null || s=$?; echo $s", program, words));
+        assert_eq!(status.trim(), "3", "{}", words);
+    }
+}

@@ -14,6 +14,9 @@ pub struct ScriptOptions {
     pub stops: bool,
 }
 
+/// Names of events are filled up to at most this many characters.
+const WIDEST: usize = 256;
+
 /// How many samples a processor formats at once.
 const CHUNK: usize = 128;
 
@@ -52,7 +55,7 @@ impl<'p> Script<'p> {
             names.of(place as u32).iter().for_each(|function| push_function(names, frame, function, &mut text));
             text
         });
-        let width = profile.events.iter().map(|event| event.name.len()).max().unwrap_or(0);
+        let width = profile.events.iter().map(|event| event.name.len()).max().unwrap_or(0).min(WIDEST);
         let event = |name: &str| format!("{:>width$}", Plain(name).to_string(), width = width);
         Script {
             profile,

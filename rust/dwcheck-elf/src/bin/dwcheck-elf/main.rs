@@ -30,8 +30,12 @@ fn main() -> ExitCode {
         Err(error) => {
             // If standard error is closed, nobody can read the message, so it doesn't matter that
             // this fails.
-            let _ = error.print();
-            return ExitCode::from(if error.use_stderr() { 2 } else { 0 });
+            let printed = error.print().and_then(|()| io::stdout().flush());
+            return ExitCode::from(match (error.use_stderr(), printed) {
+                (true, _) => 2,
+                (false, Ok(())) => 0,
+                (false, Err(_)) => Failure::Output.status(),
+            });
         }
     };
     let mut out = BufWriter::new(io::stdout().lock());
@@ -65,7 +69,10 @@ fn run(command: Command, out: &mut impl Write) -> Result<Done, Failure> {
         Command::Profile(words) => profile::profile(&words, out),
         Command::Report(words) => report::report(&words, out),
         Command::Completions(words) => {
-            clap_complete::generate(words.shell, &mut Words::command(), "dwcheck-elf", out);
+            // It panics if it can't write.
+            let mut text = Vec::new();
+            clap_complete::generate(words.shell, &mut Words::command(), "dwcheck-elf", &mut text);
+            out.write_all(&text)?;
             Ok(Done::Accepted)
         }
     }
