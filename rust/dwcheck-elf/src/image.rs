@@ -10,6 +10,10 @@ use std::borrow::Cow;
 /// How far apart the addresses are that stand for two symbols.
 const APART: u64 = 16;
 
+/// The most bytes of all sections of an unlinked object to which relocations are applied. In a hostile file, sections
+/// share bytes.
+const MOST_RELOCATED: usize = 1 << 30;
+
 /// A part of a program that is loaded: a segment of a linked file, or a section of an unlinked object.
 #[derive(Clone, Debug)]
 pub struct Part<'data> {
@@ -72,9 +76,11 @@ impl<'data> Image<'data> {
         let Object { file, layout, .. } = object;
         let outside = Outside { base: end(file, layout) };
         let loaded = file.sections().filter(|section| is_loaded(section.flags()));
+        let mut left = MOST_RELOCATED;
         let parts = loaded.filter_map(|section| {
             let mut bytes = Cow::Borrowed(section.data().ok().filter(|bytes| !bytes.is_empty())?);
             if section.relocations().next().is_some() {
+                left = left.checked_sub(bytes.len())?;
                 object.relocate_all(&section, bytes.to_mut(), outside);
             }
             let (address, is_executable) = (layout.address(section.index()), is_code(section.flags()));

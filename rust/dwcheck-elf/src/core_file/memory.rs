@@ -1,6 +1,7 @@
 //! The memory of a process that died.
 
 use super::{CoreFile, Files};
+use crate::covered::Covered;
 use std::collections::BTreeMap;
 
 /// Where the bytes of a block come from.
@@ -28,6 +29,8 @@ pub struct Block<'a> {
 #[derive(Clone, Debug, Default)]
 pub struct Memory<'a> {
     blocks: BTreeMap<u64, Block<'a>>,
+    /// The addresses of all of them, so that blocks which overlap many others are added quickly.
+    held: Covered,
 }
 
 impl<'a> Block<'a> {
@@ -74,19 +77,15 @@ impl<'data> CoreFile<'data> {
 impl<'a> Memory<'a> {
     /// Adds those parts of a block whose addresses aren't in a block that was added before.
     fn add(&mut self, block: Block<'a>) {
-        let mut next = block.address;
-        while next < block.end() {
-            let before = self.blocks.range(..=next).next_back();
-            if let Some(end) = before.map(|(_, before)| before.end()).filter(|end| *end > next) {
-                next = end;
-                continue;
+        let (begin, end) = (block.address, block.end());
+        let gaps: Vec<_> = self.held.gaps(begin, end).collect();
+        for gap in gaps {
+            if let Some(part) = block.part(gap.start, gap.end) {
+                self.blocks.insert(gap.start, part);
             }
-            let after = self.blocks.range(next..).next().map(|(address, _)| *address);
-            let end = after.unwrap_or(u64::MAX).min(block.end());
-            if let Some(part) = block.part(next, end) {
-                self.blocks.insert(next, part);
-            }
-            next = end;
+        }
+        if begin < end {
+            self.held.insert(begin, end);
         }
     }
 

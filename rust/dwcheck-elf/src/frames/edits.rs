@@ -73,6 +73,8 @@ struct Edits<'a, 'f> {
 struct Last {
     offset: u64,
     program: Range<usize>,
+    /// Whether all its instructions can be read, once that was asked.
+    is_whole: Option<bool>,
 }
 
 impl Edits<'_, '_> {
@@ -93,7 +95,7 @@ impl Edits<'_, '_> {
             }
             (Standing::Used, Kind::Cie { .. } | Kind::Fde { .. }) => {
                 self.change(record);
-                self.last = Some(Last { offset: record.offset, program: record.program() });
+                self.last = Some(Last { offset: record.offset, program: record.program(), is_whole: None });
                 true
             }
         }
@@ -111,7 +113,7 @@ impl Edits<'_, '_> {
         } else if !is_eh_frame || range.len() % 4 != 0 {
             return false;
         }
-        self.last = Some(Last { offset: range.start as u64, program: range.end..range.end });
+        self.last = Some(Last { offset: range.start as u64, program: range.end..range.end, is_whole: None });
         if let Some(bytes) = self.bytes.to_mut().get_mut(range) {
             bytes.fill(NOP);
             bytes.iter_mut().zip(record).for_each(|(byte, new)| *byte = new);
@@ -123,11 +125,13 @@ impl Edits<'_, '_> {
     /// read, so that the bytes would be taken for operands of the last one.
     fn append(&mut self, range: Range<usize>) -> bool {
         let Format { target, .. } = *self.format;
-        let last = match &self.last {
+        let last = match &mut self.last {
             Some(last) if !self.format.is_eh_frame() => last,
             _ => return false,
         };
-        let is_whole = instructions(&self.bytes, last.program.clone(), target).all(|one| one.end.is_some());
+        let (held, program) = (&self.bytes, last.program.clone());
+        let read = || instructions(held, program, target).all(|one| one.end.is_some());
+        let is_whole = *last.is_whole.get_or_insert_with(read);
         let begin = match body(&self.bytes, last.offset, target).filter(|_| is_whole) {
             Some(body) => body.start,
             None => return false,

@@ -72,13 +72,14 @@ impl<'a> Bounds<'a> {
         }
     }
 
-    /// The addresses, at most `limit` ranges of them. `None` if they aren't known.
-    fn read(self, dwarf: &Dwarf<Slice<'a>>, unit: &Unit<Slice<'a>>, limit: usize) -> Option<Vec<Range<u64>>> {
+    /// The addresses, at most `left` ranges of them, which are counted. `None` if they aren't known.
+    fn read(self, dwarf: &Dwarf<Slice<'a>>, unit: &Unit<Slice<'a>>, left: &mut usize) -> Option<Vec<Range<u64>>> {
         let mut found = Vec::new();
         if let Some(ranges) = self.ranges {
             let mut ranges = dwarf.attr_ranges(unit, ranges).ok()??;
-            while let Some(range) = ranges.next().ok()?.filter(|_| found.len() < limit) {
+            while let Some(range) = ranges.next().ok()?.filter(|_| *left > 0) {
                 found.push(range.begin..range.end);
+                *left -= 1;
             }
         } else {
             let low = dwarf.attr_address(unit, self.low?).ok()??;
@@ -117,14 +118,14 @@ impl<'a> Nesting<'a> {
         if let Some(place) = self.open.last()?.place {
             return Some(place);
         }
-        let left = self.left;
-        let read = |open: &Open<'a>| open.bounds.read(dwarf, unit, left);
+        let mut left = self.left;
+        let mut read = |open: &Open<'a>| open.bounds.read(dwarf, unit, &mut left);
         let inner = || self.open.iter().rev().take(MAX_DEPTH);
         let function = inner().find(|open| open.is_function);
-        let block: Ranges = inner().find_map(read).unwrap_or_default().into();
-        let ranges: Ranges = function.and_then(read).unwrap_or_default().into();
+        let block: Ranges = inner().find_map(&mut read).unwrap_or_default().into();
+        let ranges: Ranges = function.and_then(&mut read).unwrap_or_default().into();
         let has_frame_base = function.map_or(true, |function| function.bounds.has_frame_base);
-        self.left = left.saturating_sub(block.len() + ranges.len());
+        self.left = left;
         self.found.push(Around { block, function: ranges, has_frame_base });
         let place = self.found.len() - 1;
         self.open.last_mut()?.place = Some(place);

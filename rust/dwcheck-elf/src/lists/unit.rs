@@ -129,6 +129,7 @@ impl UnitLists {
                 Ok(Item::End) => break,
                 Ok(item) => self.item(at, item, &reference, source, &mut state, &is_left_out),
                 Err(kind) => {
+                    self.original_bytes += at - list as usize;
                     self.bytes.truncate(table);
                     self.entries.truncate(first);
                     return Err(Problem::of(&reference, at, Kind::Dwcheck(kind)));

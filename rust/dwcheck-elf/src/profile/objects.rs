@@ -137,7 +137,7 @@ impl Places {
 #[derive(Debug, Default)]
 pub(super) struct Objects {
     all: Vec<Arc<Object>>,
-    files: HashMap<(Vec<u8>, [u64; 3]), ObjectId>,
+    files: HashMap<(Vec<u8>, Option<BuildId>), ObjectId>,
     memory: HashMap<u32, ObjectId>,
     kernel: Option<ObjectId>,
     /// The files in which processes list code that they have made.
@@ -221,11 +221,11 @@ impl Objects {
         if !is_file {
             return self.memory(mapped.pid);
         }
-        let key = (mapped.name.to_vec(), mapped.number);
+        let build_id = mapped.build_id.clone().or_else(|| features.build_id(mapped.name).cloned());
+        let key = (mapped.name.to_vec(), build_id.clone());
         if let Some(id) = self.files.get(&key) {
             return *id;
         }
-        let build_id = mapped.build_id.clone().or_else(|| features.build_id(mapped.name).cloned());
         let id = self.add(mapped.name, Kind::File, build_id);
         self.files.insert(key, id);
         id

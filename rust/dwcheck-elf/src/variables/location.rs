@@ -11,9 +11,13 @@ use crate::target::Target;
 use dwcheck::{evaluate, Abi, Context, ExpressionKind, Location, Outcome, PieceSize, State};
 use gimli::{AttributeValue, DebugAddrIndex, DebugInfoOffset, LocationListsOffset};
 use std::cell::Cell;
+use std::rc::Rc;
 
 /// How deep evaluations may be nested: entry values of entry values, implicit pointers of such.
 const MAX_DEPTH: usize = 8;
+
+/// How many such operations are looked up for a frame. In a hostile file, each may need several others.
+const MAX_KNOWN: usize = 1 << 14;
 
 /// Looks up where the variables of a frame are.
 pub(super) struct Locator<'v, 'a> {
@@ -28,19 +32,32 @@ pub(super) struct Locator<'v, 'a> {
     /// Where the thread's variables of the file are, if that is known. `None` if it wasn't looked for.
     thread_block: Cell<Option<Option<u64>>>,
     depth: usize,
+    /// How many more of these operations are looked up.
+    left: Rc<Cell<usize>>,
 }
 
 impl<'v, 'a> Locator<'v, 'a> {
     pub fn new(variables: &'v Variables<'a>, function: Die<'v, 'a>, frame: Frame<'v>, machine: Machine<'v>) -> Self {
+        Locator::with(variables, function, frame, machine, Rc::new(Cell::new(MAX_KNOWN)))
+    }
+
+    fn with(
+        variables: &'v Variables<'a>,
+        function: Die<'v, 'a>,
+        frame: Frame<'v>,
+        machine: Machine<'v>,
+        left: Rc<Cell<usize>>,
+    ) -> Self {
         let (frame_base, thread_block) = (Cell::new(None), Cell::new(None));
-        let locator = Locator { variables, function, frame, machine, frame_base, thread_block, depth: 0 };
+        let locator = Locator { variables, function, frame, machine, frame_base, thread_block, depth: 0, left };
         locator.frame_base.set(locator.read_frame_base());
         locator
     }
 
     /// The same for the caller of the frame, in which a call site is evaluated.
     pub fn of_caller(&self, function: Die<'v, 'a>, caller: Frame<'v>) -> Option<Self> {
-        let locator = Locator::new(self.variables, function, caller, caller.machine()?);
+        let left = Rc::clone(&self.left);
+        let locator = Locator::with(self.variables, function, caller, caller.machine()?, left);
         Some(Locator { depth: self.depth + 1, ..locator })
     }
 
@@ -110,6 +127,7 @@ impl<'v, 'a> Locator<'v, 'a> {
         if self.depth >= MAX_DEPTH {
             return None;
         }
+        self.left.set(self.left.get().checked_sub(1)?);
         let mut cursor = Cursor::new(operands, self.variables.target);
         match hole {
             Hole::EntryValue => {

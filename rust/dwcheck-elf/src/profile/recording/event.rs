@@ -189,9 +189,9 @@ impl Events {
             return;
         }
         self.by_id.extend(event.ids.iter().map(|id| (*id, self.all.len())));
+        let word = event.id_word();
+        self.id_word = if self.all.is_empty() { word } else { self.id_word.filter(|first| word == Some(*first)) };
         self.all.push(event);
-        let first = self.all[0].id_word();
-        self.id_word = first.filter(|_| self.all.iter().all(|event| event.id_word() == first));
     }
 
     /// Names the event with this id.

@@ -111,10 +111,13 @@ impl Header {
         let bytes = self.attributes.bytes(file)?;
         let size = usize::try_from(self.attribute_size).ok().filter(|size| *size >= 16).ok_or(Damage::Short)?;
         let mut events = Vec::new();
+        let mut left = MOST;
         for described in bytes.chunks_exact(size) {
             let mut event = Event::read(&mut Cursor::new(described, target))?;
             let ids = described.get(size - 16..).unwrap_or(&[]);
-            let ids = Part::read_from(&mut Cursor::new(ids, target))?.bytes(file)?;
+            let ids = Part::read_from(&mut Cursor::new(ids, target))?;
+            left = left.checked_sub(ids.size).ok_or(Damage::Short)?;
+            let ids = ids.bytes(file)?;
             event.ids = ids.chunks_exact(8).map(|id| target.number(id)).collect();
             events.push(event);
         }

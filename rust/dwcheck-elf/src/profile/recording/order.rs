@@ -28,6 +28,13 @@ pub(super) struct Held {
     pub body: Body,
 }
 
+impl Held {
+    /// How many bytes it takes.
+    fn size(&self) -> usize {
+        self.body.size() + std::mem::size_of::<Held>()
+    }
+}
+
 /// The records that were read and not given yet.
 #[derive(Debug, Default)]
 pub(super) struct Queue {
@@ -71,7 +78,7 @@ impl Queue {
     /// Adds a record whose body was just read.
     pub fn push(&mut self, record: Held) {
         self.latest = self.latest.max(record.time);
-        self.size += record.body.size();
+        self.size += record.size();
         self.held.push(record);
     }
 
@@ -129,7 +136,7 @@ impl Queue {
         if self.given == 0 {
             return;
         }
-        self.size -= self.held.drain(..self.given).map(|record| record.body.size()).sum::<usize>();
+        self.size -= self.held.drain(..self.given).map(|record| record.size()).sum::<usize>();
         self.spare.clear();
         for body in self.held.iter_mut().map(|record| &mut record.body).filter(|body| body.file.is_none()) {
             let start = self.spare.len();
