@@ -81,18 +81,22 @@ impl DebugFiles {
             None => return Ok(None),
         };
         let inner = self.root.join(folder);
+        // A file that has the name may be another one, such as the program itself.
+        let mut unfit = None;
         for file in [inner.join(name), inner.join(".debug").join(name), self.root.join(FOLDER).join(folder).join(name)]
         {
-            let bytes = match self.open(&file)? {
-                Some(bytes) => bytes,
-                None => continue,
+            let found = match self.open(&file) {
+                Ok(None) => continue,
+                Ok(Some(bytes)) if crc32fast::hash(bytes) != checksum => Err((file, NotUsed::Checksum)),
+                Ok(Some(bytes)) => checked(file, bytes, program.build_id().unwrap_or(&[])),
+                Err(why) => Err(why),
             };
-            if crc32fast::hash(bytes) != checksum {
-                return Err((file, NotUsed::Checksum));
+            match found {
+                Ok(found) => return Ok(found),
+                Err(why) => unfit = unfit.or(Some(why)),
             }
-            return checked(file, bytes, program.build_id().unwrap_or(&[]));
         }
-        Ok(None)
+        unfit.map_or(Ok(None), Err)
     }
 
     /// The file that `.gnu_debugaltlink` of a file of debug information names, which has what several

@@ -5,6 +5,7 @@ use super::registers::{KEPT, KEPT_NUMBERS};
 use super::rules::RuleCounts;
 use super::site::{Places, Site, Wrong};
 use super::tracer::Tracer;
+use crate::text::Plain;
 use dwcheck_lint::finding::{findings, grouped, Finding, Severity};
 use dwcheck_lint::judge::{Facts, Verdict};
 use dwcheck_lint::judging::{Mark, Way};
@@ -242,7 +243,7 @@ fn with_walk(mut finding: Finding<'_>, breaks_walk: bool) -> Finding<'_> {
 }
 
 fn said(path: &Path, why: &dyn std::fmt::Display) -> String {
-    format!("{}: {}", path.display(), why)
+    format!("{}: {}", Plain(&path.to_string_lossy()), why)
 }
 
 /// The registers that a function didn't give back.

@@ -5,7 +5,7 @@ mod linted;
 mod sarif;
 
 use crate::arguments::LintWords;
-use crate::end::{Done, Failure};
+use crate::end::{shown, Done, Failure};
 use crate::survey::files::{is_elf, Files};
 use crate::survey::{progress, STACK};
 use dwcheck_lint::coverage::Coverage;
@@ -75,7 +75,7 @@ fn unread(words: &LintWords, files: &Files) -> usize {
     let all: Vec<_> = unread.chain(named.map(|path| (path, "not an ELF file".to_string()))).collect();
     for (path, error) in &all {
         // If standard error is closed, nobody can read this, so it doesn't matter that it fails.
-        let _ = writeln!(io::stderr(), "dwcheck-elf: cannot read {}: {}", path.display(), error);
+        let _ = writeln!(io::stderr(), "dwcheck-elf: cannot read {}: {}", shown(path), error);
     }
     all.len()
 }
@@ -89,7 +89,7 @@ impl Totals {
                 self.files += 1;
                 self.coverage.add(&coverage);
                 for reason in unused {
-                    let _ = writeln!(io::stderr(), "dwcheck-elf: {}: {}", path.display(), reason);
+                    let _ = writeln!(io::stderr(), "dwcheck-elf: {}: {}", shown(&path), reason);
                 }
                 let mut known = known.of(&path);
                 for finding in findings {
@@ -110,7 +110,7 @@ impl Totals {
             }
             Outcome::Other(error) if words.paths.contains(&path) => {
                 self.unread += 1;
-                let _ = writeln!(io::stderr(), "dwcheck-elf: {}: {}", path.display(), error);
+                let _ = writeln!(io::stderr(), "dwcheck-elf: {}: {}", shown(&path), error);
                 Ok(())
             }
             Outcome::Other(_) => {
@@ -119,7 +119,7 @@ impl Totals {
             }
             Outcome::Unread(error) => {
                 self.unread += 1;
-                let _ = writeln!(io::stderr(), "dwcheck-elf: {}: {}", path.display(), error);
+                let _ = writeln!(io::stderr(), "dwcheck-elf: {}: {}", shown(&path), error);
                 Ok(())
             }
         }

@@ -23,6 +23,8 @@ pub struct Output {
 impl Output {
     /// Creates a file that will be named `path`.
     pub fn create(path: &Path) -> Result<Output, Failure> {
+        // A link stays, and what it leads to is replaced.
+        let path = &fs::canonicalize(path).unwrap_or_else(|_| path.to_path_buf());
         let failed = |error| cannot(path, &error);
         let with = |partial, is_nameless, file| Output {
             path: path.to_path_buf(),

@@ -26,22 +26,23 @@ const MAX_CALLERS: usize = 16;
 /// Writes the functions at the address with their variables, the innermost first.
 pub fn vars(words: &VarsWords, out: &mut impl Write) -> Result<Done, Failure> {
     let shape = Shape { depth: words.depth, ..Shape::default() };
+    let mut done = Done::Accepted;
     let functions = match (words.pid, &words.core, &words.program, &words.address) {
         (Some(pid), None, None, None) => of_process(words, pid, shape)?,
         (None, Some(core), None, None) => of_core(words, core, shape)?,
-        (None, None, Some(program), Some(address)) => of_program(words, program, address, shape)?,
+        (None, None, Some(program), Some(address)) => of_program(words, program, address, shape, &mut done)?,
         _ => return Err(Failure::Argument("give PROGRAM ADDRESS, --core or --pid".to_string())),
     };
     if words.json {
         let functions: Vec<_> = functions.iter().rev().map(Function::json).collect();
         writeln!(out, "{}", json!({ "functions": functions }))?;
-        return Ok(Done::Accepted);
+        return Ok(done);
     }
     if functions.is_empty() {
         writeln!(out, "none")?;
     }
     functions.iter().rev().try_for_each(|function| write!(out, "{}", function))?;
-    Ok(Done::Accepted)
+    Ok(done)
 }
 
 fn of_core(words: &VarsWords, path: &Path, shape: Shape) -> Result<Vec<Function>, Failure> {
@@ -78,7 +79,14 @@ fn of_frame(words: &VarsWords, core: &CoreFile<'_>, files: &Files, shape: Shape)
     Ok(functions)
 }
 
-fn of_program(words: &VarsWords, path: &Path, at: &str, shape: Shape) -> Result<Vec<Function>, Failure> {
+/// `done` is set to how the run ends.
+fn of_program(
+    words: &VarsWords,
+    path: &Path,
+    at: &str,
+    shape: Shape,
+    done: &mut Done,
+) -> Result<Vec<Function>, Failure> {
     let data = read(path)?;
     let program = program(path, &data)?;
     let target = program.target();
@@ -88,7 +96,7 @@ fn of_program(words: &VarsWords, path: &Path, at: &str, shape: Shape) -> Result<
     let files = DebugFiles::default();
     let variables = variables(path, &program, &files)?;
     let process = match &words.state {
-        Some(_) => unwinder(path, &program, load)?,
+        Some(_) => unwinder(path, &program, load, done)?,
         None => Modules::new(target),
     };
     let steps = steps(process.process(), address, &state)?;
@@ -132,8 +140,9 @@ fn variables<'a>(path: &Path, program: &Program<'a>, files: &'a DebugFiles) -> R
 }
 
 /// The program's unwind tables, which give the CFA and the callers.
-fn unwinder(path: &Path, program: &Program<'_>, load: u64) -> Result<Modules, Failure> {
+fn unwinder(path: &Path, program: &Program<'_>, load: u64, done: &mut Done) -> Result<Modules, Failure> {
     let opened = Opened::read(path, program)?;
+    *done = opened.done();
     opened.note_refused(path, false);
     let mut modules = Modules::new(program.target());
     let added = modules.add(path, program, &opened.frames, load);

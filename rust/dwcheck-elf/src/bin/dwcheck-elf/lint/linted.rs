@@ -116,7 +116,7 @@ impl<'m> File<'_, 'm> {
 
     fn written(&self, finding: &Finding<'m>, lint: &mut Lint<'m>, shown: &Shown) -> Written {
         let names = |address| self.name(address);
-        let mut text = format!("{}: {}", self.path.display(), Text(self.module, finding, &names));
+        let mut text = format!("{}: {}", crate::end::shown(self.path), Text(self.module, finding, &names));
         let key = Key::of(text.lines().next().unwrap_or(""));
         if shown.json {
             let object = Json(self.module, finding, &names).to_string();
@@ -132,7 +132,7 @@ impl<'m> File<'_, 'm> {
     fn result(&self, finding: &Finding<'m>, text: &str) -> serde_json::Value {
         let address = finding.mark.address;
         let line = self.lines.as_ref().and_then(|lines| lines.line(address));
-        let message = text.get(self.path.display().to_string().len() + 2..).unwrap_or(text);
+        let message = text.get(crate::end::shown(self.path).len() + 2..).unwrap_or(text);
         sarif::result(self.path, self.module, finding, message, self.name(address), line)
     }
 
@@ -144,7 +144,7 @@ impl<'m> File<'_, 'm> {
             let file = Quoted(&self.path.to_string_lossy()).to_string();
             return format!("{{\"file\":{},\"coverage\":{{{}}}}}", file, counts.join(","));
         }
-        format!("{}: {}", self.path.display(), coverage)
+        format!("{}: {}", crate::end::shown(self.path), coverage)
     }
 }
 
