@@ -48,8 +48,8 @@ void dwcheck_dl_end(void);
 int dwcheck_dl_backtrace(void **addresses, int size);
 
 /* The same from where a signal has interrupted the calling thread: `context` is the third argument of
-   its handler. The first address is that of the interrupted instruction. If it is 0, a null pointer was
-   called, and the second address is in the function that made the call. */
+   its handler. The first address is that of the interrupted instruction. If it is 0 (or below 4096), a
+   null pointer was called, and the second address is in the function that made the call. */
 int dwcheck_dl_backtrace_from(const void *context, void **addresses, int size);
 
 /* The memory that can be read from `address` on, as a block for a walk: up to the end of the pages without

@@ -34,8 +34,8 @@ const EXPRESSION_BYTES: usize = 64;
 ///
 /// As measured on x86-64, [`add`](Process::add) takes 50 KB of stack. The walks take 2 KB, 4 KB if a
 /// rule is an expression, and 18 KB if a register with a number of 96 or more has a known content;
-/// [`unwind`](Process::unwind) takes 12 KB. If a thread's stack is too small, the program ends, as
-/// with any stack overflow.
+/// [`unwind`](Process::unwind) takes 8 KB, besides 4 KB for the registers that it gives. If a thread's
+/// stack is too small, the program ends, as with any stack overflow.
 ///
 /// ```
 /// # const SECTION: &[u8] = &[
