@@ -69,6 +69,23 @@ provenance() {
     echo "Not proved: dwcheck-elf, libdwcheck-dl, dwcheck.hpp, dwcheck.cppm, dwcheck.py, and the C files of c/."
 }
 
+# The licenses of what the programs and libraries contain beside this project's own files: crates of the
+# kit, crates of Debian, and the shared libraries.
+licenses() {
+    local kit to=$out/share/doc/dwcheck/licenses file name
+    kit=$(dirname "$(rt doc)")
+    for name in $(sed 's/^[^:]*://' crates.txt | tr ' ' '\n' | LC_ALL=C sort -u) std; do
+        for file in "$kit/rattle/$name"/LICENSE*; do
+            [ ! -f "$file" ] || install -D -m 644 "$file" "$to/kit/$name/$(basename "$file")"
+        done
+    done
+    { sed -n 's/^name = "\(.*\)"/librust-\1-dev/p' rust/dwcheck-elf/Cargo.lock | tr _ -
+      for library in $(libraries_of dwcheck-elf); do dpkg -S "$library" 2> /dev/null || dpkg -S "/usr$library"; done | sed 's/:.*//'
+    } | LC_ALL=C sort -u | while read -r name; do
+        [ ! -f "/usr/share/doc/$name/copyright" ] || install -D -m 644 "/usr/share/doc/$name/copyright" "$to/debian/$name"
+    done
+}
+
 rm -rf build/dist
 put_program dwcheck
 put_program dwcheck-elf
@@ -85,7 +102,8 @@ sed "s/@VERSION@/$version/" c/dwcheckConfigVersion.cmake.in > "$out/lib/cmake/dw
 put 644 share/python python/dwcheck.py
 put 644 share/man/man1 build/man/dwcheck.1 build/man/dwcheck-elf.1
 put 644 share/man/man3 build/man/dwcheck.3
-put 644 share/doc/dwcheck README.md CHANGES.md docs/*.md
+put 644 share/doc/dwcheck README.md CHANGES.md LICENSE-MIT LICENSE-APACHE docs/*.md
+licenses
 completions bash bash-completion/completions/dwcheck-elf
 completions zsh zsh/site-functions/_dwcheck-elf
 completions fish fish/vendor_completions.d/dwcheck-elf.fish
