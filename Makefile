@@ -1,6 +1,6 @@
 # Builds, tests and installs the programs dwcheck and dwcheck-elf, the C library, and their manual
 # pages. `rt`, the command of the Rattle kit, must be on the PATH.
-#   make try        the main job, before anything is proved: the rows of the worked section
+#   make try        the main job, before anything is proved: the rows of a worked section
 #   make            builds the programs, libdwcheck.a and libdwcheck.so in build/, all proved
 #   make test       all tests, and the gate: every proof, wrong bodies that must be refused, and the
 #                   tests of everything else. It installs the Debian packages that it needs.
@@ -53,23 +53,15 @@ build:
 # only if one of them has changed, and then it replaces the old file only if it differs, so that
 # nothing that uses it is built again.
 proved := crates.txt $(shell find crates -name out -prune -o -name dw_tests -prune -o -name dw_times -prune -o -name dw_eh_tests -prune \
-    -o -type f \( -name '*.rt' -o -name '*.antt' \) -print)
+    -o -name worked_rows -prune -o -type f \( -name '*.rt' -o -name '*.antt' \) -print)
 
-build/program.stamp: $(proved) | build
+build/proved.stamp: $(proved) | build
 	@tools/kit.sh
-	@tools/build.sh program
+	@tools/build.sh
 	@touch $@
 
-build/library.stamp: $(proved) | build
-	@tools/kit.sh
-	@tools/build.sh library
-	@touch $@
-
-build/dwcheck: build/program.stamp
-	@[ -f $@ ] || tools/build.sh program
-
-build/libdwcheck_c.a: build/library.stamp
-	@[ -f $@ ] || tools/build.sh library
+build/dwcheck build/libdwcheck_c.a: build/proved.stamp
+	@[ -f $@ ] || tools/build.sh
 
 # The thin part in C: calls that allow NULL for empty arrays, each of which calls the proved one of the
 # same name, which libdwcheck.a has as proved_..; a step that asks for memory; and texts.

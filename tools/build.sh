@@ -1,12 +1,12 @@
 #!/usr/bin/env bash
-# Proves and builds what is written in Rattle, and copies the result into the folder build/.
-#   tools/build.sh program    build/dwcheck
-#   tools/build.sh library    build/libdwcheck_c.a
-#   tools/build.sh sum        prints a checksum of everything that is proved
-# `make test` leaves that checksum in build/proved after `rt ci` has proved these very files. The
-# program is then the one that `rt ci` built, and the library is made over the crates that it proved;
-# only dwcheck_c itself is proved once more, since `rt ci` builds no static libraries. Otherwise, `rt
-# run` and `rt lib` prove what has changed since they ran last.
+# Proves and builds what is written in Rattle, and copies the results into the folder build/.
+#   tools/build.sh        build/dwcheck and build/libdwcheck_c.a
+#   tools/build.sh sum    prints a checksum of everything that is proved
+# The crates are proved by `rt ci`, side by side, on a copy without tests and wrong bodies. It keeps
+# what it has proved on this machine, so only what has changed is proved again, here and in
+# `make test`. If `make test` has just proved these very files, which the checksum in build/proved
+# says, its results are taken. The library is proved while it is built: `rt ci` builds no static
+# libraries.
 set -eu
 top=$(dirname "$(dirname "$(realpath "$0")")")
 cd "$top"
@@ -16,62 +16,80 @@ sum() {
         cat - <(printf 'crates.txt\n') | xargs sha256sum | sha256sum | cut -d ' ' -f 1
 }
 
-is_proved() {
-    [ -f build/proved ] && [ "$(cat build/proved)" = "$(sum)" ]
+names() { # the crates that the program and the library are made of, but the library's own
+    sed -n 's/^\([a-z_]*\)\( staticlib\)\?:.*/\1/p' crates.txt | grep -vxE 'dw_tests|dw_eh_tests|dw_times|worked_rows|dwcheck_c'
 }
 
-is_over_own_checks() { # whether `rt check` and its like left libraries here, over which they go on
-    [ -n "$(find crates -path '*/out/rlib/stamp' | head -n 1)" ]
+stop() { # LOG: shows why a command failed
+    grep -v '^note: ' "$1" | tail -n 5 >&2
+    exit 1
 }
 
-show() { # COMMAND..: runs it; its output goes to build/log, and a line for each crate is printed
-    if ! "$@" 2>&1 < /dev/null | tee build/log | sed -un 's/^rt: chose --jobs [0-9]* for /proving /p; /^proving /p'; then
-        grep -v '^note: ' build/log | tail -n 5 >&2
-        exit 1
-    fi
+# How many proofs run side by side: one on each processor, and 3 GB of memory for each.
+lanes() {
+    local fit=$(($(sed -n 's/^MemTotal: *\([0-9]*\) kB/\1/p' /proc/meminfo) / 3000000))
+    [ "$fit" -lt "$(nproc)" ] || fit=$(nproc)
+    echo "$((fit > 0 ? fit : 1))"
+}
+
+prove_copy() { # FOLDER: proves a copy of the crates there
+    mkdir "$1/crates"
+    for name in $(names); do
+        mkdir "$1/crates/$name"
+        find "crates/$name" -mindepth 1 -maxdepth 1 ! -name out ! -name wrong-bodies -exec cp -r {} "$1/crates/$name/" \;
+    done
+    grep -E "^($(names | tr '\n' '|')none)( staticlib)?:" crates.txt > "$1/crates.txt"
+    cp HANDLES "$1/"
+    echo "proving $(names | wc -l) crates, but for those that were proved on this machine before; in all 25 minutes on 4 processors"
+    (cd "$1" && RT_JOBS=${RT_JOBS:-$(lanes)} rt ci 2>&1 < /dev/null) | tee build/log |
+        sed -un 's/^rt: \([a-z_]*\) \(proved\|NOT PROVED\)$/\1 \2/p' || stop build/log
+}
+
+take_proved() { # FOLDER: copies what `make test` has proved; `rt ci` may put other libraries in its place
+    for name in $(names); do
+        mkdir -p "$1/crates/$name/out"
+        cp -r "crates/$name/out/." "$1/crates/$name/out/"
+    done
+}
+
+build_library() { # FOLDER
+    local kit words=() name
+    kit=$(dirname "$(rt doc)")
+    for name in $(sed -n 's/^dwcheck_c staticlib: //p' crates.txt) std; do
+        if [ -d "crates/$name" ]; then
+            words+=(--extern "$name=$1/crates/$name/out/rlib/$name.rlib" -L "dependency=$1/crates/$name/out/rlib")
+        else
+            words+=(--extern "$name=$kit/rlibs/$name.rlib")
+        fi
+    done
+    (cd crates/dwcheck_c && "$kit/bin/rattle" build --crate-name dwcheck_c src/lib.rt --crate-type staticlib "${words[@]}" \
+        -L "dependency=$kit/rlibs" --antt-project "$kit/rattle/logic/antt-project.json" \
+        --logic-built "$kit/logic_built" --toolchain "$kit/toolchain" --backend llvm --jobs 2 \
+        -o "$1/libdwcheck_c.a") > build/log 2>&1 < /dev/null || stop build/log
 }
 
 put() { # FILE TO: copies a file, unless it is there already with the same bytes
     cmp -s "$1" "$2" || cp "$1" "$2"
 }
 
-library_over_proved_crates() {
-    echo "proving dwcheck_c"
-    kit=$(dirname "$(rt doc)")
-    words=()
-    for name in $(sed -n 's/^dwcheck_c staticlib: //p' crates.txt) std; do
-        if [ -d "crates/$name" ]; then
-            words+=(--extern "$name=../$name/out/rlib/$name.rlib" -L "dependency=../$name/out/rlib")
-        else
-            words+=(--extern "$name=$kit/rlibs/$name.rlib")
-        fi
-    done
-    cd crates/dwcheck_c
-    mkdir -p out
-    "$kit/bin/rattle" build --crate-name dwcheck_c src/lib.rt --crate-type staticlib "${words[@]}" \
-        -L "dependency=$kit/rlibs" --antt-project "$kit/rattle/logic/antt-project.json" \
-        --logic-built "$kit/logic_built" --toolchain "$kit/toolchain" --backend llvm --jobs 2 \
-        -o out/libdwcheck_c.a
-}
-
-program() {
-    if ! is_proved || [ ! -f crates/dwcheck/out/dwcheck ]; then
-        (cd crates/dwcheck && rt run -- rows --hex data/frame.hex)
-    fi
-}
-
-library() {
-    if is_proved && ! is_over_own_checks; then
-        (library_over_proved_crates)
+build() {
+    mkdir -p build
+    work=$(mktemp -d)
+    trap 'rm -rf "$work"' EXIT
+    if [ -f build/proved ] && [ "$(cat build/proved)" = "$(sum)" ] && [ -f crates/dwcheck/out/dwcheck ]; then
+        take_proved "$work"
     else
-        (cd crates/dwcheck_c && rt lib)
+        prove_copy "$work"
     fi
+    echo "proving and building dwcheck_c"
+    build_library "$work"
+    put "$work/crates/dwcheck/out/dwcheck" build/dwcheck
+    put "$work/libdwcheck_c.a" build/libdwcheck_c.a
 }
 
 set -o pipefail
 case ${1:-} in
-program) mkdir -p build && show program && put crates/dwcheck/out/dwcheck build/dwcheck ;;
-library) mkdir -p build && show library && put crates/dwcheck_c/out/libdwcheck_c.a build/libdwcheck_c.a ;;
+"") build ;;
 sum) sum ;;
-*) echo "usage: tools/build.sh program|library|sum" >&2 && exit 2 ;;
+*) echo "usage: tools/build.sh [sum]" >&2 && exit 2 ;;
 esac

@@ -3,19 +3,23 @@
 
     tools/test.py [STAGE]..
 
-First it installs the Debian packages that are missing (tools/packages.sh). Then it runs the stages
-below, or only those that are named: the first two one after the other, and then the others side by
-side. Each prints a line when it begins, a line now and then while it runs, and a line with its
-counts when it ends. Its whole output goes to build/test/STAGE.log. The last line is
-`N passed, M failed`, the sum of all stages. A test that can't run is a failure, except
-where the machine forbids perf or ptrace: then a line that begins with `note:` says what ran instead.
+First it installs the Debian packages that are missing (tools/packages.sh), and says what the run
+will take. Then it runs the stages below, or only those that are named. What needs no proof begins at
+once, beside `proofs`; `build` begins as soon as `proofs` has proved what is built, while wrong
+bodies are still tried; and what runs the built programs begins after it. Each stage prints a line
+when it begins, a line now and then while it runs, and a line with its counts when it ends. Its whole
+output goes to build/test/STAGE.log. The last lines say what the run took, and `N passed, M failed`,
+the sum of all stages. A test that can't run is a failure, except where the machine forbids perf or
+ptrace: then a line that begins with `note:` says what ran instead.
 
 The tests of Rust use Debian's cargo, so that results don't depend on other versions on the machine.
 """
 import argparse
+import contextlib
 import os
 import pathlib
 import re
+import resource
 import subprocess
 import sys
 import threading
@@ -27,6 +31,8 @@ from typing import Callable
 TOP = pathlib.Path(__file__).resolve().parent.parent
 BUILD = TOP / "build"
 LOGS = BUILD / "test"
+# The crates that `rt ci` has proved in this run, a line for each, and at last the line `end`.
+PROVED = LOGS / "proved"
 # Without debug information the tests are compiled in less time.
 RUST = {"DWCHECK_LIB_DIR": str(BUILD), "CARGO_TARGET_DIR": str(BUILD / "cargo-test"), "CARGO_PROFILE_DEV_DEBUG": "0"}
 # How many seconds a stage may be silent before a line says that it goes on.
@@ -43,15 +49,16 @@ class Counts:
 
 @dataclass
 class Stage:
-    """A part of the tests: a command, how to count in what it prints, and which lines tell how far
-    it is."""
+    """A part of the tests: a command, how to count in what it prints, which lines tell how far it is,
+    and the events for which it waits: `proved`, when `rt ci` has proved what is built, or the end of
+    the stage `proofs` or `build`."""
 
     name: str
     what: str
     command: str
     count: Callable[[str], Counts]
     progress: str = r"(?!)"
-    uses_build: bool = True
+    after: tuple = ("build",)
     environment: dict = field(default_factory=dict)
 
     @property
@@ -100,38 +107,46 @@ def counted_pages(text):
     return Counts(passed, differing + re.findall(r"^(\S+: left out: .*)", text, re.MULTILINE))
 
 
+def memory():
+    """The memory of this machine, in gigabytes."""
+    return os.sysconf("SC_PAGE_SIZE") * os.sysconf("SC_PHYS_PAGES") / 1e9
+
+
 def lanes():
-    """How many proofs and wrong bodies `rt ci` is to try side by side. By itself it lets processors
-    idle while the proof of dw_tests runs, for which it expects to need all memory. That proof takes
-    13 GB, and each of the others takes 2 GB or less."""
-    gigabytes = os.sysconf("SC_PAGE_SIZE") * os.sysconf("SC_PHYS_PAGES") / 1e9
-    return max(1, min(len(os.sched_getaffinity(0)), int((gigabytes - 15) / 2)))
+    """How many proofs and wrong bodies `rt ci` tries side by side. By itself it gives one proof
+    several processors, which takes more time of a processor in all. A proof takes 3 GB at most."""
+    return max(1, min(len(os.sched_getaffinity(0)), int(memory() / 3)))
 
 
-# Of those that run side by side, the longest come first.
+# Of those that run side by side, the longest come first. What runs beside the proofs of what is built
+# yields to them, and they yield to what runs after the build.
 STAGES = [
-    Stage("proofs", "every proof, the wrong bodies, the tests in Rattle", "rt ci", counted_by_rt,
-          progress=r"^rt: (\w+(?:: its tests are)? (?:NOT )?proved|\w+(?= is kept)|\w+: trying its must-fail edits.*)",
-          uses_build=False, environment={"RT_JOBS": str(lanes())}),
+    Stage("proofs", "every proof, the tests in Rattle", "nice -n 5 rt ci", counted_by_rt,
+          progress=r"^rt: (\w+(?:: its tests are)? (?:NOT )?proved|\w+(?= is kept))", after=(), environment={"RT_JOBS": str(lanes())}),
+    Stage("bodies", "wrong bodies of functions, which the prover must refuse", "nice -n 10 tools/wrong_bodies.py --proved build/test/proved", counted_lines,
+          progress="^ok (.*?): ", after=()),
+    Stage("lint", "clippy, rustfmt, the heads of files, the manual pages", "nice -n 10 rust/lint.sh; tools/files.py --check; tools/man.py --check",
+          counted_lines, progress="^(ok .*)", after=(), environment=RUST),
+    Stage("code", "rust/dwcheck-lint", "cd rust/dwcheck-lint && nice -n 10 ../cargo.sh test --no-fail-fast", counted_by_cargo,
+          after=(), environment=RUST),
     Stage("build", "the programs and the libraries", "make -s all && echo 'ok build' || echo 'FAILED build'", counted_lines,
-          progress="^(proving .*)", uses_build=False),
+          progress="^(proving .*)", after=("proved",)),
     Stage("rust", "rust/dwcheck and its documentation, also under valgrind", "rust/dwcheck/run.sh", counted_by_cargo,
           environment=RUST),
     Stage("pages", "the commands in README.md and docs/", "bench/pages.py build/dwcheck --elf build/dwcheck-elf --slow", counted_pages,
           progress="^(.*): [0-9]+ commands, .*"),
     Stage("elf", "rust/dwcheck-elf", "cd rust/dwcheck-elf && ../cargo.sh test --no-fail-fast", counted_by_cargo,
           environment=RUST | {"DWCHECK": str(BUILD / "dwcheck")}),
-    Stage("code", "rust/dwcheck-lint", "cd rust/dwcheck-lint && ../cargo.sh test --no-fail-fast", counted_by_cargo, environment=RUST),
+    Stage("cases", "worked cases, by dwcheck and by the library", "tests/run.sh", counted_lines),
     Stage("python", "python/dwcheck.py, beside pyelftools", "/usr/bin/python3 python/test_dwcheck.py -v", counted_by_unittest,
           environment={"DWCHECK_LIBRARY": str(BUILD / "libdwcheck.so.2.0.0")}),
     Stage("memory", "each request for memory refused in turn, in tests and in dwcheck",
-          "bench/stress/refused_memory.py crates/dw_tests/out/dw_tests_tests build/dwcheck", counted_refusals),
+          "bench/stress/refused_memory.py crates/dw_tests/out/dw_tests_tests build/dwcheck", counted_refusals,
+          after=("proofs", "build")),
     Stage("c", "the C library, with sanitizers and valgrind", "c/tests/run.sh", counted_lines, progress="^(ok .*)",
           environment={"LIBRARY": str(BUILD / "libdwcheck.a")}),
     Stage("examples", "frames of the examples beside those of gdb and eu-stack", "examples/run.sh", counted_lines,
           progress="^(ok .*)", environment=RUST),
-    Stage("lint", "clippy, rustfmt, the heads of files, the manual pages", "rust/lint.sh; tools/files.py --check; tools/man.py --check",
-          counted_lines, progress="^(ok .*)", environment=RUST),
 ]
 
 
@@ -158,8 +173,43 @@ def environment_of(stage):
     return {**own, "PATH": path, "LC_ALL": "C.UTF-8", "DWCHECK_NO_SKIPS": "1", **stage.environment}
 
 
-def run(stage, reporter):
-    """Runs a stage's command, and returns its counts. Prints how far it is."""
+def note_proved(name):
+    """Says to tools/wrong_bodies.py that a crate is proved, or `end`: that no other will be."""
+    with open(PROVED, "a", encoding="utf-8") as file:
+        file.write(f"{name}\n")
+
+
+class Proofs:
+    """How far `rt ci` is: which crates are proved, and whether those are that are built."""
+
+    def __init__(self):
+        lines = (TOP / "crates.txt").read_text(encoding="utf-8").splitlines()
+        uses = {words[0]: words[1:] for line in lines if (words := re.findall(r"\w+", line.replace(" staticlib:", ":"))) and line[0] != "#"}
+        self.crates, self.proved = set(uses), set()
+        # The library itself, dwcheck_c, is proved while it is built.
+        self.built, below = set(), ["dwcheck", *uses["dwcheck_c"]]
+        while below:
+            name = below.pop()
+            if name in uses and name not in self.built:
+                self.built.add(name)
+                below += uses[name]
+
+    def of_line(self, text):
+        """Notes what a line of progress says, and returns what to print for it."""
+        name, *words = text.split(None, 1)
+        if words and words != ["proved"]:
+            return text
+        self.proved.add(name)
+        note_proved(name)
+        return f"{text}{'' if words else ' was proved before'} ({len(self.proved)} of {len(self.crates)} crates)"
+
+    def are_done(self):
+        return self.built <= self.proved
+
+
+def run(stage, reporter, proofs=None, on_proofs=lambda: None):
+    """Runs a stage's command, and returns its counts. Prints how far it is. If `proofs` is passed, calls
+    `on_proofs` once what is built is proved."""
     events, ended = 0, threading.Event()
 
     def reassure():
@@ -177,7 +227,9 @@ def run(stage, reporter):
             log.flush()
             if found := re.match(stage.progress, line):
                 events += 1
-                reporter.say(f"{stage.name}: {events}. {found[1]}")
+                reporter.say(f"{stage.name}: " + (proofs.of_line(found[1]) if proofs else f"{events}. {found[1]}"))
+                if proofs and proofs.are_done():
+                    on_proofs()
             elif line.startswith("note: the machine "):
                 reporter.say(line.rstrip())
     ended.set()
@@ -200,10 +252,10 @@ def show(stage, counts, reporter):
     reporter.say(*lines)
 
 
-def run_and_show(stage, reporter):
+def run_and_show(stage, reporter, **hooks):
     """Runs a stage, prints its counts, and returns them."""
     reporter.say(f"{stage.name}: {stage.what}")
-    counts = run(stage, reporter)
+    counts = run(stage, reporter, **hooks)
     show(stage, counts, reporter)
     return counts
 
@@ -214,22 +266,71 @@ def note_what_is_proved():
     (BUILD / "proved").write_text(proved.stdout, encoding="utf-8")
 
 
-def run_all(stages, reporter):
-    """Runs the stages. Returns how many tests passed, and how many failed. Those that use what is
-    built run side by side. Most of the time they wait for one processor each."""
-    results = []
-    for stage in stages:
-        if not stage.uses_build:
-            results.append(run_and_show(stage, reporter))
-            if stage.name == "proofs" and not results[-1].failed:
-                note_what_is_proved()
-            if stage.name == "build" and results[-1].failed:
-                others = [other.name for other in stages if other.uses_build]
-                reporter.say("not run, since build failed: " + " ".join(others))
-                return total_of([*results, Counts(0, others)])
-    with ThreadPoolExecutor(max_workers=len(os.sched_getaffinity(0))) as pool:
-        results += pool.map(lambda stage: run_and_show(stage, reporter), (stage for stage in stages if stage.uses_build))
-    return total_of(results)
+class Event:
+    """Something for which stages wait: that it has happened, and whether it went well."""
+
+    def __init__(self):
+        self.happened, self.is_well = threading.Event(), False
+
+    def happens(self, is_well=True):
+        """Notes how it went. Only the first time counts."""
+        if not self.happened.is_set():
+            self.is_well = is_well
+            self.happened.set()
+
+    def wait(self):
+        self.happened.wait()
+        return self.is_well
+
+
+class Gate:
+    """Runs stages, each once the events for which it waits have happened."""
+
+    def __init__(self, stages, reporter):
+        self.stages, self.reporter = stages, reporter
+        self.events = {name: Event() for name in ("proved", "proofs", "build")}
+        # What no stage of this run does has been done before.
+        for name in self.events.keys() - {stage.name for stage in stages} - {"proved"}:
+            self.events[name].happens()
+        if self.events["proofs"].is_well:
+            self.events["proved"].happens()
+        # Most of the time a stage waits for one processor.
+        self.places = threading.Semaphore(len(os.sched_getaffinity(0)))
+
+    def on_proofs(self):
+        """What is built is proved: tools/build.sh need not prove it once more."""
+        if not self.events["proved"].happened.is_set():
+            note_what_is_proved()
+            self.events["proved"].happens()
+
+    def counts_of(self, stage):
+        """Runs a stage, and returns its counts."""
+        if stage.name == "proofs":
+            return run_and_show(stage, self.reporter, proofs=Proofs(), on_proofs=self.on_proofs)
+        if stage.name in self.events:
+            return run_and_show(stage, self.reporter)
+        with self.places:
+            return run_and_show(stage, self.reporter)
+
+    def run(self, stage):
+        """Runs a stage when its time has come, and returns its counts."""
+        failed = [name for name in stage.after if not self.events[name].wait()]
+        if failed:
+            self.reporter.say(f"{stage.name}: not run, since {failed[0]} failed")
+            counts = Counts(0, [stage.name])
+        else:
+            counts = self.counts_of(stage)
+        if stage.name in self.events:
+            self.events[stage.name].happens(not counts.failed)
+        if stage.name == "proofs":
+            self.events["proved"].happens(False)
+            note_proved("end")
+        return counts
+
+    def run_all(self):
+        """Returns how many tests passed, and how many failed."""
+        with ThreadPoolExecutor(max_workers=len(self.stages)) as pool:
+            return total_of(list(pool.map(self.run, self.stages)))
 
 
 def total_of(results):
@@ -241,13 +342,41 @@ def prepare():
     to do, before anything long has begun."""
     try:
         LOGS.mkdir(parents=True, exist_ok=True)
-        (LOGS / "begun").write_text("", encoding="utf-8")
+        PROVED.write_text("", encoding="utf-8")
     except OSError as error:
         sys.exit(f"make test: {error.strerror}: {error.filename}; run it in a clone that you may write to")
     for words in [["tools/kit.sh"], ["tools/packages.sh", "install", "rust", "cargo", "test"]]:
         ready = subprocess.run(words, cwd=TOP, stdin=subprocess.DEVNULL, stderr=subprocess.PIPE, text=True, check=False)
         if ready.returncode:
             sys.exit(f"make test: {ready.stderr.strip()}")
+
+
+# What the gate takes from nothing, in minutes of a processor, and its longest chain of proofs in
+# minutes; docs/PERFORMANCE.md says on which machine.
+FROM_NOTHING, CHAIN, OVER_KEPT = 120, 45, 8
+
+
+def forecast():
+    """A line that says what the gate will take on this machine."""
+    processors, kept = len(os.sched_getaffinity(0)), pathlib.Path(kit()).parent / "rattle-kept"
+    clock = max(CHAIN + 10, FROM_NOTHING / processors * 1.2)
+    known = len({file.name.split("-")[1] for file in kept.glob("proof-*")}) if os.access(kept, os.R_OK) else 0
+    start = f"{processors} processors, {memory():.0f} GB: from nothing, some {clock:.0f} minutes ({FROM_NOTHING} of a processor)"
+    if known:
+        return f"{start}; this machine has proofs of {known} crates, and if nothing changed since then, some {OVER_KEPT} minutes"
+    return f"{start}; nothing was proved on this machine before"
+
+
+def kit():
+    """The folder of the kit."""
+    page = subprocess.run(["rt", "doc"], capture_output=True, text=True, check=True).stdout.strip()
+    return pathlib.Path(page).parent
+
+
+def minutes_used():
+    """How many minutes of a processor the stages took."""
+    used = resource.getrusage(resource.RUSAGE_CHILDREN)
+    return round((used.ru_utime + used.ru_stime) / 60)
 
 
 def forbids_ptrace():
@@ -270,9 +399,15 @@ def main():
     prepare()
     if forbids_ptrace():
         os.environ["DWCHECK_NO_PTRACE"] = "1"
-    reporter = Reporter()
     stages = [stage for stage in STAGES if not words.stages or stage.name in words.stages]
-    passed, failed = run_all(stages, reporter)
+    if not words.stages:
+        print(forecast(), flush=True)
+    if "proofs" not in {stage.name for stage in stages}:
+        for name in Proofs().crates:
+            note_proved(name)
+    reporter = Reporter()
+    passed, failed = Gate(stages, reporter).run_all()
+    reporter.say(f"took {minutes_used()} minutes of a processor")
     of = f" (only {' '.join(words.stages)}: not the gate)" if words.stages else ""
     print(f"{passed} passed, {failed} failed{of}")
     return 1 if failed else 0

@@ -1,0 +1,294 @@
+#!/usr/bin/env python3
+"""Checks that the prover refuses each wrong body of a function in crates/*/wrong-bodies.
+
+    tools/wrong_bodies.py [--proved FILE] [--libraries FOLDER] [CRATE]..
+
+A file NAME.edit has lines `file: src/X.rt`, `old: TEXT` and `new: TEXT`: TEXT is one line that is
+once in the file. The wrong bodies of a crate are put into one copy of it, each in a function of its
+own, and one check of these functions must refuse each of them: because of what that very function
+has to meet, and not only because of a function that it calls. Two edits of one function take two
+checks. Prints `ok CRATE/NAME: FUNCTION: WHY` or `FAILED CRATE/NAME: ..` for each edit, and ends with
+status 1 if one failed.
+
+The libraries that a crate uses are those that `rt ci` built, in crates/*/out, or in FOLDER/*/out.
+With --proved, a crate is tried once that file names all of them, a line for each crate; a line `end`
+says that no other will come. What was refused is kept in the folder ~/.cache/dwcheck, by a checksum of all that the check read.
+"""
+import argparse
+import hashlib
+import os
+import pathlib
+import re
+import shutil
+import subprocess
+import sys
+import tempfile
+import time
+from concurrent.futures import ThreadPoolExecutor
+from dataclasses import dataclass, field
+
+TOP = pathlib.Path(__file__).resolve().parent.parent
+CRATES = TOP / "crates"
+PARTS = ("src", "specs", "proofs")
+KEPT = pathlib.Path(os.environ.get("XDG_CACHE_HOME") or pathlib.Path.home() / ".cache") / "dwcheck" / "wrong-bodies"
+# How many seconds a check may take.
+LIMIT = 3600
+
+
+class BadEdit(Exception):
+    """What is wrong with an edit."""
+
+
+@dataclass
+class Edit:
+    """A wrong body: the file of its function, which lines the function has there, and its name."""
+
+    path: pathlib.Path
+    pairs: list
+    file: str = ""
+    lines: range = range(0)
+    function: str = ""
+
+    @property
+    def name(self):
+        return f"{self.path.parent.parent.name}/{self.path.stem}"
+
+
+@dataclass
+class Crate:
+    """A line of crates.txt."""
+
+    name: str
+    is_static: bool
+    uses: list
+    edits: list = field(default_factory=list)
+
+
+def crates():
+    """All crates by name, in the order of crates.txt."""
+    found = {}
+    for line in (TOP / "crates.txt").read_text(encoding="utf-8").splitlines():
+        if parts := re.fullmatch(r"(\w+)( staticlib)?:(.*)", line):
+            found[parts[1]] = Crate(parts[1], bool(parts[2]), parts[3].split())
+    return found
+
+
+def below(name, every):
+    """The crates of this repository that a crate uses, also through others."""
+    direct = [it for it in every[name].uses if it in every]
+    return sorted({it for one in direct for it in [one, *below(one, every)]})
+
+
+def read_edit(path):
+    """An edit, with the function that it changes."""
+    pairs, file, old = [], "", ""
+    for line in path.read_text(encoding="utf-8").splitlines():
+        key, _, text = line.partition(": ")
+        if key == "file":
+            file = text
+        elif key == "old":
+            old = text
+        elif key == "new" or line == "new:":
+            pairs.append((file, old, text))
+    if not pairs:
+        raise BadEdit("it has no lines `old:` and `new:`")
+    file, old, _ = pairs[0]
+    text = (path.parent.parent / file).read_text(encoding="utf-8")
+    if text.count(old) != 1:
+        raise BadEdit(f"its text is in {file} {text.count(old)} times")
+    begin, end, name = function_around(text.splitlines(), text[:text.index(old)].count("\n"))
+    return Edit(path, pairs, file, range(begin + 1, end + 2), name)
+
+
+def function_around(lines, at):
+    """The first and the last line of the function that has a line, with its comment and attributes, and
+    its name."""
+    for begin in range(at, -1, -1):
+        if head := re.match(r"( *)(?:pub(?:\([a-z]+\))? )?(?:const |unsafe |extern \"C\" )*fn (\w+)", lines[begin]):
+            ends = (number for number in range(begin, len(lines)) if re.match(head[1] + r"}", lines[number]))
+            end = next(ends, len(lines) - 1)
+            if end >= at:
+                while lines[begin - 1].lstrip().startswith(("#", "//")):
+                    begin -= 1
+                return begin, end, head[2]
+    raise BadEdit("its text is in no function")
+
+
+def batches(edits):
+    """The edits in groups, in which no two change one function."""
+    groups = []
+    for edit in edits:
+        taken = lambda group: any(it.file == edit.file and it.lines == edit.lines for it in group)
+        group = next((it for it in groups if not taken(it)), None)
+        if group is None:
+            groups.append(group := [])
+        group.append(edit)
+    return groups
+
+
+def copy_with(crate, edits, folder):
+    """Copies a crate to a folder, with these wrong bodies in it."""
+    for part in PARTS:
+        if (CRATES / crate.name / part).is_dir():
+            shutil.copytree(CRATES / crate.name / part, folder / part)
+    for edit in edits:
+        for file, old, new in edit.pairs:
+            text = (folder / file).read_text(encoding="utf-8")
+            if text.count(old) != 1:
+                raise BadEdit(f"{edit.name}: its text is in {file} {text.count(old)} times beside the other edits")
+            (folder / file).write_text(text.replace(old, new), encoding="utf-8")
+
+
+def kit():
+    """The folder of the kit."""
+    page = subprocess.run(["rt", "doc"], capture_output=True, text=True, check=True).stdout.strip()
+    return pathlib.Path(page).parent
+
+
+def words(crate, every, libraries, only):
+    """The command that checks functions of a crate, over the libraries that were built."""
+    of_kit = kit()
+    found = [f"{of_kit}/bin/rattle", "check", "--crate-name", crate.name, "src/lib.rt"]
+    for name in [*crate.uses, "std"]:
+        place = f"{libraries}/{name}/out/rlib" if name in every else f"{of_kit}/rlibs"
+        found += ["--extern", f"{name}={place}/{name}.rlib"]
+    for name in below(crate.name, every):
+        found += ["-L", f"dependency={libraries}/{name}/out/rlib"]
+    found += ["-L", f"dependency={of_kit}/rlibs", "--antt-project", f"{of_kit}/rattle/logic/antt-project.json",
+              "--logic-built", f"{of_kit}/logic_built", "--jobs", "1"]
+    if crate.is_static:
+        found += ["--crate-type", "staticlib"]
+    for name in only:
+        found += ["--only", name]
+    return found
+
+
+def path_of(crate, edit):
+    """The path of an edited function as a check prints it, or the end of this path if it is a type's;
+    if the function is that of a trait, the path of its module, which stands for all functions in it."""
+    module = "::".join([crate.name, *edit.file[len("src/"):-len(".rt")].split("/")])
+    lines = (CRATES / crate.name / edit.file).read_text(encoding="utf-8").splitlines()[:edit.lines.start]
+    if not lines[-1].startswith(" "):
+        return f"{module}::{edit.function}"
+    head = next((line for line in reversed(lines) if line.startswith(("impl", "pub trait", "trait"))), "")
+    own = re.fullmatch(r"impl(?:<[^{]*?>)? (\w+)(?:<.*>)? {", head)
+    return f"{own[1]}::{edit.function}" if own and " for " not in head else module
+
+
+def why_refused(edit, said):
+    """Why the check refused the edited function itself: the clause that it doesn't meet. None if it
+    didn't refuse it."""
+    module = edit.file[len("src/"):-len(".rt")]
+    for line in said:
+        note = re.match(r"(?:note: )?(?:\./)?(src/\S+?):(\d+):\d+: (.*)", line)
+        if note and note[1] == edit.file and int(note[2]) in edit.lines and "not proved" in note[3]:
+            return note[3]
+    for line in said:
+        if re.match(rf"(?:\./)?proofs/{module}/(?:\w+/)?\+?{edit.function}/\S+: error", line):
+            return line
+    return None
+
+
+def refusals(crate, every, libraries, edits):
+    """Tries edits of different functions of a crate. Returns a line for each."""
+    with tempfile.TemporaryDirectory(prefix="dwcheck-wrong-") as room:
+        folder = pathlib.Path(room)
+        try:
+            copy_with(crate, edits, folder)
+        except BadEdit as error:
+            return [f"FAILED {edit.name}: {error}" for edit in edits]
+        command = words(crate, every, libraries, sorted({path_of(crate, edit) for edit in edits}))
+        ran = subprocess.run(command, cwd=folder, stdin=subprocess.DEVNULL, stdout=subprocess.PIPE, stderr=subprocess.STDOUT, text=True,
+                             errors="replace", timeout=LIMIT, check=False)
+    said = ran.stdout.splitlines()
+    lines = []
+    for edit in edits:
+        why = why_refused(edit, said)
+        proved = [line for line in said if re.match(rf"fn {crate.name}::\S*\b{edit.function}: proved", line)]
+        if why is None:
+            known = proved[0] if proved else " | ".join(said[-3:])
+            (TOP / "build" / "wrong-bodies").mkdir(parents=True, exist_ok=True)
+            (TOP / "build" / "wrong-bodies" / f"{crate.name}.log").write_text(ran.stdout, encoding="utf-8")
+            lines.append(f"FAILED {edit.name}: the check doesn't refuse {edit.function}: {known[:400]}")
+        else:
+            lines.append(f"ok {edit.name}: {edit.function}: {why[:200]}")
+    return lines
+
+
+def checksum(crate, every, edits):
+    """A checksum of all that a try of these edits reads."""
+    found = hashlib.sha256(pathlib.Path(__file__).read_bytes())
+    found.update(subprocess.run(["rt", "version"], capture_output=True, check=True).stdout)
+    folders = [CRATES / name / part for name in [crate.name, *below(crate.name, every)] for part in PARTS]
+    files = sorted(it for folder in folders if folder.is_dir() for it in folder.rglob("*") if it.is_file())
+    for path in [TOP / "crates.txt", *files, *[edit.path for edit in edits]]:
+        found.update(f"{path.relative_to(TOP)}\n".encode())
+        found.update(path.read_bytes())
+    return found.hexdigest()
+
+
+def tried(crate, every, libraries, edits):
+    """Tries edits, unless the same try was kept. Keeps it if all were refused."""
+    kept = KEPT / checksum(crate, every, edits)
+    if kept.is_file():
+        return kept.read_text(encoding="utf-8").splitlines()
+    lines = refusals(crate, every, libraries, edits)
+    if all(line.startswith("ok ") for line in lines):
+        KEPT.mkdir(parents=True, exist_ok=True)
+        new = kept.with_suffix(f".{os.getpid()}")
+        new.write_text("\n".join(lines) + "\n", encoding="utf-8")
+        os.replace(new, kept)
+    return lines
+
+
+def come(names, proved):
+    """Waits until a file names all these crates. Returns false if it never will."""
+    while proved:
+        found = set(proved.read_text(encoding="utf-8").split())
+        if set(names) <= found or "end" in found:
+            return set(names) <= found
+        time.sleep(2)
+    return True
+
+
+def try_crate(crate, every, libraries, proved):
+    """Prints a line for each edit of a crate. Returns whether all were refused."""
+    try:
+        edits = [read_edit(path) for path in crate.edits]
+    except (BadEdit, OSError) as error:
+        print(f"FAILED {crate.name}: {error}", flush=True)
+        return False
+    if not come(below(crate.name, every), proved):
+        print(f"FAILED {crate.name}: the libraries that it uses aren't proved", flush=True)
+        return False
+    is_well = True
+    for group in batches(edits):
+        for line in tried(crate, every, libraries, group):
+            print(line, flush=True)
+            is_well = is_well and line.startswith("ok ")
+    return is_well
+
+
+def lanes():
+    """How many checks run side by side: one on each processor, and 3 GB of memory for each."""
+    gigabytes = os.sysconf("SC_PAGE_SIZE") * os.sysconf("SC_PHYS_PAGES") / 1e9
+    return max(1, min(len(os.sched_getaffinity(0)), int(gigabytes / 3)))
+
+
+def main():
+    parser = argparse.ArgumentParser(description=__doc__, formatter_class=argparse.RawDescriptionHelpFormatter)
+    parser.add_argument("crates", nargs="*", metavar="CRATE")
+    parser.add_argument("--proved", type=pathlib.Path, metavar="FILE")
+    parser.add_argument("--libraries", type=pathlib.Path, metavar="FOLDER", default=CRATES)
+    given = parser.parse_args()
+    every = crates()
+    for crate in every.values():
+        crate.edits = sorted((CRATES / crate.name / "wrong-bodies").glob("*.edit"))
+    wanted = [it for it in every.values() if it.edits and (not given.crates or it.name in given.crates)]
+    with ThreadPoolExecutor(lanes()) as pool:
+        ended = pool.map(lambda crate: try_crate(crate, every, given.libraries, given.proved), wanted)
+        return 0 if all(list(ended)) else 1
+
+
+if __name__ == "__main__":
+    sys.exit(main())
