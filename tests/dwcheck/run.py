@@ -73,6 +73,11 @@ class Case(NamedTuple):
         return f"{self.place} {self.what} ({shlex.join(self.words)})"
 
 
+def digits(text):
+    """Hex text without spaces."""
+    return text.replace(" ", "")
+
+
 def counted(text, mark, first, last, step):
     """The text for each number, which takes the place of the mark."""
     step = int(step or 1)
@@ -81,28 +86,17 @@ def counted(text, mark, first, last, step):
                    for n in numbers)
 
 
-def first_bytes(text, count):
-    """The first bytes of hex text."""
-    return text.replace(" ", "")[:2 * int(count)]
-
-
 def changed(text, at, byte):
     """Hex text with another byte at the offset."""
-    digits = text.replace(" ", "")
-    assert int(at) < len(digits) // 2
-    return digits[:2 * int(at)] + byte + digits[2 * int(at) + 2:]
-
-
-def record(body):
-    """Hex text with its length before it."""
-    return (len(body.replace(" ", "")) // 2).to_bytes(4, "little").hex() + " " + body
+    found = re.fullmatch(rf"(\w{{{2 * int(at)}}})\w\w(\w*)", digits(text))
+    return found[1] + byte + found[2]
 
 
 # What can be in braces, and the function that gives the text for it.
 DIRECTIVES = [
-    (r"(.*), cut to (\d+)", first_bytes),
+    (r"(.*), cut to (\d+)", lambda text, length: digits(text)[:2 * int(length)]),
     (r"(.*), byte (\d+) changed to (\w\w)", changed),
-    (r"record (.*)", record),
+    (r"record (.*)", lambda body: (len(digits(body)) // 2).to_bytes(4, "little").hex() + " " + body),
     (r"(.*) for (#+) in (\d+)\.\.(\d+)(?: by (-?\d+))?", counted),
     (r"(\d+) x (.*)", lambda count, text: int(count) * text),
 ]
@@ -130,24 +124,19 @@ def with_lines(text, parts):
     return expanded(text, parts).replace("/", "\n")
 
 
-def without_escapes(text):
-    """The text with a character for each escape such as \\t."""
-    return text.encode("ascii").decode("unicode_escape")
+def bytes_of(text):
+    """The bytes of a text, with one for each escape such as \\xff."""
+    return text.encode("ascii").decode("unicode_escape").encode("latin-1")
 
 
 def content_of(text, parts):
     """The bytes of the file that the text stands for."""
-    return b"" if text == "-" else without_escapes(with_lines(text, parts)).encode("latin-1")
-
-
-def words_of(command):
-    """The words of a command line, as a shell reads them."""
-    return [without_escapes(word) for word in shlex.split(command)]
+    return b"" if text == "-" else bytes_of(with_lines(text, parts))
 
 
 def names_in(command):
     """What can be the name of a file in a command line: a word, or what comes after a `=` in it."""
-    words = words_of(command)[1:]
+    words = shlex.split(command)[1:]
     return {word[at:] for word in words for at in range(len(word)) if at == 0 or word[at - 1] == "="}
 
 
@@ -180,19 +169,19 @@ def each_length(line):
 
 def table_cases(place, what, commands, shared, header, line, parts):
     """The cases of a line of a table: its columns, and what each command prints."""
-    columns, outcome = line.split(": ", 1)
-    columns = ["" if text == "-" else text for text in columns.split(" | ")]
+    contents, outcome = line.split(": ", 1)
+    columns = ["" if text == "-" else text for text in contents.split(" | ")]
     columns = dict(zip(header[1].split(" | "), columns, strict=True))
     outcomes = outcome.split(" | ") if header[2] else len(commands) * [outcome]
     for command, printed in zip(commands, outcomes, strict=True):
         texts = shared | {name: text for name, text in columns.items() if name in names_in(command)}
         files = {name: content_of(text, parts | columns) for name, text in texts.items()}
-        yield Case(place, what, words_of(command), files, with_lines(printed, parts))
+        yield Case(place, f"{what} {contents[:60]}", shlex.split(command), files, with_lines(printed, parts))
 
 
 def paragraph_cases(path, lines, parts):
     """The cases of a paragraph, whose lines come with their numbers."""
-    first = next(at for at, (_, line) in enumerate(lines) if line.startswith("$ "))
+    first = [line.startswith("$ ") for _, line in lines].index(True)
     what = " ".join(line for _, line in lines[:first])
     commands = [(number, line[2:]) for number, line in lines if line.startswith("$ ")]
     rest = lines[first + len(commands):]
@@ -208,7 +197,7 @@ def paragraph_cases(path, lines, parts):
     files = {name: content_of(text, parts) for name, text in shared.items()}
     for number, command in commands:
         printed = with_lines("\n".join(line for _, line in rest), parts)
-        yield Case(f"{path.name}:{number}", what, words_of(command), files, printed)
+        yield Case(f"{path.name}:{number}", what, shlex.split(command), files, printed)
 
 
 def cases_of(path, parts):
@@ -218,7 +207,10 @@ def cases_of(path, parts):
         if line:
             paragraph.append((number, line))
         elif paragraph:
-            yield from paragraph_cases(path, paragraph, parts)
+            try:
+                yield from paragraph_cases(path, paragraph, parts)
+            except (ValueError, TypeError) as error:
+                sys.exit(f"{path}:{paragraph[0][0]}: not a case: {error}")
             paragraph = []
 
 
@@ -236,7 +228,7 @@ def found(program, case):
     with tempfile.TemporaryDirectory() as folder:
         for name, content in case.files.items():
             Path(folder, name).write_bytes(content)
-        words = [word.encode("latin-1") for word in case.words]
+        words = [bytes_of(word) for word in case.words]
         try:
             ran = subprocess.run(words, executable=program, cwd=folder, stdin=subprocess.DEVNULL, capture_output=True,
                                  encoding="utf-8", errors="replace", timeout=SECONDS, check=False)
@@ -251,7 +243,7 @@ def verdict(program, case):
     ends = wanted(case.outcome), found(program, case)
     if ends[0] == ends[1]:
         return [f"ok {case}"]
-    texts = [[*output.splitlines(), f"status {status}", *error.splitlines()] for output, status, error in ends]
+    texts = [[*output.split("\n"), f"status {status}", *error.split("\n")] for output, status, error in ends]
     return [f"FAILED {case}", *("    " + line for line in difflib.unified_diff(*texts, "wanted", "found", lineterm=""))]
 
 

@@ -1,5 +1,5 @@
-//! The rows of docs/WORKED.md that `dwcheck` shows, each as a command line with its files and its
-//! outcome, and functions that make a request and files of them.
+//! The rows of docs/WORKED.md that `dwcheck` shows, each with a command line, its files and its
+//! outcome, and functions that make a request and the files from these.
 
 use dw_check::{End, Request, Usage, request};
 use std::alloc::{AllocError, Global};
@@ -44,7 +44,16 @@ const LOCATION: &str = "dwcheck eval location --hex e";
 
 const SHORT: &str = "dwcheck eval --addr4 location --hex e";
 
-/// A command line, its files, and how its run ends with which text.
+/// The state file of a walk.
+const STACK: &str = "\
+reg 6 0x7f00
+mem 0x7f00 407f000000000000
+mem 0x7f08 2010000000000000
+mem 0x7f40 0000000000000000
+mem 0x7f48 0020000000000000
+";
+
+/// A command line, its files, how its run ends, and its text.
 pub(crate) type Worked = (
     &'static str,
     &'static [&'static str],
@@ -52,9 +61,9 @@ pub(crate) type Worked = (
     &'static str,
 );
 
-/// Rows 1 to 27 of docs/WORKED.md but for row 4, which is in `worked`, and then a walk, lists, and
-/// files that can't be decoded.
-pub(crate) const WORKED: [Worked; 67] = [
+/// Rows 1 to 27 of docs/WORKED.md but for row 4, which is in `worked`; then walks, lists, and files
+/// that can't be decoded.
+pub(crate) const WORKED: [Worked; 71] = [
     // Row 1.
     ("dwcheck rows --hex f", &["C1 H1 P1"], DONE, ROW_1),
     // Row 2.
@@ -499,10 +508,7 @@ expr frame 0x00000032 cfa ops 2 depth 1
     // A walk.
     (
         "dwcheck backtrace --hex f 0x1010 s 9",
-        &[
-            "C1 H1 P1",
-            "reg 6 0x7f00\nmem 0x7f00 407f000000000000\nmem 0x7f08 2010000000000000\nmem 0x7f40 0000000000000000\nmem 0x7f48 0020000000000000\n",
-        ],
+        &["C1 H1 P1", STACK],
         DONE,
         "\
 frame 0 0x0000000000001010 cfa value 0x0000000000007f10
@@ -523,6 +529,42 @@ tables 1 lists 1 expressions 2
 expr lists 0x00000010 location ops 1 depth 0
 expr lists 0x00000013 location ops 2 depth 1
 ",
+    ),
+    // A further row, a walk with a limit, and lists alone.
+    (
+        "dwcheck row --hex f 0x1001",
+        &["C1 H1 P1"],
+        DONE,
+        "row 0x0000000000001001..0x0000000000001004 cfa=r7+16 r6=[c-16] r16=[c-8]\n",
+    ),
+    (
+        "dwcheck backtrace --hex f 0x1010 s 3",
+        &["C1 H1 P1", STACK],
+        DONE,
+        "\
+frame 0 0x0000000000001010 cfa value 0x0000000000007f10
+frame 1 0x0000000000001020 cfa value 0x0000000000007f50
+frame 2 0x0000000000002000 none
+stop limit
+",
+    ),
+    (
+        "dwcheck check --hex f l",
+        &["", "L1"],
+        DONE,
+        "\
+accepted
+cies 0 fdes 0 rows 0
+tables 1 lists 1 expressions 2
+expr lists 0x00000010 location ops 1 depth 0
+expr lists 0x00000013 location ops 2 depth 1
+",
+    ),
+    (
+        "dwcheck check --hex f l",
+        &["", "080000"],
+        REFUSED,
+        "refused 1 Truncated lists 0x00000000\n",
     ),
     // Files that can't be decoded.
     (
