@@ -5,8 +5,6 @@
 #[cfg(test)]
 mod abi;
 #[cfg(test)]
-mod bad_rules;
-#[cfg(test)]
 mod bytes;
 #[cfg(test)]
 mod callers;
@@ -25,8 +23,6 @@ mod expression_bytes;
 mod frame_bytes;
 #[cfg(test)]
 mod given_states;
-#[cfg(test)]
-mod hostile_expressions;
 #[cfg(test)]
 mod inputs;
 #[cfg(test)]

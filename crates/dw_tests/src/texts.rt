@@ -1,19 +1,9 @@
 //! Tests of what the program `dwcheck` writes, through `dw_check::request` and `dw_check::run`,
-//! which do all of its work but reading and writing files.
+//! which do all of its work but reading and writing files. The folder `tests/dwcheck` has more
+//! cases, which are run by the program itself.
 
-mod abi_lines;
-mod callers;
 pub(crate) mod cases;
-mod cie_versions;
-mod expressions;
-mod lists;
-mod modules;
-mod operations;
-mod parts;
 mod reads;
-mod sections;
-mod standard;
-mod walks;
-mod whole_checks;
 mod words;
+mod worked;
 mod writes;

@@ -1,6 +1,5 @@
 //! Tests of loading files from readers that give few bytes per call, or that fail before the end.
 
-use crate::texts::sections::first_row_digits;
 use dw_check::{LoadFault, Reading, Reads, Source, load};
 use std::alloc::{AllocError, Global};
 use std::io;
@@ -48,31 +47,33 @@ fn reads(rt: &impl Abort, alloc: Global, bytes: &[u8], most: usize, calls: usize
     }
 }
 
+/// The section of row 1 of docs/WORKED.md as hex text without spaces.
+const DIGITS: &str = "\
+14000000ffffffff040008000178100c0708900100000000\
+1c0000000000000000100000000000002000000000000000410e108602430d06";
+
+/// `DIGITS` has 112 bytes. The last file has more bytes than one read requests.
 #[test]
-fn a_read_that_fails_ends_a_load(rt: HostRuntime) -> Result<(), AllocError> {
+fn loads_all_of_a_file_or_nothing(rt: HostRuntime) -> Result<(), AllocError> {
     let alloc = rt.alloc();
-    let digits = first_row_digits(alloc)?;
     for calls in 0..=113usize {
-        assert_eq!(rt; reads(&rt, alloc, &digits, 1, calls), calls == 113);
+        assert_eq!(rt;
+            reads(&rt, alloc, DIGITS.as_bytes(), 1, calls),
+            calls == 113
+        );
     }
     for calls in 0..=18usize {
-        assert_eq!(rt; reads(&rt, alloc, &digits, 7, calls), calls >= 17);
+        assert_eq!(rt; reads(&rt, alloc, DIGITS.as_bytes(), 7, calls), calls >= 17);
     }
     assert!(rt; !reads(&rt, alloc, &[], 1, 0));
     assert!(rt; reads(&rt, alloc, &[], 1, 1));
-    Ok(())
-}
-
-/// The file has more bytes than one read requests.
-#[test]
-fn loads_files_of_several_reads(rt: HostRuntime) -> Result<(), AllocError> {
-    let mut bytes = Vec::new(rt.alloc());
+    let mut bytes = Vec::new(alloc);
     for i in 0..200_000u32 {
         let [low, middle, _, _] = i.to_le_bytes();
         bytes.push(low ^ middle)?;
     }
-    assert!(rt; reads(&rt, rt.alloc(), &bytes, 1_000_000, 100));
-    assert!(rt; reads(&rt, rt.alloc(), &bytes, 1_000, 1_000));
-    assert!(rt; !reads(&rt, rt.alloc(), &bytes, 1_000, 200));
+    assert!(rt; reads(&rt, alloc, &bytes, 1_000_000, 100));
+    assert!(rt; reads(&rt, alloc, &bytes, 1_000, 1_000));
+    assert!(rt; !reads(&rt, alloc, &bytes, 1_000, 200));
     Ok(())
 }
