@@ -9,22 +9,16 @@ mod bad_rules;
 #[cfg(test)]
 mod bytes;
 #[cfg(test)]
-mod callers;
-#[cfg(test)]
 mod certificates;
 #[cfg(test)]
 mod changed_input;
 #[cfg(test)]
-mod errors;
+mod eh_records;
 #[cfg(test)]
-mod evaluation;
+mod errors;
 pub mod examples;
 #[cfg(test)]
 mod expression_bytes;
-#[cfg(test)]
-mod frame_bytes;
-#[cfg(test)]
-mod given_states;
 #[cfg(test)]
 mod hostile_expressions;
 #[cfg(test)]
@@ -32,20 +26,10 @@ mod inputs;
 #[cfg(test)]
 mod instructions;
 #[cfg(test)]
-mod lists;
-#[cfg(test)]
 mod modules;
-#[cfg(test)]
-mod processes;
 #[cfg(test)]
 mod refused_memory;
 #[cfg(test)]
-mod rows;
-#[cfg(test)]
 mod standard;
 #[cfg(test)]
-mod tables;
-#[cfg(test)]
 mod texts;
-#[cfg(test)]
-mod walks;
