@@ -29,7 +29,7 @@ def refused(status, fault):
     """Why a call did nothing, as text."""
     if status == REFUSED:
         return f"{WITHIN[fault.within]} {fault.number} {_fault_name(fault.number)} {fault.offset}"
-    return _library.dwcheck_status_text(status).decode()
+    return {3: "no room", 7: "none", 9: "no range"}.get(status) or _library.dwcheck_status_text(status).decode()
 
 
 def signed(offset):
@@ -211,7 +211,14 @@ class Session(Changes):
         status = _library.dwcheck_process_add(self.handle(), c.byref(module), c.byref(number), c.byref(fault))
         if status == OVERLAPS:
             return f"overlaps {number.value}"
+        self.added = number.value
         return str(number.value) if status == DONE else refused(status, fault)
+
+    def call_least_room(self, known, frame, rooms):
+        """The least room from which on a module is added, of the rooms up to a number."""
+        added = [self.call_add(known, frame, f"room={room}", "first=0", "last=0xffff").isdigit() and self.call_remove(known, self.added)
+                 for room in range(int(rooms))]
+        return str(added.index("done")) if added == sorted(added, key=bool) else "not each greater room"
 
     def call_remove(self, known, number):
         return "done" if self.process().remove(int(number)) else "none"
@@ -307,11 +314,13 @@ class Session(Changes):
         return f"cfa {answer_text(caller.cfa)}{rules} return {answer_text(caller.return_address)}"
 
     def call_abi(self, known, kept="", pointer="-"):
-        """Whether an ABI with these callee-saved registers (6,7 or 0..127) and this stack pointer is accepted."""
+        """Whether an ABI with these callee-saved registers (6,7 or 0..127 or 0*128) and this stack pointer is
+        accepted."""
         self.kept, self.pointer = [], None if pointer == "-" else int(pointer)
         for part in kept.split(",") if kept != "-" else []:
             first, _, last = part.partition("..")
-            self.kept += range(int(first), int(last or first) + 1)
+            once, _, times = first.partition("*")
+            self.kept += [int(once)] * int(times) if times else range(int(first), int(last or first) + 1)
         status, _, _, fault = self.unwound(0x1000)
         return "accepted" if status in (DONE, NONE) else refused(status, fault)
 
