@@ -124,6 +124,7 @@ STAGES = [
     Stage("code", "rust/dwcheck-lint", "cd rust/dwcheck-lint && ../cargo.sh test --no-fail-fast", counted_by_cargo, environment=RUST),
     Stage("python", "python/dwcheck.py, beside pyelftools", "/usr/bin/python3 python/test_dwcheck.py -v", counted_by_unittest,
           environment={"DWCHECK_LIBRARY": str(BUILD / "libdwcheck.so.2.0.0")}),
+    Stage("library", "cases over the C library", "/usr/bin/python3 tests/library/run.py build/libdwcheck.so.2.0.0", counted_lines),
     Stage("memory", "each request for memory refused in turn, in tests and in dwcheck",
           "bench/stress/refused_memory.py crates/dw_tests/out/dw_tests_tests build/dwcheck", counted_refusals),
     Stage("c", "the C library, with sanitizers and valgrind", "c/tests/run.sh", counted_lines, progress="^(ok .*)",

@@ -23,30 +23,33 @@ byte at offset 8. Numbers may be sums, differences and products, also with i.
 
     check FRAME LISTS      both sections are `accepted`, or the first fault: frame 9 NoSuchCie 28
     contents FRAME         how many CIEs, FDEs, rows and expressions it has, or its fault
-    records FRAME          all its records; each with its offset, and its program's bounds
+    records FRAME          its records, each with its offset and the bounds of its program, and the fault
     record FRAME OFFSET    the record there
+    prefixes FRAME N M     the fault of the first record that can't be read, of the first N up to M bytes
+    cuts FRAME OFFSET LOW FIELDS..   `each field` if a record is truncated at each of its fields when its
+                           body ends there: LOW is the offset in the record of its length's lowest byte,
+                           FIELDS where the length and each field end
     add FRAME [load=N] [first=N last=N] [cookie=N] [room=N]   the id of the module, or why it isn't added
-    remove ID, share, use_shared, close   `share` makes a second process, to which `use_shared` turns
+    least_room FRAME N     the least room, of those below N, with which a module is added
+    remove ID, close       whether there was such a module
+    share, use_shared      `share` makes a second process, to which `use_shared` turns
     modules                the ids of the modules that can be removed, which removes them
-    row ADDRESS            the row of an address, as `dwcheck row` writes it, or none
+    row ADDRESS            the row of an address, as `dwcheck row` writes its CFA and its rules, or none
     rows ADDRESS..         where the row of each address begins and ends, or -
-    place ADDRESS          the id, cookie and load address of its row, and its return address register
-    module ADDRESS         the id and range of the module
+    place ADDRESS          the id, cookie and load address of its module, and its return address register
+    module ADDRESS         the id, cookie, load address and range of the module that answers for it
     signal ADDRESS..       whether each address is in a signal frame
-    spans ADDRESS COUNT    the rows of so many addresses in turn: where each begins and ends, its return
-                           address register, and its CFA's offset; those that differ from the one before
-                           by the same numbers are written as `and N more by ..`
-    caller ADDRESS         the CFA, the return address and the registers of a frame's caller
-    abi                    whether the ABI of the state is accepted
+    spans ADDRESS COUNT    the rows of the addresses from there on: where each begins and ends, its return
+                           address register, and the offset of its CFA; how many follow that differ by the
+                           same four numbers
+    caller ADDRESS         the CFA, the registers and the return address of a frame's caller
+    abi KEPT [SP]          whether an ABI is accepted; KEPT is 6,7 or 0..127 or 0*128 or -
     walk ADDRESS LIMIT     the frames and why they end
-    evaluate KIND EXPR     what an expression comes to; KIND is cfa, register or location
-    expressions LISTS      the location expressions, each with its operations and depth
+    evaluate KIND EXPR     what an expression comes to, or its fault; KIND is cfa, register or location
+    expressions FRAME LISTS   the expressions of two sections, each with its operations and depth
     locations LISTS LIST BASE ADDRESS   the offsets of the expressions that apply
-    cuts FRAME OFFSET LOW FIELDS..   `each field` if the record is truncated at each of its fields when
-                           its body ends in it: LOW is the offset in the record of its length's lowest
-                           byte, FIELDS where the length and each field end
-    changes FRAME LISTS    `consistent` if each prefix and each change of one byte is refused inside the
-                           section, or accepted with rows and lists that agree (tests/library/changes.py)
+    changes FRAME LISTS    `consistent` if each prefix of the one that isn't empty, and each change of one
+                           byte, is refused inside the section, or accepted with rows or lists that agree
 """
 import argparse
 import os

@@ -269,7 +269,7 @@ class Session(Changes):
         return " ".join(texts)
 
     def call_spans(self, known, first, count):
-        """Looks each address up, and asserts that the rows between have no gap that a row covers."""
+        """Looks each address up; its row has to cover it."""
         spans, process = [], self.process()
         for address in range(number_of(first), number_of(first) + number_of(count)):
             row = process.row(address % 2 ** 64)
@@ -301,7 +301,8 @@ class Session(Changes):
     def unwound(self, address):
         """The status of finding a caller, the caller, its registers, and the fault."""
         caller, registers, fault, state = Caller(), (Register * 256)(), _Fault(), self.state()
-        status = _library.dwcheck_unwind(self.handle(), _u64(address), c.byref(state), c.byref(caller), registers, _size(256), c.byref(fault))
+        status = _library.dwcheck_unwind(self.handle(), _u64(address), c.byref(state), c.byref(caller), registers, _size(256),
+                                         c.byref(fault))
         return status, caller, registers, fault
 
     def call_caller(self, known, address):
