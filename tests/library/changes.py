@@ -3,7 +3,7 @@ import ctypes as c
 
 import dwcheck
 
-MEMORY = 60
+DONE, REFUSED, MEMORY = 0, 1, 60
 TOP = 2 ** 64 - 1
 ADDRESSES = (0, 0x1005, 0x200c, TOP)
 
@@ -33,25 +33,23 @@ class Changes:
     def answer_of(self, frame, lists):
         """`consistent`, or what is wrong with the answer to two sections."""
         status, fault = self.fault_of(frame, lists)
-        if status == 1:
+        if status == REFUSED:
             is_inside = fault.within == (0 if frame else 1) and fault.offset <= len(frame or lists)
             return "consistent" if is_inside and fault.number != MEMORY else f"refused: {fault.number} at {fault.offset}"
-        if status != 0:
+        if status != DONE:
             return f"status {status}"
         return self.frame_answer(frame) if frame else self.lists_answer(lists)
 
     def frame_answer(self, frame):
         """Whether the rows of an accepted section agree with its FDEs."""
         self.opened = dwcheck.Process(self.order, self.size)
-        if self.add_everywhere(frame) != 0:
+        if self.add_everywhere(frame) != DONE:
             return "not added"
-        for record in dwcheck.Section(frame):
-            if record.kind == "fde":
-                found = self.rows_answer(record.start, record.end)
-                if found != "consistent":
-                    return found
+        covered = [(record.start, record.end) for record in dwcheck.Section(frame) if record.kind == "fde"]
+        answers = [self.rows_answer(start, end) for start, end in covered]
+        answers += [self.caller_answer(address, covered) for both in covered for address in both]
         self.opened.close()
-        return "consistent"
+        return next((answer for answer in answers if answer != "consistent"), "consistent")
 
     def add_everywhere(self, frame):
         """Adds a module that answers for all addresses. Returns the status."""
@@ -71,14 +69,13 @@ class Changes:
         before, after = row_at(start - 1) if start else None, row_at(end)
         if start < end and (before and before.end > start or after and after.start < end):
             return f"overlapping beside {start:#x}..{end:#x}"
-        return self.callers_answer(start, end)
+        return "consistent"
 
-    def callers_answer(self, *addresses):
-        """Whether addresses have a caller if they have a row, and none otherwise."""
-        for address in addresses:
-            has_row = self.process().row(address) is not None
-            if (self.unwound(address)[0] == 0) != has_row:
-                return f"in doubt about the caller at {address:#x}"
+    def caller_answer(self, address, covered):
+        """Whether an address has a row and a caller if an FDE covers it, and neither otherwise."""
+        is_covered = any(start <= address < end for start, end in covered)
+        if {self.process().row(address) is not None, self.unwound(address)[0] == DONE} != {is_covered}:
+            return f"in doubt about {address:#x}"
         return "consistent"
 
     def lists_answer(self, lists):
@@ -87,7 +84,7 @@ class Changes:
         offsets, found = {one.offset for one in expressions}, 0
         for at in range(len(lists)):
             status, _, _ = self.located(lists, at, 0x1000, 0)
-            found += status == 0
-            if status == 0 and not all(offsets.issuperset(self.located(lists, at, 0x1000, address)[1]) for address in ADDRESSES):
+            found += status == DONE
+            if status == DONE and not all(offsets.issuperset(self.located(lists, at, 0x1000, address)[1]) for address in ADDRESSES):
                 return f"with other expressions at {at}"
         return "consistent" if found == counts.lists else f"with {found} lists"
