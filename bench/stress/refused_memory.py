@@ -10,18 +10,22 @@ and glibc.
 A library that is loaded before the C library lets the Nth call of malloc or realloc fail. N goes
 from 1 up to the number of calls.
 
-For every N, each test of the module `refused_memory` must pass: either the tested function reports
-that memory ran out, or it manages without that memory and its result is right. For example, the
-check of lists and `certify` manage without it if a fast path lacks memory, because then the general
-path does all the work.
+For every N, each test of the module `refused_memory` must pass: either the call that asked for that
+memory reports that memory ran out, and gives its answer when it is made again; or it manages without
+that memory and its answer is right. For example, the check of lists and `certify` manage without it
+if a fast path lacks memory, because then the general path does all the work. Each call that these
+tests make must run out of memory at least once. Two of the tests make the same calls, and one of them
+also looks up what these made: both must make as many requests.
 
 For every N, each run of dwcheck must end as usual, or with status 3, the line "out of memory" and
 the first part of its usual output, which may be empty. It must be empty if the usual output says
 that the input is refused.
 
-Each line of output says how many requests there were, and how many of them weren't needed.
+Each line of output says how many requests there were, and how many of them weren't needed; for a call
+of the tests, how many times it ran out of memory.
 """
 import os
+import re
 import subprocess
 import sys
 import tempfile
@@ -56,6 +60,12 @@ RUNS = [
     "eval --hex location pieces --state state", "unwind --hex frame 0x1010 state",
     "backtrace --hex frame 0x1010 round 20", "rows frame", "check frame lists", "eval foo sum", "rows",
 ]
+# The calls that the tests make.
+CALLS = [
+    "Operations", "Certify", "Recheck", "CheckCie", "CheckFde", "CheckFrame", "CheckLists", "Check", "Compile", "CompileMany",
+    "Backtrace", "BacktraceBySection", "BacktraceByTable", "ProcessAdd", "ProcessShare", "CheckEhFrame", "SignalFrames",
+    "ProcessAddEhFrame", "Report", "ReportWithoutLists", "Request", "Run", "Load", "checks",
+]
 WANT = "dwcheck: out of memory\n"
 WITHOUT = "done without"
 
@@ -86,10 +96,18 @@ def each(library, words, folder, judge):
         number += 1
 
 
-def judge_test(out, err, status):
-    if status != 0 or b"test result: ok" not in out:
-        return "the test fails"
-    return None if b"refused" in out else WITHOUT
+def judge_test(refusals):
+    """Judges runs of a test, and counts in `refusals` which calls ran out of memory."""
+
+    def judge(out, err, status):
+        if status != 0 or b"test result: ok" not in out:
+            return "the test fails"
+        calls = re.findall(rb"refused: (\w+)", out)
+        for call in calls:
+            refusals[call.decode()] = refusals.get(call.decode(), 0) + 1
+        return None if calls else WITHOUT
+
+    return judge
 
 
 def judge_program(whole):
@@ -109,6 +127,21 @@ def done(without):
     return f", {without} of them done without" if without else ""
 
 
+def refuse_in_tests(library, tests, folder):
+    """Lets each request of the tests fail. Prints how often each call ran out of memory."""
+    listed = subprocess.run([tests, "--list"], capture_output=True, text=True, check=True).stdout
+    counts, refusals = {}, dict.fromkeys(CALLS, 0)
+    for name in re.findall(r"^(refused_memory::\w+): test$", listed, re.MULTILINE):
+        counts[name], without = each(library, [tests, name], folder, judge_test(refusals))
+        print(f"{counts[name]:6} {name}{done(without)}")
+    for call, count in refusals.items():
+        if count == 0 or call not in CALLS:
+            raise SystemExit(f"{call} ran out of memory {count} times, and is {'' if call in CALLS else 'not '}known")
+        print(f"{count:6} {call} ran out of memory")
+    if counts["refused_memory::look_ups_take_no_memory"] != counts["refused_memory::checks_alone"]:
+        raise SystemExit("look-ups take memory")
+
+
 def main():
     if len(sys.argv) != 3:
         raise SystemExit(__doc__)
@@ -119,15 +152,7 @@ def main():
         for name, content in FILES.items():
             with open(f"{folder}/{name}", "w", encoding="ascii") as file:
                 file.write(content)
-        listed = subprocess.run([tests, "--list"], capture_output=True, text=True, check=True).stdout
-        counts = {}
-        for line in listed.splitlines():
-            if line.startswith("refused_memory::"):
-                name = line.removesuffix(": test")
-                counts[name], without = each(library, [tests, name], folder, judge_test)
-                print(f"{counts[name]:6} {name}{done(without)}")
-        if counts["refused_memory::look_ups_take_no_memory"] != counts["refused_memory::check_of_expressions_lacks_memory"]:
-            raise SystemExit("look-ups take memory")
+        refuse_in_tests(library, tests, folder)
         for words in RUNS:
             *whole, _ = run(library, [program, *words.split()], 0, folder)
             count, without = each(library, [program, *words.split()], folder, judge_program(whole))

@@ -1,10 +1,14 @@
 //! Checks of expressions: the depth (the greatest stack height) and the number of operations of
-//! those that are accepted, and the first fault of those that are refused.
+//! those that are accepted, and the first fault of those that are refused. A certificate has the
+//! state (the stack height and the like) before each operation; `recheck` is passed these states.
 
-use crate::inputs::LITTLE;
+ghost use Rattle.std.specs.Prelude.{◌<◌, ◌^◌, length};
+
+use crate::inputs::{LITTLE, Unknown};
 use dw_bytes::{Fault, FaultKind};
+use dw_eval::{Context, evaluate};
 use dw_ops::Expression;
-use dw_stack::{Kind, certify, check_expression};
+use dw_stack::{Kind, Mode, State, certify, check_expression, recheck};
 use std::alloc::{AllocError, Global};
 use std::process::Abort;
 
@@ -23,40 +27,6 @@ pub(crate) fn refusal(kind: FaultKind, at: u32) -> Verdict {
     Err(Fault { kind, at })
 }
 
-/// Accepted expressions, each with its kind, its depth and its number of operations. The last two
-/// branch.
-const ACCEPTED: [(&[u8], Kind, u8, u32); 5] = [
-    (&[], Kind::Location, 0, 0),
-    (&[0x35], Kind::FrameCfa, 1, 1),
-    (&[0x12, 0x22], Kind::FrameRegister, 2, 2),
-    (&[0x31, 0x32, 0x28, 0x00, 0x00], Kind::Location, 2, 3),
-    (&[0x30, 0x28, 0x01, 0x00, 0x96, 0x32], Kind::Location, 1, 4),
-];
-
-#[test]
-fn gives_the_depth_and_count_of_what_is_good(rt: HostRuntime) {
-    for &(bytes, kind, depth, count) in &ACCEPTED {
-        let found = verdict_of(&rt, rt.alloc(), bytes, kind);
-        assert_eq!(rt; found, Ok((depth, count)), "{bytes:?}");
-    }
-}
-
-/// Refused expressions, each with its kind and its first fault: an operand is cut short; the kind
-/// doesn't allow an operation; and an operation finds too few entries on the stack.
-const REFUSED: [(&[u8], Kind, FaultKind, u32); 3] = [
-    (&[0x12, 0x08], Kind::Location, FaultKind::Truncated, 2),
-    (&[0x9f], Kind::FrameCfa, FaultKind::NotInFrame, 0),
-    (&[0x12, 0x22], Kind::FrameCfa, FaultKind::Underflow, 0),
-];
-
-#[test]
-fn names_the_first_fault_of_what_is_bad(rt: HostRuntime) {
-    for &(bytes, kind, fault, at) in &REFUSED {
-        let found = verdict_of(&rt, rt.alloc(), bytes, kind);
-        assert_eq!(rt; found, refusal(fault, at), "{bytes:?}");
-    }
-}
-
 /// Appends the same bytes `count` times.
 pub(crate) fn push_times(bytes: &mut Vec<u8>, part: &[u8], count: usize) -> Result<(), AllocError> {
     for _ in 0..count {
@@ -65,16 +35,278 @@ pub(crate) fn push_times(bytes: &mut Vec<u8>, part: &[u8], count: usize) -> Resu
     Ok(())
 }
 
-#[test]
-fn keeps_what_was_handed_in(rt: HostRuntime) {
-    let bytes = [0x12, 0x22];
-    let expression = Expression::new(&bytes, LITTLE);
-    let Ok(certificate) = certify(rt.alloc(), expression, Kind::FrameRegister) else {
-        panic!(rt; "refused")
-    };
+/// The result of checking an expression with the given `states`.
+fn rechecked(alloc: Global, bytes: &[u8], kind: Kind, states: &[State]) -> Verdict
+    requires { length bytes.now < 2 ^ 32 }
+{
+    let checked = recheck(alloc, Expression::new(bytes, LITTLE), kind, states)?;
+    Ok((checked.depth(), checked.operation_count()))
+}
+
+const CONTEXT: Context = Context {
+    cfa: Some(0x20),
+    frame_base: None,
+    object: None,
+};
+
+/// The result of certifying an expression. If it is accepted, the states of the certificate must be
+/// accepted too, and a copy of the checked expression must be what was certified, and be evaluated
+/// as the first is.
+fn certified(rt: &impl Abort, alloc: Global, bytes: &[u8], kind: Kind) -> Verdict
+    requires { length bytes.now < 2 ^ 32 }
+{
+    let certificate = certify(alloc, Expression::new(bytes, LITTLE), kind)?;
+    let found = rechecked(alloc, bytes, kind, certificate.states());
     let checked = certificate.into_checked();
-    let again = checked;
-    assert_eq!(rt; again.expression().bytes(), bytes.as_slice());
-    assert_eq!(rt; again.kind(), Kind::FrameRegister);
-    assert_eq!(rt; (checked.depth(), checked.operation_count()), (2, 2));
+    let copy = checked;
+    assert_eq!(rt; copy.expression().bytes(), bytes);
+    assert_eq!(rt; copy.kind(), kind);
+    assert_eq!(rt;
+        evaluate(&copy, &CONTEXT, &Unknown, &Unknown),
+        evaluate(&checked, &CONTEXT, &Unknown, &Unknown)
+    );
+    assert_eq!(rt; found, Ok((checked.depth(), checked.operation_count())));
+    found
+}
+
+/// Expressions, each with its kind, and its depth and number of operations or its first fault. Two
+/// of them branch. Of those that are refused, the first has an operand that is cut short, the second
+/// an operation that the kind doesn't allow, and the third finds too few entries on the stack.
+const EXPRESSIONS: [(&[u8], Kind, Verdict); 9] = [
+    (&[], Kind::Location, Ok((0, 0))),
+    (&[0x35], Kind::FrameCfa, Ok((1, 1))),
+    (&[0x12, 0x22], Kind::FrameRegister, Ok((2, 2))),
+    (&[0x32, 0x33, 0x22], Kind::Location, Ok((2, 3))),
+    (&[0x31, 0x32, 0x28, 0x00, 0x00], Kind::Location, Ok((2, 3))),
+    (
+        &[0x30, 0x28, 0x01, 0x00, 0x96, 0x32],
+        Kind::Location,
+        Ok((1, 4)),
+    ),
+    (
+        &[0x12, 0x08],
+        Kind::Location,
+        Err(Fault {
+            kind: FaultKind::Truncated,
+            at: 2,
+        }),
+    ),
+    (
+        &[0x9f],
+        Kind::FrameCfa,
+        Err(Fault {
+            kind: FaultKind::NotInFrame,
+            at: 0,
+        }),
+    ),
+    (
+        &[0x12, 0x22],
+        Kind::FrameCfa,
+        Err(Fault {
+            kind: FaultKind::Underflow,
+            at: 0,
+        }),
+    ),
+];
+
+#[test]
+fn gives_the_depth_and_count_or_the_first_fault(rt: HostRuntime) {
+    for (bytes, kind, wanted) in &EXPRESSIONS {
+        let found = verdict_of(&rt, rt.alloc(), bytes, *kind);
+        assert_eq!(rt; found, *wanted, "{bytes:?}");
+        assert_eq!(rt;
+            certified(&rt, rt.alloc(), bytes, *kind),
+            *wanted,
+            "{bytes:?}"
+        );
+    }
+}
+
+/// The states before operations, made from the offset of each operation and the stack height before
+/// it. The mode of each state is `Stack`, and no piece came before.
+fn states_of(alloc: Global, numbers: &[(u32, u8)]) -> Result<Vec<State>, AllocError> {
+    let mut states = Vec::new(alloc);
+    for (offset, height) in numbers {
+        states.push(State {
+            offset: *offset,
+            height: *height,
+            mode: Mode::Stack,
+            pieced: false,
+        })?;
+    }
+    Ok(states)
+}
+
+/// An expression that adds 2 and 3.
+const SUM: [u8; 3] = [0x32, 0x33, 0x22];
+
+/// A branch that skips a literal, so that two paths meet with different stack heights.
+const MEETING: [u8; 6] = [0x30, 0x28, 0x01, 0x00, 0x31, 0x32];
+
+/// Expressions with states that are refused, and the fault with its offset. A state is written as an
+/// offset and a stack height.
+const REFUSED: [(&[u8], Kind, &[(u32, u8)], FaultKind, u32); 7] = [
+    (
+        &SUM,
+        Kind::Location,
+        &[(0, 0), (1, 1), (2, 1)],
+        FaultKind::CertState,
+        2,
+    ),
+    (
+        &SUM,
+        Kind::Location,
+        &[(0, 1), (1, 1), (2, 2)],
+        FaultKind::CertState,
+        0,
+    ),
+    (
+        &SUM,
+        Kind::Location,
+        &[(0, 0), (1, 1), (3, 2)],
+        FaultKind::CertState,
+        2,
+    ),
+    (
+        &SUM,
+        Kind::Location,
+        &[(0, 0), (1, 1)],
+        FaultKind::CertLength,
+        0,
+    ),
+    (
+        &MEETING,
+        Kind::Location,
+        &[(0, 0), (1, 1), (4, 0), (5, 1)],
+        FaultKind::Mismatch,
+        5,
+    ),
+    (
+        &MEETING,
+        Kind::Location,
+        &[(0, 0), (1, 1), (4, 0), (5, 0)],
+        FaultKind::Mismatch,
+        5,
+    ),
+    // The wrong state is reported, although the kind doesn't allow the operation either.
+    (&[0x9c], Kind::FrameCfa, &[(0, 1)], FaultKind::CertState, 0),
+];
+
+/// The state of which one field is another: the offset or the height is a number of one byte, the
+/// mode is another, or it is changed whether a piece came before.
+fn other_state(state: State, field: u8, number: u8) -> State {
+    match (field, number) {
+        (0, _) => State {
+            offset: u32::from(number),
+            ..state
+        },
+        (1, _) => State {
+            height: number,
+            ..state
+        },
+        (2, 0) => State {
+            mode: Mode::Stack,
+            ..state
+        },
+        (2, 1) => State {
+            mode: Mode::Register,
+            ..state
+        },
+        (2, 2) => State {
+            mode: Mode::Value,
+            ..state
+        },
+        (2, 3) => State {
+            mode: Mode::AfterPiece,
+            ..state
+        },
+        _ => State {
+            pieced: number != 0,
+            ..state
+        },
+    }
+}
+
+/// Asserts that the states of an expression's certificate are the given ones, that they are
+/// accepted, and that they are refused if one field of one state is changed, or if there is one
+/// state more or one fewer.
+fn takes_only_its_own(
+    rt: &impl Abort,
+    alloc: Global,
+    bytes: &[u8],
+    kind: Kind,
+) -> Result<(), AllocError>
+    requires { length bytes.now < 2 ^ 32 }
+{
+    let Ok(certificate) = certify(alloc, Expression::new(bytes, LITTLE), kind) else {
+        panic!(rt; "{bytes:?} is refused")
+    };
+    let mut states = certificate.states().to_vec(alloc)?;
+    assert!(rt; rechecked(alloc, bytes, kind, &states).is_ok());
+    for i in 0..states.len() {
+        let own = states[i];
+        for field in 0..4u8 {
+            for number in 0..=255u8 {
+                let other = other_state(own, field, number);
+                if other != own {
+                    states[i] = other;
+                    let found = rechecked(alloc, bytes, kind, &states);
+                    assert_eq!(rt; found, refusal(FaultKind::CertState, own.offset));
+                }
+            }
+        }
+        states[i] = own;
+    }
+    if let Some(last) = states.pop() {
+        let fault = refusal(FaultKind::CertLength, 0);
+        assert_eq!(rt; rechecked(alloc, bytes, kind, &states), fault);
+        states.push(last)?;
+        states.push(last)?;
+        assert_eq!(rt; rechecked(alloc, bytes, kind, &states), fault);
+    }
+    Ok(())
+}
+
+/// Expressions that have no other states than those of their certificates.
+const EXACT: [(&[u8], Kind); 4] = [
+    (&SUM, Kind::Location),
+    (&[0x31, 0x32, 0x28, 0x00, 0x00], Kind::Location),
+    (&[0x50, 0x93, 0x04, 0x93, 0x04], Kind::Location),
+    (&[0x12, 0x22], Kind::FrameRegister),
+];
+
+/// Expressions with their states, and the depth and number of operations.
+const TAKEN: [(&[u8], Kind, &[(u32, u8)], Verdict); 2] = [
+    (&SUM, Kind::Location, &[(0, 0), (1, 1), (2, 2)], Ok((2, 3))),
+    (
+        &[0x12, 0x22],
+        Kind::FrameRegister,
+        &[(0, 1), (1, 2)],
+        Ok((2, 2)),
+    ),
+];
+
+#[test]
+fn takes_the_states_of_an_expression_and_no_others(rt: HostRuntime) -> Result<(), AllocError> {
+    let alloc = rt.alloc();
+    for (bytes, kind, numbers, wanted) in &TAKEN {
+        let states = states_of(alloc, numbers)?;
+        assert!(rt; bytes.len() < 0x1_0000);
+        assert_eq!(rt; rechecked(alloc, bytes, *kind, &states), *wanted);
+        let Ok(certificate) = certify(alloc, Expression::new(bytes, LITTLE), *kind) else {
+            panic!(rt; "{bytes:?} is refused")
+        };
+        assert_eq!(rt; certificate.states(), states.as_slice());
+    }
+    for (bytes, kind, numbers, fault, at) in &REFUSED {
+        let states = states_of(alloc, numbers)?;
+        assert!(rt; bytes.len() < 0x1_0000);
+        let found = rechecked(alloc, bytes, *kind, &states);
+        assert_eq!(rt; found, refusal(*fault, *at), "{bytes:?} {numbers:?}");
+    }
+    for (bytes, kind) in &EXACT {
+        assert!(rt; bytes.len() < 0x1_0000);
+        takes_only_its_own(&rt, alloc, bytes, *kind)?;
+    }
+    Ok(())
 }

@@ -1,8 +1,8 @@
 //! The bytes of expressions, and the operations that they encode.
 
 use crate::inputs::{LITTLE, bytes_of, parts_of};
-use dw_bytes::{Fault, FaultKind};
-use dw_ops::{Expression, Operation, decode_one, operations};
+use dw_bytes::Fault;
+use dw_ops::{Expression, decode_one};
 use std::alloc::Global;
 
 /// Each line has the bytes of an operation in hex digits, a colon, and the operation as `Debug`
@@ -86,7 +86,7 @@ ff: UnknownOperation 0
 /// bytes follow the operation.
 fn shown(alloc: Global, digits: &str) -> Option<String> {
     let bytes = bytes_of(alloc, digits)?;
-    if bytes.is_empty() || bytes.len() >= 16 {
+    if bytes.is_empty() {
         return None;
     }
     match decode_one(&Expression::new(&bytes, LITTLE), 0) {
@@ -106,24 +106,4 @@ fn decodes_every_operation_and_names_each_fault(rt: HostRuntime) {
             "{case}"
         );
     }
-}
-
-/// A list of more than sixteen operations takes memory from the allocator.
-#[test]
-fn lists_seventeen_operations_and_refuses_an_unknown_code(rt: HostRuntime) -> Result<(), Fault> {
-    let refused = operations(rt.alloc(), &Expression::new(&[0x31, 0x18], LITTLE));
-    assert_eq!(rt;
-        refused.err(),
-        Some(Fault {
-            kind: FaultKind::UnknownOperation,
-            at: 1
-        })
-    );
-    let list = operations(rt.alloc(), &Expression::new(&[0x31; 17], LITTLE))?;
-    assert_eq!(rt; list.len(), 17);
-    for (at, item) in list.iter().enumerate() {
-        assert_eq!(rt; item.0 as usize, at);
-        assert_eq!(rt; item.1, Operation::Lit { value: 1 });
-    }
-    Ok(())
 }

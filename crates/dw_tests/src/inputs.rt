@@ -1,9 +1,10 @@
 //! What several tests share: targets, sections, registers and memory, and functions that read hex
 //! digits and lines of cases.
 
-ghost use Rattle.std.specs.Prelude.{◌==◌, if◌then◌else◌, Some, None};
+ghost use Rattle.std.specs.Prelude.{◌==◌, ◌<◌, ◌^◌, if◌then◌else◌, IfSome, Some, None, length};
 
 use dw_bytes::{AddressSize, Order, Target};
+use dw_eh_frame::Bases;
 use dw_eval::{Memory, Registers};
 use std::alloc::Global;
 use std::process::Abort;
@@ -13,14 +14,16 @@ pub(crate) const LITTLE: Target = Target {
     address_size: AddressSize::Eight,
 };
 
-pub(crate) const LITTLE_SHORT: Target = Target {
-    order: Order::Little,
-    address_size: AddressSize::Four,
-};
-
 pub(crate) const BIG_SHORT: Target = Target {
     order: Order::Big,
     address_size: AddressSize::Four,
+};
+
+/// Where a section of `.eh_frame` is: at 0x2000.
+pub(crate) const BASES: Bases = Bases {
+    section: 0x2000,
+    text_start: None,
+    data_start: None,
 };
 
 /// A CIE, and an FDE of 0x1000 to 0x1020: the first example of docs/WORKED.md.
@@ -28,13 +31,6 @@ pub(crate) const FUNCTION: [u8; 56] = [
     0x14, 0, 0, 0, 0xff, 0xff, 0xff, 0xff, 4, 0, 8, 0, 1, 0x78, 0x10, 0x0c, 7, 8, 0x90, 1, 0, 0, 0,
     0, 0x1c, 0, 0, 0, 0, 0, 0, 0, 0, 0x10, 0, 0, 0, 0, 0, 0, 0x20, 0, 0, 0, 0, 0, 0, 0, 0x41, 0x0e,
     0x10, 0x86, 2, 0x43, 0x0d, 6,
-];
-
-/// A CIE and an FDE of 0x8000 to 0x8010 in big-endian order, with addresses of four bytes. From
-/// 0x8008 on, the CFA is register 13 plus 8, and register 14 is saved at the CFA minus 4.
-pub(crate) const BIG_FUNCTION: [u8; 44] = [
-    0, 0, 0, 0x10, 0xff, 0xff, 0xff, 0xff, 4, 0, 4, 0, 4, 0x7c, 0x0e, 0x0c, 0x0d, 0, 0, 0, 0, 0, 0,
-    0x14, 0, 0, 0, 0, 0, 0, 0x80, 0, 0, 0, 0, 0x10, 0x42, 0x0e, 8, 0x8e, 1, 0, 0, 0,
 ];
 
 /// The CIE of `FUNCTION`, and an FDE of 0x1000 to 0x1020 whose rules of registers 6 and 7 have
@@ -57,15 +53,6 @@ pub(crate) const ROUND: [u8; 56] = [
 /// from the base address on, and has the value 0 at all others.
 pub(crate) const PAIR_AND_DEFAULT: [u8; 22] = [
     0x12, 0, 0, 0, 5, 0, 8, 0, 0, 0, 0, 0, 4, 0, 0x10, 1, 0x50, 5, 2, 0x30, 0x9f, 0,
-];
-
-/// A section with one list, at offset 0xc, which sets the base address to 0x2000. The object is in
-/// register 0 from 0x2000 to 0x2010, and in register 1 from 0x2008 to 0x2018. An entry for register
-/// 2 has an empty range.
-pub(crate) const OVERLAPPING: [u8; 58] = [
-    0x36, 0, 0, 0, 5, 0, 8, 0, 0, 0, 0, 0, 6, 0, 0x20, 0, 0, 0, 0, 0, 0, 4, 0, 0x10, 1, 0x50, 8, 8,
-    0x20, 0, 0, 0, 0, 0, 0, 0x10, 1, 0x51, 7, 0, 0x20, 0, 0, 0, 0, 0, 0, 0, 0x20, 0, 0, 0, 0, 0, 0,
-    1, 0x52, 0,
 ];
 
 /// Registers and memory with no known contents.
@@ -109,8 +96,15 @@ impl Registers for OneRegister {
 }
 
 /// The bytes that `digits` encode in hex. `None` if they aren't hex digits.
-pub(crate) fn bytes_of(alloc: Global, digits: &str) -> Option<Vec<u8>> {
-    hex::decode(alloc, digits).ok()
+pub(crate) fn bytes_of(alloc: Global, digits: &str) -> Option<Vec<u8>>
+    ensures { IfSome result (λ bytes. length bytes.items < 2 ^ 32) }
+{
+    let bytes = hex::decode(alloc, digits).ok()?;
+    if bytes.len() < 1 << 32 {
+        Some(bytes)
+    } else {
+        None
+    }
 }
 
 /// The two parts of `case`, a line of a list of cases: what comes before its first colon and space,

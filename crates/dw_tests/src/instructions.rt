@@ -1,10 +1,9 @@
-//! A case for each call frame instruction, each alone in the program of an FDE.
+//! Programs of call frame instructions. Each instruction is alone in a program once.
 
 use crate::inputs::{BIG_SHORT, bytes_of, parts_of};
 use dw_bytes::Fault;
 use dw_frame::{Entry, Program, entries, instruction};
-use std::alloc::Global;
-use std::process::Abort;
+use std::alloc::{AllocError, Global};
 
 /// A section of one FDE, whose program begins at offset 16 of the section.
 fn section_with(alloc: Global, program: &[u8]) -> Option<Vec<u8>> {
@@ -24,26 +23,38 @@ fn first_program(section: &[u8]) -> Option<Program<'_>> {
     }
 }
 
-/// The only instruction of a program, as text.
-fn shown(alloc: Global, bytes: &[u8]) -> Option<String> {
+/// The instructions of a program, each with its offset, and the fault that ends them, as text.
+fn listed(alloc: Global, bytes: &[u8]) -> Option<String> {
+    let section = section_with(alloc, bytes)?;
+    let mut instructions = first_program(&section)?.instructions();
+    let mut text = String::new(alloc);
+    for item in &mut instructions {
+        let line = match item {
+            Ok((at, found)) => format!(in alloc; " {at} {found:?}"),
+            Err(Fault { kind, at }) => format!(in alloc; " {kind:?} {at}"),
+        };
+        text.push_str(&line.ok()?).ok()?;
+    }
+    if instructions.next().is_some() {
+        text.push_str(" and more after the end").ok()?;
+    }
+    Some(text)
+}
+
+/// The first instruction of a program, or its fault, as text, if nothing is left after it.
+fn only(alloc: Global, bytes: &[u8]) -> Option<String> {
     let section = section_with(alloc, bytes)?;
     let program = first_program(&section)?;
     match instruction(&program, program.start()) {
-        Ok((found, next)) if next == program.end() => format!(in alloc; "{found:?}").ok(),
-        _ => None,
+        Ok((found, next)) if next == program.end() => format!(in alloc; " 16 {found:?}").ok(),
+        Ok(_) => None,
+        Err(Fault { kind, at }) => format!(in alloc; " {kind:?} {at}").ok(),
     }
-}
-
-/// The fault of the first instruction of a program and its offset, as text.
-fn first_fault(alloc: Global, bytes: &[u8]) -> Option<String> {
-    let section = section_with(alloc, bytes)?;
-    let program = first_program(&section)?;
-    let Fault { kind, at } = instruction(&program, program.start()).err()?;
-    format!(in alloc; "{kind:?} {at}").ok()
 }
 
 /// Each line is `BYTES | OFFSET: INSTRUCTION`: the bytes of an instruction in hex digits, the
 /// offset in the section at which its last field begins, and the instruction as `Debug` writes it.
+/// Without its last byte, the fault is `Truncated` at that offset.
 const INSTRUCTIONS: &str = "\
 7f | 16: AdvanceLoc { delta: 63 }
 868201 | 17: Offset { register: 6, factored_offset: 130 }
@@ -74,90 +85,41 @@ ff | 16: Restore { register: 63 }
 160602309f | 19: ValExpression { register: 6, expression: UnwindExpression { offset: 19, expression: Expression { bytes: [48, 159], target: Target { order: Big, address_size: Four } } } }
 ";
 
-/// Asserts that the bytes encode the instruction `wanted`, and that without their last byte the
-/// fault is `Truncated` at the offset `last`.
-fn is_instruction(rt: &(impl Abort + AllocGlobal), digits: &str, last: &str, wanted: &str) {
-    let Some(bytes) = bytes_of(rt.alloc(), digits) else {
-        panic!(rt; "{digits}")
-    };
-    assert_eq!(rt; shown(rt.alloc(), &bytes).as_deref(), Some(wanted));
-    let cut = &bytes[..bytes.len().saturating_sub(1)];
-    let Some(fault) = first_fault(rt.alloc(), cut) else {
-        panic!(rt; "{digits} without its last byte")
-    };
-    assert_eq!(rt; fault.strip_prefix("Truncated "), Some(last), "{digits}");
-}
-
-#[test]
-fn decodes_every_instruction(rt: HostRuntime) {
-    for case in INSTRUCTIONS.lines() {
-        let (bytes, wanted) = parts_of(&rt, case);
-        let Some((digits, last)) = bytes.split_once(" | ") else {
-            panic!(rt; "{case}")
-        };
-        is_instruction(&rt, digits, last, wanted);
-    }
-}
-
-/// The instructions of a program, each with its offset, as text.
-fn listed(alloc: Global, digits: &str) -> Option<String> {
-    let section = section_with(alloc, &bytes_of(alloc, digits)?)?;
-    let mut text = String::new(alloc);
-    for item in first_program(&section)?.instructions() {
-        let (at, found) = item.ok()?;
-        text.push_str(&format!(in alloc; "{at} {found:?}\n").ok()?)
-            .ok()?;
-    }
-    Some(text)
-}
-
-/// The instructions of one program. Each line has an instruction's offset in the section, and the
-/// instruction as `Debug` writes it.
-const LISTED: &str = "\
-16 AdvanceLoc { delta: 1 }
-17 DefCfaOffset { offset: 16 }
-19 Offset { register: 6, factored_offset: 2 }
-21 AdvanceLoc { delta: 3 }
-22 DefCfaRegister { register: 6 }
-24 DefCfaExpression { expression: UnwindExpression { offset: 26, expression: Expression { bytes: [150], target: Target { order: Big, address_size: Four } } } }
-";
-
-#[test]
-fn instructions_come_in_order(rt: HostRuntime) {
-    let found = listed(rt.alloc(), "410e108602430d060f0196");
-    assert_eq!(rt; found.as_deref(), Some(LISTED));
-}
-
-/// The fault that ends the iteration over the instructions of a program, as text, if nothing comes
-/// after the fault.
-fn last_fault(alloc: Global, digits: &str) -> Option<String> {
-    let section = section_with(alloc, &bytes_of(alloc, digits)?)?;
-    let mut instructions = first_program(&section)?.instructions();
-    let mut found = None;
-    for item in &mut instructions {
-        found = item.err();
-    }
-    if instructions.next().is_some() {
-        return None;
-    }
-    let Fault { kind, at } = found?;
-    format!(in alloc; "{kind:?} {at}").ok()
-}
-
-/// Each line is `PROGRAM: FAULT OFFSET`: a program in hex digits, and the fault that ends the
-/// iteration over its instructions.
-const ENDING: &str = "\
+/// Each line is `PROGRAM: LIST`: a program of several instructions, or one that is refused, in hex
+/// digits, and its instructions with their offsets and the fault that ends them.
+const PROGRAMS: &str = "\
+410e108602430d060f0196: 16 AdvanceLoc { delta: 1 } 17 DefCfaOffset { offset: 16 } 19 Offset { register: 6, factored_offset: 2 } 21 AdvanceLoc { delta: 3 } 22 DefCfaRegister { register: 6 } 24 DefCfaExpression { expression: UnwindExpression { offset: 26, expression: Expression { bytes: [150], target: Target { order: Big, address_size: Four } } } }
 058080040100: RegisterNumber 16
-001700: UnknownInstruction 17
-003f: UnknownInstruction 17
+001700: 16 Nop UnknownInstruction 17
+003f: 16 Nop UnknownInstruction 17
 0e80808080808080808002: LebRange 17
 ";
 
 #[test]
-fn instructions_end_after_a_fault(rt: HostRuntime) {
-    for case in ENDING.lines() {
-        let (digits, wanted) = parts_of(&rt, case);
-        let found = last_fault(rt.alloc(), digits);
-        assert_eq!(rt; found.as_deref(), Some(wanted), "{case}");
+fn decodes_every_instruction(rt: HostRuntime) -> Result<(), AllocError> {
+    for case in INSTRUCTIONS.lines() {
+        let (input, wanted) = parts_of(&rt, case);
+        let (digits, last) = input.split_once(" | ").expect(&rt, "bytes and an offset");
+        let bytes = bytes_of(rt.alloc(), digits).expect(&rt, "hex digits");
+        let wanted = format!(in rt.alloc(); " 16 {wanted}")?;
+        assert_eq!(rt; only(rt.alloc(), &bytes).as_deref(), Some(wanted.as_str()));
+        assert_eq!(rt;
+            listed(rt.alloc(), &bytes).as_deref(),
+            Some(wanted.as_str())
+        );
+        let cut = &bytes[..bytes.len().saturating_sub(1)];
+        let wanted = format!(in rt.alloc(); " Truncated {last}")?;
+        assert_eq!(rt;
+            only(rt.alloc(), cut).as_deref(),
+            Some(wanted.as_str()),
+            "{case}"
+        );
     }
+    for case in PROGRAMS.lines() {
+        let (digits, wanted) = parts_of(&rt, case);
+        let bytes = bytes_of(rt.alloc(), digits).expect(&rt, "hex digits");
+        let found = listed(rt.alloc(), &bytes).expect(&rt, "a program");
+        assert_eq!(rt; found.as_str().strip_prefix(" "), Some(wanted), "{case}");
+    }
+    Ok(())
 }

@@ -13,7 +13,7 @@ use std::alloc::Global;
 /// The registers of a frame where only register 6 is known. Its content is the address of the first
 /// byte of `STACK`.
 #[derive(Clone, Copy)]
-pub(crate) struct FramePointer {}
+struct FramePointer {}
 
 impl Registers for FramePointer {
     ghost contents = { λ _ n. if n == 6 then Some 0x7000 else None };
@@ -25,7 +25,7 @@ impl Registers for FramePointer {
 
 /// Memory that has the saved frame pointer and the return address of two frames. The first frame
 /// returns to 0x101010, the second to 0x5000.
-pub(crate) const STACK: MemoryBlock<'static> = MemoryBlock {
+const STACK: MemoryBlock<'static> = MemoryBlock {
     base: 0x7000,
     bytes: &[
         0x20, 0x70, 0, 0, 0, 0, 0, 0, 0x10, 0x10, 0x10, 0, 0, 0, 0, 0, 0, 0, 0, 0, 0, 0, 0, 0, 0,
@@ -48,7 +48,7 @@ fn program_and_library(alloc: Global) -> Option<[Module<UnwindTable>; 2]> {
 
 /// The frames of a walk that begins in the library, returns to the program, and from there to an
 /// address that no module covers.
-pub(crate) const FRAMES: [BriefFrame; 3] = [
+const FRAMES: [BriefFrame; 3] = [
     BriefFrame {
         address: 0x20_1010,
         cfa: Some(Answer::Value(0x7010)),
@@ -66,8 +66,12 @@ pub(crate) const FRAMES: [BriefFrame; 3] = [
 #[test]
 fn a_walk_goes_from_a_library_to_its_program(rt: HostRuntime) {
     let modules = program_and_library(rt.alloc()).expect(&rt, "there is memory");
-    let abi = Abi::none();
-    let mut walk = Walk::new(&modules[..], &abi, 0x20_1010, &FramePointer {}, &STACK);
+    let (registers, abi) = (FramePointer {}, Abi::none());
+    let mut walk = Walk::new(&modules[..], &abi, 0x20_1010, &registers, &STACK);
+    let caller = walk.caller_registers().expect(&rt, "covered");
+    assert_eq!(rt; caller.register(6), Some(0x7020));
+    assert_eq!(rt; caller.register(16), Some(0x10_1010));
+    assert_eq!(rt; caller.register(7), None);
     assert_eq!(rt; walk.stop(), None);
     assert_eq!(rt; walk.next(), Some(FRAMES[0]));
     assert_eq!(rt; walk.next(), Some(FRAMES[1]));
@@ -76,56 +80,33 @@ fn a_walk_goes_from_a_library_to_its_program(rt: HostRuntime) {
     assert_eq!(rt; walk.stop(), Some(Stop::NotCovered));
     assert_eq!(rt; walk.next(), None);
     assert!(rt; walk.caller_registers().is_none());
-}
-
-#[test]
-fn one_table_serves_processes_that_load_it_elsewhere(rt: HostRuntime) {
-    let modules = program_and_library(rt.alloc()).expect(&rt, "there is memory");
-    let table = &modules[0].rows;
-    for load_address in [0x10_0000, 0x7000_0000] {
-        let process = [Module::new(table, load_address)];
-        let address = load_address + 0x1010;
-        let caller = unwind(
-            &process[..],
-            &Abi::none(),
-            address,
-            &FramePointer {},
-            &STACK,
-        );
-        assert_eq!(rt; caller.expect(&rt, "covered").cfa, Answer::Value(0x7010));
-    }
-}
-
-#[test]
-fn a_walk_lends_the_registers_of_the_caller(rt: HostRuntime) {
-    let modules = program_and_library(rt.alloc()).expect(&rt, "there is memory");
-    let abi = Abi::none();
-    let walk = Walk::new(&modules[..], &abi, 0x20_1010, &FramePointer {}, &STACK);
-    let registers = walk.caller_registers().expect(&rt, "covered");
-    assert_eq!(rt; registers.register(6), Some(0x7020));
-    assert_eq!(rt; registers.register(16), Some(0x10_1010));
-    assert_eq!(rt; registers.register(7), None);
-}
-
-#[test]
-fn a_backtrace_keeps_the_frames_of_the_walk(rt: HostRuntime) {
-    let modules = program_and_library(rt.alloc()).expect(&rt, "there is memory");
-    let abi = Abi::none();
-    let walk = backtrace(
+    let kept = backtrace(
         rt.alloc(),
         &modules[..],
         &abi,
         0x20_1010,
-        &FramePointer {},
+        &registers,
         &STACK,
         9,
     )
     .expect(&rt, "there is memory");
-    assert_eq!(rt; walk.stop, Stop::NotCovered);
-    assert_eq!(rt; walk.frames.len(), 3);
-    for (index, frame) in walk.frames.iter().enumerate() {
-        assert_eq!(rt; frame.address, FRAMES[index].address);
-        assert_eq!(rt; frame.caller.as_ref().map(|c| c.cfa), FRAMES[index].cfa);
+    assert_eq!(rt; (kept.frames.len(), kept.stop), (3, Stop::NotCovered));
+    for (frame, wanted) in kept.frames.iter().zip(&FRAMES) {
+        assert_eq!(rt; frame.address, wanted.address);
+        assert_eq!(rt; frame.caller.as_ref().map(|c| c.cfa), wanted.cfa);
+    }
+    // Processes that load the same table elsewhere.
+    let table = &modules[0].rows;
+    for load_address in [0x10_0000, 0x7000_0000] {
+        let process = [Module::new(table, load_address)];
+        let caller = unwind(
+            &process[..],
+            &abi,
+            load_address + 0x1010,
+            &registers,
+            &STACK,
+        );
+        assert_eq!(rt; caller.expect(&rt, "covered").cfa, Answer::Value(0x7010));
     }
 }
 

@@ -1,22 +1,25 @@
-//! Calls that may run out of memory. If an allocation is refused, a call must report that it is out
-//! of memory, and nothing else; when it is made again, it must give the expected answer.
-//! `bench/stress/refused_memory.py` runs each test with its Nth allocation refused, for every N. In
-//! an ordinary run nothing is refused, and the test only compares the expected answer.
+//! Calls that take memory. Each is made with ample memory, and its answer is compared. If an
+//! allocation is refused, a call must report that it is out of memory, and nothing else; when it is
+//! made again, it must give its answer. `bench/stress/refused_memory.py` runs each test with its Nth
+//! allocation refused, for every N. In an ordinary run nothing is refused.
 
-ghost use Rattle.std.specs.Prelude.{◌≡◌, ◌≤◌, ◌<◌, ◌^◌, length};
+ghost use Rattle.std.specs.Prelude.{◌≤◌, ◌<◌, ◌^◌, length};
 
-use crate::inputs::{EXPRESSIONS, FUNCTION, LITTLE, PAIR_AND_DEFAULT, ROUND, Unknown};
-use crate::rows::descending;
-use dw_bytes::OUT_OF_MEMORY;
-use dw_check::{
-    Checked, End, LoadFault, Reading, Reads, ReportFault, Request, Source, Stop, Through, Usage,
-    backtrace, check, load, report, request, run, unwind,
+use crate::inputs::{
+    BASES, EXPRESSIONS, FUNCTION, LITTLE, OneRegister, PAIR_AND_DEFAULT, ROUND, Unknown,
 };
+use dw_bytes::{Fault, FaultKind, OUT_OF_MEMORY};
+use dw_check::{
+    Answer, Caller, Checked, End, LoadFault, Reading, Reads, ReportFault, Source, Stop, Through,
+    Usage, backtrace, check, load, report, request, run, unwind,
+};
+use dw_eh_rows::{check_eh_frame, is_signal_address, signal_frames};
 use dw_eval::{Context, evaluate};
-use dw_loclists::CheckedLists;
-use dw_ops::{Expression, operations};
-use dw_process::{Process, Refusal};
-use dw_rows::{Abi, CheckedFrame, check_frame};
+use dw_frame::{Entry, entries};
+use dw_loclists::{CheckedLists, check_lists};
+use dw_ops::{Expression, Operation, operations};
+use dw_process::{EhSection, Process, Refusal};
+use dw_rows::{Abi, CheckedFrame, UnwindTableRow, check_cie, check_fde, check_frame};
 use dw_stack::{Kind, Mode, State, certify, recheck};
 use dw_tables::UnwindTable;
 use std::alloc::{AllocError, Global};
@@ -24,38 +27,320 @@ use std::io;
 use std::io::Write;
 use std::process::Abort;
 
+/// A call that takes memory.
+#[derive(Clone, Copy, Debug, PartialEq, Eq)]
+enum Call {
+    Operations,
+    Certify,
+    Recheck,
+    CheckCie,
+    CheckFde,
+    CheckFrame,
+    CheckLists,
+    Check,
+    Compile,
+    CompileMany,
+    Backtrace,
+    BacktraceBySection,
+    BacktraceByTable,
+    ProcessAdd,
+    ProcessShare,
+    CheckEhFrame,
+    SignalFrames,
+    ProcessAddEhFrame,
+    Report,
+    ReportWithoutLists,
+    Request,
+    Run,
+    Load,
+}
+
+/// Four numbers that a call gives. The function that makes the call says what they are.
+type Numbers = (usize, usize, usize, usize);
+
 /// An expression with forty pushes.
-const PUSHES: [u8; 40] = [0x30; 40];
+const PUSHES: [u8; 40] = [0x31; 40];
 
-/// `FUNCTION` as hex text.
-const FUNCTION_TEXT: &str = "14000000 ffffffff 04 00 08 00 01 78 10 0c0708 9001 00000000
-1c000000 00000000 0010000000000000 2000000000000000 41 0e10 8602 43 0d06";
+/// The state before operation `number` of `PUSHES`.
+fn state(number: u8) -> State {
+    State {
+        offset: u32::from(number),
+        height: number,
+        mode: Mode::Stack,
+        pieced: false,
+    }
+}
 
-/// The rows of `FUNCTION`.
-const ROWS: &str = "\
-fde 0x00000018 cie 0x00000000 0x0000000000001000..0x0000000000001020 ra r16
-row 0x0000000000001000..0x0000000000001001 cfa=r7+8 r16=[c-8]
-row 0x0000000000001001..0x0000000000001004 cfa=r7+16 r6=[c-16] r16=[c-8]
-row 0x0000000000001004..0x0000000000001020 cfa=r6+16 r6=[c-16] r16=[c-8]
-";
+/// The number of operations of an expression; how many of them are `lit1` at the next byte, or of
+/// its states those of `PUSHES`; its depth; and its number of operations once more.
+fn of_expression(alloc: Global, call: Call, bytes: &[u8]) -> Result<Numbers, Fault>
+    requires { length bytes.now < 2 ^ 32 }
+{
+    let expression = Expression::new(bytes, LITTLE);
+    let mut right = 0usize;
+    match call {
+        Call::Operations => {
+            let list = operations(alloc, &expression)?;
+            for (place, (at, operation)) in list.iter().enumerate() {
+                if *at as usize == place && *operation == (Operation::Lit { value: 1 }) {
+                    right = right.saturating_add(1);
+                }
+            }
+            Ok((list.len(), right, 0, 0))
+        }
+        Call::Certify => {
+            let certificate = certify(alloc, expression, Kind::Location)?;
+            let length = certificate.states().len();
+            for (number, found) in (0..40u8).zip(certificate.states()) {
+                if *found == state(number) {
+                    right = right.saturating_add(1);
+                }
+            }
+            let checked = certificate.into_checked();
+            let count = checked.operation_count() as usize;
+            Ok((length, right, usize::from(checked.depth()), count))
+        }
+        _ => {
+            let mut states = [state(0); 40];
+            for (number, slot) in (0..40u8).zip(states.iter_mut()) {
+                *slot = state(number);
+            }
+            let checked = recheck(alloc, expression, Kind::Location, &states)?;
+            let count = checked.operation_count() as usize;
+            Ok((count, 40, usize::from(checked.depth()), count))
+        }
+    }
+}
 
-/// The report on `FUNCTION` and the lists of `PAIR_AND_DEFAULT`.
-const REPORT: &str = "\
-accepted
-cies 1 fdes 1 rows 3
-tables 1 lists 1 expressions 2
-expr lists 0x00000010 location ops 1 depth 0
-expr lists 0x00000013 location ops 2 depth 1
-";
+/// Checks the CIE and the FDE with which a section begins. All numbers are 1.
+fn of_records(alloc: Global, call: Call, section: &[u8]) -> Result<Numbers, Fault>
+    requires { length section.now < 2 ^ 32 }
+{
+    let mut records = entries(section, LITTLE);
+    if let (Some(Ok(Entry::Cie(cie))), Some(Ok(Entry::Fde(fde)))) = (
+        records.next(),
+        records.next(),
+    ) {
+        if call == Call::CheckCie {
+            check_cie(alloc, &cie)?;
+        } else {
+            check_fde(alloc, &cie, &fde)?;
+        }
+        return Ok((1, 1, 1, 1));
+    }
+    Ok((0, 0, 0, 0))
+}
 
-/// The report on `EXPRESSIONS` and no lists.
-const REPORT_OF_EXPRESSIONS: &str = "\
-accepted
-cies 1 fdes 1 rows 1
-tables 0 lists 0 expressions 2
-expr frame 0x00000033 register ops 1 depth 1
-expr frame 0x00000038 register ops 0 depth 1
-";
+/// The numbers of CIEs, FDEs, rows and expressions of a section.
+fn counts_of(frame: &CheckedFrame<'_>) -> Numbers {
+    (
+        frame.cies().len(),
+        frame.fdes().len(),
+        frame.row_count() as usize,
+        frame.expressions().len(),
+    )
+}
+
+/// The numbers of CIEs, FDEs, rows and expressions of a frame section; of lists the numbers of
+/// tables, lists and expressions, and 0; of both the numbers of FDEs, of expressions of the frame
+/// section, of lists and of their expressions.
+fn of_section(alloc: Global, call: Call, section: &[u8]) -> Result<Numbers, Fault>
+    requires { length section.now < 2 ^ 32 }
+{
+    match call {
+        Call::CheckFrame => Ok(counts_of(&check_frame(alloc, section, LITTLE)?)),
+        Call::CheckLists => {
+            let lists = check_lists(alloc, section, LITTLE)?;
+            let (tables, expressions) = (lists.tables().len(), lists.expressions().len());
+            Ok((tables, lists.lists().len(), expressions, 0))
+        }
+        _ => match check(alloc, section, &PAIR_AND_DEFAULT, LITTLE) {
+            Ok(checked) => {
+                let (frame, lists) = (checked.frame(), checked.lists());
+                let (of_frame, of_lists) = (frame.expressions().len(), lists.expressions().len());
+                Ok((frame.fdes().len(), of_frame, lists.lists().len(), of_lists))
+            }
+            Err(found) => Err(found.fault),
+        },
+    }
+}
+
+/// Appends an FDE of eight nops that covers 16 addresses, whose CIE is the section's first record.
+fn push_fde(section: &mut Vec<u8>, initial: u64) -> Result<(), AllocError> {
+    section.extend_from_slice(&[0x1c, 0, 0, 0, 0, 0, 0, 0])?;
+    section.extend_from_slice(&initial.to_le_bytes())?;
+    section.extend_from_slice(&0x10u64.to_le_bytes())?;
+    section.extend_from_slice(&[0; 8])
+}
+
+/// The CIE of `FUNCTION`, and 1,000 FDEs of one row each, in order of descending addresses, with
+/// gaps between them.
+fn descending(alloc: Global) -> Result<Vec<u8>, AllocError> {
+    let mut section = FUNCTION[..24].to_vec(alloc)?;
+    for i in (0..1000u64).rev() {
+        push_fde(&mut section, 0x1000 + 0x20 * i)?;
+    }
+    Ok(section)
+}
+
+/// Where the row of an address ends; 0 if it has none. The section and its table must agree.
+fn end_at(rt: &impl Abort, frame: &CheckedFrame<'_>, table: &UnwindTable, address: u64) -> usize {
+    let by_section = frame
+        .row_for_address(address)
+        .map(|row| (row.start_address(), row.end_address()));
+    let by_table = table
+        .row_for_address(address)
+        .map(|row| (row.start_address(), row.end_address()));
+    assert_eq!(rt; by_section, by_table, "{address:#x}");
+    by_table.map_or(0, |(_, end)| end as usize)
+}
+
+/// Compiles the table of a section. The ends of the rows of four addresses.
+fn of_table(rt: &impl Abort, alloc: Global, section: &[u8]) -> Result<Numbers, Fault>
+    requires { length section.now < 2 ^ 32 }
+{
+    let frame = check_frame(alloc, section, LITTLE)?;
+    let Some(table) = UnwindTable::compile(alloc, &frame, 1 << 20)? else {
+        panic!(rt; "there is room")
+    };
+    Ok((
+        end_at(rt, &frame, &table, 0x100f),
+        end_at(rt, &frame, &table, 0x1010),
+        end_at(rt, &frame, &table, 0x8cef),
+        end_at(rt, &frame, &table, 0x8cf0),
+    ))
+}
+
+/// A walk of forty frames, so that the list of frames is reallocated several times. The number of
+/// frames, and the addresses of the first, the second and the last.
+fn of_walk(rt: &impl Abort, alloc: Global, call: Call) -> Result<Numbers, Fault> {
+    let frame = check_frame(alloc, &ROUND, LITTLE)?;
+    let abi = Abi::none();
+    let walk = match call {
+        Call::Backtrace => match check(alloc, &ROUND, &[], LITTLE) {
+            Ok(checked) => backtrace(alloc, &checked, &abi, 3, &Unknown, &Unknown, 40)?,
+            Err(found) => return Err(found.fault),
+        },
+        Call::BacktraceBySection => {
+            dw_unwind::backtrace(alloc, &frame, &abi, 3, &Unknown, &Unknown, 40)?
+        }
+        _ => {
+            let Some(table) = UnwindTable::compile(alloc, &frame, 1 << 20)? else {
+                panic!(rt; "there is room")
+            };
+            dw_unwind::backtrace(alloc, &table, &abi, 3, &Unknown, &Unknown, 40)?
+        }
+    };
+    assert_eq!(rt; walk.stop, Stop::Limit);
+    assert_eq!(rt; walk.frames.len(), 40);
+    let address = |place: usize| walk.frames[place].address as usize;
+    Ok((walk.frames.len(), address(0), address(1), address(39)))
+}
+
+/// Where `FUNCTION` is loaded in the modules of a process: the load address of each module, and an
+/// address of the function there.
+const PLACES: [(u64, u64); 4] = [
+    (0, 0x1010),
+    (0x1_0000, 0x1_1010),
+    (0x2_0000, 0x2_1010),
+    (0x3_0000, 0x3_1010),
+];
+
+/// Asserts that a process has as many of the modules of `PLACES` as `count` says, in this order,
+/// and no others.
+fn has_modules(rt: &impl Abort, process: &Process, count: usize) {
+    assert_eq!(rt; process.modules().len(), count);
+    for ((load_address, address), module) in PLACES.iter().zip(process.modules()) {
+        assert_eq!(rt; module.load_address, *load_address);
+        let found = process.row_for_address(*address);
+        let row = found.map(|found| (found.load_address, found.row.start_address()));
+        assert_eq!(rt; row, Some((*load_address, 0x1004)));
+    }
+}
+
+/// Adds the modules of `PLACES` to a process, and shares it if the call is that. If memory runs out,
+/// the process must have the modules that were added before. The numbers of modules that were added,
+/// and that were shared.
+fn of_process(rt: &impl Abort, alloc: Global, call: Call) -> Result<Numbers, Fault> {
+    let mut process = Process::new(alloc, LITTLE);
+    for number in 0..4usize {
+        let (load_address, _) = PLACES[number];
+        match process.add(alloc, &FUNCTION, load_address, None, 0, 1 << 20) {
+            Ok(_) => has_modules(rt, &process, number + 1),
+            Err(why) => {
+                assert_eq!(rt; why, Refusal::Section(OUT_OF_MEMORY));
+                has_modules(rt, &process, number);
+                return Err(OUT_OF_MEMORY);
+            }
+        }
+    }
+    if call == Call::ProcessAdd {
+        return Ok((4, 0, 0, 0));
+    }
+    let shared = process.share(alloc);
+    has_modules(rt, &process, 4);
+    drop(process);
+    match shared {
+        Some(other) => {
+            has_modules(rt, &other, 4);
+            Ok((4, 4, 0, 0))
+        }
+        None => Err(OUT_OF_MEMORY),
+    }
+}
+
+/// By GNU as for x86-64: a CIE with `zRS`, and an FDE of 0x1009 to 0x100c whose rules have
+/// expressions. The row changes at 0x100b.
+const SIGNAL: [u8; 56] = [
+    0x14, 0, 0, 0, 0, 0, 0, 0, 1, 0x7a, 0x52, 0x53, 0, 1, 0x78, 0x10, 1, 0x1b, 0x0c, 7, 8, 0x90, 1,
+    0, 0x1c, 0, 0, 0, 0x1c, 0, 0, 0, 0xe9, 0xef, 0xff, 0xff, 3, 0, 0, 0, 0, 0x0f, 3, 0x77, 8, 6,
+    0x16, 3, 2, 0x23, 8, 0x42, 8, 3, 0, 0,
+];
+
+/// The first 31 bytes of `SIGNAL`: the FDE is cut off.
+const SIGNAL_CUT: [u8; 31] = [
+    0x14, 0, 0, 0, 0, 0, 0, 0, 1, 0x7a, 0x52, 0x53, 0, 1, 0x78, 0x10, 1, 0x1b, 0x0c, 7, 8, 0x90, 1,
+    0, 0x1c, 0, 0, 0, 0x1c, 0, 0,
+];
+
+/// A section of `.eh_frame`: the numbers of its CIEs, FDEs, rows and expressions; the number of its
+/// signal frames, and whether each of three addresses is one's; or the id of its module, and where
+/// the row of an address begins and ends.
+fn of_eh_frame(alloc: Global, call: Call, section: &[u8]) -> Result<Numbers, Fault>
+    requires { length section.now < 2 ^ 32 }
+{
+    match call {
+        Call::CheckEhFrame => {
+            let mut room = Vec::new(alloc);
+            let frame = check_eh_frame(alloc, section, LITTLE, BASES, false, &mut room)?;
+            Ok(counts_of(&frame))
+        }
+        Call::SignalFrames => {
+            let ranges = signal_frames(alloc, section, LITTLE, BASES)?;
+            let is_one = |address: u64| usize::from(is_signal_address(&ranges, address));
+            Ok((ranges.len(), is_one(0x1008), is_one(0x1009), is_one(0x100c)))
+        }
+        _ => {
+            let mut process = Process::new(alloc, LITTLE);
+            let section = EhSection {
+                bytes: section,
+                bases: BASES,
+                is_aarch64: false,
+            };
+            match process.add_eh_frame(alloc, section, 0x40_0000, None, 7, 1 << 16) {
+                Ok(id) => {
+                    let found = process.row_for_address(0x40_100a);
+                    let (start, end) = found.map_or((0, 0), |found| {
+                        (found.row.start_address(), found.row.end_address())
+                    });
+                    Ok((id as usize, start as usize, end as usize, 0))
+                }
+                Err(Refusal::Section(fault)) if process.modules().is_empty() => Err(fault),
+                Err(_) => Ok((0, 0, 0, 0)),
+            }
+        }
+    }
+}
 
 /// A writer to an array, which doesn't allocate.
 #[derive(Drop)]
@@ -91,159 +376,18 @@ impl Write for Fixed {
     }
 }
 
-/// A call that may run out of memory.
-#[derive(Clone, Copy)]
-enum Call {
-    Operations,
-    Certify,
-    Recheck,
-    Check,
-    CheckOfExpressions,
-    Report,
-    ReportOfExpressions,
-    Request,
-    Run,
-    RunOfRefused,
-    Load,
-    Backtrace,
-    Compile,
-    CompileOfMany,
-    ProcessAdd,
-    ProcessShare,
-    LookUps,
-}
-
-impl Call {
-    /// Makes the call. Returns `true` if the call got all memory that it requested and gave the
-    /// expected answer, and `false` if it reported that it is out of memory. Anything else fails
-    /// the test.
-    fn has_memory(self, rt: &impl Abort, alloc: Global) -> bool {
-        match self {
-            Call::Operations => reads_operations(rt, alloc),
-            Call::Certify => certifies(rt, alloc),
-            Call::Recheck => rechecks(rt, alloc),
-            Call::Check => checks(rt, alloc, &FUNCTION, (1, 1, 1, 1, 2)),
-            Call::CheckOfExpressions => checks(rt, alloc, &EXPRESSIONS, (1, 1, 1, 1, 4)),
-            Call::Report => reports(rt, alloc, &FUNCTION, &PAIR_AND_DEFAULT, REPORT),
-            Call::ReportOfExpressions => reports(
-                rt,
-                alloc,
-                &EXPRESSIONS,
-                &[],
-                REPORT_OF_EXPRESSIONS,
-            ),
-            Call::Request => requests(rt, alloc),
-            Call::Run => runs(rt, alloc, FUNCTION_TEXT, End::Done, ROWS),
-            Call::RunOfRefused => {
-                let line = "refused 3 ReservedLength frame 0x00000000\n";
-                runs(rt, alloc, "f0ffffff", End::Refused, line)
-            }
-            Call::Load => loads(rt, alloc),
-            Call::Backtrace => walks(rt, alloc),
-            Call::Compile => compiles(rt, alloc, &EXPRESSIONS, 0x1000, 0x1020),
-            Call::CompileOfMany => compiles_many(rt, alloc),
-            Call::ProcessAdd => adds_modules(rt, alloc),
-            Call::ProcessShare => shares(rt, alloc),
-            Call::LookUps => looks_up(rt, alloc),
-        }
-    }
-}
-
-fn reads_operations(rt: &impl Abort, alloc: Global) -> bool {
-    match operations(alloc, &Expression::new(&PUSHES, LITTLE)) {
-        Ok(list) => {
-            assert_eq!(rt; list.len(), 40);
-            true
-        }
-        Err(fault) => {
-            assert_eq!(rt; fault, OUT_OF_MEMORY);
-            false
-        }
-    }
-}
-
-/// The state before operation `number` of `PUSHES`.
-fn state(number: u8) -> State {
-    State {
-        offset: u32::from(number),
-        height: number,
-        mode: Mode::Stack,
-        pieced: false,
-    }
-}
-
-fn certifies(rt: &impl Abort, alloc: Global) -> bool {
-    match certify(alloc, Expression::new(&PUSHES, LITTLE), Kind::Location) {
-        Ok(certificate) => {
-            let states = certificate.states();
-            assert_eq!(rt; states.len(), 40);
-            assert_eq!(rt; (states[0], states[39]), (state(0), state(39)));
-            let checked = certificate.into_checked();
-            assert_eq!(rt; (checked.depth(), checked.operation_count()), (40, 40));
-            true
-        }
-        Err(fault) => {
-            assert_eq!(rt; fault, OUT_OF_MEMORY);
-            false
-        }
-    }
-}
-
-fn rechecks(rt: &impl Abort, alloc: Global) -> bool {
-    let mut states = [state(0); 40];
-    for i in 0..40u8 {
-        states[usize::from(i)] = state(i);
-    }
-    match recheck(
-        alloc,
-        Expression::new(&PUSHES, LITTLE),
-        Kind::Location,
-        &states,
-    ) {
-        Ok(checked) => {
-            assert_eq!(rt; (checked.depth(), checked.operation_count()), (40, 40));
-            true
-        }
-        Err(fault) => {
-            assert_eq!(rt; fault, OUT_OF_MEMORY);
-            false
-        }
-    }
-}
-
-/// The numbers of CIEs, FDEs, tables, lists and expressions.
-fn counts_of(checked: &Checked<'_>) -> (usize, usize, usize, usize, usize) {
-    let (frame, lists) = (checked.frame(), checked.lists());
-    (
-        frame.cies().len(),
-        frame.fdes().len(),
-        lists.tables().len(),
-        lists.lists().len(),
-        frame.expressions().len() + lists.expressions().len(),
-    )
-}
-
-fn checks(
+/// Reports on a section, and on `lists`. If memory runs out, a beginning of the text may be written.
+/// The number of texts.
+fn of_report(
     rt: &impl Abort,
     alloc: Global,
-    frame: &[u8],
-    counts: (usize, usize, usize, usize, usize),
-) -> bool {
-    match check(alloc, frame, &PAIR_AND_DEFAULT, LITTLE) {
-        Ok(checked) => {
-            assert_eq!(rt; counts_of(&checked), counts);
-            true
-        }
-        Err(found) => {
-            assert_eq!(rt; found.fault, OUT_OF_MEMORY);
-            false
-        }
-    }
-}
-
-fn reports(rt: &impl Abort, alloc: Global, frame: &[u8], lists: &[u8], text: &str) -> bool {
-    let Ok(checked) = check(alloc, frame, lists, LITTLE) else {
-        return false;
+    section: &[u8],
+    lists: &[u8],
+    text: &str,
+) -> Result<Numbers, Fault> {
+    let checked = match check(alloc, section, lists, LITTLE) {
+        Ok(checked) => checked,
+        Err(found) => return Err(found.fault),
     };
     let mut sink = Through::new(Fixed::new());
     let result = report(alloc, &checked, &mut sink);
@@ -251,12 +395,12 @@ fn reports(rt: &impl Abort, alloc: Global, frame: &[u8], lists: &[u8], text: &st
     match result {
         Ok(()) => {
             assert_eq!(rt; fixed.written(), text.as_bytes());
-            true
+            Ok((1, 0, 0, 0))
         }
         Err(fault) => {
             assert_eq!(rt; fault, ReportFault::Memory);
             assert!(rt; text.as_bytes().starts_with(fixed.written()));
-            false
+            Err(OUT_OF_MEMORY)
         }
     }
 }
@@ -270,186 +414,310 @@ fn words(alloc: Global) -> Result<Vec<String>, AllocError> {
     Ok(words)
 }
 
-fn requests(rt: &impl Abort, alloc: Global) -> bool {
-    let Ok(words) = words(alloc) else {
-        return false;
-    };
-    match request(alloc, words) {
-        Ok(request) => {
-            assert_eq!(rt; request.files().len(), 1);
-            for name in request.files() {
-                assert_eq!(rt; name.as_str(), "f");
-            }
-            true
-        }
+/// Makes a request of the command line `words`, and runs it with a file that contains `content` if
+/// the call is that. If memory runs out, a beginning of the text may be written, but nothing of a
+/// refusal. The number of files, and of texts.
+fn of_program(
+    rt: &impl Abort,
+    alloc: Global,
+    call: Call,
+    content: &[u8],
+    text: &str,
+) -> Result<Numbers, Fault> {
+    let request = match request(alloc, words(alloc)?) {
+        Ok(request) => request,
         Err(usage) => {
             assert!(rt; matches!(usage, Usage::Memory));
             assert_eq!(rt; usage.status(), 3);
-            false
+            return Err(OUT_OF_MEMORY);
         }
-    }
-}
-
-/// The contents of a request's files: its only file contains `text`.
-fn files(alloc: Global, text: &str) -> Result<Vec<Vec<u8>>, AllocError> {
-    let mut files: Vec<Vec<u8>> = Vec::new(alloc);
-    files.push(Vec::from_slice(alloc, text.as_bytes())?)?;
-    Ok(files)
-}
-
-/// The request of the command line `words`, and the contents of its only file. `None` if there
-/// isn't enough memory.
-fn request_and_files(alloc: Global, content: &str) -> Option<(Request, Vec<Vec<u8>>)> {
-    let request = request(alloc, words(alloc).ok()?).ok()?;
-    Some((request, files(alloc, content).ok()?))
-}
-
-fn runs(rt: &impl Abort, alloc: Global, content: &str, end: End, text: &str) -> bool {
-    let Some((request, files)) = request_and_files(alloc, content) else {
-        return false;
     };
+    assert_eq!(rt; request.files().len(), 1);
+    for name in request.files() {
+        assert_eq!(rt; name.as_str(), "f");
+    }
+    if call == Call::Request {
+        return Ok((1, 0, 0, 0));
+    }
+    let mut files: Vec<Vec<u8>> = Vec::new(alloc);
+    files.push(Vec::from_slice(alloc, content)?)?;
     assert_eq!(rt; files.len(), request.files().len());
     let mut sink = Through::new(Fixed::new());
     let found = run(alloc, &request, files.as_slice(), &mut sink);
     let fixed = sink.into_inner();
+    let is_refusal = text.as_bytes().starts_with(b"refused");
     if found == End::Memory {
         assert_eq!(rt; found.status(), 3);
         assert!(rt; text.as_bytes().starts_with(fixed.written()));
-        assert!(rt; end == End::Done || fixed.written().is_empty());
-        return false;
+        assert!(rt; !is_refusal || fixed.written().is_empty());
+        return Err(OUT_OF_MEMORY);
     }
-    assert_eq!(rt; found, end);
+    assert_eq!(rt; found, if is_refusal { End::Refused } else { End::Done });
     assert_eq!(rt; fixed.written(), text.as_bytes());
-    true
+    Ok((1, 1, 0, 0))
 }
 
-fn loads(rt: &impl Abort, alloc: Global) -> bool {
-    let mut source = Reads::new(&FUNCTION as &[u8]);
+/// Loads bytes from a source, which ends. If memory runs out, the source is still open. The number
+/// of bytes.
+fn of_load(rt: &impl Abort, alloc: Global, content: &[u8]) -> Result<Numbers, Fault> {
+    let mut source = Reads::new(content);
     match load(alloc, &mut source) {
         Ok(bytes) => {
-            assert_eq!(rt; bytes.as_slice(), FUNCTION.as_slice());
+            assert_eq!(rt; bytes.as_slice(), content);
             assert_eq!(rt; source.state(), Reading::Ended);
-            true
+            Ok((bytes.len(), 0, 0, 0))
         }
         Err(fault) => {
             assert_eq!(rt; fault, LoadFault::Memory);
             assert_eq!(rt; source.state(), Reading::Open);
-            false
+            Err(OUT_OF_MEMORY)
         }
     }
 }
 
-/// A walk of forty frames, so that the list of frames is reallocated several times.
-fn walks(rt: &impl Abort, alloc: Global) -> bool {
-    let Ok(checked) = check(alloc, &ROUND, &[], LITTLE) else {
-        return false;
-    };
-    match backtrace(alloc, &checked, &Abi::none(), 3, &Unknown, &Unknown, 40) {
-        Ok(walk) => {
-            assert_eq!(rt; walk.frames.len(), 40);
-            assert_eq!(rt; walk.frames[39].address, 7);
-            assert_eq!(rt; walk.stop, Stop::Limit);
-            true
+/// Makes a call with these bytes. `text` is what a report or a run has to write.
+fn answer(
+    rt: &impl Abort,
+    alloc: Global,
+    call: Call,
+    bytes: &[u8],
+    text: &str,
+) -> Result<Numbers, Fault> {
+    assert!(rt; bytes.len() < 0x1_0000);
+    match call {
+        Call::Operations | Call::Certify | Call::Recheck => of_expression(alloc, call, bytes),
+        Call::CheckCie | Call::CheckFde => of_records(alloc, call, bytes),
+        Call::CheckFrame | Call::CheckLists | Call::Check => of_section(alloc, call, bytes),
+        Call::Compile => of_table(rt, alloc, bytes),
+        Call::CompileMany => {
+            let section = descending(alloc)?;
+            assert_eq!(rt; section.len(), 32_024);
+            of_table(rt, alloc, &section)
         }
-        Err(fault) => {
-            assert_eq!(rt; fault, OUT_OF_MEMORY);
-            false
+        Call::Backtrace | Call::BacktraceBySection | Call::BacktraceByTable => {
+            of_walk(rt, alloc, call)
         }
+        Call::ProcessAdd | Call::ProcessShare => of_process(rt, alloc, call),
+        Call::CheckEhFrame | Call::SignalFrames | Call::ProcessAddEhFrame => {
+            of_eh_frame(alloc, call, bytes)
+        }
+        Call::Report => of_report(rt, alloc, bytes, &PAIR_AND_DEFAULT, text),
+        Call::ReportWithoutLists => of_report(rt, alloc, bytes, &[], text),
+        Call::Request | Call::Run => of_program(rt, alloc, call, bytes, text),
+        Call::Load => of_load(rt, alloc, bytes),
     }
 }
 
-/// Compiles the table of a section, in which the row of `address` must end at `end`.
-fn compiles(rt: &impl Abort, alloc: Global, section: &[u8], address: u64, end: u64) -> bool
-    requires { length section.now < 2 ^ 32 }
-{
-    let Ok(frame) = check_frame(alloc, section, LITTLE) else {
-        return false;
-    };
-    match UnwindTable::compile(alloc, &frame, 1 << 20) {
-        Ok(made) => {
-            let Some(table) = made else {
-                panic!(rt; "there is room")
-            };
-            let found = table.row_for_address(address).map(|row| row.end_address());
-            assert_eq!(rt; found, Some(end));
-            true
-        }
-        Err(fault) => {
-            assert_eq!(rt; fault, OUT_OF_MEMORY);
-            false
-        }
-    }
-}
-
-/// Compiles a table of a thousand rows with gaps between, so that its lists are reallocated several
-/// times.
-fn compiles_many(rt: &impl Abort, alloc: Global) -> bool {
-    let Ok(section) = descending(alloc) else {
-        return false;
-    };
-    assert_eq!(rt; section.len(), 32_024);
-    compiles(rt, alloc, &section, 0x8cef, 0x8cf0)
-}
-
-/// Where `FUNCTION` is loaded in the modules of a process: the load address of each module, and an
-/// address of the function there.
-const PLACES: [(u64, u64); 4] = [
-    (0, 0x1010),
-    (0x1_0000, 0x1_1010),
-    (0x2_0000, 0x2_1010),
-    (0x3_0000, 0x3_1010),
+/// `FUNCTION` with an advance_loc in the CIE's program.
+const ADVANCING: [u8; 56] = [
+    0x14, 0, 0, 0, 0xff, 0xff, 0xff, 0xff, 4, 0, 8, 0, 1, 0x78, 0x10, 0x41, 7, 8, 0x90, 1, 0, 0, 0,
+    0, 0x1c, 0, 0, 0, 0, 0, 0, 0, 0, 0x10, 0, 0, 0, 0, 0, 0, 0x20, 0, 0, 0, 0, 0, 0, 0, 0x41, 0x0e,
+    0x10, 0x86, 2, 0x43, 0x0d, 6,
 ];
 
-/// Asserts that a process has as many of the modules of `PLACES` as `count` says, in this order,
-/// and no others.
-fn has_modules(rt: &impl Abort, process: &Process, count: usize) {
-    assert_eq!(rt; process.modules().len(), count);
-    for ((load_address, address), module) in PLACES.iter().zip(process.modules()) {
-        assert_eq!(rt; module.load_address, *load_address);
-        let found = process.row_for_address(*address);
-        let row = found.map(|found| (found.load_address, found.row.start_address()));
-        assert_eq!(rt; row, Some((*load_address, 0x1004)));
+/// `FUNCTION` as hex text.
+const FUNCTION_TEXT: &[u8] = b"14000000 ffffffff 04 00 08 00 01 78 10 0c0708 9001 00000000
+1c000000 00000000 0010000000000000 2000000000000000 41 0e10 8602 43 0d06";
+
+/// The rows of `FUNCTION`.
+const ROWS: &str = "\
+fde 0x00000018 cie 0x00000000 0x0000000000001000..0x0000000000001020 ra r16
+row 0x0000000000001000..0x0000000000001001 cfa=r7+8 r16=[c-8]
+row 0x0000000000001001..0x0000000000001004 cfa=r7+16 r6=[c-16] r16=[c-8]
+row 0x0000000000001004..0x0000000000001020 cfa=r6+16 r6=[c-16] r16=[c-8]
+";
+
+/// The report on `FUNCTION` and the lists of `PAIR_AND_DEFAULT`.
+const REPORT: &str = "\
+accepted
+cies 1 fdes 1 rows 3
+tables 1 lists 1 expressions 2
+expr lists 0x00000010 location ops 1 depth 0
+expr lists 0x00000013 location ops 2 depth 1
+";
+
+/// The report on `EXPRESSIONS` and no lists.
+const REPORT_OF_EXPRESSIONS: &str = "\
+accepted
+cies 1 fdes 1 rows 1
+tables 0 lists 0 expressions 2
+expr frame 0x00000033 register ops 1 depth 1
+expr frame 0x00000038 register ops 0 depth 1
+";
+
+/// Calls, the bytes that they take, and what they write and give.
+const CALLS: [(Call, &[u8], &str, Numbers); 24] = [
+    (Call::Operations, &PUSHES, "", (40, 40, 0, 0)),
+    (Call::Certify, &PUSHES, "", (40, 40, 40, 40)),
+    (Call::Recheck, &PUSHES, "", (40, 40, 40, 40)),
+    (Call::CheckCie, &FUNCTION, "", (1, 1, 1, 1)),
+    (Call::CheckFde, &FUNCTION, "", (1, 1, 1, 1)),
+    (Call::CheckFrame, &FUNCTION, "", (1, 1, 3, 0)),
+    (Call::CheckLists, &PAIR_AND_DEFAULT, "", (1, 1, 2, 0)),
+    (Call::Check, &FUNCTION, "", (1, 0, 1, 2)),
+    (Call::Check, &EXPRESSIONS, "", (1, 2, 1, 2)),
+    (Call::Compile, &EXPRESSIONS, "", (0x1020, 0x1020, 0, 0)),
+    (Call::CompileMany, &[], "", (0x1010, 0, 0x8cf0, 0)),
+    (Call::Backtrace, &[], "", (40, 3, 7, 7)),
+    (Call::BacktraceBySection, &[], "", (40, 3, 7, 7)),
+    (Call::BacktraceByTable, &[], "", (40, 3, 7, 7)),
+    (Call::ProcessAdd, &[], "", (4, 0, 0, 0)),
+    (Call::ProcessShare, &[], "", (4, 4, 0, 0)),
+    (Call::CheckEhFrame, &SIGNAL, "", (1, 1, 2, 2)),
+    (Call::SignalFrames, &SIGNAL, "", (1, 0, 1, 0)),
+    (Call::ProcessAddEhFrame, &SIGNAL, "", (1, 0x1009, 0x100b, 0)),
+    (Call::Report, &FUNCTION, REPORT, (1, 0, 0, 0)),
+    (
+        Call::ReportWithoutLists,
+        &EXPRESSIONS,
+        REPORT_OF_EXPRESSIONS,
+        (1, 0, 0, 0),
+    ),
+    (Call::Request, &[], "", (1, 0, 0, 0)),
+    (Call::Run, FUNCTION_TEXT, ROWS, (1, 1, 0, 0)),
+    (Call::Load, &FUNCTION, "", (56, 0, 0, 0)),
+];
+
+/// What a run with a section that is refused writes.
+const REFUSED: &str = "refused 3 ReservedLength frame 0x00000000\n";
+
+/// Calls that refuse their bytes.
+const REFUSALS: [(Call, &[u8], FaultKind, u32); 6] = [
+    (
+        Call::Operations,
+        &[0x31, 0x18],
+        FaultKind::UnknownOperation,
+        1,
+    ),
+    (Call::CheckCie, &ADVANCING, FaultKind::NotInCie, 15),
+    (Call::CheckFde, &ADVANCING, FaultKind::NotInCie, 15),
+    (
+        Call::CheckLists,
+        &[0x0a, 0, 0, 0, 5, 0, 8, 0, 0, 0, 0, 0, 5, 0],
+        FaultKind::NoEnd,
+        14,
+    ),
+    (Call::CheckEhFrame, &SIGNAL_CUT, FaultKind::Truncated, 28),
+    (Call::SignalFrames, &SIGNAL_CUT, FaultKind::Truncated, 28),
+];
+
+/// Makes a call, and once more if it ran out of memory, which is then printed.
+fn is_made(
+    rt: &(impl Abort + Print + AllocGlobal),
+    call: Call,
+    bytes: &[u8],
+    text: &str,
+    wanted: Result<Numbers, Fault>,
+) {
+    let mut found = answer(rt, rt.alloc(), call, bytes, text);
+    if found == Err(OUT_OF_MEMORY) {
+        assert!(rt; println!(rt; "refused: {call:?}").is_ok());
+        found = answer(rt, rt.alloc(), call, bytes, text);
+    }
+    assert_eq!(rt; found, wanted, "{call:?}");
+}
+
+#[test]
+fn calls_give_their_answers(rt: HostRuntime) {
+    for (call, bytes, text, wanted) in &CALLS {
+        is_made(&rt, *call, bytes, text, Ok(*wanted));
+    }
+    is_made(
+        &rt,
+        Call::Run,
+        b"f0ffffff",
+        REFUSED,
+        Ok((1, 1, 0, 0)),
+    );
+    for (call, bytes, kind, at) in &REFUSALS {
+        let fault = Fault {
+            kind: *kind,
+            at: *at,
+        };
+        is_made(&rt, *call, bytes, "", Err(fault));
     }
 }
 
-/// Adds the modules of `PLACES` to a process. If memory runs out, the process must have the modules
-/// that were added before.
-fn add_modules(rt: &impl Abort, alloc: Global, process: &mut Process) -> bool {
-    for number in 0..4usize {
-        let (load_address, _) = PLACES[number];
-        match process.add(alloc, &FUNCTION, load_address, None, 0, 1 << 20) {
-            Ok(_) => has_modules(rt, process, number + 1),
-            Err(why) => {
-                assert_eq!(rt; why, Refusal::Section(OUT_OF_MEMORY));
-                has_modules(rt, process, number);
-                return false;
-            }
-        }
-    }
-    true
+/// The only known register of the frame at 0x1010 of `FUNCTION`.
+const REGISTERS: OneRegister = OneRegister {
+    known: 6,
+    content: 0x7f00,
+};
+
+/// Asserts that a caller is that of the frame at 0x1010: its CFA is register 6 plus 16, and the two
+/// registers that are saved below the CFA are unreadable.
+fn is_worked(rt: &impl Abort, caller: Option<Caller>) {
+    let caller = caller.expect(rt, "covered");
+    assert_eq!(rt; caller.cfa, Answer::Value(0x7f10));
+    assert_eq!(rt;
+        caller.registers.as_slice(),
+        [(6, Answer::Unreadable), (16, Answer::Unreadable)].as_slice()
+    );
+    assert_eq!(rt; caller.return_address, Answer::Unreadable);
 }
 
-fn adds_modules(rt: &impl Abort, alloc: Global) -> bool {
-    let mut process = Process::new(alloc, LITTLE);
-    add_modules(rt, alloc, &mut process)
+/// Finds callers in three ways that must agree: from both sections, from the frame section alone,
+/// and from its compiled table. The last two are passed an ABI that names no register.
+fn finds_callers(rt: &impl Abort, checked: &Checked<'_>, table: &UnwindTable) {
+    let (frame, abi) = (checked.frame(), Abi::none());
+    is_worked(rt, unwind(checked, 0x1010, &REGISTERS, &Unknown));
+    is_worked(
+        rt,
+        dw_unwind::unwind(frame, &abi, 0x1010, &REGISTERS, &Unknown),
+    );
+    is_worked(
+        rt,
+        dw_unwind::unwind(table, &abi, 0x1010, &REGISTERS, &Unknown),
+    );
+    assert!(rt; unwind(checked, 0x1020, &REGISTERS, &Unknown).is_none());
+    assert!(rt; dw_unwind::unwind(frame, &abi, 0x1020, &REGISTERS, &Unknown).is_none());
+    assert!(rt; dw_unwind::unwind(table, &abi, 0x1020, &REGISTERS, &Unknown).is_none());
 }
 
-/// Shares a process of four modules, which keeps its modules in any case.
-fn shares(rt: &impl Abort, alloc: Global) -> bool {
-    let mut process = Process::new(alloc, LITTLE);
-    if !add_modules(rt, alloc, &mut process) {
-        return false;
+/// Addresses at `FUNCTION`, each with where its row begins and ends, or `None` if it has no row.
+const RANGES: [(u64, Option<(u64, u64)>); 4] = [
+    (0xfff, None),
+    (0x1000, Some((0x1000, 0x1001))),
+    (0x101f, Some((0x1004, 0x1020))),
+    (0x1020, None),
+];
+
+/// Looks up rows of `FUNCTION`: by their addresses, and one after the other, also once more with
+/// the same iterator and the same row.
+fn finds_rows(rt: &impl Abort, frame: &CheckedFrame<'_>) {
+    assert_eq!(rt; frame.section(), FUNCTION.as_slice());
+    for (address, range) in &RANGES {
+        let row = frame.row_for_address(*address);
+        let found = row.map(|row| (row.start_address(), row.end_address()));
+        assert_eq!(rt; found, *range, "{address:#x}");
     }
-    let shared = process.share(alloc);
-    has_modules(rt, &process, 4);
-    drop(process);
-    match shared {
-        Some(other) => {
-            has_modules(rt, &other, 4);
-            true
-        }
-        None => false,
-    }
+    let fde = frame.fde_for_address(0x1000).expect(rt, "covered");
+    let mut rows = frame.rows(&fde);
+    assert_eq!(rt; rows.next().map(|row| row.end_address()), Some(0x1001));
+    assert_eq!(rt; rows.next().map(|row| row.end_address()), Some(0x1004));
+    frame.rows_into(&fde, &mut rows);
+    let mut row = UnwindTableRow::empty();
+    assert!(rt; rows.next_into(&mut row));
+    assert_eq!(rt; row.end_address(), 0x1001);
+    let found = frame.row_for_address_into(0x1001, &mut row);
+    let places = found.map(|(cie, fde)| (cie.offset, fde.offset));
+    assert_eq!(rt; (places, row.end_address()), (Some((0, 24)), 0x1004));
+    // An address without a row leaves the row as it was.
+    assert!(rt; frame.row_for_address_into(0x1020, &mut row).is_none());
+    assert_eq!(rt; row.end_address(), 0x1004);
+}
+
+/// Looks up the list of `PAIR_AND_DEFAULT`, and the expression that it gives at an address.
+fn finds_locations(rt: &impl Abort, lists: &CheckedLists<'_>) {
+    let list = lists.list(0xc).expect(rt, "a list");
+    let mut locations = lists.locations_at(&list, 0x1000, 0x1005);
+    let found = locations.next();
+    assert_eq!(rt;
+        found.map(|(offset, checked)| (offset, checked.expression().bytes())),
+        Some((0x10, [0x50].as_slice()))
+    );
+    assert!(rt; locations.next().is_none());
+    assert!(rt; lists.list(0xd).is_none());
 }
 
 /// Evaluates each expression of a frame section.
@@ -465,132 +733,40 @@ fn evaluates(rt: &impl Abort, frame: &CheckedFrame<'_>) {
     }
 }
 
-/// Looks up an FDE, all its rows, and the row of an address.
-fn finds_rows(rt: &impl Abort, frame: &CheckedFrame<'_>) {
-    let Some(fde) = frame.fde_for_address(0x1000) else {
-        panic!(rt; "no FDE")
-    };
-    for row in frame.rows(&fde) {
-        assert_eq!(rt; row.end_address(), 0x1020);
-    }
-    assert!(rt; frame.row_for_address(0x101f).is_some());
-}
-
-/// Looks up a list, and the expressions that it gives at an address.
-fn finds_locations(rt: &impl Abort, lists: &CheckedLists<'_>) {
-    let Some(list) = lists.list(0xc) else {
-        panic!(rt; "no list")
-    };
-    for (offset, _) in lists.locations_at(&list, 0x1000, 0x1005) {
-        assert_eq!(rt; offset, 0x10);
-    }
-}
-
-/// A check, followed by calls that don't allocate.
-fn looks_up(rt: &impl Abort, alloc: Global) -> bool {
-    let Ok(checked) = check(alloc, &EXPRESSIONS, &PAIR_AND_DEFAULT, LITTLE) else {
+/// Checks sections and compiles a table. If it is asked to, makes calls that look something up.
+/// Returns whether there was memory.
+fn checks(rt: &impl Abort, alloc: Global, looks_up: bool) -> bool {
+    let Ok(checked) = check(alloc, &FUNCTION, &PAIR_AND_DEFAULT, LITTLE) else {
         return false;
     };
-    evaluates(rt, checked.frame());
-    finds_rows(rt, checked.frame());
-    finds_locations(rt, checked.lists());
-    assert!(rt; unwind(&checked, 0x101f, &Unknown, &Unknown).is_some());
+    let Ok(frame) = check_frame(alloc, &EXPRESSIONS, LITTLE) else {
+        return false;
+    };
+    let Ok(Some(table)) = UnwindTable::compile(alloc, checked.frame(), 1 << 20) else {
+        return false;
+    };
+    if looks_up {
+        finds_callers(rt, &checked, &table);
+        finds_rows(rt, checked.frame());
+        finds_locations(rt, checked.lists());
+        evaluates(rt, &frame);
+    }
     true
 }
 
-/// Makes a call. If it runs out of memory, prints `refused` and makes it again; then it has to
-/// succeed.
-fn is_made(rt: &(impl Abort + Print + AllocGlobal), call: Call) {
-    if !call.has_memory(rt, rt.alloc()) {
-        assert!(rt; println!(rt; "refused").is_ok());
-        assert!(rt; call.has_memory(rt, rt.alloc()));
+#[test]
+fn checks_alone(rt: HostRuntime) {
+    if !checks(&rt, rt.alloc(), false) {
+        assert!(rt; println!(rt; "refused: checks").is_ok());
     }
 }
 
-#[test]
-fn operations_lack_memory(rt: HostRuntime) {
-    is_made(&rt, Call::Operations);
-}
-
-#[test]
-fn certify_lacks_memory(rt: HostRuntime) {
-    is_made(&rt, Call::Certify);
-}
-
-#[test]
-fn recheck_lacks_memory(rt: HostRuntime) {
-    is_made(&rt, Call::Recheck);
-}
-
-#[test]
-fn check_lacks_memory(rt: HostRuntime) {
-    is_made(&rt, Call::Check);
-}
-
-#[test]
-fn check_of_expressions_lacks_memory(rt: HostRuntime) {
-    is_made(&rt, Call::CheckOfExpressions);
-}
-
-#[test]
-fn report_lacks_memory(rt: HostRuntime) {
-    is_made(&rt, Call::Report);
-}
-
-#[test]
-fn report_of_expressions_lacks_memory(rt: HostRuntime) {
-    is_made(&rt, Call::ReportOfExpressions);
-}
-
-#[test]
-fn request_lacks_memory(rt: HostRuntime) {
-    is_made(&rt, Call::Request);
-}
-
-#[test]
-fn run_lacks_memory(rt: HostRuntime) {
-    is_made(&rt, Call::Run);
-}
-
-#[test]
-fn run_of_refused_lacks_memory(rt: HostRuntime) {
-    is_made(&rt, Call::RunOfRefused);
-}
-
-#[test]
-fn load_lacks_memory(rt: HostRuntime) {
-    is_made(&rt, Call::Load);
-}
-
-#[test]
-fn backtrace_lacks_memory(rt: HostRuntime) {
-    is_made(&rt, Call::Backtrace);
-}
-
-#[test]
-fn compile_lacks_memory(rt: HostRuntime) {
-    is_made(&rt, Call::Compile);
-}
-
-#[test]
-fn compile_of_many_lacks_memory(rt: HostRuntime) {
-    is_made(&rt, Call::CompileOfMany);
-}
-
-#[test]
-fn process_add_lacks_memory(rt: HostRuntime) {
-    is_made(&rt, Call::ProcessAdd);
-}
-
-#[test]
-fn process_share_lacks_memory(rt: HostRuntime) {
-    is_made(&rt, Call::ProcessShare);
-}
-
-/// Look-ups don't allocate: `bench/stress/refused_memory.py` tests that this test makes as many
-/// allocations as `check_of_expressions_lacks_memory`, which checks the same sections and looks
-/// nothing up.
+/// Look-ups take no memory: `bench/stress/refused_memory.py` tests that this test makes as many
+/// requests as `checks_alone`, which looks nothing up.
 #[test]
 fn look_ups_take_no_memory(rt: HostRuntime) {
-    is_made(&rt, Call::LookUps);
+    if !checks(&rt, rt.alloc(), true) {
+        assert!(rt; println!(rt; "refused: checks").is_ok());
+        assert!(rt; checks(&rt, rt.alloc(), true));
+    }
 }
