@@ -2,6 +2,9 @@
 //! `dwcheck rows` does. `make try` compiles it in half a minute, since it needs no command line.
 #![tactic(auto)]
 
+ghost use Rattle.std.specs.Prelude.{Contains};
+ghost use Rattle.dw_frame.specs.Views.{fde_of};
+
 use dw_bytes::{AddressSize, Order, Target};
 use dw_frame::FrameDescriptionEntry;
 use dw_rows::{CfaRule, CheckedFrame, RegisterRule, UnwindTableRow, check_frame};
@@ -56,19 +59,26 @@ fn print_fde(
     rt: &impl Print,
     frame: &CheckedFrame<'_>,
     fde: &FrameDescriptionEntry<'_>,
-) -> io::Result<()> {
+) -> io::Result<()>
+    requires { Contains frame.now.fdes (fde_of fde.now) }
+{
     let cie = frame.cie_of(fde);
     let (at, cie_at) = (fde.offset, cie.offset);
-    let (start, end) = (
-        fde.initial_location,
-        fde.initial_location + fde.address_range,
-    );
+    let (start, end) = (fde.initial_location, fde.end_address());
     let return_address = cie.return_address_register;
     println!(rt;
         "fde 0x{at:08x} cie 0x{cie_at:08x} 0x{start:016x}..0x{end:016x} ra r{return_address}"
     )?;
     for row in frame.rows(fde) {
         print_row(rt, &row)?;
+    }
+    Ok(())
+}
+
+/// Prints all FDEs and their rows.
+fn print_frame(rt: &impl Print, frame: &CheckedFrame<'_>) -> io::Result<()> {
+    for fde in frame.fdes() {
+        print_fde(rt, frame, fde)?;
     }
     Ok(())
 }
@@ -81,8 +91,6 @@ fn main(rt: HostRuntime) -> io::Result<ExitCode> {
             return Ok(ExitCode::from(1));
         }
     };
-    for fde in frame.fdes() {
-        print_fde(&rt, &frame, fde)?;
-    }
+    print_frame(&rt, &frame)?;
     Ok(ExitCode::from(0))
 }
