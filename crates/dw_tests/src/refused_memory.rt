@@ -233,8 +233,12 @@ fn of_walk(rt: &impl Abort, alloc: Global, call: Call) -> Result<Numbers, Fault>
     };
     assert_eq!(rt; walk.stop, Stop::Limit);
     assert_eq!(rt; walk.frames.len(), 40);
-    let address = |place: usize| walk.frames[place].address as usize;
-    Ok((walk.frames.len(), address(0), address(1), address(39)))
+    Ok((
+        walk.frames.len(),
+        walk.frames[0].address as usize,
+        walk.frames[1].address as usize,
+        walk.frames[39].address as usize,
+    ))
 }
 
 /// Where `FUNCTION` is loaded in the modules of a process: the load address of each module, and an
@@ -317,8 +321,12 @@ fn of_eh_frame(alloc: Global, call: Call, section: &[u8]) -> Result<Numbers, Fau
         }
         Call::SignalFrames => {
             let ranges = signal_frames(alloc, section, LITTLE, BASES)?;
-            let is_one = |address: u64| usize::from(is_signal_address(&ranges, address));
-            Ok((ranges.len(), is_one(0x1008), is_one(0x1009), is_one(0x100c)))
+            Ok((
+                ranges.len(),
+                usize::from(is_signal_address(&ranges, 0x1008)),
+                usize::from(is_signal_address(&ranges, 0x1009)),
+                usize::from(is_signal_address(&ranges, 0x100c)),
+            ))
         }
         _ => {
             let mut process = Process::new(alloc, LITTLE);
@@ -622,13 +630,7 @@ fn calls_give_their_answers(rt: HostRuntime) {
     for (call, bytes, text, wanted) in &CALLS {
         is_made(&rt, *call, bytes, text, Ok(*wanted));
     }
-    is_made(
-        &rt,
-        Call::Run,
-        b"f0ffffff",
-        REFUSED,
-        Ok((1, 1, 0, 0)),
-    );
+    is_made(&rt, Call::Run, b"f0ffffff", REFUSED, Ok((1, 1, 0, 0)));
     for (call, bytes, kind, at) in &REFUSALS {
         let fault = Fault {
             kind: *kind,
@@ -691,7 +693,9 @@ fn finds_rows(rt: &impl Abort, frame: &CheckedFrame<'_>) {
         let found = row.map(|row| (row.start_address(), row.end_address()));
         assert_eq!(rt; found, *range, "{address:#x}");
     }
-    let fde = frame.fde_for_address(0x1000).expect(rt, "covered");
+    let Some(fde) = frame.fde_for_address(0x1000) else {
+        panic!(rt; "no FDE")
+    };
     let mut rows = frame.rows(&fde);
     assert_eq!(rt; rows.next().map(|row| row.end_address()), Some(0x1001));
     assert_eq!(rt; rows.next().map(|row| row.end_address()), Some(0x1004));
