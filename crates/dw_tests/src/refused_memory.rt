@@ -516,6 +516,13 @@ fn answer(
     }
 }
 
+/// `FUNCTION` with an expression in the CIE's program.
+const IN_CIE: [u8; 56] = [
+    0x14, 0, 0, 0, 0xff, 0xff, 0xff, 0xff, 4, 0, 8, 0, 1, 0x78, 0x10, 0x0c, 7, 8, 0x90, 1, 0x16, 6,
+    1, 0x96, 0x1c, 0, 0, 0, 0, 0, 0, 0, 0, 0x10, 0, 0, 0, 0, 0, 0, 0x20, 0, 0, 0, 0, 0, 0, 0, 0x41,
+    0x0e, 0x10, 0x86, 2, 0x43, 0x0d, 6,
+];
+
 /// `FUNCTION` with an advance_loc in the CIE's program.
 const ADVANCING: [u8; 56] = [
     0x14, 0, 0, 0, 0xff, 0xff, 0xff, 0xff, 4, 0, 8, 0, 1, 0x78, 0x10, 0x41, 7, 8, 0x90, 1, 0, 0, 0,
@@ -554,12 +561,14 @@ expr frame 0x00000038 register ops 0 depth 1
 ";
 
 /// Calls, the bytes that they take, and what they write and give.
-const CALLS: [(Call, &[u8], &str, Numbers); 24] = [
+const CALLS: [(Call, &[u8], &str, Numbers); 26] = [
     (Call::Operations, &PUSHES, "", (40, 40, 0, 0)),
     (Call::Certify, &PUSHES, "", (40, 40, 40, 40)),
     (Call::Recheck, &PUSHES, "", (40, 40, 40, 40)),
     (Call::CheckCie, &FUNCTION, "", (1, 1, 1, 1)),
     (Call::CheckFde, &FUNCTION, "", (1, 1, 1, 1)),
+    (Call::CheckCie, &IN_CIE, "", (1, 1, 1, 1)),
+    (Call::CheckFde, &EXPRESSIONS, "", (1, 1, 1, 1)),
     (Call::CheckFrame, &FUNCTION, "", (1, 1, 3, 0)),
     (Call::CheckLists, &PAIR_AND_DEFAULT, "", (1, 1, 2, 0)),
     (Call::Check, &FUNCTION, "", (1, 0, 1, 2)),
