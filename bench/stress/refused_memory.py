@@ -14,8 +14,8 @@ For every N, each test of the module `refused_memory` must pass: either the call
 memory reports that memory ran out, and gives its answer when it is made again; or it manages without
 that memory and its answer is right. For example, the check of lists and `certify` manage without it
 if a fast path lacks memory, because then the general path does all the work. Each call that these
-tests make must run out of memory at least once. Two of the tests make the same calls, and one of them
-also looks up what these made: both must make as many requests.
+tests make, but `certify`, must run out of memory at least once. Two of the tests make the same calls,
+and one of them also looks up what these made: both must make as many requests.
 
 For every N, each run of dwcheck must end as usual, or with status 3, the line "out of memory" and
 the first part of its usual output, which may be empty. It must be empty if the usual output says
@@ -60,9 +60,9 @@ RUNS = [
     "eval --hex location pieces --state state", "unwind --hex frame 0x1010 state",
     "backtrace --hex frame 0x1010 round 20", "rows frame", "check frame lists", "eval foo sum", "rows",
 ]
-# The calls that the tests make.
+# The calls that run out of memory in the tests.
 CALLS = [
-    "Operations", "Certify", "Recheck", "CheckCie", "CheckFde", "CheckFrame", "CheckLists", "Check", "Compile", "CompileMany",
+    "Operations", "Recheck", "CheckCie", "CheckFde", "CheckFrame", "CheckLists", "Check", "Compile", "CompileMany",
     "Backtrace", "BacktraceBySection", "BacktraceByTable", "ProcessAdd", "ProcessShare", "CheckEhFrame", "SignalFrames",
     "ProcessAddEhFrame", "Report", "ReportWithoutLists", "Request", "Run", "Load", "checks",
 ]
@@ -135,9 +135,9 @@ def refuse_in_tests(library, tests, folder):
         counts[name], without = each(library, [tests, name], folder, judge_test(refusals))
         print(f"{counts[name]:6} {name}{done(without)}")
     for call, count in refusals.items():
-        if count == 0 or call not in CALLS:
-            raise SystemExit(f"{call} ran out of memory {count} times, and is {'' if call in CALLS else 'not '}known")
         print(f"{count:6} {call} ran out of memory")
+    if wrong := [call for call, count in refusals.items() if count == 0 or call not in CALLS]:
+        raise SystemExit(f"never out of memory, or unknown here: {' '.join(wrong)}")
     if counts["refused_memory::look_ups_take_no_memory"] != counts["refused_memory::checks_alone"]:
         raise SystemExit("look-ups take memory")
 

@@ -233,8 +233,12 @@ fn of_walk(rt: &impl Abort, alloc: Global, call: Call) -> Result<Numbers, Fault>
     };
     assert_eq!(rt; walk.stop, Stop::Limit);
     assert_eq!(rt; walk.frames.len(), 40);
-    let address = |place: usize| walk.frames[place].address as usize;
-    Ok((walk.frames.len(), address(0), address(1), address(39)))
+    Ok((
+        walk.frames.len(),
+        walk.frames[0].address as usize,
+        walk.frames[1].address as usize,
+        walk.frames[39].address as usize,
+    ))
 }
 
 /// Where `FUNCTION` is loaded in the modules of a process: the load address of each module, and an
@@ -317,8 +321,12 @@ fn of_eh_frame(alloc: Global, call: Call, section: &[u8]) -> Result<Numbers, Fau
         }
         Call::SignalFrames => {
             let ranges = signal_frames(alloc, section, LITTLE, BASES)?;
-            let is_one = |address: u64| usize::from(is_signal_address(&ranges, address));
-            Ok((ranges.len(), is_one(0x1008), is_one(0x1009), is_one(0x100c)))
+            Ok((
+                ranges.len(),
+                usize::from(is_signal_address(&ranges, 0x1008)),
+                usize::from(is_signal_address(&ranges, 0x1009)),
+                usize::from(is_signal_address(&ranges, 0x100c)),
+            ))
         }
         _ => {
             let mut process = Process::new(alloc, LITTLE);
@@ -508,6 +516,13 @@ fn answer(
     }
 }
 
+/// `FUNCTION` with an expression in the CIE's program.
+const IN_CIE: [u8; 56] = [
+    0x14, 0, 0, 0, 0xff, 0xff, 0xff, 0xff, 4, 0, 8, 0, 1, 0x78, 0x10, 0x0c, 7, 8, 0x90, 1, 0x16, 6,
+    1, 0x96, 0x1c, 0, 0, 0, 0, 0, 0, 0, 0, 0x10, 0, 0, 0, 0, 0, 0, 0x20, 0, 0, 0, 0, 0, 0, 0, 0x41,
+    0x0e, 0x10, 0x86, 2, 0x43, 0x0d, 6,
+];
+
 /// `FUNCTION` with an advance_loc in the CIE's program.
 const ADVANCING: [u8; 56] = [
     0x14, 0, 0, 0, 0xff, 0xff, 0xff, 0xff, 4, 0, 8, 0, 1, 0x78, 0x10, 0x41, 7, 8, 0x90, 1, 0, 0, 0,
@@ -546,12 +561,14 @@ expr frame 0x00000038 register ops 0 depth 1
 ";
 
 /// Calls, the bytes that they take, and what they write and give.
-const CALLS: [(Call, &[u8], &str, Numbers); 24] = [
+const CALLS: [(Call, &[u8], &str, Numbers); 26] = [
     (Call::Operations, &PUSHES, "", (40, 40, 0, 0)),
     (Call::Certify, &PUSHES, "", (40, 40, 40, 40)),
     (Call::Recheck, &PUSHES, "", (40, 40, 40, 40)),
     (Call::CheckCie, &FUNCTION, "", (1, 1, 1, 1)),
     (Call::CheckFde, &FUNCTION, "", (1, 1, 1, 1)),
+    (Call::CheckCie, &IN_CIE, "", (1, 1, 1, 1)),
+    (Call::CheckFde, &EXPRESSIONS, "", (1, 1, 1, 1)),
     (Call::CheckFrame, &FUNCTION, "", (1, 1, 3, 0)),
     (Call::CheckLists, &PAIR_AND_DEFAULT, "", (1, 1, 2, 0)),
     (Call::Check, &FUNCTION, "", (1, 0, 1, 2)),
@@ -622,13 +639,7 @@ fn calls_give_their_answers(rt: HostRuntime) {
     for (call, bytes, text, wanted) in &CALLS {
         is_made(&rt, *call, bytes, text, Ok(*wanted));
     }
-    is_made(
-        &rt,
-        Call::Run,
-        b"f0ffffff",
-        REFUSED,
-        Ok((1, 1, 0, 0)),
-    );
+    is_made(&rt, Call::Run, b"f0ffffff", REFUSED, Ok((1, 1, 0, 0)));
     for (call, bytes, kind, at) in &REFUSALS {
         let fault = Fault {
             kind: *kind,
@@ -691,7 +702,9 @@ fn finds_rows(rt: &impl Abort, frame: &CheckedFrame<'_>) {
         let found = row.map(|row| (row.start_address(), row.end_address()));
         assert_eq!(rt; found, *range, "{address:#x}");
     }
-    let fde = frame.fde_for_address(0x1000).expect(rt, "covered");
+    let Some(fde) = frame.fde_for_address(0x1000) else {
+        panic!(rt; "no FDE")
+    };
     let mut rows = frame.rows(&fde);
     assert_eq!(rt; rows.next().map(|row| row.end_address()), Some(0x1001));
     assert_eq!(rt; rows.next().map(|row| row.end_address()), Some(0x1004));
