@@ -923,6 +923,44 @@ static void ends_of_walks(void) {
     contents[16] = 0; known[2] = 0; kept[1] = 6;
 }
 
+/* Takes a step of a cursor by a row of these instructions. */
+static uint32_t step_by(const char *instructions, size_t length, const dwcheck_state *s) {
+    dwcheck_process p = DWCHECK_CLOSED;
+    dwcheck_cursor cursor;
+    dwcheck_frame frame = {0};
+    uint8_t section[80];
+    uint32_t status;
+    IS(add_section(&p, section, section_with(instructions, length, section), room), DWCHECK_DONE);
+    IS(dwcheck_cursor_init(&cursor, 0x1010, s, 1, &fault), DWCHECK_DONE);
+    status = dwcheck_cursor_step(&p, &cursor, s, &frame);
+    IS(cursor.address, status == DWCHECK_DONE ? 0x71f000001020 : 0x1010); IS(frame.address, status == DWCHECK_DONE ? 0x1010 : 0);
+    dwcheck_process_close(&p);
+    return status;
+}
+
+/* Rows with rules for registers that have no place in a cursor: aarch64's z8 to z15, which have the numbers 104 to
+   111. A step has no place only for a content. */
+static void high_rules(void) {
+    static const uint16_t z8[1] = {104};
+    dwcheck_state s = state(2);
+    /* def_cfa r7 + 8; offset r16; undefined r104 to r111 */
+    static const char none[] = "\x0c\x07\x08\x90\x01\x07\x68\x07\x69\x07\x6a\x07\x6b\x07\x6c\x07\x6d\x07\x6e\x07\x6f";
+    /* def_cfa r7 + 8; offset r16; offset r104: at c-8, and at c-512, where nothing is known */
+    static const char saved[] = "\x0c\x07\x08\x90\x01\x05\x68\x01", unknown[] = "\x0c\x07\x08\x90\x01\x05\x68\x40";
+    IS(step_by(none, 21, &s), DWCHECK_DONE);
+    IS(step_by(unknown, 8, &s), DWCHECK_DONE);
+    IS(step_by(saved, 8, &s), DWCHECK_NO_PLACE);
+    s.kept = z8; s.kept_length = 1; /* the ABI keeps it */
+    IS(step_by(none, 21, &s), DWCHECK_DONE);
+    IS(step_by(none, 5, &s), DWCHECK_DONE);
+    IS(step_by(saved, 8, &s), DWCHECK_NO_PLACE);
+    s.kept_length = 0; s.stack_pointer = 104; /* it is the ABI's stack pointer, whose content is the CFA where the row has no rule */
+    IS(step_by(none, 21, &s), DWCHECK_DONE);
+    IS(step_by(unknown, 8, &s), DWCHECK_DONE);
+    IS(step_by(none, 5, &s), DWCHECK_NO_PLACE);
+    IS(step_by(saved, 8, &s), DWCHECK_NO_PLACE);
+}
+
 static void big_endian(void) {
     static const uint8_t word[8] = {0, 0, 0, 0, 0, 5, 0x50, 5};
     dwcheck_process p = DWCHECK_CLOSED;
@@ -1130,6 +1168,7 @@ int main(void) {
     rules_of_each_kind();
     rules_of_saved_registers();
     ends_of_walks();
+    high_rules();
     big_endian();
     refused_calls_keep_no_memory();
 #ifdef REFUSING

@@ -72,7 +72,7 @@ overlays-no-more e cfa rules base none = subst (λ (l : List (ℕ × Rule)). Ove
 
 -- ---- the contents that an ABI gives
 
-same_number : (n r : ℕ) → (n == r) ≡ true → n ≡ r
+pub same_number : (n r : ℕ) → (n == r) ≡ true → n ≡ r
 same_number n r is = grind (arith, nat_tests)
 
 -- the registers that are kept have the contents that they have now
@@ -193,7 +193,7 @@ pub among : ℕ → List (ℕ × Rule) → Bool
 among r [] = false
 among r (entry ∷ rules) = if entry.0 == r then true else among r rules
 
-absent : (r : ℕ) (rules : List (ℕ × Rule)) → among r rules ≡ false → rule_in rules r ≡ default
+pub absent : (r : ℕ) (rules : List (ℕ × Rule)) → among r rules ≡ false → rule_in rules r ≡ default
 unfolding among
 absent r [] is = refl
 absent r (entry ∷ rules) is = go (entry.0 == r) (absent r rules) is

@@ -68,10 +68,10 @@ last-above : (low : ℕ) (rules : List (ℕ × Rule)) (n : ℕ) (x : Rule) → I
 last-above low [] n x table = table.0
 last-above low (entry ∷ rules) n x table = omega (arith, table.0, last-above (entry.0 + 1) rules n x table.3)
 
-same-number : (n : ℕ) → (n == n) ≡ true
+pub same-number : (n : ℕ) → (n == n) ≡ true
 same-number n = grind (arith, nat_tests)
 
-lower-number : (m n : ℕ) → m + 1 ≤ n → (m == n) ≡ false
+pub lower-number : (m n : ℕ) → m + 1 ≤ n → (m == n) ≡ false
 lower-number m n le = grind (arith, nat_tests)
 
 -- the rule of the register whose entry is the last one
@@ -110,7 +110,7 @@ overlays-last e cfa rules saved n content o base middle final whole gives over c
     (overlays-next e cfa ((n, offset o) ∷ []) [] n (offset o) (value content) (Some content) middle final final refl gives changed refl refl))
 
 -- a register gets once more the content that its rule gives
-has-again : (e : World) (cfa : Answer) (f : ℕ → Rule) (n : ℕ) (a : Answer) (base final : ℕ → Option ℕ) → IsRegister e cfa n (f n) a
+pub has-again : (e : World) (cfa : Answer) (f : ℕ → Rule) (n : ℕ) (a : Answer) (base final : ℕ → Option ℕ) → IsRegister e cfa n (f n) a
     → HasContents e cfa f base → ((r : ℕ) → final r ≡ content_changed base n (content_of a) r) → HasContents e cfa f final
 has-again e cfa f n a base final is has changed r = go (n == r) refl
   where

@@ -23,7 +23,7 @@ pub mod FrameRegisters
 pub mod PackedRegisters
 -- the contents of registers by number, for walks that give no registers
 pub mod Contents
--- which registers have no place among those contents
+-- which contents have no place there
 pub mod MissingPlaces
 -- the rules that are left once the return address has been read
 pub mod UsualSteps

@@ -1,16 +1,18 @@
 //! The contents of a caller's registers, by number, where a list of all answers isn't needed.
 
-ghost use Rattle.std.specs.Prelude.{◌≡◌, ℕ, IfOk, OnErr, All, None, Some};
+ghost use Rattle.std.specs.Prelude.{◌≡◌, ℕ, IfOk, OnErr, All, None, Option, Some};
+ghost use Rattle.std.specs.Bool.{OnFalse, OnTrue};
 ghost use Rattle.dw_rules.specs.Abi.{Role, abi_of, is_among, rule_of_role, rule_under};
-ghost use Rattle.dw_rules.specs.Rules.{IsTable, rule_in};
+ghost use Rattle.dw_rules.specs.Rules.{IsTable};
 ghost use Rattle.dw_rules.specs.Views.{rule_of};
 ghost use Rattle.dw_rules.specs.RowsWithExpressions.{IsEntryOfKind, IsRuleOfKind};
 ghost use Rattle.dw_unwind.specs.Caller.{IsRegister, if_value, number_plus, word};
 ghost use Rattle.dw_unwind.specs.CallerViews.{answer_in, machine_in};
 ghost use Rattle.dw_unwind.specs.Contents.{HasContents, Keeps, Overlays, UnwindsTo, abi_rules, contents_in};
-ghost use Rattle.dw_unwind.specs.MissingPlaces.{Fills, LacksPlace};
+ghost use Rattle.dw_unwind.specs.MissingPlaces.{Fills, HasFarContent, LacksPlace};
 ghost use Rattle.dw_unwind.specs.Walks.{content_of, over_rows};
 
+use crate::missing_places::some_lacks_place;
 use crate::register_file::RegisterFile;
 use crate::rule_answers::Present;
 use crate::unwind_rows::UnwindRows;
@@ -18,7 +20,8 @@ use crate::unwinding::{Answer, Unwound};
 use dw_eval::{Memory, Registers};
 use dw_rows::{RegisterRule, RegisterRules, UnwindRow};
 
-/// A `RegisterFile` has no place for one of a caller's registers, whose number is `PLACES` or more.
+/// A `RegisterFile` has no place for the content of one of a caller's registers, whose number is
+/// `PLACES` or more.
 #[derive(Clone, Copy, Debug, PartialEq, Eq)]
 pub struct NoPlace;
 
@@ -57,7 +60,11 @@ fn rule_of_kept<'a>(kept: &[u16], number: u16) -> RegisterRule<'a>
 
 /// The rule that an ABI with the callee-saved registers `kept` gives the register `number`.
 #[inline(never)]
-fn rule_of_abi<'a>(kept: &[u16], stack_pointer: Option<u16>, number: u16) -> RegisterRule<'a>
+pub(crate) fn rule_of_abi<'a>(
+    kept: &[u16],
+    stack_pointer: Option<u16>,
+    number: u16,
+) -> RegisterRule<'a>
     ensures rule { rule_of result ≡ rule_of_role (abi_of kept.now stack_pointer number) }
     ensures kind { IsRuleOfKind (rule_of result) }
 {
@@ -73,7 +80,8 @@ fn rule_of_abi<'a>(kept: &[u16], stack_pointer: Option<u16>, number: u16) -> Reg
     }
 }
 
-/// Gives the registers `kept` the contents that they have now. Returns whether all have a place.
+/// Gives the registers `kept` the contents that they have now. Returns whether all contents have a
+/// place.
 #[inline(always)]
 fn keep_into<R: Registers, M: Memory>(
     present: &Present<'_, R, M>,
@@ -81,7 +89,7 @@ fn keep_into<R: Registers, M: Memory>(
     into: &mut RegisterFile,
 ) -> bool
     ensures { Fills (Keeps (machine_in R.contents M.bytes present.now) kept.now
-        (contents_in into.old)) (abi_rules (abi_of kept.now None)) result (contents_in into.new) }
+        (contents_in into.old)) result (contents_in into.new) }
 {
     let mut all_placed = true;
     for number in kept {
@@ -110,7 +118,7 @@ pub(crate) fn saved<R: Registers, M: Memory>(
 /// What a rule of any kind gives. This function isn't inlined, so that the code for the most common
 /// kind, in `found_by`, stays short.
 #[inline(never)]
-fn found_slowly<R: Registers, M: Memory>(
+pub(crate) fn found_slowly<R: Registers, M: Memory>(
     present: &Present<'_, R, M>,
     cfa: Answer,
     number: u16,
@@ -142,8 +150,8 @@ fn found_by<R: Registers, M: Memory>(
     }
 }
 
-/// Gives each register in `rules` the content that its rule gives. Returns whether all have a
-/// place. It goes on after a register that has none: the answers for all registers together show
+/// Gives each register in `rules` the content that its rule gives. Returns whether all contents
+/// have a place. It goes on after one that has none: the answers for all registers together show
 /// that the frame has a caller, which the contract of `NoPlace` says (`LacksPlace`).
 #[inline(always)]
 fn overlay_into<R: Registers, M: Memory>(
@@ -152,10 +160,9 @@ fn overlay_into<R: Registers, M: Memory>(
     rules: RegisterRules<'_, '_>,
     into: &mut RegisterFile,
 ) -> bool
-    requires kinds { All IsEntryOfKind rules }
-    requires table { IsTable 0 rules }
+    requires { All IsEntryOfKind rules }
     ensures { Fills (Overlays (machine_in R.contents M.bytes present.now) (answer_in cfa)
-        rules.entry (contents_in into.old)) (rule_in rules.entry) result (contents_in into.new) }
+        rules.entry (contents_in into.old)) result (contents_in into.new) }
 {
     let mut all_placed = true;
     for (number, rule) in rules {
@@ -177,7 +184,7 @@ pub(crate) fn pointed<R: Registers, M: Memory>(present: &Present<'_, R, M>, cfa:
 }
 
 /// Gives the registers that the ABI names the contents that they have in the caller if the row has
-/// no rules. No register may have a content before. Returns whether all have a place.
+/// no rules. No register may have a content before. Returns whether all contents have a place.
 #[inline(always)]
 fn abi_into<R: Registers, M: Memory>(
     present: &Present<'_, R, M>,
@@ -188,8 +195,7 @@ fn abi_into<R: Registers, M: Memory>(
 ) -> bool
     requires { (r : ℕ) → contents_in into.old r ≡ None }
     ensures { Fills (HasContents (machine_in R.contents M.bytes present.now) (answer_in cfa)
-        (abi_rules (abi_of kept.now stack_pointer))) (abi_rules (abi_of kept.now stack_pointer))
-        result (contents_in into.new) }
+        (abi_rules (abi_of kept.now stack_pointer))) result (contents_in into.new) }
 {
     let all_placed = keep_into(present, kept, into);
     match stack_pointer {
@@ -199,7 +205,8 @@ fn abi_into<R: Registers, M: Memory>(
 }
 
 /// Fills `into` with the contents that the registers have in the caller, by the row's rules and the
-/// ABI. Returns whether all have a place.
+/// ABI. Returns whether all contents that were found had a place, also those of registers that the
+/// ABI names and to which the row gives another content, or none.
 #[inline(always)]
 fn rules_into<R: Registers, M: Memory>(
     present: &Present<'_, R, M>,
@@ -212,12 +219,38 @@ fn rules_into<R: Registers, M: Memory>(
     requires kinds { All IsEntryOfKind rules }
     requires table { IsTable 0 rules }
     ensures { Fills (HasContents (machine_in R.contents M.bytes present.now) (answer_in cfa)
-        (rule_under (abi_of kept.now stack_pointer) rules.entry))
-        (rule_under (abi_of kept.now stack_pointer) rules.entry) result (contents_in into.new) }
+        (rule_under (abi_of kept.now stack_pointer) rules.entry)) result (contents_in into.new) }
 {
     into.clear();
     let all_placed = abi_into(present, cfa, kept, stack_pointer, into);
     all_placed & overlay_into(present, cfa, rules, into)
+}
+
+/// Fills `into` with the contents that the registers have in the caller, by the row's rules and the
+/// ABI. Returns false if one of the contents has no place.
+#[inline(always)]
+fn row_into<R: Registers, M: Memory>(
+    present: &Present<'_, R, M>,
+    row: &UnwindRow<'_, '_>,
+    kept: &[u16],
+    stack_pointer: Option<u16>,
+    cfa: Answer,
+    into: &mut RegisterFile,
+) -> bool
+    ensures answers { (wanted : ℕ → Option ℕ)
+        × HasContents (machine_in R.contents M.bytes present.now) (answer_in cfa)
+        (rule_under (abi_of kept.now stack_pointer) row.now.rules) wanted }
+    ensures written { OnTrue result (HasContents (machine_in R.contents M.bytes present.now)
+        (answer_in cfa) (rule_under (abi_of kept.now stack_pointer) row.now.rules)
+        (contents_in into.new)) }
+    ensures lacks { OnFalse result (HasFarContent (machine_in R.contents M.bytes present.now)
+        (answer_in cfa) (rule_under (abi_of kept.now stack_pointer) row.now.rules)) }
+{
+    if rules_into(present, cfa, kept, stack_pointer, row.rules(), into) {
+        return true;
+    }
+    into.ends();
+    !some_lacks_place(present, cfa, kept, stack_pointer, row.rules())
 }
 
 /// The return address: the answer for the register `number`. It is the content of that register in
@@ -251,7 +284,7 @@ fn return_address<R: Registers, M: Memory>(
 
 /// Finds the caller of the frame at `address` by the row of a section or a table. The contents of
 /// the caller's registers replace what is in `into`. If there is no caller, or one of its registers
-/// has no place, what is in `into` is unspecified.
+/// has a content but no place, what is in `into` is unspecified.
 #[inline(always)]
 pub(crate) fn contents_by<T: UnwindRows, R: Registers, M: Memory>(
     rows: &T,
@@ -281,7 +314,7 @@ pub(crate) fn contents_by<T: UnwindRows, R: Registers, M: Memory>(
         memory,
     };
     let cfa = present.cfa(row.cfa());
-    if !rules_into(&present, cfa, kept, stack_pointer, row.rules(), into) {
+    if !row_into(&present, &row, kept, stack_pointer, cfa, into) {
         return Err(NoPlace);
     }
     into.ends();

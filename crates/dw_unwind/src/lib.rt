@@ -8,6 +8,7 @@ mod frame_registers;
 mod frames;
 mod kept_registers;
 pub mod laws;
+mod missing_places;
 mod modules;
 mod packed_registers;
 mod register_file;

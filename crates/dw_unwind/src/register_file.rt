@@ -114,6 +114,8 @@ impl RegisterFile {
     pub(crate) fn put(&mut self, number: u16, content: Option<u64>) -> bool
         ensures puts { OnTrue result ((r : ℕ) → contents_in self.new r
             ≡ content_changed (contents_in self.old) number content r) }
+        ensures near { (r : ℕ) → r < PLACES → contents_in self.new r
+            ≡ content_changed (contents_in self.old) number content r }
         ensures no_place { OnFalse result ((PLACES ≤ number) × IsSome content) }
     {
         let place = usize::from(number);

@@ -52,8 +52,8 @@ pub trait Unwinder {
 
     /// Finds the caller of the frame at `address` under the ABI with the callee-saved registers
     /// `kept` and the stack pointer `stack_pointer`. The contents of the caller's registers replace
-    /// what is in `into`. If there is no caller, or one of its registers has no place, what is in
-    /// `into` is unspecified.
+    /// what is in `into`. If there is no caller, or one of its registers has a content but no
+    /// place, what is in `into` is unspecified.
     fn contents_into<R: Registers, M: Memory>(
         &self,
         kept: &[u16],

@@ -48,7 +48,8 @@ pub record IsStepBy (u : Unwinding) (old new : CCursor) (frame : CFrame) : Type 
 abbrev pub IsStep : Option ProcessState → Abi → (ℕ → Option ℕ) → ℕ → CCursor → CCursor → CFrame → Type 0
 IsStep held abi memory bits = IsStepBy (through_held abi memory bits held)
 
--- the frame that the cursor is at has a caller, one of whose registers has no place in a cursor
+-- the frame that the cursor is at has a caller, one of whose registers has a content but no place in
+-- a cursor
 abbrev pub LacksPlaceIn : Option ProcessState → Abi → (ℕ → Option ℕ) → CCursor → Type 0
 LacksPlaceIn held abi memory c = LacksPlace (over_held abi memory held) (registers_in c) (looked_up_by c.stage c.address)
 

@@ -66,7 +66,7 @@ const _: () = prove!(size_of::<FramePlace>() == size_of::<CFrame>());
 pub(crate) enum Stepped {
     /// It has written a frame, and the cursor is at the frame's caller, or its walk has ended.
     Written,
-    /// It has done nothing: a register of the caller has no place in a cursor.
+    /// It has done nothing: a register of the caller has a content but no place in a cursor.
     NoPlace,
 }
 

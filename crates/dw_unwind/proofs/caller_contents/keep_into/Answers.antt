@@ -1,16 +1,14 @@
-use Rattle.std.proofs.Common.{◌∙◌, ◌==◌, None, ap, arith, get_or, refl}
+use Rattle.std.proofs.Common.{◌∙◌, ap, get_or, refl}
 use Rattle.std.proofs.lemmas.List.{drop_all}
-use Rattle.std.proofs.lemmas.List.Folds.{list_any_at}
-use Rattle.dw_rules.specs.Abi.{abi_of}
 use Rattle.dw_unwind.specs.CallerViews.{machine_in}
-use Rattle.dw_unwind.specs.Contents.{abi_rules, content_changed, contents_in}
+use Rattle.dw_unwind.specs.Contents.{content_changed, contents_in}
 use Rattle.dw_unwind.specs.Walks.{content_of}
 use Rattle.dw_unwind.proofs.Contents.{keeps-next, keeps-no-more}
-use Rattle.dw_unwind.proofs.Places.{far-kept, same-itself, writes-next}
+use Rattle.dw_unwind.proofs.Places.{writes-first, writes-next}
 use Rattle.dw_unwind.proofs.caller_contents.keep_into.Goals as goal
 
 pub loop-number-init : goal.loop-number-init
-loop-number-init g c = record { wanted = contents_in c.args.into.now; goes = λ final keeps. keeps; writes = refl }
+loop-number-init g c = record { wanted = contents_in c.args.into.now; goes = λ final keeps. keeps; writes = writes-first (contents_in c.args.into.now) }
 
 pub returns : goal.returns
 returns g c =
@@ -35,9 +33,7 @@ loop-number-preserved g c =
       goes = λ final keeps. c.loop-number.invariant.goes final
           (keeps-next e kept i 0 wanted now final c.content_of.result c.loop-number-test.true (λ r. refl)
           (c.content_of.ensures ∙ ap content_of c.content.ensures) keeps);
-      writes = writes-next (abi_rules (abi_of kept None)) wanted (contents_in c.loop-number.into) (contents_in c.put-all_placed.new.self) n
-          c.content_of.result c.loop-number.all_placed c.put-all_placed.result c.loop-number.invariant.writes c.put-all_placed.ensures.puts
-          (λ refused. let full = rw refused at c.put-all_placed.ensures.no_place in
-          far-kept kept n full.0 (omega (arith, c.type_inv.kept i))
-          (list_any_at (λ m. m == n) kept i 0 c.loop-number-test.true (same-itself n)));
+      writes = writes-next wanted (contents_in c.loop-number.into) (contents_in c.put-all_placed.new.self) n c.content_of.result
+          c.loop-number.all_placed c.put-all_placed.result c.loop-number.invariant.writes c.put-all_placed.ensures.near
+          c.put-all_placed.ensures.puts;
     }

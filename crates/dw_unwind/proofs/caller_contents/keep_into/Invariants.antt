@@ -1,7 +1,6 @@
-use Rattle.std.proofs.Common.{ℕ, Option, None, drop}
-use Rattle.dw_rules.specs.Abi.{abi_of}
+use Rattle.std.proofs.Common.{ℕ, Option, drop}
 use Rattle.dw_unwind.specs.CallerViews.{machine_in}
-use Rattle.dw_unwind.specs.Contents.{Keeps, abi_rules, contents_in}
+use Rattle.dw_unwind.specs.Contents.{Keeps, contents_in}
 use Rattle.dw_unwind.specs.MissingPlaces.{Writes}
 use Rattle.dw_unwind.proofs.caller_contents.keep_into.Given as goal
 
@@ -13,5 +12,5 @@ invariant-loop-number g l = record {
   goes : (final : ℕ → Option ℕ)
       → Keeps (machine_in g.R.Registers.contents g.M.Memory.bytes l.present) (drop l.number-index l.kept) wanted final
       → Keeps (machine_in g.R.Registers.contents g.M.Memory.bytes l.present) l.kept (contents_in l.initial.into) final;
-  writes : Writes (abi_rules (abi_of l.kept None)) wanted (contents_in l.into) l.all_placed;
+  writes : Writes wanted (contents_in l.into) l.all_placed;
 }

@@ -1,17 +1,17 @@
-use Rattle.std.proofs.Common.{ℕ, List, map, refl, subst}
+use Rattle.std.proofs.Common.{ℕ, List, refl, subst}
 use Rattle.dw_rules.specs.RowsWithExpressions.{IsEntryOfKind}
-use Rattle.dw_rules.specs.Rules.{Rule, rule_in}
+use Rattle.dw_rules.specs.Rules.{Rule}
 use Rattle.dw_rules.specs.Views.{numbered_rule_of, rule_of}
 use Rattle.dw_unwind.specs.CallerViews.{answer_in, machine_in}
 use Rattle.dw_unwind.specs.Contents.{Overlays, content_changed, contents_in}
 use Rattle.dw_unwind.proofs.Callers.{comes, of_next}
 use Rattle.dw_unwind.proofs.Contents.{overlays-next, overlays-no-more}
-use Rattle.dw_unwind.proofs.Places.{far-entry, writes-next}
+use Rattle.dw_unwind.proofs.Places.{writes-first, writes-next}
 use Rattle.dw_unwind.proofs.caller_contents.overlay_into.Goals as goal
 
 pub found_by-requires : goal.found_by-requires
 found_by-requires g c =
-    of_next IsEntryOfKind _ (numbered_rule_of (c.in-Some.number, c.in-Some.rule)) _ _ _ c.requires.kinds c.loop-number.invariant.whole
+    of_next IsEntryOfKind _ (numbered_rule_of (c.in-Some.number, c.in-Some.rule)) _ _ _ c.requires c.loop-number.invariant.whole
     (c.in-Some.ensures).steps
 
 pub loop-number-init : goal.loop-number-init
@@ -21,7 +21,7 @@ loop-number-init g c = record {
   goes = λ final over.
       subst (λ (rules : List (ℕ × Rule)). Overlays (machine_in g.R.Registers.contents g.M.Memory.bytes c.args.present.now)
       (answer_in c.args.cfa) rules (contents_in c.args.into.now) final) c.into_iter-number-iterator.ensures.into_iter_gives over;
-  writes = refl;
+  writes = writes-first (contents_in c.args.into.now);
 }
 
 pub returns : goal.returns
@@ -46,9 +46,7 @@ loop-number-preserved g c =
       goes = λ final over. c.loop-number.invariant.goes final
           (overlays-next e (answer_in c.args.cfa) _ _ n (rule_of c.in-Some.rule) (answer_in c.found_by.result) c.content_of.result wanted now
           final (c.in-Some.ensures).steps c.found_by.ensures (λ r. refl) c.content_of.ensures over);
-      writes = writes-next (rule_in c.args.rules) wanted (contents_in c.loop-number.into) (contents_in c.put-all_placed.new.self) n
-          c.content_of.result c.loop-number.all_placed c.put-all_placed.result c.loop-number.invariant.writes c.put-all_placed.ensures.puts
-          (λ refused. let full = rw refused at c.put-all_placed.ensures.no_place in
-          far-entry (map numbered_rule_of c.loop-number.yielded) n (rule_of c.in-Some.rule) _ _ c.args.rules c.requires.table
-          c.loop-number.invariant.whole (c.in-Some.ensures).steps full.0);
+      writes = writes-next wanted (contents_in c.loop-number.into) (contents_in c.put-all_placed.new.self) n c.content_of.result
+          c.loop-number.all_placed c.put-all_placed.result c.loop-number.invariant.writes c.put-all_placed.ensures.near
+          c.put-all_placed.ensures.puts;
     }

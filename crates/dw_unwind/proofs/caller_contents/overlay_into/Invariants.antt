@@ -1,5 +1,4 @@
 use Rattle.std.proofs.Common.{◌≡◌, ◌++◌, ℕ, Option, map}
-use Rattle.dw_rules.specs.Rules.{rule_in}
 use Rattle.dw_rules.specs.Views.{numbered_rule_of}
 use Rattle.dw_unwind.specs.CallerViews.{answer_in, machine_in}
 use Rattle.dw_unwind.specs.Contents.{Overlays, contents_in}
@@ -15,5 +14,5 @@ invariant-loop-number g l = record {
   goes : (final : ℕ → Option ℕ)
       → Overlays (machine_in g.R.Registers.contents g.M.Memory.bytes l.present) (answer_in l.cfa) l.number-iterator wanted final
       → Overlays (machine_in g.R.Registers.contents g.M.Memory.bytes l.present) (answer_in l.cfa) l.fn.rules (contents_in l.initial.into) final;
-  writes : Writes (rule_in l.fn.rules) wanted (contents_in l.into) l.all_placed;
+  writes : Writes wanted (contents_in l.into) l.all_placed;
 }

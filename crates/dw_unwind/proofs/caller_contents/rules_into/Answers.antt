@@ -17,6 +17,6 @@ returns g c =
     record {
       wanted = both.0;
       right = overlaid e cfa c.args.rules 0 (abi_rules abi) named.wanted both.0 c.requires.table named.right both.1;
-      writes = writes-both abi c.args.rules named.wanted between ruled.wanted (contents_in c.overlay_into.new.into) both.0
-          c.abi_into-all_placed.result c.overlay_into.result named.writes ruled.writes both.2;
+      writes = writes-both named.wanted between ruled.wanted (contents_in c.overlay_into.new.into) both.0 c.abi_into-all_placed.result
+          c.overlay_into.result named.writes ruled.writes both.2;
     }
