@@ -5,7 +5,7 @@ import ctypes as c
 import dwcheck
 from changes import Changes
 from dwcheck import (_Answer, _Block, _Counts, _Fault, _Frame, _Module, _Record, _State, _fault_name, _library, _size,
-                     _structure, _u8, _u16, _u32, _u64)
+                     _structure, _u16, _u32, _u64)
 from notation import number_of
 
 DONE, REFUSED, NONE, OVERLAPS = 0, 1, 7, 8

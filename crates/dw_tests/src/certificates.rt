@@ -122,19 +122,24 @@ fn gives_the_depth_and_count_or_the_first_fault(rt: HostRuntime) {
     }
 }
 
-/// The states before operations, made from the offset of each operation and the stack height before
-/// it. The mode of each state is `Stack`, and no piece came before.
-fn states_of(alloc: Global, numbers: &[(u32, u8)]) -> Result<Vec<State>, AllocError> {
-    let mut states = Vec::new(alloc);
-    for (offset, height) in numbers {
-        states.push(State {
-            offset: *offset,
-            height: *height,
-            mode: Mode::Stack,
-            pieced: false,
-        })?;
+/// The state before an operation, in the mode `Stack` and with no piece before.
+fn state_at(offset: u8, height: u8) -> State {
+    State {
+        offset: u32::from(offset),
+        height,
+        mode: Mode::Stack,
+        pieced: false,
     }
-    Ok(states)
+}
+
+/// Asserts that a certificate has these states.
+fn has_states(rt: &impl Abort, alloc: Global, bytes: &[u8], kind: Kind, states: &[State])
+    requires { length bytes.now < 2 ^ 32 }
+{
+    match certify(alloc, Expression::new(bytes, LITTLE), kind) {
+        Ok(certificate) => assert_eq!(rt; certificate.states(), states),
+        Err(fault) => panic!(rt; "{fault:?}"),
+    }
 }
 
 /// An expression that adds 2 and 3.
@@ -143,54 +148,106 @@ const SUM: [u8; 3] = [0x32, 0x33, 0x22];
 /// A branch that skips a literal, so that two paths meet with different stack heights.
 const MEETING: [u8; 6] = [0x30, 0x28, 0x01, 0x00, 0x31, 0x32];
 
-/// Expressions with states that are refused, and the fault with its offset. A state is written as an
-/// offset and a stack height.
-const REFUSED: [(&[u8], Kind, &[(u32, u8)], FaultKind, u32); 7] = [
+/// Expressions with states, which are written as the offset of each operation and the stack height
+/// before it: the depth and the number of operations, or the fault. In the last one the wrong state
+/// is reported, although the kind doesn't allow the operation either.
+const GIVEN: [(&[u8], Kind, &[u8], &[u8], Verdict); 9] = [
+    (&SUM, Kind::Location, &[0, 1, 2], &[0, 1, 2], Ok((2, 3))),
     (
-        &SUM,
-        Kind::Location,
-        &[(0, 0), (1, 1), (2, 1)],
-        FaultKind::CertState,
-        2,
+        &[0x12, 0x22],
+        Kind::FrameRegister,
+        &[0, 1],
+        &[1, 2],
+        Ok((2, 2)),
     ),
     (
         &SUM,
         Kind::Location,
-        &[(0, 1), (1, 1), (2, 2)],
-        FaultKind::CertState,
-        0,
+        &[0, 1, 2],
+        &[0, 1, 1],
+        Err(Fault {
+            kind: FaultKind::CertState,
+            at: 2,
+        }),
     ),
     (
         &SUM,
         Kind::Location,
-        &[(0, 0), (1, 1), (3, 2)],
-        FaultKind::CertState,
-        2,
+        &[0, 1, 2],
+        &[1, 1, 2],
+        Err(Fault {
+            kind: FaultKind::CertState,
+            at: 0,
+        }),
     ),
     (
         &SUM,
         Kind::Location,
-        &[(0, 0), (1, 1)],
-        FaultKind::CertLength,
-        0,
+        &[0, 1, 3],
+        &[0, 1, 2],
+        Err(Fault {
+            kind: FaultKind::CertState,
+            at: 2,
+        }),
+    ),
+    (
+        &SUM,
+        Kind::Location,
+        &[0, 1],
+        &[0, 1],
+        Err(Fault {
+            kind: FaultKind::CertLength,
+            at: 0,
+        }),
     ),
     (
         &MEETING,
         Kind::Location,
-        &[(0, 0), (1, 1), (4, 0), (5, 1)],
-        FaultKind::Mismatch,
-        5,
+        &[0, 1, 4, 5],
+        &[0, 1, 0, 1],
+        Err(Fault {
+            kind: FaultKind::Mismatch,
+            at: 5,
+        }),
     ),
     (
         &MEETING,
         Kind::Location,
-        &[(0, 0), (1, 1), (4, 0), (5, 0)],
-        FaultKind::Mismatch,
-        5,
+        &[0, 1, 4, 5],
+        &[0, 1, 0, 0],
+        Err(Fault {
+            kind: FaultKind::Mismatch,
+            at: 5,
+        }),
     ),
-    // The wrong state is reported, although the kind doesn't allow the operation either.
-    (&[0x9c], Kind::FrameCfa, &[(0, 1)], FaultKind::CertState, 0),
+    (
+        &[0x9c],
+        Kind::FrameCfa,
+        &[0],
+        &[1],
+        Err(Fault {
+            kind: FaultKind::CertState,
+            at: 0,
+        }),
+    ),
 ];
+
+#[test]
+fn takes_the_states_of_an_expression(rt: HostRuntime) {
+    for (bytes, kind, offsets, heights, wanted) in &GIVEN {
+        assert!(rt; bytes.len() < 0x1_0000);
+        let mut slots = [state_at(0, 0); 4];
+        for ((slot, offset), height) in slots.iter_mut().zip(*offsets).zip(*heights) {
+            *slot = state_at(*offset, *height);
+        }
+        let states = &slots[..offsets.len().min(4)];
+        let found = rechecked(rt.alloc(), bytes, *kind, states);
+        assert_eq!(rt; found, *wanted, "{bytes:?} {heights:?}");
+        if wanted.is_ok() {
+            has_states(&rt, rt.alloc(), bytes, *kind, states);
+        }
+    }
+}
 
 /// The state of which one field is another: the offset or the height is a number of one byte, the
 /// mode is another, or it is changed whether a piece came before.
@@ -275,38 +332,11 @@ const EXACT: [(&[u8], Kind); 4] = [
     (&[0x12, 0x22], Kind::FrameRegister),
 ];
 
-/// Expressions with their states, and the depth and number of operations.
-const TAKEN: [(&[u8], Kind, &[(u32, u8)], Verdict); 2] = [
-    (&SUM, Kind::Location, &[(0, 0), (1, 1), (2, 2)], Ok((2, 3))),
-    (
-        &[0x12, 0x22],
-        Kind::FrameRegister,
-        &[(0, 1), (1, 2)],
-        Ok((2, 2)),
-    ),
-];
-
 #[test]
-fn takes_the_states_of_an_expression_and_no_others(rt: HostRuntime) -> Result<(), AllocError> {
-    let alloc = rt.alloc();
-    for (bytes, kind, numbers, wanted) in &TAKEN {
-        let states = states_of(alloc, numbers)?;
-        assert!(rt; bytes.len() < 0x1_0000);
-        assert_eq!(rt; rechecked(alloc, bytes, *kind, &states), *wanted);
-        let Ok(certificate) = certify(alloc, Expression::new(bytes, LITTLE), *kind) else {
-            panic!(rt; "{bytes:?} is refused")
-        };
-        assert_eq!(rt; certificate.states(), states.as_slice());
-    }
-    for (bytes, kind, numbers, fault, at) in &REFUSED {
-        let states = states_of(alloc, numbers)?;
-        assert!(rt; bytes.len() < 0x1_0000);
-        let found = rechecked(alloc, bytes, *kind, &states);
-        assert_eq!(rt; found, refusal(*fault, *at), "{bytes:?} {numbers:?}");
-    }
+fn takes_no_state_that_differs_in_one_place(rt: HostRuntime) -> Result<(), AllocError> {
     for (bytes, kind) in &EXACT {
         assert!(rt; bytes.len() < 0x1_0000);
-        takes_only_its_own(&rt, alloc, bytes, *kind)?;
+        takes_only_its_own(&rt, rt.alloc(), bytes, *kind)?;
     }
     Ok(())
 }
