@@ -39,15 +39,22 @@ class BadEdit(Exception):
     """What is wrong with an edit."""
 
 
+@dataclass(frozen=True)
+class Function:
+    """A function: its file, which lines it has there with its comment, and its name."""
+
+    file: str
+    lines: range
+    name: str
+
+
 @dataclass
 class Edit:
-    """A wrong body: the file of its function, which lines the function has there, and its name."""
+    """A wrong body: what it replaces by what in which file, and the functions that it changes."""
 
     path: pathlib.Path
     pairs: list
-    file: str = ""
-    lines: range = range(0)
-    function: str = ""
+    functions: list = field(default_factory=list)
 
     @property
     def name(self):
@@ -91,13 +98,21 @@ def read_edit(path):
         elif key == "new" or line == "new:":
             pairs.append((file, old, text))
     if not pairs:
-        raise BadEdit("it has no lines `old:` and `new:`")
-    file, old, _ = pairs[0]
-    text = (path.parent.parent / file).read_text(encoding="utf-8")
-    if text.count(old) != 1:
-        raise BadEdit(f"its text is in {file} {text.count(old)} times")
-    begin, end, name = function_around(text.splitlines(), text[:text.index(old)].count("\n"))
-    return Edit(path, pairs, file, range(begin + 1, end + 2), name)
+        raise BadEdit(f"{path.name} has no lines `old:` and `new:`")
+    return Edit(path, pairs, functions_of(path, pairs))
+
+
+def functions_of(path, pairs):
+    """The functions that an edit changes, the one of its last line first: that is what it is about."""
+    texts, found = {}, []
+    for file, old, new in pairs:
+        text = texts.get(file) or (path.parent.parent / file).read_text(encoding="utf-8")
+        if text.count(old) != 1:
+            raise BadEdit(f"{path.name}: its text is in {file} {text.count(old)} times")
+        begin, end, name = function_around(text.splitlines(), text[:text.index(old)].count("\n"))
+        found.insert(0, Function(file, range(begin + 1, end + 2), name))
+        texts[file] = text.replace(old, new)
+    return list(dict.fromkeys(found))
 
 
 def function_around(lines, at):
@@ -118,7 +133,7 @@ def batches(edits):
     """The edits in groups, in which no two change one function."""
     groups = []
     for edit in edits:
-        taken = lambda group: any(it.file == edit.file and it.lines == edit.lines for it in group)
+        taken = lambda group: any(set(it.functions) & set(edit.functions) for it in group)
         group = next((it for it in groups if not taken(it)), None)
         if group is None:
             groups.append(group := [])
@@ -163,30 +178,46 @@ def words(crate, every, libraries, only):
     return found
 
 
-def path_of(crate, edit):
-    """The path of an edited function as a check prints it, or the end of this path if it is a type's;
-    if the function is that of a trait, the path of its module, which stands for all functions in it."""
-    module = "::".join([crate.name, *edit.file[len("src/"):-len(".rt")].split("/")])
-    lines = (CRATES / crate.name / edit.file).read_text(encoding="utf-8").splitlines()[:edit.lines.start]
+def path_of(crate, function):
+    """The path of a function as a check prints it, or the end of this path if it is a type's; if the
+    function is that of a trait, the path of its module, which stands for all functions in it."""
+    module = "::".join([crate.name, *function.file[len("src/"):-len(".rt")].split("/")])
+    lines = (CRATES / crate.name / function.file).read_text(encoding="utf-8").splitlines()[:function.lines.start]
     if not lines[-1].startswith(" "):
-        return f"{module}::{edit.function}"
+        return f"{module}::{function.name}"
     head = next((line for line in reversed(lines) if line.startswith(("impl", "pub trait", "trait"))), "")
     own = re.fullmatch(r"impl(?:<[^{]*?>)? (\w+)(?:<.*>)? {", head)
-    return f"{own[1]}::{edit.function}" if own and " for " not in head else module
+    return f"{own[1]}::{function.name}" if own and " for " not in head else module
 
 
-def why_refused(edit, said):
-    """Why the check refused the edited function itself: the clause that it doesn't meet. None if it
-    didn't refuse it."""
-    module = edit.file[len("src/"):-len(".rt")]
+def why_refused(function, said):
+    """Why the check refused a function itself: what it doesn't meet. None if it didn't refuse it."""
     for line in said:
         note = re.match(r"(?:note: )?(?:\./)?(src/\S+?):(\d+):\d+: (.*)", line)
-        if note and note[1] == edit.file and int(note[2]) in edit.lines and "not proved" in note[3]:
+        if note and note[1] == function.file and int(note[2]) in function.lines and "not proved" in note[3]:
             return note[3]
+    module = function.file[len("src/"):-len(".rt")]
     for line in said:
-        if re.match(rf"(?:\./)?proofs/{module}/(?:\w+/)?\+?{edit.function}/\S+: error", line):
+        if re.match(rf"(?:\./)?proofs/{module}/(?:\w+/)?\+?{function.name}/\S+: error", line):
             return line
     return None
+
+
+def line_of(edit, said):
+    """The line to print for an edit, by what the check said."""
+    for function in edit.functions:
+        if why := why_refused(function, said):
+            return f"ok {edit.name}: {function.name}: {why[:200]}"
+    name = edit.functions[0].name
+    proved = next((line for line in said if re.match(rf"fn \S*\b{name}: proved", line)), " | ".join(said[-3:]))
+    return f"FAILED {edit.name}: the check doesn't refuse {name}: {proved[:400]}"
+
+
+def keep_log(crate, text):
+    """Writes what a check said to build/wrong-bodies, to be read where an edit wasn't refused."""
+    logs = TOP / "build" / "wrong-bodies"
+    logs.mkdir(parents=True, exist_ok=True)
+    (logs / f"{crate.name}.log").write_text(text, encoding="utf-8")
 
 
 def refusals(crate, every, libraries, edits):
@@ -197,21 +228,12 @@ def refusals(crate, every, libraries, edits):
             copy_with(crate, edits, folder)
         except BadEdit as error:
             return [f"FAILED {edit.name}: {error}" for edit in edits]
-        command = words(crate, every, libraries, sorted({path_of(crate, edit) for edit in edits}))
-        ran = subprocess.run(command, cwd=folder, stdin=subprocess.DEVNULL, stdout=subprocess.PIPE, stderr=subprocess.STDOUT, text=True,
-                             errors="replace", timeout=LIMIT, check=False)
-    said = ran.stdout.splitlines()
-    lines = []
-    for edit in edits:
-        why = why_refused(edit, said)
-        proved = [line for line in said if re.match(rf"fn {crate.name}::\S*\b{edit.function}: proved", line)]
-        if why is None:
-            known = proved[0] if proved else " | ".join(said[-3:])
-            (TOP / "build" / "wrong-bodies").mkdir(parents=True, exist_ok=True)
-            (TOP / "build" / "wrong-bodies" / f"{crate.name}.log").write_text(ran.stdout, encoding="utf-8")
-            lines.append(f"FAILED {edit.name}: the check doesn't refuse {edit.function}: {known[:400]}")
-        else:
-            lines.append(f"ok {edit.name}: {edit.function}: {why[:200]}")
+        only = sorted({path_of(crate, function) for edit in edits for function in edit.functions})
+        ran = subprocess.run(words(crate, every, libraries, only), cwd=folder, stdin=subprocess.DEVNULL, stdout=subprocess.PIPE,
+                             stderr=subprocess.STDOUT, text=True, errors="replace", timeout=LIMIT, check=False)
+    lines = [line_of(edit, ran.stdout.splitlines()) for edit in edits]
+    if any(line.startswith("FAILED") for line in lines):
+        keep_log(crate, ran.stdout)
     return lines
 
 
