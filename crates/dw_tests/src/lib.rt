@@ -24,4 +24,6 @@ mod modules;
 #[cfg(test)]
 mod refused_memory;
 #[cfg(test)]
+mod standard;
+#[cfg(test)]
 mod texts;
