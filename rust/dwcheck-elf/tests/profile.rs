@@ -224,6 +224,33 @@ fn an_output_file_is_written_as_a_whole() {
     assert_eq!(names, ["out"]);
 }
 
+/// A recording that is lost can't be made again. So whatever name of it is given, it isn't overwritten.
+#[test]
+fn the_recording_is_never_overwritten() {
+    let folder = Folder::new("profile-overwrite");
+    let recording = std::fs::read(recordings().join("dwarf.perf")).unwrap();
+    folder.write("a.perf", &recording);
+    folder.run("ln a.perf hard.perf && ln -s a.perf soft.perf && mkdir all && ln a.perf all/data");
+    for (output, input) in
+        [("a.perf", "a.perf"), ("./a.perf", "soft.perf"), ("soft.perf", "a.perf"), ("hard.perf", "a.perf")]
+    {
+        let ran = dwcheck_elf_words(&folder, &["profile", "-o", output, input]);
+        let said = format!(
+            "dwcheck-elf: bad argument: --output {} would overwrite {}, which is read; give another file\n",
+            output, input
+        );
+        assert_eq!((ran.status, ran.error), (2, said));
+    }
+    let ran = dwcheck_elf_words(&folder, &["profile", "-o", "a.perf", "all"]);
+    assert!(ran.status == 2 && ran.error.contains(" would overwrite all/data, "), "{}", ran.error);
+    let ran = dwcheck_elf_words(&folder, &["profile", "-o", "a.perf", "--kallsyms", "soft.perf", "other.perf"]);
+    assert!(ran.status == 2 && ran.error.contains(" would overwrite soft.perf, "), "{}", ran.error);
+    let program = env!("CARGO_BIN_EXE_dwcheck-elf");
+    folder.run(&format!("{} profile - -o hard.perf < a.perf 2> error; [ $? = 2 ]", program));
+    assert_eq!(folder.bytes("a.perf"), recording);
+    assert_eq!(folder.bytes("hard.perf"), recording);
+}
+
 /// The offset of its data, in the header.
 const DATA_OFFSET: usize = 40;
 

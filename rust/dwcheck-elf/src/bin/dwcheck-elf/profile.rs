@@ -4,7 +4,7 @@ mod summary;
 
 use crate::arguments::{Format, ProfileWords};
 use crate::end::{shown, Done, Failure};
-use crate::output::Output;
+use crate::output::{check_apart, Output};
 use crate::survey::STACK;
 use dwcheck_elf::profile::script::ScriptOptions;
 use dwcheck_elf::profile::{firefox, folded, html, pprof, script, speedscope, top};
@@ -20,6 +20,9 @@ const TOP: usize = 50;
 
 /// Writes the profile of a recording on `out` or to a file, and a summary on standard error.
 pub fn profile(words: &ProfileWords, out: &mut impl Write) -> Result<Done, Failure> {
+    if let Some(output) = &words.output {
+        check_apart(output, words.kallsyms.as_deref().into_iter().chain([opened(&words.recording)]))?;
+    }
     start_threads(words)?;
     let (profile, names) = read(words)?;
     match &words.output {
@@ -87,9 +90,16 @@ fn title(words: &ProfileWords, profile: &Profile) -> String {
     }
 }
 
+/// The path that is opened for a recording.
+fn opened(recording: &Path) -> &Path {
+    match recording == Path::new("-") {
+        true => Path::new("/dev/stdin"),
+        false => recording,
+    }
+}
+
 fn open(path: &Path) -> Result<Recording<'static>, Failure> {
-    let is_stdin = path == Path::new("-");
-    let opened = if is_stdin { Path::new("/dev/stdin") } else { path };
+    let opened = opened(path);
     let failed = |why: &dyn std::fmt::Display| Failure::File(format!("{}: {}", shown(path), why));
     let cannot = |error: &dyn std::fmt::Display| Failure::File(format!("cannot read {}: {}", shown(path), error));
     let file = File::open(opened).map_err(|error| cannot(&error))?;
