@@ -139,8 +139,20 @@ fn one_event_is_shown_and_the_others_are_named() {
     let sum = weight(&script("group.script"), "page-faults");
     assert_eq!(ran.out.rsplit(' ').next().unwrap().trim(), sum.to_string());
     assert_eq!(ran.error, "");
-    let ran = profile(&folder, "two.perf", &["--event", "cycles", "--quiet"]);
-    assert!(ran.error.starts_with("dwcheck-elf: no event is named cycles; these are: cpu-clock:u, task-clock:u\n"));
+}
+
+#[test]
+fn an_event_that_is_not_there_is_refused_and_those_that_are_there_are_named() {
+    let folder = Folder::new("profile-no-event");
+    for (name, events) in [("two.perf", "cpu-clock:u, task-clock:u"), ("pipe.perf", "cpu-clock:u")] {
+        let path = recordings().join(name);
+        let path = path.to_str().unwrap();
+        let ran = dwcheck_elf_words(&folder, &["profile", "--event", "cycles", "-o", "out", path]);
+        let said =
+            format!("dwcheck-elf: bad argument: --event cycles: {} has no such event; it has {}\n", path, events);
+        assert_eq!((ran.status, ran.error), (2, said));
+        assert!(!folder.file("out").exists());
+    }
 }
 
 #[test]
@@ -155,7 +167,7 @@ fn options_choose_samples() {
         ran.out.lines().filter(|line| line.starts_with("spin")).count()
     };
     assert_eq!(samples(&["--tid", tid, "--comm", "spin", "--pid", tid]), heads.len());
-    assert_eq!(samples(&["--tid", "1"]) + samples(&["--comm", "other"]) + samples(&["--event", "cycles"]), 0);
+    assert_eq!(samples(&["--tid", "1"]) + samples(&["--comm", "other"]), 0);
     assert_eq!(samples(&["--time", &format!(",{}", time)]), 3);
     assert_eq!(samples(&["--time", &format!("{},", time)]), heads.len() - 3);
 }

@@ -8,7 +8,8 @@ use crate::output::{check_apart, Output};
 use crate::survey::STACK;
 use dwcheck_elf::profile::script::ScriptOptions;
 use dwcheck_elf::profile::{firefox, folded, html, pprof, script, speedscope, top};
-use dwcheck_elf::profile::{NameOptions, Names, Options, Places, Profile, Recording};
+use dwcheck_elf::profile::{Event, NameOptions, Names, Options, Places, Profile, Recording};
+use dwcheck_elf::text::Plain;
 use indicatif::{ProgressBar, ProgressStyle};
 use std::fs::File;
 use std::io::Write;
@@ -25,6 +26,7 @@ pub fn profile(words: &ProfileWords, out: &mut impl Write) -> Result<Done, Failu
     }
     start_threads(words)?;
     let (profile, names) = read(words)?;
+    check_event(words, &profile.events)?;
     match &words.output {
         None => write(words, &profile, &names, out)?,
         Some(path) => {
@@ -55,6 +57,7 @@ fn read(words: &ProfileWords) -> Result<(Profile, Names), Failure> {
         File::open(path).map_err(|error| Failure::File(format!("cannot read {}: {}", shown(path), error)))?;
     }
     let mut recording = open(&words.recording)?;
+    check_event(words, recording.about().events())?;
     let bar = bar(recording.size());
     // This runs in one of the threads, which have stacks of the size that is asked for.
     Ok(rayon::scope(|_| {
@@ -66,6 +69,18 @@ fn read(words: &ProfileWords) -> Result<(Profile, Names), Failure> {
         let names = Names::read(&profile, &NameOptions { inlined: !words.no_inline, lines: words.lines, kernel });
         (profile, names)
     }))
+}
+
+/// Refuses an event that wasn't recorded. A recording that comes through a pipe has no events until it is read.
+fn check_event(words: &ProfileWords, events: &[Event]) -> Result<(), Failure> {
+    let name = match words.event.as_ref() {
+        Some(name) if !events.is_empty() && events.iter().all(|event| event.name != *name) => name,
+        _ => return Ok(()),
+    };
+    let mut known: Vec<_> = events.iter().map(|event| Plain(&event.name).to_string()).collect();
+    known.dedup();
+    let (name, recording, known) = (Plain(name), shown(&words.recording), known.join(", "));
+    Err(Failure::Argument(format!("bad argument: --event {}: {} has no such event; it has {}", name, recording, known)))
 }
 
 fn write(words: &ProfileWords, profile: &Profile, names: &Names, out: &mut impl Write) -> Result<(), Failure> {
