@@ -195,6 +195,21 @@ fn lines_of_source_are_shown() {
     );
 }
 
+/// The rows of a table of functions are split by line, so each has its line, and no two are the same.
+#[test]
+fn a_table_of_functions_has_the_lines() {
+    let folder = Folder::new("profile-top-lines");
+    let rows = |words: &[&str]| {
+        let out = profile(&folder, "dwarf.perf", &[&["--format", "top"], words].concat()).out;
+        out.lines().skip(1).map(|row| row[17..].to_string()).collect::<Vec<_>>()
+    };
+    let lines = rows(&["--lines"]);
+    for row in ["leaf (spin.c:5) (spin)", "middle (spin.c:14) (spin)", "main (spin.c:18) (spin)", "_start (spin)"] {
+        assert_eq!(lines.iter().filter(|line| *line == row).count(), 1, "{:?}", lines);
+    }
+    assert_eq!(rows(&[]), ["leaf (spin)", "_start (spin)", "main (spin)", "middle (spin)", "twice (spin)"]);
+}
+
 #[test]
 fn a_file_with_another_build_id_is_named_and_not_used() {
     let folder = Folder::new("profile-other");

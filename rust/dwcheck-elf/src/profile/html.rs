@@ -60,17 +60,13 @@ impl<W: Write> Data<'_, W> {
     fn functions(&mut self) -> io::Result<()> {
         let names = self.names;
         separated(self.out, self.calls.functions.iter(), |called, out| {
-            let name = match called.line {
-                Some(line) => format!("{} ({})", names.text(called.name), names.text(line)),
-                None => names.text(called.name).to_string(),
-            };
             let code = match called.code {
                 Code::File => 0,
                 Code::Inlined => 1,
                 Code::Kernel => 2,
                 Code::Memory => 3,
             };
-            serde_json::to_writer(out, &(name, names.text(called.object), code)).map_err(io::Error::from)
+            serde_json::to_writer(out, &(called.shown(names), names.text(called.object), code)).map_err(io::Error::from)
         })
     }
 
