@@ -66,7 +66,12 @@ fn a_file_of_a_folder_that_is_cut_off_is_named() {
     assert!(ran.out.starts_with("spin;_start;main;middle;twice;leaf "), "{}", ran.out);
     std::fs::remove_file(folder.file("data")).unwrap();
     let ran = dwcheck_elf_words(&folder, &["profile", &path]);
-    assert!(ran.status == 3 && ran.error.contains(": data: can't be read: "), "{}", ran.error);
+    let said = format!(
+        "dwcheck-elf: {}/data: can't be read: No such file or directory (os error 2); \
+         give a file, or a folder that perf record --threads wrote\n",
+        path
+    );
+    assert_eq!((ran.status, ran.error), (3, said));
 }
 
 #[test]

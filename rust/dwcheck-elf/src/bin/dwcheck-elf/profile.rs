@@ -8,7 +8,7 @@ use crate::output::{check_apart, Output};
 use crate::survey::STACK;
 use dwcheck_elf::profile::script::ScriptOptions;
 use dwcheck_elf::profile::{firefox, folded, html, pprof, script, speedscope, top};
-use dwcheck_elf::profile::{Event, NameOptions, Names, Options, Places, Profile, Recording};
+use dwcheck_elf::profile::{Damage, Event, NameOptions, Names, Options, Places, Profile, Recording};
 use dwcheck_elf::text::Plain;
 use indicatif::{ProgressBar, ProgressStyle};
 use std::fs::File;
@@ -115,7 +115,6 @@ fn opened(recording: &Path) -> &Path {
 
 fn open(path: &Path) -> Result<Recording<'static>, Failure> {
     let opened = opened(path);
-    let failed = |why: &dyn std::fmt::Display| Failure::File(format!("{}: {}", shown(path), why));
     let cannot = |error: &dyn std::fmt::Display| Failure::File(format!("cannot read {}: {}", shown(path), error));
     let file = File::open(opened).map_err(|error| cannot(&error))?;
     let metadata = file.metadata().map_err(|error| cannot(&error))?;
@@ -124,7 +123,20 @@ fn open(path: &Path) -> Result<Recording<'static>, Failure> {
         regular if regular.is_file() => Recording::of_file(&file),
         _ => Recording::of_pipe(file),
     };
-    recording.map_err(|damage| failed(&damage))
+    recording.map_err(|damage| unread(path, &damage))
+}
+
+/// The failure for a recording that can't be opened. Of a folder, it names the file.
+fn unread(path: &Path, damage: &Damage) -> Failure {
+    match damage {
+        Damage::InFile(name, why) if name == "data" => Failure::File(format!(
+            "{}: {}; give a file, or a folder that perf record --threads wrote",
+            shown(&path.join(name)),
+            why
+        )),
+        Damage::InFile(name, why) => Failure::File(format!("{}: {}", shown(&path.join(name)), why)),
+        _ => Failure::File(format!("{}: {}", shown(path), damage)),
+    }
 }
 
 /// Shows on a terminal how much of the recording was read.
