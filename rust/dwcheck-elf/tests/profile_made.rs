@@ -215,6 +215,39 @@ fn code_that_was_made_at_run_time_is_passed_by_frame_pointers_and_named() {
     assert_eq!(ran.error, "samples 1 frames 3 truncated 0 by-frame-pointer 1\nstop complete: 1\n");
 }
 
+/// As perf shows it: a file in memory by its name and the offset in it, and code of no mapping as unknown.
+#[test]
+fn only_memory_without_a_name_is_said_to_be_in_a_list_of_the_process() {
+    let folder = Folder::new("profile-memfd");
+    let (made, sp) = (0x7f55_0000_0000, 0x7ffc_0000_1000);
+    let mut recording = Recording::new(false);
+    recording.map(5, 0, (made, 0x1000, 0x3000), b"/memfd:prog (deleted)");
+    recording.map(5, 0, (made + 0x1000, 0x1000, 0), b"//anon");
+    recording.comm(5, 1, false, b"x");
+    let mut registers = vec![0; X86.count_ones() as usize];
+    registers[7] = sp;
+    for (time, address) in [(10, made + 0x144), (11, made + 0x1144), (12, made + 0x2144)] {
+        registers[8] = address;
+        recording.sample(5, time, address, &registers, &[0; 16]);
+    }
+    let file = recording.file(X86, "x86_64");
+    let script = profile(&folder, &file, &["--format", "script"]).out;
+    let frames: Vec<&str> = script.lines().filter(|line| line.starts_with('\t')).map(str::trim_start).collect();
+    let expected = [
+        "3144 [unknown] (/memfd:prog (deleted))",
+        "7f5500001144 [unknown] (/tmp/perf-5.map)",
+        "7f5500002144 [unknown] ([unknown])",
+    ];
+    assert_eq!(frames, expected);
+    let folded = profile(&folder, &file, &[]).out;
+    assert_eq!(folded, "x;[memfd:prog (deleted)] 1000\nx;[unknown] 2000\n");
+    // A process may list code that it put into such a file.
+    std::fs::create_dir(folder.file("tmp")).unwrap();
+    folder.write("tmp/perf-5.map", format!("{:x} 40 JS:fib\n", made + 0x140));
+    let folded = profile(&folder, &file, &[]).out;
+    assert_eq!(folded, "x;JS:fib 1000\nx;[unknown] 2000\n");
+}
+
 /// The records are laid out as in Linux' tools/perf/Documentation/jitdump-specification.txt.
 #[test]
 fn code_is_named_by_the_dump_that_the_process_has_mapped() {

@@ -42,8 +42,8 @@ pub(super) struct Shared {
 /// What a walk needs and hasn't found.
 #[derive(Clone, Copy, Debug)]
 pub(super) enum Missing {
-    /// The object for code that this process has made.
-    Memory(u32),
+    /// What stands for code that this process hasn't mapped.
+    Unmapped(u32),
     /// The object for the kernel.
     Kernel,
 }
@@ -57,8 +57,8 @@ impl Shared {
     /// Adds what a walk needs.
     pub fn add(&mut self, missing: Missing) {
         match missing {
-            Missing::Memory(pid) => {
-                self.objects.memory(pid);
+            Missing::Unmapped(pid) => {
+                self.objects.unmapped(pid);
             }
             Missing::Kernel => {
                 self.objects.kernel();
@@ -147,9 +147,9 @@ impl<'w> Walker<'w> {
         At { id, frame }
     }
 
-    /// The object for code that a process has made.
-    fn memory(&self, pid: u32) -> Result<ObjectId, Missing> {
-        self.shared.objects.of_memory(pid).ok_or(Missing::Memory(pid))
+    /// What stands for code that a process hasn't mapped.
+    fn unmapped(&self, pid: u32) -> Result<ObjectId, Missing> {
+        self.shared.objects.of_unmapped(pid).ok_or(Missing::Unmapped(pid))
     }
 
     /// The frames of the kernel.
@@ -189,7 +189,7 @@ impl<'w> Walker<'w> {
             let frame = match space.find(inside) {
                 Some(mapping) => self.at(mapping, inside, is_return),
                 None => {
-                    let object = self.memory(sample.pid)?;
+                    let object = self.unmapped(sample.pid)?;
                     self.add(Frame::plain(object, inside, *address))
                 }
             };
@@ -204,9 +204,11 @@ impl<'w> Walker<'w> {
         let objects = &self.shared.objects;
         let loaded = objects.loaded(mapping.object);
         let linked = loaded.and_then(|loaded| loaded.linked(offset)).filter(|_| mapping.is_executable);
-        let is_memory = objects.get(mapping.object).map_or(true, |object| object.kind != Kind::File);
-        let shown = if is_memory { address } else { offset };
-        let place = Place { object: mapping.object, address: linked.unwrap_or(shown) };
+        let kind = objects.get(mapping.object).map(|object| object.kind);
+        let shown = if matches!(kind, Some(Kind::File | Kind::MemoryFile(_))) { offset } else { address };
+        // A list that a process writes of its code has addresses.
+        let unlinked = if kind == Some(Kind::File) { offset } else { address };
+        let place = Place { object: mapping.object, address: linked.unwrap_or(unlinked) };
         if let Some((id, frame)) = self.frames.at(place) {
             return At { id: Some(id).filter(|_| !self.is_new), frame };
         }
@@ -247,7 +249,7 @@ impl<'w> Walker<'w> {
             let at = match mapping.filter(|mapping| mapping.is_executable) {
                 Some(mapping) => self.at(mapping, inside, false),
                 None if self.count() == start => {
-                    let frame = Frame::plain(self.memory(pid)?, inside, inside);
+                    let frame = Frame::plain(self.unmapped(pid)?, inside, inside);
                     let frame = self.add(frame);
                     self.push(frame);
                     return Ok(End::NotCode);
