@@ -23,6 +23,7 @@ mod kernel;
 mod memory;
 mod names;
 mod objects;
+mod popped;
 pub mod pprof;
 mod recording;
 pub mod script;

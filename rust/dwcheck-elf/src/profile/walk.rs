@@ -5,12 +5,13 @@
 
 use super::frames::{End, Frame, FrameId, Frames, Place};
 use super::objects::{Kind, ObjectId, Objects};
+use super::popped;
 use super::recording::{Features, Mode, Sample};
 use super::space::{Mapping, Space};
 use super::tables::TableId;
 use super::task::Task;
 use crate::target::Order;
-use dwcheck::{Answer, Block, Cursor, Registers, State, Stop};
+use dwcheck::{Answer, Block, Cursor, Frame as Stepped, Process, Registers, State, Stop};
 
 /// The marks in chains of addresses, which are the highest numbers (`PERF_CONTEXT_`).
 mod mark {
@@ -282,11 +283,10 @@ impl<'w> Walker<'w> {
             Some(process) => process,
             None => return Step::End(End::NoTable),
         };
-        let (address, is_caller) = (cursor.address(), !cursor.is_exact());
-        cursor.set_address(frame.place.address.wrapping_add(u64::from(is_caller)));
-        let stepped = match process.step(cursor, state) {
-            Ok(Some(stepped)) => stepped,
-            _ => return Step::End(End::Unreadable),
+        let address = cursor.address();
+        let stepped = match stepped(process, frame.place.address, cursor, state, task) {
+            Some(stepped) => stepped,
+            None => return Step::End(End::Unreadable),
         };
         let cfa = stepped.cfa().and_then(Answer::value);
         match cursor.stop() {
@@ -340,6 +340,28 @@ impl<'w> Walker<'w> {
         self.by_frame_pointer += 1;
         Step::Caller
     }
+}
+
+/// Steps from a frame that is at this address as linked. What the innermost one has popped is read as if the stack still
+/// had it.
+fn stepped(process: &Process, linked: u64, cursor: &mut Cursor, state: &State<'_>, task: &Task<'_>) -> Option<Stepped> {
+    let is_innermost = cursor.is_exact()
+        && cursor.address() == task.program_counter
+        && cursor.register(task.abi.stack_pointer) == Some(task.stack_pointer);
+    cursor.set_address(linked.wrapping_add(u64::from(!cursor.is_exact())));
+    let stepped = process.step(cursor, state).ok()?;
+    let is_lost = |register: &u16| cursor.register(*register).is_none() && state.registers.get(*register).is_some();
+    if !is_innermost || !task.abi.kept.iter().any(is_lost) {
+        return stepped;
+    }
+    let slots = popped::slots(process, linked, task, state.registers);
+    if slots.is_empty() {
+        return stepped;
+    }
+    let memory: Vec<Block<'_>> = state.memory.iter().copied().chain(slots.iter().map(popped::Slot::block)).collect();
+    let state = State { memory: &memory, ..*state };
+    *cursor = Cursor::new(linked, &state).ok()?;
+    process.step(cursor, &state).ok()?
 }
 
 /// The addresses of a sample's chain that are of the kernel or of the task.
