@@ -216,6 +216,16 @@ fn a_table_of_functions_has_the_lines() {
 }
 
 #[test]
+fn a_table_of_functions_has_as_many_rows_as_asked_for() {
+    let folder = Folder::new("profile-top-rows");
+    let rows = |count: &str| {
+        let out = profile(&folder, "dwarf.perf", &["--format", "top", "--rows", count]).out;
+        out.lines().skip(1).count()
+    };
+    assert_eq!(["0", "2", "100"].map(rows), [0, 2, 5]);
+}
+
+#[test]
 fn a_file_with_another_build_id_is_named_and_not_used() {
     let folder = Folder::new("profile-other");
     std::fs::create_dir_all(folder.file("home/user/session")).unwrap();

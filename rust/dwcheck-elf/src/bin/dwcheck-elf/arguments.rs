@@ -437,6 +437,9 @@ pub struct ProfileWords {
     /// Show files and lines of source code
     #[arg(long)]
     pub lines: bool,
+    /// With --format top: show at most this many rows
+    #[arg(long, value_name = "N", default_value_t = 50)]
+    pub rows: usize,
     /// The most frames of a program's stack; those of the kernel don't count
     #[arg(long, value_name = "N", default_value_t = dwcheck_elf::profile::MOST_FRAMES)]
     pub max_stack: usize,

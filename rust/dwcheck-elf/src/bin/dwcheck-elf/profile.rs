@@ -16,9 +16,6 @@ use std::io::Write;
 use std::ops::RangeInclusive;
 use std::path::Path;
 
-/// How many functions the table of them has.
-const TOP: usize = 50;
-
 /// Writes the profile of a recording on `out` or to a file, and a summary on standard error.
 pub fn profile(words: &ProfileWords, out: &mut impl Write) -> Result<Done, Failure> {
     if let Some(output) = &words.output {
@@ -92,7 +89,7 @@ fn write(words: &ProfileWords, profile: &Profile, names: &Names, out: &mut impl 
         Format::Speedscope => speedscope::write(profile, names, event, out)?,
         Format::Pprof => pprof::write(profile, names, out)?,
         Format::Firefox => firefox::write(profile, names, event, &title(words, profile), out)?,
-        Format::Top => top::write(profile, names, event, TOP, out)?,
+        Format::Top => top::write(profile, names, event, words.rows, out)?,
     }
     Ok(())
 }
