@@ -125,6 +125,13 @@ pub struct Counts {
     pub ends: BTreeMap<End, u64>,
 }
 
+impl Counts {
+    /// How many stacks go on past the copy of the stack.
+    pub fn truncated(&self) -> u64 {
+        self.ends.get(&End::EndOfCopy).copied().unwrap_or(0)
+    }
+}
+
 /// The samples of a recording with their stacks.
 #[derive(Debug)]
 pub struct Profile {

@@ -40,6 +40,8 @@ impl<W: Write> Data<'_, W> {
         self.text("{\"title\":", title)?;
         self.text(",\"event\":", self.profile.event_name(self.event))?;
         self.text(",\"unit\":", unit)?;
+        let (lost, truncated) = (self.profile.counts.lost, self.profile.counts.truncated());
+        write!(self.out, ",\"lost\":{},\"truncated\":{}", lost, truncated)?;
         write!(self.out, ",\"duration\":{},\"functions\":[", since.last().copied().unwrap_or(0))?;
         self.functions()?;
         self.out.write_all(b"],\"callers\":[")?;

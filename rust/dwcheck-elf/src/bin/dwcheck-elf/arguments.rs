@@ -389,8 +389,8 @@ pub enum Format {
     Folded,
     /// The lines of `perf script`, for scripts that read these
     Script,
-    /// One page with a flame graph, for any browser and without a network: a click zooms, a search marks functions,
-    /// threads and a time range can be selected, and `inverted` shows callers below what ran
+    /// One page with a flame graph, for any browser and without a network: a click zooms, a search (Ctrl-F, Escape ends
+    /// it) marks functions, threads and a time range can be selected, and `inverted` shows callers below what ran
     Html,
     /// speedscope's JSON, with a profile for each thread
     Speedscope,

@@ -50,9 +50,8 @@ fn problems(profile: &Profile, names: &Names, text: &mut String) {
 
 fn counts(profile: &Profile, text: &mut String) {
     let counts = &profile.counts;
-    let of = |end: End| counts.ends.get(&end).copied().unwrap_or(0);
     let _ = write!(text, "samples {} frames {}", profile.samples.len(), counts.frames);
-    let _ = write!(text, " truncated {}", of(End::EndOfCopy));
+    let _ = write!(text, " truncated {}", counts.truncated());
     let others = [
         ("lost", counts.lost),
         ("throttled", counts.throttled),
