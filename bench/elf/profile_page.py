@@ -52,6 +52,12 @@ const mouse = (kind, part) => new MouseEvent(kind, { clientX: times.left + times
 at("times").dispatchEvent(mouse("mousedown", 0.5));
 window.dispatchEvent(mouse("mouseup", 1));
 said.part = shown.total[0] / whole;
+set("search", "/(/", "input");
+said.unfinished = at("found").textContent;
+window.dispatchEvent(new KeyboardEvent("keydown", { key: "Escape" }));
+said.escaped = at("search").value === "" && at("found").textContent === "";
+window.dispatchEvent(new KeyboardEvent("keydown", { key: "f", ctrlKey: true }));
+said.focused = document.activeElement === at("search");
 at("reset").click();
 said.reset = shown.total[0] === whole && at("search").value === "";
 """
@@ -77,6 +83,9 @@ def main():
         "a search marks": said["marked"] == [0xd9, 0x4f, 0xc6] and said["plain"] != said["marked"],
         "inverted": said["inverted"] == ["all", "leaf", "twice"],
         "a time range": 0.3 < said["part"] < 0.7,
+        "an unfinished pattern": said["unfinished"] == "not a pattern",
+        "Escape": said["escaped"],
+        "Ctrl-F": said["focused"],
         "show all": said["reset"],
     })
 

@@ -1,7 +1,9 @@
 //! Shows names of functions as they are in the source code: demangles those of C++ and Rust.
 
+mod cpp;
+
 use crate::functions::Functions;
-use cpp_demangle::{DemangleOptions, ParseOptions, Symbol};
+use cpp::Form;
 use std::borrow::Cow;
 use std::fmt::{self, Write};
 
@@ -27,15 +29,15 @@ const NESTED: u32 = 64;
 /// assert_eq!(demangled("_Z5twicei@plt"), "twice(int)@plt");
 /// ```
 pub fn demangled(name: &str) -> Cow<'_, str> {
-    demangled_with(name, DemangleOptions::new())
+    demangled_with(name, Form::Whole)
 }
 
-fn demangled_with(name: &str, options: DemangleOptions) -> Cow<'_, str> {
+fn demangled_with(name: &str, form: Form) -> Cow<'_, str> {
     // Each end of a stub takes a call.
     if name.len() > LONGEST + STUB.len() {
         return Cow::Borrowed(name);
     }
-    match name.strip_suffix(STUB).map(|function| demangled_with(function, options)) {
+    match name.strip_suffix(STUB).map(|function| demangled_with(function, form)) {
         Some(Cow::Owned(function)) => return Cow::Owned(function + STUB),
         Some(Cow::Borrowed(_)) => return Cow::Borrowed(name),
         None => {}
@@ -43,22 +45,17 @@ fn demangled_with(name: &str, options: DemangleOptions) -> Cow<'_, str> {
     if name.len() > LONGEST || !(name.starts_with("_Z") || name.starts_with("_R")) {
         return Cow::Borrowed(name);
     }
-    let mut text = Bounded(String::new());
     let written = match rustc_demangle::try_demangle(name) {
-        Ok(name) => write!(text, "{:#}", name).is_ok(),
-        Err(_) => cpp(name, options, &mut text),
+        Ok(name) => rust(&name),
+        Err(_) => cpp::demangled(name, form),
     };
-    if written {
-        Cow::Owned(text.0)
-    } else {
-        Cow::Borrowed(name)
-    }
+    written.map_or(Cow::Borrowed(name), Cow::Owned)
 }
 
-fn cpp(name: &str, options: DemangleOptions, text: &mut Bounded) -> bool {
-    let parsed = Symbol::new_with_options(name, &ParseOptions::default().recursion_limit(NESTED));
-    let options = options.recursion_limit(NESTED);
-    parsed.map_or(false, |symbol| symbol.structured_demangle(text, &options).is_ok())
+fn rust(name: &rustc_demangle::Demangle<'_>) -> Option<String> {
+    let mut text = Bounded(String::new());
+    write!(text, "{:#}", name).ok()?;
+    Some(text.0)
 }
 
 /// The characters of a demangled name that are shown. Control characters are left out, because a
@@ -74,7 +71,7 @@ pub(crate) fn shown_name(symbol: &str) -> String {
 
 /// The same without the return type and the parameters of C++ functions, as perf shows names.
 pub(crate) fn short_name(symbol: &str) -> String {
-    shown(&demangled_with(symbol, DemangleOptions::new().no_params().no_return_type())).collect()
+    shown(&demangled_with(symbol, Form::Short)).collect()
 }
 
 /// A function's name as it is in the file, without control characters.

@@ -23,6 +23,7 @@ mod kernel;
 mod memory;
 mod names;
 mod objects;
+mod popped;
 pub mod pprof;
 mod recording;
 pub mod script;
@@ -122,6 +123,13 @@ pub struct Counts {
     pub short: u64,
     /// How many stacks ended for each reason.
     pub ends: BTreeMap<End, u64>,
+}
+
+impl Counts {
+    /// How many stacks go on past the copy of the stack.
+    pub fn truncated(&self) -> u64 {
+        self.ends.get(&End::EndOfCopy).copied().unwrap_or(0)
+    }
 }
 
 /// The samples of a recording with their stacks.

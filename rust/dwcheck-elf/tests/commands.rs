@@ -223,6 +223,12 @@ fn words_and_files_that_are_wrong() {
     let folder = Folder::new("command-wrong");
     program(&folder);
     folder.write("text", "no ELF file\n");
+    // As a kernel module, it has no frame section.
+    folder.run("echo 'int x;' | gcc -x c - -c -fno-asynchronous-unwind-tables -o bare.o");
+    let mut core = folder.bytes("bare.o");
+    // e_type: ET_CORE
+    core[16] = 4;
+    folder.write("bare.core", core);
     for (words, status, error) in [
         ("row program nothing", 2, "no function has the name nothing"),
         ("row program main+x", 2, "no number follows the plus sign"),
@@ -238,6 +244,8 @@ fn words_and_files_that_are_wrong() {
         ("check nowhere", 3, "cannot read nowhere"),
         ("check .", 3, "cannot read .: Is a directory (os error 21): survey reads folders\n"),
         ("check text", 3, "not an ELF file"),
+        ("rows bare.o", 3, "bare.o: has neither .eh_frame nor .debug_frame\n"),
+        ("rows bare.core", 3, "has neither .eh_frame nor .debug_frame; it is a core file: stack prints its stacks\n"),
         ("unwind program main nowhere", 3, "cannot read nowhere"),
         ("stack program program", 3, "an ELF file of type 2, not a core file; the order is PROGRAM CORE\n"),
     ] {

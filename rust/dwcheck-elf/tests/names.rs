@@ -176,3 +176,29 @@ fn a_fault_in_a_stub() {
     assert!(first.ends_with(&format!(" puts@plt ({})", folder.file("program").display())), "{}", ran.out);
     assert!(ran.out.lines().any(|line| line.starts_with("#1 ") && line.contains(" main+")), "{}", ran.out);
 }
+
+/// Names that cpp_demangle writes in another way than c++filt, or doesn't read.
+const CXX_NAMES: [&str; 8] = [
+    "_ZThn8_N12LIRGenerator8block_doEP10BlockBegin",
+    "_ZTv0_n24_N1A1fEv",
+    "_ZN4llvm11PassManagerINS_6ModuleENS_15AnalysisManagerIS1_JEEEJEE3runERS1_RS3_",
+    "_ZN11SmallVectorIiLm16ESaIiEE4pushEi",
+    "_Z1fILln5ELj3ELx1ELy2ELc65EEvv.isra.0.cold",
+    "_ZN1A1gB5cxx11Ei",
+    "_ZSt14__relocate_a_1IiiENSt9enable_ifIXsrSt24__is_bitwise_relocatableIT_vE5valueEPS2_E4typeES4_S4_S4_RSaIT0_E",
+    "_ZN2wi6bit_orI16generic_wide_intI16wide_int_storageES3_EENS_13binary_traitsIT_T0_XsrNS_10int_traitsIS5_EE14\
+     precision_typeEXsrNS7_IS6_EE14precision_typeEE11result_typeERKS5_RKS6_",
+];
+
+/// Of the last two, whose types aren't read, the names are shown without these.
+#[test]
+fn names_of_cxx_are_those_of_cxxfilt() {
+    let folder = Folder::new("names-cxx");
+    folder.write("names", CXX_NAMES.join("\n"));
+    let expected = |words: &str| folder.run(&format!("c++filt {} < names", words));
+    let (whole, short) = (expected(""), expected("-p"));
+    let shown: Vec<_> = CXX_NAMES.iter().map(|name| dwcheck_elf::names::demangled(name)).collect();
+    let read = CXX_NAMES.len() - 2;
+    assert_eq!(shown[..read], whole.lines().take(read).collect::<Vec<_>>());
+    assert_eq!(shown[read..], short.lines().skip(read).collect::<Vec<_>>());
+}

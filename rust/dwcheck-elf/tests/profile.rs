@@ -66,7 +66,12 @@ fn a_file_of_a_folder_that_is_cut_off_is_named() {
     assert!(ran.out.starts_with("spin;_start;main;middle;twice;leaf "), "{}", ran.out);
     std::fs::remove_file(folder.file("data")).unwrap();
     let ran = dwcheck_elf_words(&folder, &["profile", &path]);
-    assert!(ran.status == 3 && ran.error.contains(": data: can't be read: "), "{}", ran.error);
+    let said = format!(
+        "dwcheck-elf: {}/data: can't be read: No such file or directory (os error 2); \
+         give a file, or a folder that perf record --threads wrote\n",
+        path
+    );
+    assert_eq!((ran.status, ran.error), (3, said));
 }
 
 #[test]
@@ -139,8 +144,20 @@ fn one_event_is_shown_and_the_others_are_named() {
     let sum = weight(&script("group.script"), "page-faults");
     assert_eq!(ran.out.rsplit(' ').next().unwrap().trim(), sum.to_string());
     assert_eq!(ran.error, "");
-    let ran = profile(&folder, "two.perf", &["--event", "cycles", "--quiet"]);
-    assert!(ran.error.starts_with("dwcheck-elf: no event is named cycles; these are: cpu-clock:u, task-clock:u\n"));
+}
+
+#[test]
+fn an_event_that_is_not_there_is_refused_and_those_that_are_there_are_named() {
+    let folder = Folder::new("profile-no-event");
+    for (name, events) in [("two.perf", "cpu-clock:u, task-clock:u"), ("pipe.perf", "cpu-clock:u")] {
+        let path = recordings().join(name);
+        let path = path.to_str().unwrap();
+        let ran = dwcheck_elf_words(&folder, &["profile", "--event", "cycles", "-o", "out", path]);
+        let said =
+            format!("dwcheck-elf: bad argument: --event cycles: {} has no such event; it has {}\n", path, events);
+        assert_eq!((ran.status, ran.error), (2, said));
+        assert!(!folder.file("out").exists());
+    }
 }
 
 #[test]
@@ -155,7 +172,7 @@ fn options_choose_samples() {
         ran.out.lines().filter(|line| line.starts_with("spin")).count()
     };
     assert_eq!(samples(&["--tid", tid, "--comm", "spin", "--pid", tid]), heads.len());
-    assert_eq!(samples(&["--tid", "1"]) + samples(&["--comm", "other"]) + samples(&["--event", "cycles"]), 0);
+    assert_eq!(samples(&["--tid", "1"]) + samples(&["--comm", "other"]), 0);
     assert_eq!(samples(&["--time", &format!(",{}", time)]), 3);
     assert_eq!(samples(&["--time", &format!("{},", time)]), heads.len() - 3);
 }
@@ -181,6 +198,31 @@ fn lines_of_source_are_shown() {
         "{}",
         line
     );
+}
+
+/// The rows of a table of functions are split by line, so each has its line, and no two are the same.
+#[test]
+fn a_table_of_functions_has_the_lines() {
+    let folder = Folder::new("profile-top-lines");
+    let rows = |words: &[&str]| {
+        let out = profile(&folder, "dwarf.perf", &[&["--format", "top"], words].concat()).out;
+        out.lines().skip(1).map(|row| row[17..].to_string()).collect::<Vec<_>>()
+    };
+    let lines = rows(&["--lines"]);
+    for row in ["leaf (spin.c:5) (spin)", "middle (spin.c:14) (spin)", "main (spin.c:18) (spin)", "_start (spin)"] {
+        assert_eq!(lines.iter().filter(|line| *line == row).count(), 1, "{:?}", lines);
+    }
+    assert_eq!(rows(&[]), ["leaf (spin)", "_start (spin)", "main (spin)", "middle (spin)", "twice (spin)"]);
+}
+
+#[test]
+fn a_table_of_functions_has_as_many_rows_as_asked_for() {
+    let folder = Folder::new("profile-top-rows");
+    let rows = |count: &str| {
+        let out = profile(&folder, "dwarf.perf", &["--format", "top", "--rows", count]).out;
+        out.lines().skip(1).count()
+    };
+    assert_eq!(["0", "2", "100"].map(rows), [0, 2, 5]);
 }
 
 #[test]
@@ -222,6 +264,33 @@ fn an_output_file_is_written_as_a_whole() {
     assert!(folder.bytes("out").starts_with(b"spin;_start;main;"));
     let names: Vec<_> = std::fs::read_dir(folder.path()).unwrap().map(|entry| entry.unwrap().file_name()).collect();
     assert_eq!(names, ["out"]);
+}
+
+/// A recording that is lost can't be made again. So whatever name of it is given, it isn't overwritten.
+#[test]
+fn the_recording_is_never_overwritten() {
+    let folder = Folder::new("profile-overwrite");
+    let recording = std::fs::read(recordings().join("dwarf.perf")).unwrap();
+    folder.write("a.perf", &recording);
+    folder.run("ln a.perf hard.perf && ln -s a.perf soft.perf && mkdir all && ln a.perf all/data");
+    for (output, input) in
+        [("a.perf", "a.perf"), ("./a.perf", "soft.perf"), ("soft.perf", "a.perf"), ("hard.perf", "a.perf")]
+    {
+        let ran = dwcheck_elf_words(&folder, &["profile", "-o", output, input]);
+        let said = format!(
+            "dwcheck-elf: bad argument: --output {} would overwrite {}, which is read; give another file\n",
+            output, input
+        );
+        assert_eq!((ran.status, ran.error), (2, said));
+    }
+    let ran = dwcheck_elf_words(&folder, &["profile", "-o", "a.perf", "all"]);
+    assert!(ran.status == 2 && ran.error.contains(" would overwrite all/data, "), "{}", ran.error);
+    let ran = dwcheck_elf_words(&folder, &["profile", "-o", "a.perf", "--kallsyms", "soft.perf", "other.perf"]);
+    assert!(ran.status == 2 && ran.error.contains(" would overwrite soft.perf, "), "{}", ran.error);
+    let program = env!("CARGO_BIN_EXE_dwcheck-elf");
+    folder.run(&format!("{} profile - -o hard.perf < a.perf 2> error; [ $? = 2 ]", program));
+    assert_eq!(folder.bytes("a.perf"), recording);
+    assert_eq!(folder.bytes("hard.perf"), recording);
 }
 
 /// The offset of its data, in the header.

@@ -137,6 +137,20 @@ fn go_tool_pprof_shows_the_stacks_and_weights_of_perf() {
     assert!(functions.chunks(5).all(|stack| stack == ["leaf", "twice", "middle", "main", "_start"]), "{}", traces);
 }
 
+/// Without a choice, pprof would show the last event.
+#[test]
+fn go_tool_pprof_opens_on_the_first_event() {
+    if !has("go") {
+        return;
+    }
+    let folder = Folder::new("profile-pprof-event");
+    for name in ["two.perf", "dwarf.perf"] {
+        write(&folder, name, "pprof");
+        let top = folder.run("HOME=$PWD PPROF_TMPDIR=$PWD go tool pprof -top out");
+        assert!(top.lines().any(|line| line == "Type: cpu-clock:u"), "{}", top);
+    }
+}
+
 fn is_text_or_null(value: &Value) -> bool {
     value.is_string() || value.is_null()
 }

@@ -45,8 +45,8 @@ bl outer
 ends _start
 ";
 
-/// `_start` calls `outer`, which calls `inner`. Each has 16 bytes, and the calls come after 4 bytes.
-const X86_CODE: &str = "
+/// Functions of x86-64, which have 16 bytes each.
+const X86_FUNCTIONS: &str = "
 .text
 .macro function name
 .balign 16
@@ -59,6 +59,10 @@ const X86_CODE: &str = "
 .cfi_endproc
 .size \\name, . - \\name
 .endm
+";
+
+/// `_start` calls `outer`, which calls `inner`. The calls come after 4 bytes.
+const X86_CODE: &str = "
 function inner
 ret
 ends inner
@@ -139,7 +143,7 @@ fn signed_return_addresses_of_aarch64_are_followed_in_both_byte_orders() {
 /// A folder with the library for x86-64, and where its text is: its offset, and the functions' addresses.
 fn x86(name: &str) -> (Folder, u64) {
     let folder = Folder::new(name);
-    folder.assemble("gcc -Wl,--build-id=none", X86_CODE);
+    folder.assemble("gcc -Wl,--build-id=none", [X86_FUNCTIONS, X86_CODE].concat());
     let (address, offset, _) = text(&folder, "readelf");
     assert_eq!(address, offset, "the test takes addresses for offsets");
     (folder, offset)
@@ -213,6 +217,96 @@ fn code_that_was_made_at_run_time_is_passed_by_frame_pointers_and_named() {
     let ran = profile(&folder, &recording.file(X86, "x86_64"), &["--stops"]);
     assert_eq!(ran.out, "jit;_start;outer;JS:*fib /a b.js:1 1000\n");
     assert_eq!(ran.error, "samples 1 frames 3 truncated 0 by-frame-pointer 1\nstop complete: 1\n");
+}
+
+/// As perf shows it: a file in memory by its name and the offset in it, and code of no mapping as unknown.
+#[test]
+fn only_memory_without_a_name_is_said_to_be_in_a_list_of_the_process() {
+    let folder = Folder::new("profile-memfd");
+    let (made, sp) = (0x7f55_0000_0000, 0x7ffc_0000_1000);
+    let mut recording = Recording::new(false);
+    recording.map(5, 0, (made, 0x1000, 0x3000), b"/memfd:prog (deleted)");
+    recording.map(5, 0, (made + 0x1000, 0x1000, 0), b"//anon");
+    recording.comm(5, 1, false, b"x");
+    let mut registers = vec![0; X86.count_ones() as usize];
+    registers[7] = sp;
+    for (time, address) in [(10, made + 0x144), (11, made + 0x1144), (12, made + 0x2144)] {
+        registers[8] = address;
+        recording.sample(5, time, address, &registers, &[0; 16]);
+    }
+    let file = recording.file(X86, "x86_64");
+    let script = profile(&folder, &file, &["--format", "script"]).out;
+    let frames: Vec<&str> = script.lines().filter(|line| line.starts_with('\t')).map(str::trim_start).collect();
+    let expected = [
+        "3144 [unknown] (/memfd:prog (deleted))",
+        "7f5500001144 [unknown] (/tmp/perf-5.map)",
+        "7f5500002144 [unknown] ([unknown])",
+    ];
+    assert_eq!(frames, expected);
+    let folded = profile(&folder, &file, &[]).out;
+    assert_eq!(folded, "x;[memfd:prog (deleted)] 1000\nx;[unknown] 2000\n");
+    // A process may list code that it put into such a file.
+    std::fs::create_dir(folder.file("tmp")).unwrap();
+    folder.write("tmp/perf-5.map", format!("{:x} 40 JS:fib\n", made + 0x140));
+    let folded = profile(&folder, &file, &[]).out;
+    assert_eq!(folded, "x;JS:fib 1000\nx;[unknown] 2000\n");
+}
+
+/// `middle`, whose CFA is by rbp, calls `popping`, which pops rbp before it returns, and `leaf`, which saves rbp below
+/// the stack pointer. As compilers write them, the last rows of both say that rbp is in its slot.
+const POPPED_CODE: &str = "
+function popping
+push %rbp
+.cfi_def_cfa_offset 16
+.cfi_offset %rbp, -16
+mov %rsp, %rbp
+pop %rbp
+.cfi_def_cfa_offset 8
+ret
+ends popping
+function leaf
+mov %rbp, -8(%rsp)
+.cfi_offset %rbp, -16
+mov %rdi, %rbp
+ret
+ends leaf
+function middle
+.cfi_def_cfa %rbp, 16
+.cfi_offset %rbp, -16
+call popping
+call leaf
+ends middle
+function _start
+.cfi_undefined rip
+call middle
+ends _start
+";
+
+/// The slot of a register that was popped is below the stack pointer, where perf copies nothing. Neither does it copy
+/// what `leaf` saved, but there the register has another value.
+#[test]
+fn a_register_that_was_popped_has_its_value() {
+    let folder = Folder::new("profile-popped");
+    folder.assemble("gcc -Wl,--build-id=none", [X86_FUNCTIONS, POPPED_CODE].concat());
+    let (_, offset, _) = text(&folder, "readelf");
+    let (code, page, sp) = (LOAD + offset, offset & !0xfff, 0x7ffc_0000_1000);
+    let (popping, leaf, middle, start) = (code, code + 16, code + 32, code + 48);
+    let walked = |at: u64, return_address: u64| {
+        let mut recording = Recording::new(false);
+        recording.map(5, 0, (LOAD + page, 0x1000, page), b"/a.so");
+        recording.comm(5, 0, false, b"x");
+        let mut registers = vec![0; X86.count_ones() as usize];
+        (registers[6], registers[7], registers[8]) = (sp + 16, sp, at);
+        let stack = [return_address, 0, 0, start + 5, 0, 0].map(u64::to_le_bytes).concat();
+        recording.sample(5, 10, at, &registers, &stack);
+        let ran = profile(&folder, &recording.file(X86, "x86_64"), &["--stops"]);
+        (ran.out, ran.error.lines().last().unwrap_or("").to_string())
+    };
+    let (after_pop, after_save) = (popping + 5, leaf + 8);
+    let whole = ("x;_start;middle;popping 1000\n".to_string(), "stop complete: 1".to_string());
+    assert_eq!(walked(after_pop, middle + 5), whole);
+    let cut = ("x;middle;leaf 1000\n".to_string(), "stop unreadable: 1".to_string());
+    assert_eq!(walked(after_save, middle + 10), cut);
 }
 
 /// The records are laid out as in Linux' tools/perf/Documentation/jitdump-specification.txt.

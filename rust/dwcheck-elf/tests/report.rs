@@ -159,3 +159,14 @@ fn names_stay_data_and_only_the_functions_that_are_named_have_rows() {
         (3, true)
     );
 }
+
+#[test]
+fn a_program_is_never_overwritten_by_its_page() {
+    let folder = Folder::new("report-overwrite");
+    folder.write("a.c", C);
+    folder.run("gcc a.c -o program && ln program other");
+    let before = folder.bytes("program");
+    let ran = dwcheck_elf(&folder, "report program -o other");
+    assert!(ran.status == 2 && ran.error.contains("--output other would overwrite program, "), "{}", ran.error);
+    assert_eq!(folder.bytes("program"), before);
+}

@@ -34,7 +34,7 @@ fn each_file_is_taken_once() {
     assert!(lines[3].starts_with("sections 3 accepted 2 refused 1 "), "{}", ran.out);
     let all = dwcheck_elf(&folder, "survey --all --jobs 1 all all/good");
     assert!(all.lines()[2].contains(": RestoreWithoutRemember: restore_state, FDE 0x"), "{}", all.out);
-    assert_eq!(dwcheck_elf(&folder, "survey all/good all/object.o all/text").status, 0);
+    assert_eq!(dwcheck_elf(&folder, "survey all/good all/object.o").status, 0);
 }
 
 #[test]
@@ -87,4 +87,24 @@ fn what_cannot_be_read_is_said() {
         ran.error
     );
     assert!(ran.out.contains(" unread 2\n"), "{}", ran.out);
+}
+
+/// In a folder they are passed over, but who names a file wants to know of it.
+#[test]
+fn a_file_that_is_named_and_is_not_an_elf_file_is_said() {
+    let folder = folder("survey-named");
+    folder.run("ar rc lib.a all/object.o && ar rcT thin.a all/object.o");
+    for (path, why) in [
+        ("all/text", "not an ELF file"),
+        ("all/nothing", "not an ELF file"),
+        ("all/pipe", "neither a regular file nor a folder"),
+        ("lib.a", "an archive, not an ELF file; take its objects out by ar x"),
+        ("thin.a", "an archive, not an ELF file; take its objects out by ar x"),
+    ] {
+        let ran = dwcheck_elf(&folder, &format!("survey all/good {}", path));
+        assert_eq!((ran.status, ran.lines()[0]), (3, "files 1 repeated 0 unread 1"));
+        assert_eq!(ran.error, format!("dwcheck-elf: cannot read {}: {}\n", path, why));
+        let ran = dwcheck_elf(&folder, &format!("survey --json {}", path));
+        assert!(ran.status == 3 && ran.out.contains(&format!("\"error\":\"{}\"", why)), "{}", ran.out);
+    }
 }

@@ -5,6 +5,7 @@ use super::objects::Kind;
 use super::tree::{NodeId, Tree};
 use super::Profile;
 use rustc_hash::FxHashMap;
+use std::borrow::Cow;
 use std::collections::HashSet;
 
 /// What a function is.
@@ -31,6 +32,16 @@ pub struct Called {
     pub line: Option<TextId>,
     /// What it is.
     pub code: Code,
+}
+
+impl Called {
+    /// The function's name, and after it the line if there is one, as `leaf (spin.c:5)`.
+    pub fn shown<'n>(&self, names: &'n Names) -> Cow<'n, str> {
+        match self.line {
+            Some(line) => Cow::Owned(format!("{} ({})", names.text(self.name), names.text(line))),
+            None => Cow::Borrowed(names.text(self.name)),
+        }
+    }
 }
 
 /// A function with its callers.

@@ -64,11 +64,7 @@ impl Texts {
 
 /// The text of a function, with a semicolon in front.
 fn text(names: &Names, called: &Called) -> String {
-    let name = plain(names.text(called.name));
-    match called.line {
-        Some(line) => format!(";{} ({})", name, plain(names.text(line))),
-        None => format!(";{}", name),
-    }
+    format!(";{}", plain(&called.shown(names)))
 }
 
 /// A name without what separates names and lines.

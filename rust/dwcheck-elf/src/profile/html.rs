@@ -40,6 +40,8 @@ impl<W: Write> Data<'_, W> {
         self.text("{\"title\":", title)?;
         self.text(",\"event\":", self.profile.event_name(self.event))?;
         self.text(",\"unit\":", unit)?;
+        let (lost, truncated) = (self.profile.counts.lost, self.profile.counts.truncated());
+        write!(self.out, ",\"lost\":{},\"truncated\":{}", lost, truncated)?;
         write!(self.out, ",\"duration\":{},\"functions\":[", since.last().copied().unwrap_or(0))?;
         self.functions()?;
         self.out.write_all(b"],\"callers\":[")?;
@@ -60,17 +62,13 @@ impl<W: Write> Data<'_, W> {
     fn functions(&mut self) -> io::Result<()> {
         let names = self.names;
         separated(self.out, self.calls.functions.iter(), |called, out| {
-            let name = match called.line {
-                Some(line) => format!("{} ({})", names.text(called.name), names.text(line)),
-                None => names.text(called.name).to_string(),
-            };
             let code = match called.code {
                 Code::File => 0,
                 Code::Inlined => 1,
                 Code::Kernel => 2,
                 Code::Memory => 3,
             };
-            serde_json::to_writer(out, &(name, names.text(called.object), code)).map_err(io::Error::from)
+            serde_json::to_writer(out, &(called.shown(names), names.text(called.object), code)).map_err(io::Error::from)
         })
     }
 

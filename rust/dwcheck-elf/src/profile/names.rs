@@ -189,7 +189,7 @@ fn of_object(
             });
             (named.collect(), Vec::new())
         }
-        Kind::Memory(pid) => {
+        Kind::Memory(pid) | Kind::MemoryFile(pid) => {
             let dump = profile.dumps.get(&pid).map(PathBuf::as_path);
             let memory = Memory::of_process(pid, &profile.places.root, dump);
             let named = frames.into_iter().filter_map(|frame| {

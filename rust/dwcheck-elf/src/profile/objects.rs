@@ -30,6 +30,8 @@ pub enum Kind {
     Kernel,
     /// Memory of this process that is no file's: code that was made at run time.
     Memory(u32),
+    /// A file of this process that is in memory only (`memfd_create`), so that nobody can read it later.
+    MemoryFile(u32),
 }
 
 /// Code that has an owner.
@@ -138,7 +140,10 @@ impl Places {
 pub(super) struct Objects {
     all: Vec<Arc<Object>>,
     files: HashMap<(Vec<u8>, Option<BuildId>), ObjectId>,
-    memory: HashMap<u32, ObjectId>,
+    /// The memory of processes, by its names.
+    memory: HashMap<(u32, Vec<u8>), ObjectId>,
+    /// For each process what stands for code that it hasn't mapped.
+    unmapped: HashMap<u32, ObjectId>,
     kernel: Option<ObjectId>,
     /// The files in which processes list code that they have made.
     dumps: HashMap<u32, PathBuf>,
@@ -192,13 +197,29 @@ impl Objects {
         }
     }
 
-    /// The memory of a process that is no file's.
-    pub fn memory(&mut self, pid: u32) -> ObjectId {
-        if let Some(id) = self.memory.get(&pid) {
+    /// What stands for code at addresses that a process hasn't mapped.
+    pub fn unmapped(&mut self, pid: u32) -> ObjectId {
+        if let Some(id) = self.unmapped.get(&pid) {
             return *id;
         }
-        let id = self.add(format!("/tmp/perf-{}.map", pid).as_bytes(), Kind::Memory(pid), None);
-        self.memory.insert(pid, id);
+        let id = self.add(b"[unknown]", Kind::Memory(pid), None);
+        self.unmapped.insert(pid, id);
+        id
+    }
+
+    /// Memory of a process that is no file's, which has this name.
+    fn memory(&mut self, pid: u32, name: &[u8]) -> ObjectId {
+        let (name, kind) = match is_anonymous(name) {
+            true => (format!("/tmp/perf-{}.map", pid).into_bytes(), Kind::Memory(pid)),
+            false if name.starts_with(MEMORY_FILE) => (name.to_vec(), Kind::MemoryFile(pid)),
+            false => (name.to_vec(), Kind::Memory(pid)),
+        };
+        let key = (pid, name);
+        if let Some(id) = self.memory.get(&key) {
+            return *id;
+        }
+        let id = self.add(&key.1, kind, None);
+        self.memory.insert(key, id);
         id
     }
 
@@ -207,9 +228,9 @@ impl Objects {
         self.kernel
     }
 
-    /// The memory of a process that is no file's, if it was asked for before.
-    pub fn of_memory(&self, pid: u32) -> Option<ObjectId> {
-        self.memory.get(&pid).copied()
+    /// What stands for code that a process hasn't mapped, if it was asked for before.
+    pub fn of_unmapped(&self, pid: u32) -> Option<ObjectId> {
+        self.unmapped.get(&pid).copied()
     }
 
     /// What a process mapped.
@@ -217,9 +238,10 @@ impl Objects {
         if is_dump(mapped.name) {
             self.dumps.extend(self.places.inside(mapped.name).map(|path| (mapped.pid, path)));
         }
-        let is_file = mapped.name == VDSO || self.places.inside(mapped.name).is_some() && !is_memory(mapped.name);
+        let is_memory = is_anonymous(mapped.name) || mapped.name.starts_with(MEMORY_FILE);
+        let is_file = mapped.name == VDSO || self.places.inside(mapped.name).is_some() && !is_memory;
         if !is_file {
-            return self.memory(mapped.pid);
+            return self.memory(mapped.pid, mapped.name);
         }
         let build_id = mapped.build_id.clone().or_else(|| features.build_id(mapped.name).cloned());
         let key = (mapped.name.to_vec(), build_id.clone());
@@ -243,10 +265,14 @@ impl Objects {
     }
 }
 
-/// Whether the name is one that the kernel gives to memory that isn't a file's.
-fn is_memory(name: &[u8]) -> bool {
-    const NAMES: [&[u8]; 5] = [b"//", b"/dev/zero", b"/anon_hugepage", b"/SYSV", b"/memfd:"];
-    NAMES.into_iter().any(|begin| name.starts_with(begin))
+/// How the kernel names a file that is in memory only.
+const MEMORY_FILE: &[u8] = b"/memfd:";
+
+/// Whether the name is one that the kernel gives to memory without a name of its own. perf shows such memory by the name
+/// of the file in which the process may list its code.
+fn is_anonymous(name: &[u8]) -> bool {
+    const NAMES: [&[u8]; 6] = [b"//", b"/dev/zero", b"/anon_hugepage", b"/SYSV", b"[heap]", b"[stack"];
+    name.is_empty() || NAMES.into_iter().any(|begin| name.starts_with(begin))
 }
 
 impl Object {

@@ -17,6 +17,7 @@ mod field {
         pub const FUNCTION: u32 = 5;
         pub const STRING: u32 = 6;
         pub const DURATION: u32 = 10;
+        pub const DEFAULT_SAMPLE_TYPE: u32 = 14;
     }
     pub const ID: u32 = 1;
     pub mod value_type {
@@ -53,7 +54,8 @@ mod field {
     }
 }
 
-/// Writes all events: a sample has a number of samples and a weight for each.
+/// Writes all events: a sample has a number of samples and a weight for each. pprof shows the weight of the first
+/// event unless it is told otherwise, as the other formats do.
 ///
 /// # Errors
 ///
@@ -74,6 +76,8 @@ pub fn write(profile: &Profile, names: &Names, out: &mut impl Write) -> io::Resu
     let times = profile.samples.iter().map(|sample| sample.time).filter(|time| *time > 0);
     let (first, last) = (times.clone().min().unwrap_or(0), times.max().unwrap_or(0));
     message.number(field::profile::DURATION, last - first);
+    let shown = events.first().map_or(0, |event| writer.texts.id(profile.event_name(*event)));
+    message.number(field::profile::DEFAULT_SAMPLE_TYPE, shown);
     for text in &writer.texts.all {
         message.bytes(field::profile::STRING, text.as_bytes());
     }

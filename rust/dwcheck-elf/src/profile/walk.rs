@@ -5,12 +5,13 @@
 
 use super::frames::{End, Frame, FrameId, Frames, Place};
 use super::objects::{Kind, ObjectId, Objects};
+use super::popped;
 use super::recording::{Features, Mode, Sample};
 use super::space::{Mapping, Space};
 use super::tables::TableId;
 use super::task::Task;
 use crate::target::Order;
-use dwcheck::{Answer, Block, Cursor, Registers, State, Stop};
+use dwcheck::{Answer, Block, Cursor, Frame as Stepped, Process, Registers, State, Stop};
 
 /// The marks in chains of addresses, which are the highest numbers (`PERF_CONTEXT_`).
 mod mark {
@@ -42,8 +43,8 @@ pub(super) struct Shared {
 /// What a walk needs and hasn't found.
 #[derive(Clone, Copy, Debug)]
 pub(super) enum Missing {
-    /// The object for code that this process has made.
-    Memory(u32),
+    /// What stands for code that this process hasn't mapped.
+    Unmapped(u32),
     /// The object for the kernel.
     Kernel,
 }
@@ -57,8 +58,8 @@ impl Shared {
     /// Adds what a walk needs.
     pub fn add(&mut self, missing: Missing) {
         match missing {
-            Missing::Memory(pid) => {
-                self.objects.memory(pid);
+            Missing::Unmapped(pid) => {
+                self.objects.unmapped(pid);
             }
             Missing::Kernel => {
                 self.objects.kernel();
@@ -147,9 +148,9 @@ impl<'w> Walker<'w> {
         At { id, frame }
     }
 
-    /// The object for code that a process has made.
-    fn memory(&self, pid: u32) -> Result<ObjectId, Missing> {
-        self.shared.objects.of_memory(pid).ok_or(Missing::Memory(pid))
+    /// What stands for code that a process hasn't mapped.
+    fn unmapped(&self, pid: u32) -> Result<ObjectId, Missing> {
+        self.shared.objects.of_unmapped(pid).ok_or(Missing::Unmapped(pid))
     }
 
     /// The frames of the kernel.
@@ -189,7 +190,7 @@ impl<'w> Walker<'w> {
             let frame = match space.find(inside) {
                 Some(mapping) => self.at(mapping, inside, is_return),
                 None => {
-                    let object = self.memory(sample.pid)?;
+                    let object = self.unmapped(sample.pid)?;
                     self.add(Frame::plain(object, inside, *address))
                 }
             };
@@ -204,9 +205,11 @@ impl<'w> Walker<'w> {
         let objects = &self.shared.objects;
         let loaded = objects.loaded(mapping.object);
         let linked = loaded.and_then(|loaded| loaded.linked(offset)).filter(|_| mapping.is_executable);
-        let is_memory = objects.get(mapping.object).map_or(true, |object| object.kind != Kind::File);
-        let shown = if is_memory { address } else { offset };
-        let place = Place { object: mapping.object, address: linked.unwrap_or(shown) };
+        let kind = objects.get(mapping.object).map(|object| object.kind);
+        let shown = if matches!(kind, Some(Kind::File | Kind::MemoryFile(_))) { offset } else { address };
+        // A list that a process writes of its code has addresses.
+        let unlinked = if kind == Some(Kind::File) { offset } else { address };
+        let place = Place { object: mapping.object, address: linked.unwrap_or(unlinked) };
         if let Some((id, frame)) = self.frames.at(place) {
             return At { id: Some(id).filter(|_| !self.is_new), frame };
         }
@@ -247,7 +250,7 @@ impl<'w> Walker<'w> {
             let at = match mapping.filter(|mapping| mapping.is_executable) {
                 Some(mapping) => self.at(mapping, inside, false),
                 None if self.count() == start => {
-                    let frame = Frame::plain(self.memory(pid)?, inside, inside);
+                    let frame = Frame::plain(self.unmapped(pid)?, inside, inside);
                     let frame = self.add(frame);
                     self.push(frame);
                     return Ok(End::NotCode);
@@ -280,11 +283,10 @@ impl<'w> Walker<'w> {
             Some(process) => process,
             None => return Step::End(End::NoTable),
         };
-        let (address, is_caller) = (cursor.address(), !cursor.is_exact());
-        cursor.set_address(frame.place.address.wrapping_add(u64::from(is_caller)));
-        let stepped = match process.step(cursor, state) {
-            Ok(Some(stepped)) => stepped,
-            _ => return Step::End(End::Unreadable),
+        let address = cursor.address();
+        let stepped = match stepped(process, frame.place.address, cursor, state, task) {
+            Some(stepped) => stepped,
+            None => return Step::End(End::Unreadable),
         };
         let cfa = stepped.cfa().and_then(Answer::value);
         match cursor.stop() {
@@ -338,6 +340,28 @@ impl<'w> Walker<'w> {
         self.by_frame_pointer += 1;
         Step::Caller
     }
+}
+
+/// Steps from a frame that is at this address as linked. What the innermost one has popped is read as if the stack still
+/// had it.
+fn stepped(process: &Process, linked: u64, cursor: &mut Cursor, state: &State<'_>, task: &Task<'_>) -> Option<Stepped> {
+    let is_innermost = cursor.is_exact()
+        && cursor.address() == task.program_counter
+        && cursor.register(task.abi.stack_pointer) == Some(task.stack_pointer);
+    cursor.set_address(linked.wrapping_add(u64::from(!cursor.is_exact())));
+    let stepped = process.step(cursor, state).ok()?;
+    let is_lost = |register: &u16| cursor.register(*register).is_none() && state.registers.get(*register).is_some();
+    if !is_innermost || !task.abi.kept.iter().any(is_lost) {
+        return stepped;
+    }
+    let slots = popped::slots(process, linked, task, state.registers);
+    if slots.is_empty() {
+        return stepped;
+    }
+    let memory: Vec<Block<'_>> = state.memory.iter().copied().chain(slots.iter().map(popped::Slot::block)).collect();
+    let state = State { memory: &memory, ..*state };
+    *cursor = Cursor::new(linked, &state).ok()?;
+    process.step(cursor, &state).ok()?
 }
 
 /// The addresses of a sample's chain that are of the kernel or of the task.

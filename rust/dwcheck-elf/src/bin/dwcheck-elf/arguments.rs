@@ -389,8 +389,8 @@ pub enum Format {
     Folded,
     /// The lines of `perf script`, for scripts that read these
     Script,
-    /// One page with a flame graph, for any browser and without a network: a click zooms, a search marks functions,
-    /// threads and a time range can be selected, and `inverted` shows callers below what ran
+    /// One page with a flame graph, for any browser and without a network: a click zooms, a search (Ctrl-F, Escape ends
+    /// it) marks functions, threads and a time range can be selected, and `inverted` shows callers below what ran
     Html,
     /// speedscope's JSON, with a profile for each thread
     Speedscope,
@@ -437,6 +437,9 @@ pub struct ProfileWords {
     /// Show files and lines of source code
     #[arg(long)]
     pub lines: bool,
+    /// With --format top: show at most this many rows
+    #[arg(long, value_name = "N", default_value_t = 50)]
+    pub rows: usize,
     /// The most frames of a program's stack; those of the kernel don't count
     #[arg(long, value_name = "N", default_value_t = dwcheck_elf::profile::MOST_FRAMES)]
     pub max_stack: usize,

@@ -6,8 +6,8 @@ mod sarif;
 
 use crate::arguments::LintWords;
 use crate::end::{shown, Done, Failure};
-use crate::survey::files::{is_elf, Files};
-use crate::survey::{progress, STACK};
+use crate::survey::files::Files;
+use crate::survey::{note_unread, progress, STACK};
 use dwcheck_lint::coverage::Coverage;
 use dwcheck_lint::finding::Severity;
 use dwcheck_lint::kinds::{Kind, KINDS};
@@ -50,7 +50,8 @@ pub fn lint(words: &LintWords, out: &mut impl Write) -> Result<Done, Failure> {
         each.collect()
     });
     bar.finish_and_clear();
-    let mut totals = Totals { unread: unread(words, &files), ..Totals::default() };
+    note_unread(&files);
+    let mut totals = Totals { unread: files.unread.len(), ..Totals::default() };
     for one in all {
         totals.write(out, one, words, &known)?;
     }
@@ -65,19 +66,6 @@ fn kind(name: &str) -> Result<Kind, Failure> {
     found.ok_or_else(|| {
         Failure::Argument(format!("bad argument: no kind is named {}; the kinds are: {}", name, names()))
     })
-}
-
-/// Says on standard error which files can't be read, and which of those that were named aren't ELF
-/// files. Returns how many these are.
-fn unread(words: &LintWords, files: &Files) -> usize {
-    let unread = files.unread.iter().map(|(path, error)| (path, error.clone()));
-    let named = words.paths.iter().filter(|path| path.is_file() && matches!(is_elf(path), Ok(false)));
-    let all: Vec<_> = unread.chain(named.map(|path| (path, "not an ELF file".to_string()))).collect();
-    for (path, error) in &all {
-        // If standard error is closed, nobody can read this, so it doesn't matter that it fails.
-        let _ = writeln!(io::stderr(), "dwcheck-elf: cannot read {}: {}", shown(path), error);
-    }
-    all.len()
 }
 
 impl Totals {

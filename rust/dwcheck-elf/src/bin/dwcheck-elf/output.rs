@@ -4,7 +4,7 @@ use crate::end::{shown, Failure};
 use nix::unistd::{linkat, LinkatFlags};
 use std::fs::{self, File, OpenOptions};
 use std::io::{self, BufWriter, Write};
-use std::os::unix::fs::OpenOptionsExt;
+use std::os::unix::fs::{MetadataExt, OpenOptionsExt};
 use std::os::unix::io::AsRawFd;
 use std::path::{Path, PathBuf};
 
@@ -70,6 +70,38 @@ impl Output {
             None => Ok(()),
         }
     }
+}
+
+/// Refuses an output that would overwrite a file that is read, or one in a folder that is read. The name doesn't
+/// matter: links are followed, and a file may have several names.
+pub fn check_apart<'p>(output: &Path, inputs: impl IntoIterator<Item = &'p Path>) -> Result<(), Failure> {
+    let written = match identity(output) {
+        Some(written) => written,
+        None => return Ok(()),
+    };
+    let mut read = inputs.into_iter().flat_map(files);
+    match read.find(|input| identity(input) == Some(written)) {
+        Some(input) => Err(Failure::Argument(format!(
+            "bad argument: --output {} would overwrite {}, which is read; give another file",
+            shown(output),
+            shown(&input)
+        ))),
+        None => Ok(()),
+    }
+}
+
+/// A file, or the files in a folder.
+fn files(path: &Path) -> Vec<PathBuf> {
+    match fs::read_dir(path) {
+        Ok(entries) => entries.filter_map(|entry| Some(entry.ok()?.path())).collect(),
+        Err(_) => vec![path.to_path_buf()],
+    }
+}
+
+/// The device and the number of a regular file, which are the same for each of its names.
+fn identity(path: &Path) -> Option<(u64, u64)> {
+    let file = path.metadata().ok().filter(|file| file.is_file())?;
+    Some((file.dev(), file.ino()))
 }
 
 impl Drop for Output {

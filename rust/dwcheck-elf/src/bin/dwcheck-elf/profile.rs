@@ -4,24 +4,26 @@ mod summary;
 
 use crate::arguments::{Format, ProfileWords};
 use crate::end::{shown, Done, Failure};
-use crate::output::Output;
+use crate::output::{check_apart, Output};
 use crate::survey::STACK;
 use dwcheck_elf::profile::script::ScriptOptions;
 use dwcheck_elf::profile::{firefox, folded, html, pprof, script, speedscope, top};
-use dwcheck_elf::profile::{NameOptions, Names, Options, Places, Profile, Recording};
+use dwcheck_elf::profile::{Damage, Event, NameOptions, Names, Options, Places, Profile, Recording};
+use dwcheck_elf::text::Plain;
 use indicatif::{ProgressBar, ProgressStyle};
 use std::fs::File;
 use std::io::Write;
 use std::ops::RangeInclusive;
 use std::path::Path;
 
-/// How many functions the table of them has.
-const TOP: usize = 50;
-
 /// Writes the profile of a recording on `out` or to a file, and a summary on standard error.
 pub fn profile(words: &ProfileWords, out: &mut impl Write) -> Result<Done, Failure> {
+    if let Some(output) = &words.output {
+        check_apart(output, words.kallsyms.as_deref().into_iter().chain([opened(&words.recording)]))?;
+    }
     start_threads(words)?;
     let (profile, names) = read(words)?;
+    check_event(words, &profile.events)?;
     match &words.output {
         None => write(words, &profile, &names, out)?,
         Some(path) => {
@@ -52,6 +54,7 @@ fn read(words: &ProfileWords) -> Result<(Profile, Names), Failure> {
         File::open(path).map_err(|error| Failure::File(format!("cannot read {}: {}", shown(path), error)))?;
     }
     let mut recording = open(&words.recording)?;
+    check_event(words, recording.about().events())?;
     let bar = bar(recording.size());
     // This runs in one of the threads, which have stacks of the size that is asked for.
     Ok(rayon::scope(|_| {
@@ -65,6 +68,18 @@ fn read(words: &ProfileWords) -> Result<(Profile, Names), Failure> {
     }))
 }
 
+/// Refuses an event that wasn't recorded. A recording that comes through a pipe has no events until it is read.
+fn check_event(words: &ProfileWords, events: &[Event]) -> Result<(), Failure> {
+    let name = match words.event.as_ref() {
+        Some(name) if !events.is_empty() && events.iter().all(|event| event.name != *name) => name,
+        _ => return Ok(()),
+    };
+    let mut known: Vec<_> = events.iter().map(|event| Plain(&event.name).to_string()).collect();
+    known.dedup();
+    let (name, recording, known) = (Plain(name), shown(&words.recording), known.join(", "));
+    Err(Failure::Argument(format!("bad argument: --event {}: {} has no such event; it has {}", name, recording, known)))
+}
+
 fn write(words: &ProfileWords, profile: &Profile, names: &Names, out: &mut impl Write) -> Result<(), Failure> {
     let event = profile.sampled_events().first().copied().unwrap_or(0);
     match words.format {
@@ -74,7 +89,7 @@ fn write(words: &ProfileWords, profile: &Profile, names: &Names, out: &mut impl 
         Format::Speedscope => speedscope::write(profile, names, event, out)?,
         Format::Pprof => pprof::write(profile, names, out)?,
         Format::Firefox => firefox::write(profile, names, event, &title(words, profile), out)?,
-        Format::Top => top::write(profile, names, event, TOP, out)?,
+        Format::Top => top::write(profile, names, event, words.rows, out)?,
     }
     Ok(())
 }
@@ -87,10 +102,16 @@ fn title(words: &ProfileWords, profile: &Profile) -> String {
     }
 }
 
+/// The path that is opened for a recording.
+fn opened(recording: &Path) -> &Path {
+    match recording == Path::new("-") {
+        true => Path::new("/dev/stdin"),
+        false => recording,
+    }
+}
+
 fn open(path: &Path) -> Result<Recording<'static>, Failure> {
-    let is_stdin = path == Path::new("-");
-    let opened = if is_stdin { Path::new("/dev/stdin") } else { path };
-    let failed = |why: &dyn std::fmt::Display| Failure::File(format!("{}: {}", shown(path), why));
+    let opened = opened(path);
     let cannot = |error: &dyn std::fmt::Display| Failure::File(format!("cannot read {}: {}", shown(path), error));
     let file = File::open(opened).map_err(|error| cannot(&error))?;
     let metadata = file.metadata().map_err(|error| cannot(&error))?;
@@ -99,7 +120,20 @@ fn open(path: &Path) -> Result<Recording<'static>, Failure> {
         regular if regular.is_file() => Recording::of_file(&file),
         _ => Recording::of_pipe(file),
     };
-    recording.map_err(|damage| failed(&damage))
+    recording.map_err(|damage| unread(path, &damage))
+}
+
+/// The failure for a recording that can't be opened. Of a folder, it names the file.
+fn unread(path: &Path, damage: &Damage) -> Failure {
+    match damage {
+        Damage::InFile(name, why) if name == "data" => Failure::File(format!(
+            "{}: {}; give a file, or a folder that perf record --threads wrote",
+            shown(&path.join(name)),
+            why
+        )),
+        Damage::InFile(name, why) => Failure::File(format!("{}: {}", shown(&path.join(name)), why)),
+        _ => Failure::File(format!("{}: {}", shown(path), damage)),
+    }
 }
 
 /// Shows on a terminal how much of the recording was read.

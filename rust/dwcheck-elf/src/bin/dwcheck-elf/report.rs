@@ -3,15 +3,19 @@
 use crate::arguments::ReportWords;
 use crate::end::{shown, Done, Failure};
 use crate::opened::{note, program, read};
-use crate::output::Output;
+use crate::output::{check_apart, Output};
 use dwcheck_elf::report::page::{self, Contents, ROOM};
 use dwcheck_elf::report::{Difference, Report, Standing};
 use std::io::Write;
+use std::path::PathBuf;
 
 /// Writes the page on `out` or to a file.
 pub fn report(words: &ReportWords, out: &mut impl Write) -> Result<Done, Failure> {
     if words.compare && words.programs.len() != 2 {
         return Err(Failure::Argument("bad argument: --compare takes two programs, the old one first".to_string()));
+    }
+    if let Some(output) = &words.output {
+        check_apart(output, words.programs.iter().map(PathBuf::as_path))?;
     }
     let files = words.programs.iter().map(|path| Ok((path, read(path)?))).collect::<Result<Vec<_>, Failure>>()?;
     let read = files.iter().map(|(path, data)| {

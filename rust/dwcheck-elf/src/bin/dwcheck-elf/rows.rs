@@ -2,22 +2,27 @@
 
 use crate::arguments::{RowWords, RowsWords};
 use crate::check::write_notes;
-use crate::end::{Done, Failure};
-use crate::opened::{address, named, number_argument, process, program, read, write_defect, Opened};
+use crate::end::{shown, Done, Failure};
+use crate::opened::{self, address, named, number_argument, process, read, write_defect, Opened};
 use dwcheck::Process;
 use dwcheck_elf::frames::{Frames, Kind};
 use dwcheck_elf::functions::Functions;
+use dwcheck_elf::program;
 use dwcheck_elf::row::Row;
 use dwcheck_elf::text::{Address, Offset, RowLine};
 use dwcheck_elf::validate::{DwcheckRows, RowSource};
 use std::io::Write;
+use std::path::Path;
 
 /// Shows all FDEs and rows of a program, but those of FDEs that are refused, whose faults are shown on
 /// standard error.
 pub fn rows(words: &RowsWords, out: &mut impl Write) -> Result<Done, Failure> {
     let data = read(&words.program)?;
-    let program = program(&words.program, &data)?;
+    let program = opened::program(&words.program, &data)?;
     let opened = Opened::read(&words.program, &program)?;
+    if opened.frames.is_empty() && opened.refused.is_empty() {
+        return Err(no_rows(&words.program, program.kind()));
+    }
     let functions = program.functions();
     for frames in &opened.frames {
         let process = process(&words.program, frames)?;
@@ -30,6 +35,15 @@ pub fn rows(words: &RowsWords, out: &mut impl Write) -> Result<Done, Failure> {
     out.flush()?;
     opened.note_refused(&words.program, true);
     Ok(opened.done())
+}
+
+/// The failure for a file that has no frame section.
+fn no_rows(path: &Path, kind: program::Kind) -> Failure {
+    let hint = match kind {
+        program::Kind::Core => "; it is a core file: stack prints its stacks",
+        _ => "",
+    };
+    Failure::File(format!("{}: has neither .eh_frame nor .debug_frame{}", shown(path), hint))
 }
 
 fn write_section(
@@ -68,7 +82,7 @@ fn write_rows(out: &mut impl Write, frames: &Frames<'_>, mut rows: DwcheckRows<'
 /// shows the fault of the FDE that covers the address and is refused, or `none`.
 pub fn row(words: &RowWords, out: &mut impl Write) -> Result<Done, Failure> {
     let data = read(&words.program)?;
-    let program = program(&words.program, &data)?;
+    let program = opened::program(&words.program, &data)?;
     let functions = program.functions();
     let target = program.target();
     let load = number_argument(&words.load, target)?;

@@ -232,7 +232,7 @@ impl Section {
 }
 
 /// Says on standard error which files and folders can't be read.
-fn note_unread(files: &Files) {
+pub fn note_unread(files: &Files) {
     for (path, error) in &files.unread {
         let _ = writeln!(io::stderr(), "dwcheck-elf: cannot read {}: {}", shown(path), error);
     }

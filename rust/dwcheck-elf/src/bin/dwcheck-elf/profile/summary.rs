@@ -50,9 +50,8 @@ fn problems(profile: &Profile, names: &Names, text: &mut String) {
 
 fn counts(profile: &Profile, text: &mut String) {
     let counts = &profile.counts;
-    let of = |end: End| counts.ends.get(&end).copied().unwrap_or(0);
     let _ = write!(text, "samples {} frames {}", profile.samples.len(), counts.frames);
-    let _ = write!(text, " truncated {}", of(End::EndOfCopy));
+    let _ = write!(text, " truncated {}", counts.truncated());
     let others = [
         ("lost", counts.lost),
         ("throttled", counts.throttled),
@@ -75,13 +74,8 @@ fn stops(profile: &Profile, text: &mut String) {
     }
 }
 
-/// Which events aren't shown, or which ones there are if none has the name that was given.
+/// Which events aren't shown.
 fn events(words: &ProfileWords, profile: &Profile, text: &mut String) {
-    let is_known = |name: &String| profile.events.iter().any(|event| event.name == *name);
-    if let Some(name) = words.event.as_ref().filter(|name| !is_known(name)) {
-        let all: Vec<_> = profile.events.iter().map(|event| Plain(&event.name).to_string()).collect();
-        let _ = writeln!(text, "dwcheck-elf: no event is named {}; these are: {}", Plain(name), all.join(", "));
-    }
     let sampled = profile.sampled_events();
     if matches!(words.format, Format::Script | Format::Pprof) || sampled.len() < 2 {
         return;

@@ -17,6 +17,12 @@ pub const LARGEST: u64 = 4 << 30;
 /// What an ELF file begins with.
 const MAGIC: &[u8; 4] = b"\x7fELF";
 
+/// What archives of objects begin with: those that hold them, and those that only name them.
+const ARCHIVES: [&[u8]; 2] = [b"!<arch>\n", b"!<thin>\n"];
+
+/// How many bytes tell what a file is.
+const STARTS: usize = 8;
+
 /// ELF files. No two have the same bytes.
 #[derive(Debug, Default)]
 pub struct Files {
@@ -24,7 +30,7 @@ pub struct Files {
     pub paths: Vec<PathBuf>,
     /// The number of further ELF files, each with the same bytes as a file in `paths`.
     pub repeated: usize,
-    /// Files and folders that can't be read, and why.
+    /// Files and folders that can't be read, and files that were named and aren't ELF files, and why.
     pub unread: Vec<(PathBuf, String)>,
 }
 
@@ -71,10 +77,13 @@ impl Files {
 }
 
 impl Walk {
-    /// Adds a file or a folder that the user named. Follows it if it is a symbolic link.
+    /// Adds a file or a folder that the user named. Follows it if it is a symbolic link. Of what is in folders only the
+    /// ELF files matter, but a file that was named is one that the user wants to know of.
     fn start(&mut self, path: &Path) {
-        match path.metadata() {
-            Ok(metadata) => self.add(path.to_path_buf(), &metadata),
+        let checked = path.metadata().and_then(|metadata| Ok((why_not_elf(path, &metadata)?, metadata)));
+        match checked {
+            Ok((None, metadata)) => self.add(path.to_path_buf(), &metadata),
+            Ok((Some(why), _)) => self.unread.push((path.to_path_buf(), why.to_string())),
             Err(error) => self.unread.push((path.to_path_buf(), error.to_string())),
         }
     }
@@ -110,10 +119,31 @@ impl Walk {
     }
 }
 
-pub fn is_elf(path: &Path) -> io::Result<bool> {
-    let mut start = Vec::with_capacity(MAGIC.len());
-    File::open(path)?.take(MAGIC.len() as u64).read_to_end(&mut start)?;
-    Ok(start == MAGIC)
+fn is_elf(path: &Path) -> io::Result<bool> {
+    Ok(start(path)?.starts_with(MAGIC))
+}
+
+/// Why a file that was named isn't an ELF file. `None` if it is one, or a folder.
+fn why_not_elf(path: &Path, metadata: &Metadata) -> io::Result<Option<&'static str>> {
+    if metadata.is_dir() {
+        return Ok(None);
+    }
+    if !metadata.is_file() {
+        return Ok(Some("neither a regular file nor a folder"));
+    }
+    let start = start(path)?;
+    Ok(match ARCHIVES.iter().any(|magic| start.starts_with(*magic)) {
+        _ if start.starts_with(MAGIC) => None,
+        true => Some("an archive, not an ELF file; take its objects out by ar x"),
+        false => Some("not an ELF file"),
+    })
+}
+
+/// The first bytes of a file, by which its kind is known.
+fn start(path: &Path) -> io::Result<Vec<u8>> {
+    let mut start = Vec::with_capacity(STARTS);
+    File::open(path)?.take(STARTS as u64).read_to_end(&mut start)?;
+    Ok(start)
 }
 
 /// For each file, a 128-bit hash of its bytes, or `None` if no other file has the same size or the
