@@ -177,6 +177,9 @@ pub enum Effect {
     PopOther { to: Option<Place> },
     /// Pops the flags.
     PopFlags,
+    /// Begins a frame: the frame pointer is pushed and set to the stack pointer, which is then lowered by a number
+    /// of bytes.
+    Enter { bytes: u32 },
     /// Ends a frame: the stack pointer is set to the frame pointer, which is then popped.
     Leave,
     /// Compares two registers.
@@ -267,6 +270,12 @@ impl Effect {
             Effect::Compare { one, other } => Some((one, other)),
             _ => None,
         }
+    }
+
+    /// Whether it pushes, and perhaps more.
+    pub fn is_push(&self) -> bool {
+        use Effect::{Enter, Push, PushFlags, PushMemory, PushOther};
+        matches!(self, Push { .. } | PushMemory { .. } | PushOther | PushFlags | Enter { .. })
     }
 
     /// Whether it changes no value that is followed.

@@ -97,6 +97,12 @@ impl Step<'_> {
             Effect::PopFlags => {
                 self.pop();
             }
+            Effect::Enter { bytes } => {
+                let (pointer, frame) = (self.machine.stack_pointer, self.machine.frame_pointer);
+                self.push(self.state.get(frame));
+                self.state.set(frame, self.state.get(pointer));
+                self.state.set(pointer, self.state.get(pointer).plus(-i64::from(bytes)));
+            }
             Effect::Leave => {
                 let frame = self.machine.frame_pointer;
                 self.state.set(self.machine.stack_pointer, self.state.get(frame));

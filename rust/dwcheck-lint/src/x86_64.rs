@@ -211,6 +211,8 @@ fn stack_or_jump(found: &Decoded) -> Option<Effect> {
         }
         Mnemonic::PushFlags => Some(Effect::PushFlags),
         Mnemonic::PopFlags => Some(Effect::PopFlags),
+        Mnemonic::Enter if found.width == 16 => None,
+        Mnemonic::Enter => enter(&found.operands),
         Mnemonic::Leave => Some(Effect::Leave),
         Mnemonic::Return => Some(Effect::Return),
         Mnemonic::Padding => Some(Effect::Padding),
@@ -238,6 +240,13 @@ fn push(operand: &Operand) -> Effect {
         (_, Some(from)) => Effect::PushMemory { from },
         _ => Effect::PushOther,
     }
+}
+
+/// `enter`: the bytes of the frame, and the number of pointers to outer frames, which are pushed before.
+fn enter(operands: &[Operand; 2]) -> Option<Effect> {
+    let (frame, depth) = (operands[0].immediate()?, operands[1].immediate()?);
+    let bytes = (frame & 0xffff) + 8 * (depth & 31);
+    Some(Effect::Enter { bytes: u32::try_from(bytes).ok()? })
 }
 
 fn jump_if(operand: &Operand, condition: Condition) -> Option<Effect> {

@@ -43,9 +43,10 @@ pub(crate) enum Mnemonic {
     System,
     Compare,
     MoveIf,
+    Enter,
 }
 
-const MNEMONICS: [Mnemonic; 27] = [
+const MNEMONICS: [Mnemonic; 28] = [
     Mnemonic::Other,
     Mnemonic::Push,
     Mnemonic::Pop,
@@ -73,6 +74,7 @@ const MNEMONICS: [Mnemonic; 27] = [
     Mnemonic::System,
     Mnemonic::Compare,
     Mnemonic::MoveIf,
+    Mnemonic::Enter,
 ];
 
 /// What an operand is, by the numbers of `zydis.c`.
