@@ -54,6 +54,12 @@ impl Step<'_> {
             Effect::Exchange { one, other } => self.exchange(one, other),
             Effect::Set { to, number } => self.state.set(to, Value::Number(number)),
             Effect::Add { to, from, number } => self.state.set(to, self.state.get(from).plus(number)),
+            Effect::Calculate { register, operation, is_half } => match self.state.get(register) {
+                Value::Number(number) => {
+                    self.state.set(register, Value::Number(operation.applied(number, is_half)));
+                }
+                _ => self.write(Registers::of(&[register.0]), None),
+            },
             Effect::Insert { to, mask, number } => self.insert(to, mask, number),
             Effect::AddRegister { to, from, by, scale } => self.add_register(to, from, by, scale),
             Effect::SubtractRegister { to, from, by } => self.subtract_register(to, from, by),

@@ -44,9 +44,13 @@ pub(crate) enum Mnemonic {
     Compare,
     MoveIf,
     Enter,
+    Negate,
+    Invert,
+    ShiftLeft,
+    ShiftRight,
 }
 
-const MNEMONICS: [Mnemonic; 28] = [
+const MNEMONICS: [Mnemonic; 32] = [
     Mnemonic::Other,
     Mnemonic::Push,
     Mnemonic::Pop,
@@ -75,6 +79,10 @@ const MNEMONICS: [Mnemonic; 28] = [
     Mnemonic::Compare,
     Mnemonic::MoveIf,
     Mnemonic::Enter,
+    Mnemonic::Negate,
+    Mnemonic::Invert,
+    Mnemonic::ShiftLeft,
+    Mnemonic::ShiftRight,
 ];
 
 /// What an operand is, by the numbers of `zydis.c`.
