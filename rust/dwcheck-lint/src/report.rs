@@ -214,7 +214,7 @@ impl fmt::Display for Coverage {
     fn fmt(&self, f: &mut fmt::Formatter<'_>) -> fmt::Result {
         write!(f, "fdes {} instructions {} judged {}", self.fdes, self.instructions, self.judged)?;
         let skipped = REASONS.iter().map(|(reason, name)| (*name, self.skipped(*reason)));
-        let others = [("signal-frames", self.signal_frames), ("unread", self.unread)];
+        let others = [("signal-frames", self.signal_frames), ("unread", self.unread), ("undecoded", self.undecoded)];
         let mut counts = skipped.chain(others).filter(|(_, count)| *count > 0);
         counts.try_for_each(|(name, count)| write!(f, " {} {}", name, count))
     }
