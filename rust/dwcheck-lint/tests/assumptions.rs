@@ -1,0 +1,59 @@
+//! What is found where the code was taken up from a row: the finding says so, and blames no row for sure.
+
+mod common;
+
+use common::assembly::function;
+use common::gimli_rows::module;
+use common::{has, Folder};
+use dwcheck_lint::lint::lint;
+use dwcheck_lint::report::{Json, Text};
+
+/// Code whose address is taken, as a handler's, has a wrong row, and jumps to code that has a right one.
+const MISPLACED: &str = "sub $24, %rsp
+    .cfi_adjust_cfa_offset 24
+    lea 2f(%rip), %rax
+    mov %rax, (%rdi)
+    call *%rsi
+    1: nop
+    add $24, %rsp
+    .cfi_adjust_cfa_offset -24
+    ret
+    2: mov $1, %eax
+    jmp 1b";
+
+/// The texts of the findings, and as JSON.
+fn texts(name: &str, body: &str) -> Vec<(String, String)> {
+    let folder = Folder::new(name);
+    folder.write("text.s", &function(body, ""));
+    if !has("gcc") {
+        return Vec::new();
+    }
+    folder.run("gcc -nostdlib -shared -o out text.s");
+    let data = folder.bytes("out");
+    let module = module(&data);
+    let texts =
+        |finding| (Text(&module, finding, &|_| None).to_string(), Json(&module, finding, &|_| None).to_string());
+    lint(&module).findings.iter().map(texts).collect()
+}
+
+#[test]
+fn findings_that_rest_on_an_assumption_say_so() {
+    for (text, json) in texts("assumed", MISPLACED) {
+        assert!(text.starts_with("wrong row at a join at "), "{}", text);
+        assert!(text.ends_with("an earlier row was taken to be right; that row may be the wrong one"), "{}", text);
+        assert!(!text.contains("right would be"), "{}", text);
+        assert!(json.contains("\"assumed\":true") && !json.contains("directive"), "{}", json);
+    }
+}
+
+#[test]
+fn findings_that_rest_on_none_give_a_directive() {
+    for (text, json) in texts("unassumed", "push %rax\nmov %rdi, %rax\npop %rcx\nret") {
+        assert!(text.ends_with("; right would be: .cfi_def_cfa_offset 16"), "{}", text);
+        assert!(
+            json.contains("\"assumed\":false") && json.contains("\"directive\":\".cfi_def_cfa_offset 16\""),
+            "{}",
+            json
+        );
+    }
+}
