@@ -31,11 +31,6 @@ pub struct Place<'a, 'm>(pub &'a Module<'m>, pub u64);
 /// A string of JSON, with its quotes.
 pub struct Quoted<'a>(pub &'a str);
 
-/// What is said of a finding that rests on an assumption.
-const ASSUMED_NOTE: &str =
-    "\n    note: nothing is seen to lead to this code, so an earlier row was taken to be right; \
-                            that row may be the wrong one";
-
 /// A register plus a number: `rsp+16`.
 pub struct Sum<'a>(pub &'a Machine, pub Register, pub i64);
 
@@ -122,16 +117,8 @@ impl Finding<'_> {
         places.join(" ")
     }
 
-    /// Whether what is known of the code was taken from a row, so that this one is wrong only if that one is right.
-    pub fn is_assumed(&self) -> bool {
-        self.mark.is_assumed
-    }
-
-    /// The directive that would have made the row right, if one would. None if that rests on an assumption.
+    /// The directive that would have made the row right, if one would.
     pub fn directive(&self) -> Option<String> {
-        if self.is_assumed() {
-            return None;
-        }
         match (self.mark.row.cfa, self.mark.truth.cfa) {
             (Cfa::Offset(register, _), Some((other, offset))) if self.mark.verdict.wrong.has(Facts::CFA) => {
                 if register == other {
@@ -170,9 +157,6 @@ impl fmt::Display for Text<'_, '_> {
         if let Some(directive) = finding.directive() {
             write!(f, "; right would be: {}", directive)?;
         }
-        if finding.is_assumed() {
-            f.write_str(ASSUMED_NOTE)?;
-        }
         if finding.has_odd_return {
             f.write_str("\n    note: at a return of this function the stack pointer isn't at the return address")?;
         }
@@ -207,7 +191,7 @@ impl fmt::Display for Json<'_, '_> {
         let names: Vec<_> = finding.wrong.names(machine).map(|name| Quoted(name).to_string()).collect();
         write!(f, ",\"registers\":[{}]", names.join(","))?;
         write!(f, ",\"addresses\":{},\"places\":{}", finding.addresses, finding.places)?;
-        write!(f, ",\"assumed\":{},\"odd-return\":{}}}", finding.is_assumed(), finding.has_odd_return)
+        write!(f, ",\"odd-return\":{}}}", finding.has_odd_return)
     }
 }
 
@@ -230,7 +214,7 @@ impl fmt::Display for Coverage {
     fn fmt(&self, f: &mut fmt::Formatter<'_>) -> fmt::Result {
         write!(f, "fdes {} instructions {} judged {}", self.fdes, self.instructions, self.judged)?;
         let skipped = REASONS.iter().map(|(reason, name)| (*name, self.skipped(*reason)));
-        let others = [("signal-frames", self.signal_frames), ("unread", self.unread), ("undecoded", self.undecoded)];
+        let others = [("signal-frames", self.signal_frames), ("unread", self.unread)];
         let mut counts = skipped.chain(others).filter(|(_, count)| *count > 0);
         counts.try_for_each(|(name, count)| write!(f, " {} {}", name, count))
     }

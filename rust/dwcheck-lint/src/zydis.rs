@@ -43,14 +43,9 @@ pub(crate) enum Mnemonic {
     System,
     Compare,
     MoveIf,
-    Enter,
-    Negate,
-    Invert,
-    ShiftLeft,
-    ShiftRight,
 }
 
-const MNEMONICS: [Mnemonic; 32] = [
+const MNEMONICS: [Mnemonic; 27] = [
     Mnemonic::Other,
     Mnemonic::Push,
     Mnemonic::Pop,
@@ -78,11 +73,6 @@ const MNEMONICS: [Mnemonic; 32] = [
     Mnemonic::System,
     Mnemonic::Compare,
     Mnemonic::MoveIf,
-    Mnemonic::Enter,
-    Mnemonic::Negate,
-    Mnemonic::Invert,
-    Mnemonic::ShiftLeft,
-    Mnemonic::ShiftRight,
 ];
 
 /// What an operand is, by the numbers of `zydis.c`.
