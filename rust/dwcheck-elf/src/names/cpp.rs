@@ -61,16 +61,16 @@ fn without_types(name: &str, form: Form) -> Option<String> {
         return None;
     }
     let mut ends = name.match_indices('E').map(|(at, _)| name.split_at(at + 1));
-    let text = ends.find_map(|(part, rest)| parsed(part, Form::Short).filter(|_| !continues(rest)))?;
+    let text = ends.find_map(|(part, rest)| parsed(part, Form::Short).filter(|_| are_types(rest)))?;
     match clone.filter(|_| form == Form::Whole) {
         Some(clone) => Some(format!("{} [clone .{}]", text, clone)),
         None => Some(text),
     }
 }
 
-/// Whether a name goes on here: with the arguments of a template, or with a tag.
-fn continues(rest: &str) -> bool {
-    rest.starts_with(['I', 'B'])
+/// Whether what follows in a name are types with an `sr`, and not the arguments of a template or a tag.
+fn are_types(rest: &str) -> bool {
+    rest.contains("sr") && !rest.starts_with(['I', 'B'])
 }
 
 /// What a thunk is called, and the name of the function to which it leads. `None` if the name isn't one of a thunk.
@@ -133,6 +133,9 @@ fn tidy(text: String) -> String {
 
 /// Writes `(unsigned long)16` as `16ul`.
 fn with_suffixes(text: String, kind: &str, suffix: &str) -> String {
+    if !text.contains(kind) {
+        return text;
+    }
     let mut parts = text.split(kind);
     let first = parts.next().unwrap_or("").to_string();
     parts.fold(first, |written, part| {
@@ -180,6 +183,9 @@ mod tests {
             assert_eq!(demangled(&symbol, Form::Whole).unwrap(), expected);
             assert_eq!(demangled(&cold, Form::Whole).unwrap(), format!("{} [clone .cold]", expected));
             assert_eq!(demangled(&cold, Form::Short).unwrap(), expected);
+        }
+        for name in ["_ZN1A1fEv_more", "_ZThn8_", "_ZTh_N1A1fEv", "_ZTcN1A1fEv", "_ZT"] {
+            assert_eq!(demangled(name, Form::Whole), None, "{}", name);
         }
     }
 }
