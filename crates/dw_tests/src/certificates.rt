@@ -27,14 +27,6 @@ pub(crate) fn refusal(kind: FaultKind, at: u32) -> Verdict {
     Err(Fault { kind, at })
 }
 
-/// Appends the same bytes `count` times.
-pub(crate) fn push_times(bytes: &mut Vec<u8>, part: &[u8], count: usize) -> Result<(), AllocError> {
-    for _ in 0..count {
-        bytes.extend_from_slice(part)?;
-    }
-    Ok(())
-}
-
 /// The result of checking an expression with the given `states`.
 fn rechecked(alloc: Global, bytes: &[u8], kind: Kind, states: &[State]) -> Verdict
     requires { length bytes.now < 2 ^ 32 }

@@ -24,6 +24,4 @@ mod modules;
 #[cfg(test)]
 mod refused_memory;
 #[cfg(test)]
-mod standard;
-#[cfg(test)]
 mod texts;

@@ -136,7 +136,7 @@ fn counts_of(frame: &CheckedFrame<'_>) -> Numbers {
     (
         frame.cies().len(),
         frame.fdes().len(),
-        frame.row_count() as usize,
+        usize::try_from(frame.row_count()).unwrap_or(usize::MAX),
         frame.expressions().len(),
     )
 }

@@ -3,7 +3,7 @@
 ghost use Rattle.std.specs.Prelude.{◌≡◌, length};
 
 use crate::inputs::FUNCTION;
-use crate::texts::cases::{ROW_1, WORKED, asked, files_of};
+use crate::texts::cases::{ROW_1, WORKED, asked, end_of, files_of, parts_of, text_of};
 use dw_check::{End, Through, run};
 use std::alloc::AllocError;
 use std::process::Abort;
@@ -61,9 +61,11 @@ const CUTS: [(usize, usize, (End, u8), &str); 7] = [
 
 #[test]
 fn answers_the_worked_rows(rt: HostRuntime) -> Result<(), AllocError> {
-    for (line, contents, end, text) in &WORKED {
+    for row in WORKED.split("\n\n") {
+        let (line, contents, status, text) = parts_of(&rt, row);
         let files = files_of(rt.alloc(), contents)?;
-        comes_to(&rt, line, &files, *end, text)?;
+        let text = text_of(rt.alloc(), text)?;
+        comes_to(&rt, line, &files, end_of(status), &text)?;
     }
     for (first, last, end, text) in &CUTS {
         for length in *first..=*last {

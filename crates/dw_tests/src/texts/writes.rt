@@ -2,7 +2,7 @@
 
 ghost use Rattle.std.specs.Prelude.{◌≡◌, length};
 
-use crate::texts::cases::{WORKED, asked, files_of};
+use crate::texts::cases::{WORKED, asked, files_of, parts_of, text_of};
 use dw_check::{End, Sink, Through, run};
 use std::alloc::AllocError;
 use std::io;
@@ -107,13 +107,15 @@ fn fails_at_each_write(
 
 #[test]
 fn writes_a_beginning_where_a_write_fails(rt: HostRuntime) -> Result<(), AllocError> {
-    for (line, contents, _, text) in &WORKED {
+    for row in WORKED.split("\n\n") {
+        let (line, contents, _, text) = parts_of(&rt, row);
         let files = files_of(rt.alloc(), contents)?;
+        let text = text_of(rt.alloc(), text)?;
         for most in [1, 7, 500] {
-            fails_at_each_write(&rt, line, &files, text, most)?;
+            fails_at_each_write(&rt, line, &files, &text, most)?;
         }
     }
-    let files = files_of(rt.alloc(), &["", ""])?;
+    let files = files_of(rt.alloc(), "- | -")?;
     let text = "accepted\ncies 0 fdes 0 rows 0\ntables 0 lists 0 expressions 0\n";
     for (writer, end, len) in &EMPTY_SECTIONS {
         let found = written(&rt, "dwcheck check --hex f l", &files, text, *writer)?;
