@@ -1,14 +1,18 @@
 #!/usr/bin/env python3
 """Checks that the prover refuses each wrong body of a function in crates/*/wrong-bodies.
 
-    tools/wrong_bodies.py [--proved FILE] [--libraries FOLDER] [CRATE]..
+    tools/wrong_bodies.py [--proved FILE] [--libraries FOLDER] [--right] [CRATE]..
 
 A file NAME.edit has lines `file: src/X.rt`, `old: TEXT` and `new: TEXT`: TEXT is one line that is
 once in the file. The wrong bodies of a crate are put into one copy of it, each in a function of its
 own, and one check of these functions must refuse each of them: because of what that very function
 has to meet, and not only because of a function that it calls. Two edits of one function take two
-checks. Prints `ok CRATE/NAME: FUNCTION: WHY` or `FAILED CRATE/NAME: ..` for each edit, and ends with
-status 1 if one failed.
+checks. `rt ci` proves all other functions, so here the check takes their contracts as they are. Prints
+`ok CRATE/NAME: FUNCTION: WHY` or `FAILED CRATE/NAME: ..` for each edit, and ends with status 1 if one
+failed.
+
+With --right, each function keeps its right body, and none may be refused: so a refusal of the wrong
+body is one of that body. To be run when this script changes.
 
 The libraries that a crate uses are those that `rt ci` built, in crates/*/out, or in FOLDER/*/out.
 With --proved, a crate is tried once that file names all of them, a line for each crate; a line `end`
@@ -30,6 +34,16 @@ from dataclasses import dataclass, field
 TOP = pathlib.Path(__file__).resolve().parent.parent
 CRATES = TOP / "crates"
 PARTS = ("src", "specs", "proofs")
+# The proof of a function that isn't changed is left out: a check with --allow-holes takes its contract
+# as it is.
+LEFT_OUT = """-- Left out.
+use Rattle.{crate}.proofs.{path}.Statement.{{statement}}
+
+pub {name}_spec : {{M : Type 1}} → statement M
+{name}_spec = ?
+"""
+# The first line of a function.
+HEAD = re.compile(r'( *)(?:pub(?:\([a-z]+\))? )?(?:const |unsafe |extern "C" )*fn (\w+)')
 KEPT = pathlib.Path(os.environ.get("XDG_CACHE_HOME") or pathlib.Path.home() / ".cache") / "dwcheck" / "wrong-bodies"
 # How many seconds a check may take.
 LIMIT = 3600
@@ -119,7 +133,7 @@ def function_around(lines, at):
     """The first and the last line of the function that has a line, with its comment and attributes, and
     its name."""
     for begin in range(at, -1, -1):
-        if head := re.match(r"( *)(?:pub(?:\([a-z]+\))? )?(?:const |unsafe |extern \"C\" )*fn (\w+)", lines[begin]):
+        if head := HEAD.match(lines[begin]):
             ends = (number for number in range(begin, len(lines)) if re.match(head[1] + r"}", lines[number]))
             end = next(ends, len(lines) - 1)
             if end >= at:
@@ -161,7 +175,8 @@ def kit():
 
 
 def words(crate, every, libraries, only):
-    """The command that checks functions of a crate, over the libraries that were built."""
+    """The command that checks functions of a crate, over the libraries that were built. It passes over
+    proofs that are left out."""
     of_kit = kit()
     found = [f"{of_kit}/bin/rattle", "check", "--crate-name", crate.name, "src/lib.rt"]
     for name in [*crate.uses, "std"]:
@@ -170,7 +185,7 @@ def words(crate, every, libraries, only):
     for name in below(crate.name, every):
         found += ["-L", f"dependency={libraries}/{name}/out/rlib"]
     found += ["-L", f"dependency={of_kit}/rlibs", "--antt-project", f"{of_kit}/rattle/logic/antt-project.json",
-              "--logic-built", f"{of_kit}/logic_built", "--jobs", "1"]
+              "--logic-built", f"{of_kit}/logic_built", "--jobs", "1", "--allow-holes"]
     if crate.is_static:
         found += ["--crate-type", "staticlib"]
     for name in only:
@@ -178,16 +193,55 @@ def words(crate, every, libraries, only):
     return found
 
 
+def module_of(file):
+    """The names of the modules of a file, the outermost first."""
+    return file[len("src/"):-len(".rt")].split("/")
+
+
+def owner_of(lines, at):
+    """The type in whose `impl` a function is that begins at a line; "" if it is in none, and None if the
+    function is that of a trait."""
+    if not lines[at].startswith(" "):
+        return ""
+    head = next((line for line in reversed(lines[:at]) if line.startswith(("impl", "pub trait", "trait"))), "")
+    own = re.fullmatch(r"impl(?:<[^{]*?>)? (\w+)(?:<.*>)? {", head)
+    return own[1] if own and " for " not in head else None
+
+
 def path_of(crate, function):
     """The path of a function as a check prints it, or the end of this path if it is a type's; if the
     function is that of a trait, the path of its module, which stands for all functions in it."""
-    module = "::".join([crate.name, *function.file[len("src/"):-len(".rt")].split("/")])
-    lines = (CRATES / crate.name / function.file).read_text(encoding="utf-8").splitlines()[:function.lines.start]
-    if not lines[-1].startswith(" "):
-        return f"{module}::{function.name}"
-    head = next((line for line in reversed(lines) if line.startswith(("impl", "pub trait", "trait"))), "")
-    own = re.fullmatch(r"impl(?:<[^{]*?>)? (\w+)(?:<.*>)? {", head)
-    return f"{own[1]}::{function.name}" if own and " for " not in head else module
+    module = "::".join([crate.name, *module_of(function.file)])
+    lines = (CRATES / crate.name / function.file).read_text(encoding="utf-8").splitlines()
+    owner = owner_of(lines, next(at for at in function.lines if HEAD.match(lines[at - 1])) - 1)
+    return module if owner is None else f"{owner or module}::{function.name}"
+
+
+def plain_functions(crate):
+    """The functions of a crate that aren't those of a trait: the file, the number of the first line, and
+    the names of the modules, the type and the function."""
+    for path in sorted((CRATES / crate.name / "src").rglob("*.rt")):
+        lines = path.read_text(encoding="utf-8").splitlines()
+        file = path.relative_to(CRATES / crate.name).as_posix()
+        modules = [] if file == "src/lib.rt" else module_of(file)
+        for at, line in enumerate(lines):
+            head = HEAD.match(line)
+            owner = owner_of(lines, at) if head and len(head[1]) in (0, 4) else None
+            if owner is not None:
+                yield file, at + 1, [*modules, *([owner] if owner else []), head[2]]
+
+
+def leave_out(crate, functions, folder):
+    """Leaves out the proofs of all functions but these, in a copy of a crate."""
+    for file, number, names in plain_functions(crate):
+        place = folder.joinpath("proofs", *names)
+        changes = any(file == it.file and number in it.lines for it in functions)
+        # A proof that is written as a whole is cheap to check.
+        if not changes and not (place / "Proof.antt").is_file():
+            shutil.rmtree(place, ignore_errors=True)
+            place.mkdir(parents=True)
+            text = LEFT_OUT.format(crate=crate.name, path=".".join(names), name=names[-1])
+            (place / "Proof.antt").write_text(text, encoding="utf-8")
 
 
 def why_refused(function, said):
@@ -209,8 +263,17 @@ def line_of(edit, said):
         if why := why_refused(function, said):
             return f"ok {edit.name}: {function.name}: {why[:200]}"
     name = edit.functions[0].name
-    proved = next((line for line in said if re.match(rf"fn \S*\b{name}: proved", line)), " | ".join(said[-3:]))
-    return f"FAILED {edit.name}: the check doesn't refuse {name}: {proved[:400]}"
+    found = next((line for line in said if re.match(rf"fn \S*\b{name}: ", line)), " | ".join(said[-3:]))
+    return f"FAILED {edit.name}: the check doesn't refuse {name}: {found[:400]}"
+
+
+def line_of_right(edit, said):
+    """The line to print for the right bodies of the functions that an edit changes."""
+    names = ", ".join(function.name for function in edit.functions)
+    refused = next((why for function in edit.functions if (why := why_refused(function, said))), None)
+    if refused or not said or not re.match(r"only=\d+ holes=\d+$", said[-1]):
+        return f"FAILED {edit.name}: the right body of {names}: {(refused or ' | '.join(said[-3:]))[:400]}"
+    return f"ok {edit.name}: {names}: not refused with its right body"
 
 
 def keep_log(crate, text):
@@ -220,18 +283,21 @@ def keep_log(crate, text):
     (logs / f"{crate.name}.log").write_text(text, encoding="utf-8")
 
 
-def refusals(crate, every, libraries, edits):
+def refusals(crate, every, given, edits):
     """Tries edits of different functions of a crate. Returns a line for each."""
+    functions = [function for edit in edits for function in edit.functions]
     with tempfile.TemporaryDirectory(prefix="dwcheck-wrong-") as room:
         folder = pathlib.Path(room)
         try:
-            copy_with(crate, edits, folder)
+            copy_with(crate, [] if given.right else edits, folder)
         except BadEdit as error:
             return [f"FAILED {edit.name}: {error}" for edit in edits]
-        only = sorted({path_of(crate, function) for edit in edits for function in edit.functions})
-        ran = subprocess.run(words(crate, every, libraries, only), cwd=folder, stdin=subprocess.DEVNULL, stdout=subprocess.PIPE,
+        leave_out(crate, functions, folder)
+        only = sorted({path_of(crate, function) for function in functions})
+        ran = subprocess.run(words(crate, every, given.libraries, only), cwd=folder, stdin=subprocess.DEVNULL, stdout=subprocess.PIPE,
                              stderr=subprocess.STDOUT, text=True, errors="replace", timeout=LIMIT, check=False)
-    lines = [line_of(edit, ran.stdout.splitlines()) for edit in edits]
+    line = line_of_right if given.right else line_of
+    lines = [line(edit, ran.stdout.splitlines()) for edit in edits]
     if any(line.startswith("FAILED") for line in lines):
         keep_log(crate, ran.stdout)
     return lines
@@ -249,12 +315,14 @@ def checksum(crate, every, edits):
     return found.hexdigest()
 
 
-def tried(crate, every, libraries, edits):
+def tried(crate, every, given, edits):
     """Tries edits, unless the same try was kept. Keeps it if all were refused."""
+    if given.right:
+        return refusals(crate, every, given, edits)
     kept = KEPT / checksum(crate, every, edits)
     if kept.is_file():
         return kept.read_text(encoding="utf-8").splitlines()
-    lines = refusals(crate, every, libraries, edits)
+    lines = refusals(crate, every, given, edits)
     if all(line.startswith("ok ") for line in lines):
         KEPT.mkdir(parents=True, exist_ok=True)
         new = kept.with_suffix(f".{os.getpid()}")
@@ -273,19 +341,19 @@ def come(names, proved):
     return True
 
 
-def try_crate(crate, every, libraries, proved):
+def try_crate(crate, every, given):
     """Prints a line for each edit of a crate. Returns whether all were refused."""
     try:
         edits = [read_edit(path) for path in crate.edits]
     except (BadEdit, OSError) as error:
         print(f"FAILED {crate.name}: {error}", flush=True)
         return False
-    if not come(below(crate.name, every), proved):
+    if not come(below(crate.name, every), given.proved):
         print(f"FAILED {crate.name}: the libraries that it uses aren't proved", flush=True)
         return False
     is_well = True
     for group in batches(edits):
-        for line in tried(crate, every, libraries, group):
+        for line in tried(crate, every, given, group):
             print(line, flush=True)
             is_well = is_well and line.startswith("ok ")
     return is_well
@@ -302,13 +370,14 @@ def main():
     parser.add_argument("crates", nargs="*", metavar="CRATE")
     parser.add_argument("--proved", type=pathlib.Path, metavar="FILE")
     parser.add_argument("--libraries", type=pathlib.Path, metavar="FOLDER", default=CRATES)
+    parser.add_argument("--right", action="store_true")
     given = parser.parse_args()
     every = crates()
     for crate in every.values():
         crate.edits = sorted((CRATES / crate.name / "wrong-bodies").glob("*.edit"))
     wanted = [it for it in every.values() if it.edits and (not given.crates or it.name in given.crates)]
     with ThreadPoolExecutor(lanes()) as pool:
-        ended = pool.map(lambda crate: try_crate(crate, every, given.libraries, given.proved), wanted)
+        ended = pool.map(lambda crate: try_crate(crate, every, given), wanted)
         return 0 if all(list(ended)) else 1
 
 

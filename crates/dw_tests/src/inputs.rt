@@ -1,22 +1,14 @@
-//! What several tests share: targets, sections, registers and memory, and functions that read hex
-//! digits and lines of cases.
+//! What several tests share: a target, sections, registers and memory.
 
-ghost use Rattle.std.specs.Prelude.{◌==◌, ◌<◌, ◌^◌, if◌then◌else◌, IfSome, Some, None, length};
+ghost use Rattle.std.specs.Prelude.{◌==◌, if◌then◌else◌, Some, None};
 
 use dw_bytes::{AddressSize, Order, Target};
 use dw_eh_frame::Bases;
 use dw_eval::{Memory, Registers};
-use std::alloc::Global;
-use std::process::Abort;
 
 pub(crate) const LITTLE: Target = Target {
     order: Order::Little,
     address_size: AddressSize::Eight,
-};
-
-pub(crate) const BIG_SHORT: Target = Target {
-    order: Order::Big,
-    address_size: AddressSize::Four,
 };
 
 /// Where a section of `.eh_frame` is: at 0x2000.
@@ -92,26 +84,5 @@ impl Registers for OneRegister {
         } else {
             None
         }
-    }
-}
-
-/// The bytes that `digits` encode in hex. `None` if they aren't hex digits.
-pub(crate) fn bytes_of(alloc: Global, digits: &str) -> Option<Vec<u8>>
-    ensures { IfSome result (λ bytes. length bytes.items < 2 ^ 32) }
-{
-    let bytes = hex::decode(alloc, digits).ok()?;
-    if bytes.len() < 1 << 32 {
-        Some(bytes)
-    } else {
-        None
-    }
-}
-
-/// The two parts of `case`, a line of a list of cases: what comes before its first colon and space,
-/// and what comes after them.
-pub(crate) fn parts_of<'a>(rt: &impl Abort, case: &'a str) -> (&'a str, &'a str) {
-    match case.split_once(": ") {
-        Some(parts) => parts,
-        None => panic!(rt; "{case} is no case"),
     }
 }

@@ -3,24 +3,14 @@
 #![tactic(auto)]
 
 #[cfg(test)]
-mod abi;
-#[cfg(test)]
 mod bytes;
 #[cfg(test)]
 mod certificates;
 #[cfg(test)]
-mod eh_records;
-#[cfg(test)]
 mod errors;
 pub mod examples;
 #[cfg(test)]
-mod expression_bytes;
-#[cfg(test)]
 mod inputs;
-#[cfg(test)]
-mod instructions;
-#[cfg(test)]
-mod modules;
 #[cfg(test)]
 mod refused_memory;
 #[cfg(test)]

@@ -10,8 +10,8 @@ use crate::inputs::{
 };
 use dw_bytes::{Fault, FaultKind, OUT_OF_MEMORY};
 use dw_check::{
-    Answer, Caller, Checked, End, LoadFault, Reading, Reads, ReportFault, Source, Stop, Through,
-    Usage, backtrace, check, load, report, request, run, unwind,
+    Answer, Backtrace, Caller, Checked, End, LoadFault, Reading, Reads, ReportFault, Source, Stop,
+    Through, Usage, backtrace, check, load, report, request, run, unwind,
 };
 use dw_eh_rows::{check_eh_frame, is_signal_address, signal_frames};
 use dw_eval::{Context, evaluate};
@@ -211,34 +211,45 @@ fn of_table(rt: &impl Abort, alloc: Global, section: &[u8]) -> Result<Numbers, F
     ))
 }
 
-/// A walk of forty frames, so that the list of frames is reallocated several times. The number of
-/// frames, and the addresses of the first, the second and the last.
-fn of_walk(rt: &impl Abort, alloc: Global, call: Call) -> Result<Numbers, Fault> {
-    let frame = check_frame(alloc, &ROUND, LITTLE)?;
-    let abi = Abi::none();
-    let walk = match call {
-        Call::Backtrace => match check(alloc, &ROUND, &[], LITTLE) {
-            Ok(checked) => backtrace(alloc, &checked, &abi, 3, &Unknown, &Unknown, 40)?,
-            Err(found) => return Err(found.fault),
-        },
-        Call::BacktraceBySection => {
-            dw_unwind::backtrace(alloc, &frame, &abi, 3, &Unknown, &Unknown, 40)?
-        }
-        _ => {
-            let Some(table) = UnwindTable::compile(alloc, &frame, 1 << 20)? else {
-                panic!(rt; "there is room")
-            };
-            dw_unwind::backtrace(alloc, &table, &abi, 3, &Unknown, &Unknown, 40)?
-        }
-    };
-    assert_eq!(rt; walk.stop, Stop::Limit);
+/// The number of frames of a walk of forty, and the addresses of the first, the second and the last.
+/// Such a walk reallocates the list of frames several times.
+fn numbers_of(rt: &impl Abort, walk: &Backtrace) -> Numbers {
+    assert!(rt; walk.stop == Stop::Limit);
     assert_eq!(rt; walk.frames.len(), 40);
-    Ok((
+    (
         walk.frames.len(),
         walk.frames[0].address as usize,
         walk.frames[1].address as usize,
         walk.frames[39].address as usize,
-    ))
+    )
+}
+
+/// A walk over two checked sections.
+fn of_walk_by_both(rt: &impl Abort, alloc: Global) -> Result<Numbers, Fault> {
+    match check(alloc, &ROUND, &[], LITTLE) {
+        Ok(checked) => {
+            let walk = backtrace(alloc, &checked, &Abi::none(), 3, &Unknown, &Unknown, 40)?;
+            Ok(numbers_of(rt, &walk))
+        }
+        Err(found) => Err(found.fault),
+    }
+}
+
+/// A walk over a checked section.
+fn of_walk_by_section(rt: &impl Abort, alloc: Global) -> Result<Numbers, Fault> {
+    let frame = check_frame(alloc, &ROUND, LITTLE)?;
+    let walk = dw_unwind::backtrace(alloc, &frame, &Abi::none(), 3, &Unknown, &Unknown, 40)?;
+    Ok(numbers_of(rt, &walk))
+}
+
+/// A walk over a compiled table.
+fn of_walk_by_table(rt: &impl Abort, alloc: Global) -> Result<Numbers, Fault> {
+    let frame = check_frame(alloc, &ROUND, LITTLE)?;
+    let Some(table) = UnwindTable::compile(alloc, &frame, 1 << 20)? else {
+        panic!(rt; "there is room")
+    };
+    let walk = dw_unwind::backtrace(alloc, &table, &Abi::none(), 3, &Unknown, &Unknown, 40)?;
+    Ok(numbers_of(rt, &walk))
 }
 
 /// Where `FUNCTION` is loaded in the modules of a process: the load address of each module, and an
@@ -272,7 +283,7 @@ fn of_process(rt: &impl Abort, alloc: Global, call: Call) -> Result<Numbers, Fau
         match process.add(alloc, &FUNCTION, load_address, None, 0, 1 << 20) {
             Ok(_) => has_modules(rt, &process, number + 1),
             Err(why) => {
-                assert_eq!(rt; why, Refusal::Section(OUT_OF_MEMORY));
+                assert!(rt; why == Refusal::Section(OUT_OF_MEMORY));
                 has_modules(rt, &process, number);
                 return Err(OUT_OF_MEMORY);
             }
@@ -406,7 +417,7 @@ fn of_report(
             Ok((1, 0, 0, 0))
         }
         Err(fault) => {
-            assert_eq!(rt; fault, ReportFault::Memory);
+            assert!(rt; fault == ReportFault::Memory);
             assert!(rt; text.as_bytes().starts_with(fixed.written()));
             Err(OUT_OF_MEMORY)
         }
@@ -460,7 +471,7 @@ fn of_program(
         assert!(rt; !is_refusal || fixed.written().is_empty());
         return Err(OUT_OF_MEMORY);
     }
-    assert_eq!(rt; found, if is_refusal { End::Refused } else { End::Done });
+    assert!(rt; found == if is_refusal { End::Refused } else { End::Done });
     assert_eq!(rt; fixed.written(), text.as_bytes());
     Ok((1, 1, 0, 0))
 }
@@ -472,12 +483,12 @@ fn of_load(rt: &impl Abort, alloc: Global, content: &[u8]) -> Result<Numbers, Fa
     match load(alloc, &mut source) {
         Ok(bytes) => {
             assert_eq!(rt; bytes.as_slice(), content);
-            assert_eq!(rt; source.state(), Reading::Ended);
+            assert!(rt; source.state() == Reading::Ended);
             Ok((bytes.len(), 0, 0, 0))
         }
         Err(fault) => {
-            assert_eq!(rt; fault, LoadFault::Memory);
-            assert_eq!(rt; source.state(), Reading::Open);
+            assert!(rt; fault == LoadFault::Memory);
+            assert!(rt; source.state() == Reading::Open);
             Err(OUT_OF_MEMORY)
         }
     }
@@ -502,9 +513,9 @@ fn answer(
             assert_eq!(rt; section.len(), 32_024);
             of_table(rt, alloc, &section)
         }
-        Call::Backtrace | Call::BacktraceBySection | Call::BacktraceByTable => {
-            of_walk(rt, alloc, call)
-        }
+        Call::Backtrace => of_walk_by_both(rt, alloc),
+        Call::BacktraceBySection => of_walk_by_section(rt, alloc),
+        Call::BacktraceByTable => of_walk_by_table(rt, alloc),
         Call::ProcessAdd | Call::ProcessShare => of_process(rt, alloc, call),
         Call::CheckEhFrame | Call::SignalFrames | Call::ProcessAddEhFrame => {
             of_eh_frame(alloc, call, bytes)
@@ -631,7 +642,7 @@ fn is_made(
         assert!(rt; println!(rt; "refused: {call:?}").is_ok());
         found = answer(rt, rt.alloc(), call, bytes, text);
     }
-    assert_eq!(rt; found, wanted, "{call:?}");
+    assert!(rt; found == wanted, "{call:?}");
 }
 
 #[test]

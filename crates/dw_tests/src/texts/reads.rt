@@ -32,16 +32,16 @@ impl Read for LittleReader<'_> {
 /// which gives no bytes.
 fn reads(rt: &impl Abort, alloc: Global, bytes: &[u8], most: usize, calls: usize) -> bool {
     let mut source = Reads::new(LittleReader { bytes, most, calls });
-    assert_eq!(rt; source.state(), Reading::Open);
+    assert!(rt; source.state() == Reading::Open);
     match load(alloc, &mut source) {
         Ok(loaded) => {
             assert_eq!(rt; loaded.as_slice(), bytes);
-            assert_eq!(rt; source.state(), Reading::Ended);
+            assert!(rt; source.state() == Reading::Ended);
             true
         }
         Err(fault) => {
-            assert_eq!(rt; fault, LoadFault::Read);
-            assert_eq!(rt; source.state(), Reading::Failed);
+            assert!(rt; fault == LoadFault::Read);
+            assert!(rt; source.state() == Reading::Failed);
             false
         }
     }

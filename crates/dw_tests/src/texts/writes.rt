@@ -119,7 +119,7 @@ fn writes_a_beginning_where_a_write_fails(rt: HostRuntime) -> Result<(), AllocEr
     let text = "accepted\ncies 0 fdes 0 rows 0\ntables 0 lists 0 expressions 0\n";
     for (writer, end, len) in &EMPTY_SECTIONS {
         let found = written(&rt, "dwcheck check --hex f l", &files, text, *writer)?;
-        assert_eq!(rt; found, (*end, *len));
+        assert!(rt; found == (*end, *len));
     }
     Ok(())
 }
