@@ -1,6 +1,6 @@
 #!/bin/bash
 # Builds the tests with the static library build/libdwcheck.a, or the one that LIBRARY names, and runs
-# them: those of readers.c, frozen.c, cursor.c, cache.c and dl.c; those of wrapper.cc, as C++17, as C++20 and over
+# them: those of readers.c, frozen.c, cursor.c, cache.c, dl.c and own_rows.c; those of wrapper.cc, as C++17, as C++20 and over
 # the module; and those of cases.c while allocations fail in turn, with sanitizers, and under valgrind. Before that,
 # the headers are compiled as C11, C17 and C++17; passing a pointer of a wrong type must be an error.
 # Prints a line `ok NAME` or `FAILED NAME` for each, and ends with status 1 if one failed.
@@ -39,6 +39,44 @@ cases() { # FLAG..: builds the tests and runs them
 
 readers() { # PROGRAM: builds the tests of calls that read one process at once, and runs them
     cc -std=gnu11 -D_GNU_SOURCE $strict -O2 -g "$top/c/tests/$1.c" "$library" -o "$out/$1" -pthread -ldl && "$out/$1"
+}
+
+compile_module() { # OBJECT COMMAND..: compiles the module of LLVM as the kit does, and takes its code apart
+    local object=$1
+    shift
+    "$@" -ffunction-sections -no-canonical-prefixes -Werror -c -x ir "$out/module.bc" -o "$object" -fPIC -O3 &&
+        objcopy -O binary --only-section='.text*' "$object" "$object.code"
+}
+
+rows_of_modules() { # whether tools/clang_with_rows.sh gives each function an FDE, and leaves the code as it is
+    printf 'int f(int *); int g(int x) { int y[9] = {x}; return f(y) + y[3]; } int h(int x) { return g(x) + 1; }' |
+        clang-16 -O1 -fno-asynchronous-unwind-tables -emit-llvm -c -x c - -o "$out/module.bc" &&
+        compile_module "$out/plain.o" clang-16 && compile_module "$out/rows.o" "$top/tools/clang_with_rows.sh" clang-16 &&
+        [ "$(readelf --debug-dump=frames "$out/plain.o" | grep -c ' FDE ')" = 0 ] &&
+        [ "$(readelf --debug-dump=frames "$out/rows.o" | grep -c ' FDE ')" = 2 ] &&
+        [ -s "$out/rows.o.code" ] && cmp "$out/plain.o.code" "$out/rows.o.code"
+}
+
+modules_without_attributes() {
+    printf 'target triple = "x86_64-pc-linux-gnu"\ndefine i32 @f() {\n  ret i32 1\n}\n' > "$out/module.bc" &&
+        compile_module "$out/plain.o" clang-16 && compile_module "$out/rows.o" "$top/tools/clang_with_rows.sh" clang-16 &&
+        cmp "$out/plain.o.code" "$out/rows.o.code"
+}
+
+# Everything else goes to clang as it is; and if the module is none, one line says what failed.
+other_words() {
+    local script="$top/tools/clang_with_rows.sh"
+    [ "$("$script" clang-16 --version)" = "$(clang-16 --version)" ] &&
+        printf 'int x;' | "$script" clang-16 -c -x c - -o "$out/x.o" && nm "$out/x.o" | grep -q ' x$' || return 1
+    printf 'no module' > "$out/module.bc"
+    ! ROWS_LOG=$out/why compile_module "$out/rows.o" "$script" clang-16 2> "$out/errors" &&
+        [ "$(cat "$out/why")" = "tools/clang_with_rows.sh: the module can't be written as text by clang-16" ] &&
+        [ "$(tail -n 1 "$out/errors")" = "$(cat "$out/why")" ]
+}
+
+own_rows() { # builds the tests of walks that interrupt the library, and runs them
+    cc -std=gnu11 $strict -O2 -g -fno-optimize-sibling-calls "$top/c/tests/own_rows.c" "$dl_library" "$library" -o "$out/own_rows" -pthread -ldl &&
+        "$out/own_rows"
 }
 
 dl() { # builds the tests of dwcheck-dl, and runs them with a library that comes and goes
@@ -90,6 +128,10 @@ test_of "the same with the process in memory that can't be written" readers froz
 test_of "steps of a cursor" readers cursor
 test_of "walks with a cache" readers cache
 test_of "stacks of dwcheck-dl are glibc's, while libraries come and go" dl
+test_of "rows are given to the code of a module, which stays the same" rows_of_modules
+test_of "a module without attributes is compiled" modules_without_attributes
+test_of "other calls of clang stay as they are, and a failure is one line" other_words
+test_of "walks that interrupt the library reach the start of the program" own_rows
 test_of "a stack of a static program" linked -static
 test_of "a stack whose rows are in .debug_frame" linked -fno-asynchronous-unwind-tables -g
 test_of "the header for C++ as C++17, beside that for C" wrapper c++17
