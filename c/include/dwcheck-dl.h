@@ -8,8 +8,9 @@
    may walk at any time, also in a signal handler, and also while another thread updates.
 
    Of each module the .eh_frame section is used, which lies in memory. If the module's file is still the
-   one that was loaded, and has a .debug_frame section that is longer and isn't refused, that one is used
-   instead.
+   one that was loaded, and has a .debug_frame section that isn't compressed, each FDE of that is used too
+   that covers none of the addresses that .eh_frame covers. If the two together are refused, .eh_frame is
+   used alone; or if that is refused, .debug_frame.
 
    To link: cc .. -ldwcheck-dl -ldwcheck */
 #ifndef DWCHECK_DL_H

@@ -1,6 +1,6 @@
 #!/bin/bash
 # Builds the tests with the static library build/libdwcheck.a, or the one that LIBRARY names, and runs
-# them: those of readers.c, frozen.c, cursor.c, cache.c, dl.c and own_rows.c; those of wrapper.cc, as C++17, as C++20 and over
+# them: those of readers.c, frozen.c, cursor.c, cache.c, dl.c, own_rows.c and both.c; those of wrapper.cc, as C++17, as C++20 and over
 # the module; and those of cases.c while allocations fail in turn, with sanitizers, and under valgrind. Before that,
 # the headers are compiled as C11, C17 and C++17; passing a pointer of a wrong type must be an error.
 # Prints a line `ok NAME` or `FAILED NAME` for each, and ends with status 1 if one failed.
@@ -95,6 +95,31 @@ linked() { # FLAG..: builds a program that prints how many frames its stack has,
         [ "$("$out/linked")" = "4 frames" ]
 }
 
+other_object() { # FLAG..: prints what both.c prints with another object of many functions that is compiled so
+    {
+        printf 'int through(int (*f)(void)); int through(int (*f)(void)) { return f() + 1; }\n'
+        seq 300 | sed 's/.*/int f&(int x); int f&(int x) { volatile int y[&]; y[0] = x; return y[0] + y[1]; }/'
+    } | cc -O1 -ffunction-sections "$@" -x c -c - -o "$out/other.o" &&
+        cc -std=gnu11 $strict -O1 -fno-optimize-sibling-calls -c "$top/c/tests/both.c" -o "$out/both.o" &&
+        cc $links "$out/both.o" "$out/other.o" $last "$dl_library" "$library" -o "$out/both" -pthread -ldl && "$out/both"
+}
+
+# Both stacks have the frames that glibc finds if all functions have rows in .eh_frame.
+both_sections() { # FLAG..: for the link
+    local links=$* last= want have
+    want=$(other_object | cut -d ' ' -f 2) &&
+        have=$(other_object -fno-asynchronous-unwind-tables -g | cut -d ' ' -f 1) &&
+        readelf -SW "$out/both" | grep -q ' \.debug_frame ' && [ "$have" = "$want" ] || { printf '%s\nnot\n%s\n' "$have" "$want"; return 1; }
+}
+
+# A .debug_frame section that is refused, since two of its FDEs share addresses, takes no rows of .eh_frame away.
+refused_section() {
+    local links= last="$out/overlap.o" want have
+    printf '.text\nboth: nop\nnop\n.section .debug_frame\n.Lcie: .long 12, -1\n.byte 4, 0, 8, 0, 1, 0x78, 16, 0\n
+        .long 20, .Lcie\n.quad both, 2\n.long 20, .Lcie\n.quad both + 1, 1\n.section .note.GNU-stack\n' | cc -x assembler -c - -o "$out/overlap.o"
+    have=$(other_object | cut -d ' ' -f 1) && want=$("$out/both" | cut -d ' ' -f 2) && [ "$have" = "$want" ]
+}
+
 wrapper() { # STANDARD: builds the tests of the header for C++, and runs them
     c++ "-std=$1" $strict -O1 -g -fno-exceptions -fno-rtti -fsanitize=address,undefined -fno-sanitize-recover=all \
         "$top/c/tests/wrapper.cc" "$library" -o "$out/wrapper" && "$out/wrapper"
@@ -134,6 +159,9 @@ test_of "other calls of clang stay as they are, and a failure is one line" other
 test_of "walks that interrupt the library reach the start of the program" own_rows
 test_of "a stack of a static program" linked -static
 test_of "a stack whose rows are in .debug_frame" linked -fno-asynchronous-unwind-tables -g
+test_of "a stack whose rows are in both sections" both_sections
+test_of "a stack whose rows are in both sections, of a program without functions that aren't used" both_sections -Wl,--gc-sections
+test_of "a stack of a program whose .debug_frame is refused" refused_section
 test_of "the header for C++ as C++17, beside that for C" wrapper c++17
 test_of "the header for C++ as C++20, whose frames are a range" wrapper c++20
 test_of "the header for C++ as a module of C++20" as_module
