@@ -120,6 +120,10 @@ refused_section() {
     have=$(other_object | cut -d ' ' -f 1) && want=$("$out/both" | cut -d ' ' -f 2) && [ "$have" = "$want" ]
 }
 
+walks_under_valgrind() { # valgrind says nothing of a walk
+    linked && valgrind -q --error-exitcode=1 "$out/linked" > "$out/shown" 2>&1 && [ "$(cat "$out/shown")" = "4 frames" ]
+}
+
 wrapper() { # STANDARD: builds the tests of the header for C++, and runs them
     c++ "-std=$1" $strict -O1 -g -fno-exceptions -fno-rtti -fsanitize=address,undefined -fno-sanitize-recover=all \
         "$top/c/tests/wrapper.cc" "$library" -o "$out/wrapper" && "$out/wrapper"
@@ -159,6 +163,7 @@ test_of "other calls of clang stay as they are, and a failure is one line" other
 test_of "walks that interrupt the library reach the start of the program" own_rows
 test_of "a stack of a static program" linked -static
 test_of "a stack whose rows are in .debug_frame" linked -fno-asynchronous-unwind-tables -g
+test_of "a stack under valgrind" walks_under_valgrind
 test_of "a stack whose rows are in both sections" both_sections
 test_of "a stack whose rows are in both sections, of a program without functions that aren't used" both_sections -Wl,--gc-sections
 test_of "a stack of a program whose .debug_frame is refused" refused_section
