@@ -124,6 +124,19 @@ walks_under_valgrind() { # valgrind says nothing of a walk
     linked && valgrind -q --error-exitcode=1 "$out/linked" > "$out/shown" 2>&1 && [ "$(cat "$out/shown")" = "4 frames" ]
 }
 
+exports() { # FLAG..: prints the names that a shared object with both archives exports, but for its own
+    printf '#include "dwcheck-dl.h"\nint own(void **a);\nint own(void **a) { return dwcheck_dl_update(0) ? 0 : dwcheck_dl_backtrace(a, 9); }\n' |
+        cc -shared -fPIC $strict -x c - -x none "$@" "$dl_library" "$library" -o "$out/own.so" -pthread -ldl &&
+        nm -D --defined-only "$out/own.so" | cut -d ' ' -f 3 | grep -vx own
+}
+
+# By itself it exports only names of the headers; and by the words of pkg-config's files, none.
+exports_nothing_else() {
+    local words
+    words=$(sed -n 's/^Libs: //p' "$top/c/dwcheck.pc.in" "$top/c/dwcheck-dl.pc.in" | tr ' ' '\n' | grep '^-Wl,')
+    [ "$(exports | grep -c '^dwcheck_')" -gt 20 ] && [ -z "$(exports | grep -v '^dwcheck_')" ] && [ -z "$(exports $words)" ]
+}
+
 wrapper() { # STANDARD: builds the tests of the header for C++, and runs them
     c++ "-std=$1" $strict -O1 -g -fno-exceptions -fno-rtti -fsanitize=address,undefined -fno-sanitize-recover=all \
         "$top/c/tests/wrapper.cc" "$library" -o "$out/wrapper" && "$out/wrapper"
@@ -163,6 +176,7 @@ test_of "other calls of clang stay as they are, and a failure is one line" other
 test_of "walks that interrupt the library reach the start of the program" own_rows
 test_of "a stack of a static program" linked -static
 test_of "a stack whose rows are in .debug_frame" linked -fno-asynchronous-unwind-tables -g
+test_of "a shared object with the archives exports only what it should" exports_nothing_else
 test_of "a stack under valgrind" walks_under_valgrind
 test_of "a stack whose rows are in both sections" both_sections
 test_of "a stack whose rows are in both sections, of a program without functions that aren't used" both_sections -Wl,--gc-sections
