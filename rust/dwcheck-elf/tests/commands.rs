@@ -263,6 +263,21 @@ fn words_and_files_that_are_wrong() {
     }
 }
 
+#[test]
+fn threads_and_frames_that_are_not_there() {
+    let folder = Folder::new("no-thread");
+    folder.run("printf 'int main(void) { __builtin_trap(); }' | gcc -g -x c - -o trap");
+    folder.make_core("./trap");
+    let shown = folder.run("gdb --batch -ex 'info threads' trap core 2> /dev/null | grep -o 'LWP [0-9]*'");
+    let tid = shown.trim().trim_start_matches("LWP ");
+    let ran = dwcheck_elf(&folder, "vars --core core --thread 1");
+    let error = format!("dwcheck-elf: bad argument: --thread is 1, and the threads are {}\n", tid);
+    assert_eq!((ran.status, ran.out.as_str(), ran.error), (2, "", error));
+    let ran = dwcheck_elf(&folder, "vars --core core --frame 99");
+    assert_eq!((ran.status, ran.out.as_str()), (2, ""));
+    assert!(ran.error.starts_with("dwcheck-elf: bad argument: --frame is 99, and the stack has "), "{}", ran.error);
+}
+
 /// Commands that write, with a file that each of them takes.
 const WRITING: [&str; 6] =
     ["--help", "--version", "completions bash", "check /bin/true", "rows /bin/true", "survey --json /bin/true"];
