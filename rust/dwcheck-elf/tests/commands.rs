@@ -268,7 +268,8 @@ fn threads_and_frames_that_are_not_there() {
     let folder = Folder::new("no-thread");
     folder.run("printf 'int main(void) { __builtin_trap(); }' | gcc -g -x c - -o trap");
     folder.make_core("./trap");
-    let shown = folder.run("gdb --batch -ex 'info threads' trap core 2> /dev/null | grep -om 1 'LWP [0-9]*' | head -n 1");
+    let shown =
+        folder.run("gdb --batch -ex 'info threads' trap core 2> /dev/null | grep -om 1 'LWP [0-9]*' | head -n 1");
     let tid = shown.trim().trim_start_matches("LWP ");
     let ran = dwcheck_elf(&folder, "vars --core core --thread 1");
     let error = format!("dwcheck-elf: bad argument: --thread is 1, and the threads are {}\n", tid);
