@@ -69,13 +69,16 @@ build/%.o: c/%.c c/include/dwcheck.h | build
 	@$(CC) -std=gnu11 -O2 -fPIC -fstack-clash-protection -Wall -Wextra -Ic/include -c $< -o $@
 
 # libdwcheck.a joins the library that rt made, that part, and the kit's liblibc_c.a, a few lines of C
-# through which the library calls malloc and free.
+# through which the library calls malloc and free. It is one object, in which all names but those of the
+# header are local: so no name of it meets one of the program that it is linked into.
 build/libdwcheck.a: build/libdwcheck_c.a build/null.o build/read.o build/texts.o c/null.c
 	@rm -f $@
 	@sed -n 's/^PROVED(\(dwcheck_[a-z_]*\));$$/\1 proved_\1/p' c/null.c >build/null.names
 	@$(OBJCOPY) --redefine-syms=build/null.names $< build/libdwcheck_proved.a
-	@printf 'create $@\naddlib build/libdwcheck_proved.a\naddmod build/null.o\naddmod build/read.o\naddmod build/texts.o\naddlib $(kit)c/liblibc_c.a\nsave\nend\n' | \
-	    $(AR) -M
+	@$(CC) -r -nostdlib -Wl,--whole-archive build/libdwcheck_proved.a -Wl,--no-whole-archive build/null.o build/read.o \
+	    build/texts.o $(kit)c/liblibc_c.a -o build/dwcheck.o
+	@$(OBJCOPY) --wildcard --keep-global-symbol='dwcheck_*' build/dwcheck.o
+	@$(AR) rcs $@ build/dwcheck.o
 
 # Its symbols are bound when it is loaded, since the dynamic linker would take 3 KB of a signal handler's
 # stack to bind one in a walk.

@@ -1,5 +1,6 @@
 # find_package(dwcheck 2) gives the targets dwcheck::dwcheck, the archive that has everything, and
-# dwcheck::dl, which finds the modules of the running process. It works wherever the folder that has lib/
+# dwcheck::dl, which finds the modules of the running process. A shared library that has an archive doesn't
+# export its names. It works wherever the folder that has lib/
 # and include/ is.
 get_filename_component(_dwcheck_lib "${CMAKE_CURRENT_LIST_DIR}/../.." REALPATH)
 get_filename_component(_dwcheck_prefix "${_dwcheck_lib}/.." ABSOLUTE)
@@ -10,6 +11,7 @@ if(NOT TARGET dwcheck::dwcheck)
   add_library(dwcheck::dwcheck STATIC IMPORTED)
   set_target_properties(dwcheck::dwcheck PROPERTIES
     IMPORTED_LOCATION "${_dwcheck_lib}/libdwcheck.a"
+    INTERFACE_LINK_OPTIONS "-Wl,--exclude-libs,libdwcheck.a:libdwcheck-dl.a"
     INTERFACE_INCLUDE_DIRECTORIES "${_dwcheck_prefix}/include")
   add_library(dwcheck::dl STATIC IMPORTED)
   set_target_properties(dwcheck::dl PROPERTIES

@@ -6,7 +6,7 @@
 # what it has proved on this machine, so only what has changed is proved again, here and in
 # `make test`. If `make test` has just proved these very files, which the checksum in build/proved
 # says, its results are taken. The library is proved while it is built: `rt ci` builds no static
-# libraries.
+# libraries. Its code gets unwind rows by tools/clang_with_rows.sh.
 set -eu
 top=$(dirname "$(dirname "$(realpath "$0")")")
 cd "$top"
@@ -52,9 +52,28 @@ take_proved() { # FOLDER: copies what `make test` has proved; `rt ci` may put ot
     done
 }
 
+# Makes a folder as the kit's `toolchain`, but with tools/clang_with_rows.sh in clang's place, so that the library's
+# code has unwind rows of its own. If the script fails, the file `why` there says so.
+link_toolchain() { # TOOLCHAIN FOLDER
+    local clang=$2/bin/clang
+    cp -rs "$1/." "$2" && rm "$clang"
+    printf '#!/usr/bin/env bash\nROWS_LOG=%q exec %q %q "$@"\n' "$2/why" "$top/tools/clang_with_rows.sh" "$1/bin/clang" > "$clang"
+    chmod +x "$clang"
+}
+
+# Says how many functions of an archive have no unwind rows, if there are any: then a later kit makes its code in another
+# way than tools/clang_with_rows.sh expects.
+note_without_rows() { # ARCHIVE
+    local functions rows
+    functions=$(readelf -sW "$1" 2> /dev/null | awk '$4 == "FUNC" && $3 > 0 && $7 != "UND"' | wc -l)
+    rows=$(readelf -W --debug-dump=frames "$1" 2> /dev/null | grep -c ' FDE ') || true
+    [ "$rows" -ge "$functions" ] || echo "note: $((functions - rows)) of the library's $functions functions have no unwind rows, so walks that interrupt them are cut" >&2
+}
+
 build_library() { # FOLDER
     local kit words=() name
     kit=$(dirname "$(rt doc)")
+    link_toolchain "$kit/toolchain" "$1/toolchain"
     for name in $(sed -n 's/^dwcheck_c staticlib: //p' crates.txt) std; do
         if [ -d "crates/$name" ]; then
             words+=(--extern "$name=$1/crates/$name/out/rlib/$name.rlib" -L "dependency=$1/crates/$name/out/rlib")
@@ -64,8 +83,12 @@ build_library() { # FOLDER
     done
     (cd crates/dwcheck_c && "$kit/bin/rattle" build --crate-name dwcheck_c src/lib.rt --crate-type staticlib "${words[@]}" \
         -L "dependency=$kit/rlibs" --antt-project "$kit/rattle/logic/antt-project.json" \
-        --logic-built "$kit/logic_built" --toolchain "$kit/toolchain" --backend llvm --jobs 2 \
-        -o "$1/libdwcheck_c.a") > build/log 2>&1 < /dev/null || stop build/log
+        --logic-built "$kit/logic_built" --toolchain "$1/toolchain" --backend llvm --jobs 2 \
+        -o "$1/libdwcheck_c.a") > build/log 2>&1 < /dev/null || {
+        [ ! -s "$1/toolchain/why" ] || stop "$1/toolchain/why"
+        stop build/log
+    }
+    note_without_rows "$1/libdwcheck_c.a"
 }
 
 put() { # FILE TO: copies a file, unless it is there already with the same bytes

@@ -1,9 +1,11 @@
 /* Finds the modules that the loader has mapped, and their tables. */
 #define _GNU_SOURCE
 #include "modules.h"
+#include "both.h"
 
 #include <elf.h>
 #include <fcntl.h>
+#include <stdlib.h>
 #include <string.h>
 #include <sys/mman.h>
 #include <sys/stat.h>
@@ -190,35 +192,66 @@ static struct bytes eh_frame_by(struct bytes file, const struct dl_phdr_info *in
     return (struct bytes){(const void *)first, section->sh_size};
 }
 
-/* Adds the module with this section, which is .debug_frame if its address is 0. */
-static uint32_t add_section(dwcheck_process *process, dwcheck_module *module, struct bytes section, uint64_t address, uint64_t *id) {
+/* The two sections of a module; either may be empty. */
+struct sections {
+    struct bytes eh_frame, debug_frame;
+};
+
+/* The sections of a module, of which `file` is the file, or empty if there is none. Of .debug_frame the bytes are in
+   that file. */
+static struct sections sections_of(struct bytes file, const struct dl_phdr_info *info) {
+    struct sections sections = {eh_frame(info), {NULL, 0}};
+    if (file.first == NULL || !is_loaded(file, info)) return sections;
+    if (sections.eh_frame.length == 0) sections.eh_frame = eh_frame_by(file, info);
+    const ElfW(Shdr) *section = section_of(file, ".debug_frame");
+    /* Without a build id among the notes, only its code tells whether the file has been replaced. */
+    if (section != NULL && has_same(file, info, PT_LOAD, PF_X))
+        sections.debug_frame = (struct bytes){file.first + section->sh_offset, section->sh_size};
+    return sections;
+}
+
+/* Adds the module with what both sections say. Returns DWCHECK_NONE if .debug_frame adds nothing to .eh_frame. */
+static uint32_t add_both(dwcheck_process *process, const dwcheck_module *module, struct bytes debug_frame, uint64_t *id) {
+    dwcheck_module other = *module, both = *module;
     dwcheck_fault fault;
-    if (section.length == 0) return DWCHECK_NONE;
-    module->kind = address == 0 ? DWCHECK_DEBUG_FRAME : DWCHECK_EH_FRAME;
-    module->section_address = address;
-    module->frame = section.first;
-    module->frame_length = section.length;
-    return dwcheck_process_add(process, module, id, &fault);
+    uint8_t *bytes;
+    if (debug_frame.length == 0) return DWCHECK_NONE;
+    other.kind = DWCHECK_DEBUG_FRAME;
+    other.frame = debug_frame.first;
+    other.frame_length = debug_frame.length;
+    uint64_t first = module->first - module->load_address, last = module->last - module->load_address;
+    uint32_t status = dwcheck_dl_both(module, &other, first, last, &bytes, &both.frame_length);
+    if (status != DWCHECK_DONE) return status;
+    both.frame = bytes;
+    status = dwcheck_process_add(process, &both, id, &fault);
+    free(bytes);
+    return status;
+}
+
+/* Whether an attempt to add a module was the last one: others can't go better, or mustn't be made in its place. */
+static int is_final(uint32_t status) {
+    return status == DWCHECK_DONE || status == DWCHECK_NO_MEMORY || status == DWCHECK_OVERLAPS;
 }
 
 uint32_t dwcheck_dl_add(dwcheck_process *process, const struct dl_phdr_info *info, const char *name, uint64_t *id) {
     dwcheck_module module = {.load_address = info->dlpi_addr, .cookie = (uintptr_t)name, .room = SIZE_MAX,
-                             .order = DWCHECK_LITTLE, .address_size = sizeof(void *)};
+                             .order = DWCHECK_LITTLE, .address_size = sizeof(void *), .kind = DWCHECK_EH_FRAME};
     if (!set_range(&module, info)) return DWCHECK_NONE;
-    struct bytes section = eh_frame(info), file = {NULL, 0}, other = {NULL, 0};
+    struct bytes file = {NULL, 0};
     if (info->dlpi_name[0] == 0) file = map_file(DWCHECK_DL_PROGRAM);
     else if (strchr(name, '/')) file = map_file(name); /* the vDSO has no file, and its name no folder */
-    if (file.first != NULL && is_loaded(file, info)) {
-        const ElfW(Shdr) *debug_frame = section_of(file, ".debug_frame");
-        if (debug_frame != NULL) other = (struct bytes){file.first + debug_frame->sh_offset, debug_frame->sh_size};
-        if (section.length == 0) section = eh_frame_by(file, info);
+    struct sections sections = sections_of(file, info);
+    module.frame = sections.eh_frame.first;
+    module.frame_length = sections.eh_frame.length;
+    module.section_address = (uintptr_t)sections.eh_frame.first - info->dlpi_addr;
+    dwcheck_fault fault;
+    uint32_t status = add_both(process, &module, sections.debug_frame, id);
+    if (!is_final(status) && module.frame_length != 0) status = dwcheck_process_add(process, &module, id, &fault);
+    if (status == DWCHECK_REFUSED) {
+        module.frame_length = 0;
+        uint32_t alone = add_both(process, &module, sections.debug_frame, id);
+        if (alone != DWCHECK_NONE) status = alone;
     }
-    uint64_t address = (uintptr_t)section.first - info->dlpi_addr;
-    uint32_t status = DWCHECK_REFUSED;
-    /* Without a build id among the notes, only its code tells whether the file has been replaced. */
-    if (other.length > section.length && has_same(file, info, PT_LOAD, PF_X))
-        status = add_section(process, &module, other, 0, id);
-    if (status != DWCHECK_DONE) status = add_section(process, &module, section, address, id);
     if (file.first != NULL) munmap((void *)file.first, file.length);
     return status;
 }

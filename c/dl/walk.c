@@ -6,15 +6,13 @@
 #include <signal.h>
 #include <string.h>
 #include <sys/syscall.h>
+#include <sys/uio.h>
 #include <ucontext.h>
 #include <unistd.h>
 
 #if !defined(__x86_64__)
 #error "dwcheck-dl is for x86-64"
 #endif
-
-/* Rows in both sections: .debug_frame is used in place of .eh_frame if the program has a longer one. */
-__asm__(".cfi_sections .eh_frame, .debug_frame");
 
 /* DWARF's numbers on x86-64: 0 to 15 for the general-purpose registers, 16 for the return address. */
 enum { RBX = 3, RBP = 6, RSP = 7, R12 = 12, R13 = 13, R14 = 14, R15 = 15, RIP = 16, REGISTERS = 17 };
@@ -24,11 +22,36 @@ enum { RBX = 3, RBP = 6, RSP = 7, R12 = 12, R13 = 13, R14 = 14, R15 = 15, RIP = 
 
 enum { PAGE = 4096, RED_ZONE = 128, SAVED = 256, FIRST_PAGES = 2, MORE_PAGES = 16, MOST_PAGES = 2048 };
 
+/* Whether valgrind runs the program: then this code is a question to it, and otherwise it does nothing. */
+static int is_in_valgrind(void) {
+    volatile uint64_t question[6] = {0x1001};
+    uint64_t answer = 0;
+    __asm__ volatile("rolq $3, %%rdi\n\trolq $13, %%rdi\n\trolq $61, %%rdi\n\trolq $51, %%rdi\n\txchgq %%rbx, %%rbx"
+                     : "+d"(answer)
+                     : "a"(question)
+                     : "cc", "memory");
+    return answer != 0;
+}
+
+/* Whether the first byte of a page can be read, asked so that valgrind doesn't complain: it takes what the probe below
+   reads for a mask, which must be initialized. A sandbox may refuse the call, so there its answer isn't DONE. */
+static uint32_t reads_first_byte(uint64_t page, int *is_readable) {
+    char byte;
+    struct iovec here = {&byte, 1}, there = {(void *)(uintptr_t)(page * PAGE), 1};
+    ssize_t result = process_vm_readv(getpid(), &here, 1, &there, 1, 0);
+    *is_readable = result == 1;
+    return result == 1 || errno == EFAULT ? DWCHECK_DONE : DWCHECK_NONE;
+}
+
 /* Whether the page with this number can be read. The kernel reads the new mask before it finds that the
    first argument is none that it knows. So nothing changes, and the error says whether it could read. */
 static int is_readable(uint64_t page) {
     if (page == 0) return 0; /* the address 0 would mean that no mask is given */
-    int before = errno;
+    int before = errno, is_read;
+    if (is_in_valgrind() && reads_first_byte(page, &is_read) == DWCHECK_DONE) {
+        errno = before;
+        return is_read;
+    }
     long result = syscall(SYS_rt_sigprocmask, ~0, page * PAGE, NULL, 8);
     int is_fault = result != -1 || errno != EINVAL; /* a sandbox may refuse the call: then nothing is read */
     errno = before;
@@ -145,13 +168,39 @@ __attribute__((noinline)) static int walk_from(const struct start *start, void *
     return count;
 }
 
-/* Whether a thread was interrupted where it has called a null pointer: nothing is mapped there. The call has
-   pushed its return address, and done nothing else. Then goes back to the frame that made the call. */
-static int leave_null_call(struct start *start) {
+/* Whether a row of a table is for this address, which is exact or a return address. */
+static int has_row(uint64_t address, int is_exact) {
+    dwcheck_row row;
+    const dwcheck_process *process = dwcheck_dl_begin();
+    uint32_t status = dwcheck_row_at(process, is_exact ? address : address - 1, &row, NULL, 0);
+    dwcheck_dl_end();
+    return status == DWCHECK_DONE;
+}
+
+/* Whether a thread was interrupted because nothing can be executed where it is: the processor says that it was to fetch
+   the instruction there, from memory that isn't mapped or mustn't be executed. What it said of an earlier interruption
+   stays in the context of later ones, so it must have been at the same address. A page of code that has been taken away
+   has rows still. */
+static int is_nowhere(const ucontext_t *interrupted) {
+    enum { PAGE_FAULT = 14, OF_FETCH = 1 << 4 };
+    const greg_t *registers = interrupted->uc_mcontext.gregs;
+    return registers[REG_TRAPNO] == PAGE_FAULT && registers[REG_ERR] & OF_FETCH && registers[REG_CR2] == registers[REG_RIP]
+           && !has_row((uint64_t)registers[REG_RIP], 1);
+}
+
+/* Whether a thread was interrupted where it has called what is no function: a null pointer, or any other address where
+   nothing can be executed. The call has pushed its return address, and done nothing else. Then goes back to the frame
+   that made the call. In place of a call there may have been a return to a wrong address: so the address must be one of
+   code with rows, unless it was a null pointer. */
+static int leave_wild_call(struct start *start, const ucontext_t *interrupted) {
     dwcheck_block stack = block_at(start->registers[RSP], FIRST_PAGES);
-    if (start->registers[RIP] >= PAGE || stack.length < sizeof(uint64_t)) return 0;
-    memcpy(&start->registers[RIP], stack.bytes, sizeof(uint64_t));
-    start->registers[RSP] += sizeof(uint64_t);
+    int is_null = start->registers[RIP] < PAGE;
+    uint64_t address;
+    if (stack.length < sizeof address || (!is_null && !is_nowhere(interrupted))) return 0;
+    memcpy(&address, stack.bytes, sizeof address);
+    if (!is_null && !has_row(address, 0)) return 0;
+    start->registers[RIP] = address;
+    start->registers[RSP] += sizeof address;
     start->is_exact = 0;
     return 1;
 }
@@ -163,7 +212,7 @@ int dwcheck_dl_backtrace_from(const void *context, void **addresses, int size) {
     struct start start = {.known = {0xff, 0xff, 1}, .is_exact = 1, .red_zone = RED_ZONE};
     for (int i = 0; i < REGISTERS; i++) start.registers[i] = (uint64_t)interrupted->uc_mcontext.gregs[places[i]];
     void *first = (void *)(uintptr_t)start.registers[RIP];
-    if (size <= 0 || !leave_null_call(&start)) return walk_from(&start, addresses, size);
+    if (size <= 0 || !leave_wild_call(&start, interrupted)) return walk_from(&start, addresses, size);
     addresses[0] = first;
     return 1 + walk_from(&start, addresses + 1, size - 1);
 }

@@ -8,8 +8,9 @@
    may walk at any time, also in a signal handler, and also while another thread updates.
 
    Of each module the .eh_frame section is used, which lies in memory. If the module's file is still the
-   one that was loaded, and has a .debug_frame section that is longer and isn't refused, that one is used
-   instead.
+   one that was loaded, and has a .debug_frame section that isn't compressed, each FDE of that is used too
+   that covers none of the addresses that .eh_frame covers. If the two together are refused, .eh_frame is
+   used alone; or if that is refused, .debug_frame.
 
    To link: cc .. -ldwcheck-dl -ldwcheck */
 #ifndef DWCHECK_DL_H
@@ -48,8 +49,11 @@ void dwcheck_dl_end(void);
 int dwcheck_dl_backtrace(void **addresses, int size);
 
 /* The same from where a signal has interrupted the calling thread: `context` is the third argument of
-   its handler. The first address is that of the interrupted instruction. If it is 0 (or below 4096), a
-   null pointer was called, and the second address is in the function that made the call. */
+   its handler. The first address is that of the interrupted instruction. If nothing can be executed there,
+   since a null pointer (or an address below 4096) or another wrong one was called, the second address is in
+   the function that made the call. The kernel says in the context that fetching the instruction has
+   faulted, so there mustn't be a row for it; and the word at the stack pointer, which the call has pushed,
+   must be an address of code with rows, unless a null pointer was called. */
 int dwcheck_dl_backtrace_from(const void *context, void **addresses, int size);
 
 /* The memory that can be read from `address` on, as a block for a walk: up to the end of the pages without

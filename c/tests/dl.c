@@ -168,37 +168,63 @@ static void test_other_stacks(void) {
     munmap(bytes, 2 * BIG);
 }
 
-/* ---- a call of a null pointer */
+/* ---- a call of what is no function */
 
 static void (*volatile missing)(void);
-static sigjmp_buf after_null_call;
-static void *before_null_call[FRAMES];
+static sigjmp_buf after_wild_call;
+static void *before_wild_call[FRAMES];
 static int count_before;
 
-/* The first address is 0, and the second in the function that made the call, from which on the stack is
-   what glibc has found there. */
-static void on_null_call(int signal, siginfo_t *info, void *context) {
+/* The first address is the one that was called, and the second in the function that made the call, from which on the
+   stack is what glibc has found there. */
+static void on_wild_call(int signal, siginfo_t *info, void *context) {
     (void)signal, (void)info;
     void *ours[FRAMES];
     int our_count = dwcheck_dl_backtrace_from(context, ours, FRAMES);
     IS(our_count, count_before + 1);
-    IS(ours[0], 0);
-    IS((uintptr_t)ours[1] - (uintptr_t)before_null_call[0] < 100, 1);
-    if (our_count == count_before + 1) IS(memcmp(ours + 2, before_null_call + 1, (size_t)(count_before - 1) * sizeof *ours), 0);
+    IS((uintptr_t)ours[0], (uintptr_t)missing);
+    IS((uintptr_t)ours[1] - (uintptr_t)before_wild_call[0] < 100, 1);
+    if (our_count == count_before + 1) IS(memcmp(ours + 2, before_wild_call + 1, (size_t)(count_before - 1) * sizeof *ours), 0);
     IS(dwcheck_dl_backtrace_from(context, ours, 1), 1);
-    siglongjmp(after_null_call, 1);
+    siglongjmp(after_wild_call, 1);
 }
 
-static void call_null(void) {
-    count_before = backtrace(before_null_call, FRAMES);
-    if (sigsetjmp(after_null_call, 1) == 0) missing();
+static void call_missing(void) {
+    count_before = backtrace(before_wild_call, FRAMES);
+    if (sigsetjmp(after_wild_call, 1) == 0) missing();
 }
 
-static void test_null_call(void) {
-    struct sigaction action = {.sa_sigaction = on_null_call, .sa_flags = SA_SIGINFO}, before;
+/* Returns to what is no function, so that the word at the stack pointer is no return address. */
+static void on_wild_return(int signal, siginfo_t *info, void *context) {
+    (void)signal, (void)info;
+    void *ours[FRAMES];
+    IS(dwcheck_dl_backtrace_from(context, ours, FRAMES), 1);
+    IS((uintptr_t)ours[0], (uintptr_t)missing);
+    siglongjmp(after_wild_call, 1);
+}
+
+static void return_to_missing(void) {
+    if (sigsetjmp(after_wild_call, 1) == 0) __asm__ volatile("push $1234\n\tpush %0\n\tret" : : "r"(missing) : "memory");
+}
+
+static void test_wild_calls(void) {
+    enum { PAGE = 4096 };
+    void *const data = mmap(NULL, PAGE, PROT_READ | PROT_WRITE, MAP_PRIVATE | MAP_ANONYMOUS, -1, 0);
+    void *const unmapped = mmap(NULL, PAGE, PROT_NONE, MAP_PRIVATE | MAP_ANONYMOUS, -1, 0);
+    void *const wild[] = {NULL, data, unmapped, (void *)0x123456789000, before_wild_call};
+    struct sigaction action = {.sa_sigaction = on_wild_call, .sa_flags = SA_SIGINFO}, before;
+    munmap(unmapped, PAGE);
     sigaction(SIGSEGV, &action, &before);
-    deep(DEPTH, call_null);
+    for (size_t i = 0; i < sizeof wild / sizeof *wild; i++) {
+        *(void **)&missing = wild[i];
+        deep(DEPTH, call_missing);
+    }
+    action.sa_sigaction = on_wild_return;
+    sigaction(SIGSEGV, &action, NULL);
+    *(void **)&missing = data;
+    deep(DEPTH, return_to_missing);
     sigaction(SIGSEGV, &before, NULL);
+    munmap(data, PAGE);
 }
 
 /* ---- libraries that come and go */
@@ -302,7 +328,7 @@ int main(int count, char **arguments) {
     pthread_join(thread, NULL);
     test_signals();
     test_overflow();
-    test_null_call();
+    test_wild_calls();
     test_other_stacks();
     test_stack();
     come_and_go();

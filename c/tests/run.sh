@@ -1,6 +1,6 @@
 #!/bin/bash
 # Builds the tests with the static library build/libdwcheck.a, or the one that LIBRARY names, and runs
-# them: those of readers.c, frozen.c, cursor.c, cache.c and dl.c; those of wrapper.cc, as C++17, as C++20 and over
+# them: those of readers.c, frozen.c, cursor.c, cache.c, dl.c, own_rows.c and both.c; those of wrapper.cc, as C++17, as C++20 and over
 # the module; and those of cases.c while allocations fail in turn, with sanitizers, and under valgrind. Before that,
 # the headers are compiled as C11, C17 and C++17; passing a pointer of a wrong type must be an error.
 # Prints a line `ok NAME` or `FAILED NAME` for each, and ends with status 1 if one failed.
@@ -41,6 +41,44 @@ readers() { # PROGRAM: builds the tests of calls that read one process at once, 
     cc -std=gnu11 -D_GNU_SOURCE $strict -O2 -g "$top/c/tests/$1.c" "$library" -o "$out/$1" -pthread -ldl && "$out/$1"
 }
 
+compile_module() { # OBJECT COMMAND..: compiles the module of LLVM as the kit does, and takes its code apart
+    local object=$1
+    shift
+    "$@" -ffunction-sections -no-canonical-prefixes -Werror -c -x ir "$out/module.bc" -o "$object" -fPIC -O3 &&
+        objcopy -O binary --only-section='.text*' "$object" "$object.code"
+}
+
+rows_of_modules() { # whether tools/clang_with_rows.sh gives each function an FDE, and leaves the code as it is
+    printf 'int f(int *); int g(int x) { int y[9] = {x}; return f(y) + y[3]; } int h(int x) { return g(x) + 1; }' |
+        clang-16 -O1 -fno-asynchronous-unwind-tables -emit-llvm -c -x c - -o "$out/module.bc" &&
+        compile_module "$out/plain.o" clang-16 && compile_module "$out/rows.o" "$top/tools/clang_with_rows.sh" clang-16 &&
+        [ "$(readelf --debug-dump=frames "$out/plain.o" | grep -c ' FDE ')" = 0 ] &&
+        [ "$(readelf --debug-dump=frames "$out/rows.o" | grep -c ' FDE ')" = 2 ] &&
+        [ -s "$out/rows.o.code" ] && cmp "$out/plain.o.code" "$out/rows.o.code"
+}
+
+modules_without_attributes() {
+    printf 'target triple = "x86_64-pc-linux-gnu"\ndefine i32 @f() {\n  ret i32 1\n}\n' > "$out/module.bc" &&
+        compile_module "$out/plain.o" clang-16 && compile_module "$out/rows.o" "$top/tools/clang_with_rows.sh" clang-16 &&
+        cmp "$out/plain.o.code" "$out/rows.o.code"
+}
+
+# Everything else goes to clang as it is; and if the module is none, one line says what failed.
+other_words() {
+    local script="$top/tools/clang_with_rows.sh"
+    [ "$("$script" clang-16 --version)" = "$(clang-16 --version)" ] &&
+        printf 'int x;' | "$script" clang-16 -c -x c - -o "$out/x.o" && nm "$out/x.o" | grep -q ' x$' || return 1
+    printf 'no module' > "$out/module.bc"
+    ! ROWS_LOG=$out/why compile_module "$out/rows.o" "$script" clang-16 2> "$out/errors" &&
+        [ "$(cat "$out/why")" = "tools/clang_with_rows.sh: the module can't be written as text by clang-16" ] &&
+        [ "$(tail -n 1 "$out/errors")" = "$(cat "$out/why")" ]
+}
+
+own_rows() { # builds the tests of walks that interrupt the library, and runs them
+    cc -std=gnu11 $strict -O2 -g -fno-optimize-sibling-calls "$top/c/tests/own_rows.c" "$dl_library" "$library" -o "$out/own_rows" -pthread -ldl &&
+        "$out/own_rows"
+}
+
 dl() { # builds the tests of dwcheck-dl, and runs them with a library that comes and goes
     printf 'void call_back(void (*f)(void)); void call_back(void (*f)(void)) { f(); __asm__ volatile(""); }\n' |
         cc -O2 -fPIC -shared -x c - -o "$out/called.so" &&
@@ -55,6 +93,48 @@ linked() { # FLAG..: builds a program that prints how many frames its stack has,
         seq 900 | sed 's/.*/int f&(int x); int f&(int x) { return x + &; }/'
     } | cc -std=gnu11 $strict -O2 "$@" -x c - -x none "$dl_library" "$library" -o "$out/linked" -pthread -ldl &&
         [ "$("$out/linked")" = "4 frames" ]
+}
+
+other_object() { # FLAG..: prints what both.c prints with another object of many functions that is compiled so
+    {
+        printf 'int through(int (*f)(void)); int through(int (*f)(void)) { return f() + 1; }\n'
+        seq 300 | sed 's/.*/int f&(int x); int f&(int x) { volatile int y[&]; y[0] = x; return y[0] + y[1]; }/'
+    } | cc -O1 -ffunction-sections "$@" -x c -c - -o "$out/other.o" &&
+        cc -std=gnu11 $strict -O1 -fno-optimize-sibling-calls -c "$top/c/tests/both.c" -o "$out/both.o" &&
+        cc $links "$out/both.o" "$out/other.o" $last "$dl_library" "$library" -o "$out/both" -pthread -ldl && "$out/both"
+}
+
+# Both stacks have the frames that glibc finds if all functions have rows in .eh_frame.
+both_sections() { # FLAG..: for the link
+    local links=$* last= want have
+    want=$(other_object | cut -d ' ' -f 2) &&
+        have=$(other_object -fno-asynchronous-unwind-tables -g | cut -d ' ' -f 1) &&
+        readelf -SW "$out/both" | grep -q ' \.debug_frame ' && [ "$have" = "$want" ] || { printf '%s\nnot\n%s\n' "$have" "$want"; return 1; }
+}
+
+# A .debug_frame section that is refused, since two of its FDEs share addresses, takes no rows of .eh_frame away.
+refused_section() {
+    local links= last="$out/overlap.o" want have
+    printf '.text\nboth: nop\nnop\n.section .debug_frame\n.Lcie: .long 12, -1\n.byte 4, 0, 8, 0, 1, 0x78, 16, 0\n
+        .long 20, .Lcie\n.quad both, 2\n.long 20, .Lcie\n.quad both + 1, 1\n.section .note.GNU-stack\n' | cc -x assembler -c - -o "$out/overlap.o"
+    have=$(other_object | cut -d ' ' -f 1) && want=$("$out/both" | cut -d ' ' -f 2) && [ "$have" = "$want" ]
+}
+
+walks_under_valgrind() { # valgrind says nothing of a walk
+    linked && valgrind -q --error-exitcode=1 "$out/linked" > "$out/shown" 2>&1 && [ "$(cat "$out/shown")" = "4 frames" ]
+}
+
+exports() { # FLAG..: prints the names that a shared object with both archives exports, but for its own
+    printf '#include "dwcheck-dl.h"\nint own(void **a);\nint own(void **a) { return dwcheck_dl_update(0) ? 0 : dwcheck_dl_backtrace(a, 9); }\n' |
+        cc -shared -fPIC $strict -x c - -x none "$@" "$dl_library" "$library" -o "$out/own.so" -pthread -ldl &&
+        nm -D --defined-only "$out/own.so" | cut -d ' ' -f 3 | grep -vx own
+}
+
+# By itself it exports only names of the headers; and by the words of pkg-config's files, none.
+exports_nothing_else() {
+    local words
+    words=$(sed -n 's/^Libs: //p' "$top/c/dwcheck.pc.in" "$top/c/dwcheck-dl.pc.in" | tr ' ' '\n' | grep '^-Wl,')
+    [ "$(exports | grep -c '^dwcheck_')" -gt 20 ] && [ -z "$(exports | grep -v '^dwcheck_')" ] && [ -z "$(exports $words)" ]
 }
 
 wrapper() { # STANDARD: builds the tests of the header for C++, and runs them
@@ -90,8 +170,17 @@ test_of "the same with the process in memory that can't be written" readers froz
 test_of "steps of a cursor" readers cursor
 test_of "walks with a cache" readers cache
 test_of "stacks of dwcheck-dl are glibc's, while libraries come and go" dl
+test_of "rows are given to the code of a module, which stays the same" rows_of_modules
+test_of "a module without attributes is compiled" modules_without_attributes
+test_of "other calls of clang stay as they are, and a failure is one line" other_words
+test_of "walks that interrupt the library reach the start of the program" own_rows
 test_of "a stack of a static program" linked -static
 test_of "a stack whose rows are in .debug_frame" linked -fno-asynchronous-unwind-tables -g
+test_of "a shared object with the archives exports only what it should" exports_nothing_else
+test_of "a stack under valgrind" walks_under_valgrind
+test_of "a stack whose rows are in both sections" both_sections
+test_of "a stack whose rows are in both sections, of a program without functions that aren't used" both_sections -Wl,--gc-sections
+test_of "a stack of a program whose .debug_frame is refused" refused_section
 test_of "the header for C++ as C++17, beside that for C" wrapper c++17
 test_of "the header for C++ as C++20, whose frames are a range" wrapper c++20
 test_of "the header for C++ as a module of C++20" as_module

@@ -17,9 +17,10 @@ pub use signal::Signal;
 
 use crate::abi::{abi, Abi};
 use crate::live::{can_differ, Snapshot};
+use crate::other_file::OtherFile;
 use crate::target::{AddressSize, Order, Target};
 use notes::Notes;
-use object::elf::{self, FileHeader32, FileHeader64, ET_CORE, PF_X, PT_LOAD};
+use object::elf::{self, FileHeader32, FileHeader64, ELFMAG, ET_CORE, PF_X, PT_LOAD};
 use object::read::elf::{FileHeader, ProgramHeader};
 use object::read::FileKind;
 use object::Endianness;
@@ -73,22 +74,14 @@ pub enum CoreError {
     Packed(&'static str, &'static str),
 }
 
-/// The first bytes of files that a core file may be packed in, what they are, and what to do.
-const PACKED: [(&[u8], &str, &str); 7] = [
-    (b"\x28\xb5\x2f\xfd", "compressed by zstd", "unpack it by unzstd"),
-    (b"\x1f\x8b", "compressed by gzip", "unpack it by gunzip"),
-    (b"\xfd7zXZ", "compressed by xz", "unpack it by unxz"),
-    (b"\x04\x22\x4d\x18", "compressed by lz4", "unpack it by unlz4"),
-    (b"MDMP", "a minidump", "convert it by minidump-2-core"),
-    (b"KDUMP   ", "a dump of a kernel", "its tools are crash and drgn"),
-    (b"makedumpfile", "a dump of a kernel", "its tools are crash and drgn"),
-];
-
 impl<'data> CoreFile<'data> {
     /// Reads the headers and the notes of a core file.
     pub fn read(data: &'data [u8]) -> Result<Self, CoreError> {
-        if let Some((_, kind, help)) = PACKED.iter().find(|(magic, ..)| data.starts_with(magic)) {
+        if let Some(OtherFile { kind, help }) = OtherFile::of(data) {
             return Err(CoreError::Packed(kind, help));
+        }
+        if !data.starts_with(&ELFMAG) {
+            return Err(CoreError::Elf("it doesn't begin as an ELF file".to_string()));
         }
         match FileKind::parse(data).map_err(elf_error)? {
             FileKind::Elf32 => Self::read_class::<FileHeader32<Endianness>>(data, AddressSize::Four),

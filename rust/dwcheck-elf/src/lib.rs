@@ -42,6 +42,7 @@ pub mod loclists;
 pub mod mapped;
 pub mod modules;
 pub mod names;
+pub mod other_file;
 mod page;
 mod pieces;
 mod plt;

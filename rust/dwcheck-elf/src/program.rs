@@ -7,6 +7,7 @@ use crate::frames::{Format, Name};
 use crate::functions::Functions;
 use crate::image::Image;
 use crate::layout::{is_loaded, Layout};
+use crate::other_file::OtherFile;
 use crate::relocate::{self, RelocationError};
 use crate::target::{AddressSize, Order, Target};
 use flate2::{Decompress, FlushDecompress};
@@ -92,7 +93,9 @@ pub struct Segment {
 /// Why a file or a section can't be read.
 #[derive(Clone, Debug, PartialEq, Eq)]
 pub enum ProgramError {
-    /// The file isn't an ELF file, or its headers are wrong.
+    /// The file doesn't begin as an ELF file; of this kind it is, if that is known.
+    NotElf(Option<OtherFile>),
+    /// The headers of the ELF file are wrong.
     Elf(String),
     /// The sections of an unlinked object don't fit below the highest address.
     Layout,
@@ -110,6 +113,9 @@ pub enum ProgramError {
 impl<'data> Program<'data> {
     /// Reads the headers of a file.
     pub fn read(data: &'data [u8]) -> Result<Self, ProgramError> {
+        if !data.starts_with(&elf::ELFMAG) {
+            return Err(ProgramError::NotElf(OtherFile::of(data)));
+        }
         let file = object::File::parse(data).map_err(|error| ProgramError::Elf(error.to_string()))?;
         let order = if file.is_little_endian() { Order::Little } else { Order::Big };
         let address_size = if file.is_64() { AddressSize::Eight } else { AddressSize::Four };
@@ -457,6 +463,8 @@ fn unpacked(bytes: &[u8]) -> Result<Vec<u8>, ProgramError> {
 impl fmt::Display for ProgramError {
     fn fmt(&self, f: &mut fmt::Formatter<'_>) -> fmt::Result {
         match self {
+            ProgramError::NotElf(Some(other)) => other.fmt(f),
+            ProgramError::NotElf(None) => f.write_str("not an ELF file"),
             ProgramError::Elf(error) => write!(f, "not an ELF file that can be read: {}", error),
             ProgramError::Layout => f.write_str("the sections of the object don't fit its addresses"),
             ProgramError::Repeated(name) => write!(f, "the file has several sections {}", name),

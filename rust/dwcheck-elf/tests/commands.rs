@@ -6,6 +6,10 @@ mod common;
 
 use common::run::{by_dwcheck, dwcheck_elf, dwcheck_elf_words};
 use common::{hex, Folder, C, CXX};
+use std::fs::OpenOptions;
+use std::os::unix::io::OwnedFd;
+use std::os::unix::net::UnixStream;
+use std::process::{Command, Stdio};
 
 /// Makes a program, linked at fixed addresses, that has `.debug_frame`, `.debug_loclists`, and a
 /// row with a CFA that is an expression.
@@ -230,16 +234,20 @@ fn words_and_files_that_are_wrong() {
     core[16] = 4;
     folder.write("bare.core", core);
     for (words, status, error) in [
-        ("row program nothing", 2, "no function has the name nothing"),
+        ("row program nothing", 2, "bad argument: ADDRESS: no function has the name nothing"),
         ("row program main+x", 2, "no number follows the plus sign"),
-        ("row program 0x", 2, "isn't an address"),
+        ("row program 0x", 2, "bad argument: ADDRESS is 0x, which isn't an address as 0x1130\n"),
         ("row program 0x10000000000000000", 2, "isn't an address"),
+        ("row --load 5 program main", 2, "bad argument: --load is 5, which isn't an address as 0x1130\n"),
         ("row program", 2, "ADDRESS"),
         ("sort program", 2, "sort"),
-        ("backtrace program main state 65536", 2, "isn't a count of frames"),
-        ("unwind --module 1=x program main state", 2, "isn't an address"),
+        ("backtrace program main state 65536", 2, "LIMIT is 65536, which isn't a count of frames up to 65535\n"),
+        ("unwind --module 1=x program main state", 2, "LOAD of --module is 1, which isn't an address as 0x1130\n"),
         ("unwind --module 0x1 program main state", 2, "isn't LOAD=FILE"),
-        ("locs program 0x100000000 0x0 0x0", 2, "past 0xffffffff"),
+        ("locs program 0x100000000 0x0 0x0", 2, "LIST is past 0xffffffff"),
+        ("locs program 0 0x0 0x0", 2, "LIST is 0, which isn't an address as 0x1130\n"),
+        ("locs program 0xc nothing 0x0", 2, "BASE: no function has the name nothing\n"),
+        ("locs program 0xc 0x0 nothing", 2, "ADDRESS: no function has the name nothing\n"),
         ("row program 4ba50", 2, "no function has the name 4ba50 (an address begins with 0x)"),
         ("check nowhere", 3, "cannot read nowhere"),
         ("check .", 3, "cannot read .: Is a directory (os error 21): survey reads folders\n"),
@@ -255,13 +263,52 @@ fn words_and_files_that_are_wrong() {
     }
 }
 
-/// Standard output that can't be written has a status of its own, also for help.
+#[test]
+fn threads_and_frames_that_are_not_there() {
+    let folder = Folder::new("no-thread");
+    folder.run("printf 'int main(void) { __builtin_trap(); }' | gcc -g -x c - -o trap");
+    folder.make_core("./trap");
+    let shown =
+        folder.run("gdb --batch -ex 'info threads' trap core 2> /dev/null | grep -om 1 'LWP [0-9]*' | head -n 1");
+    let tid = shown.trim().trim_start_matches("LWP ");
+    let ran = dwcheck_elf(&folder, "vars --core core --thread 1");
+    let error = format!("dwcheck-elf: bad argument: --thread is 1, and the threads are {}\n", tid);
+    assert_eq!((ran.status, ran.out.as_str(), ran.error), (2, "", error));
+    let ran = dwcheck_elf(&folder, "vars --core core --frame 99");
+    assert_eq!((ran.status, ran.out.as_str()), (2, ""));
+    assert!(ran.error.starts_with("dwcheck-elf: bad argument: --frame is 99, and the stack has "), "{}", ran.error);
+}
+
+/// Commands that write, with a file that each of them takes.
+const WRITING: [&str; 6] =
+    ["--help", "--version", "completions bash", "check /bin/true", "rows /bin/true", "survey --json /bin/true"];
+
+/// Runs a command with this as its standard output, and gives its status and what it says.
+fn written_to(words: &str, out: impl Into<Stdio>) -> (Option<i32>, String) {
+    let mut command = Command::new(env!("CARGO_BIN_EXE_dwcheck-elf"));
+    let ran = command.args(words.split(' ')).stdout(out).stderr(Stdio::piped()).spawn().unwrap().wait_with_output();
+    let ran = ran.unwrap();
+    (ran.status.code(), String::from_utf8_lossy(&ran.stderr).into_owned())
+}
+
+/// Standard output that can't be written has a status of its own, also for help, and the reason is said.
 #[test]
 fn output_that_cant_be_written_is_a_failure() {
-    let folder = Folder::new("full");
-    for words in ["--help", "--version", "completions bash"] {
-        let program = env!("CARGO_BIN_EXE_dwcheck-elf");
-        let status = folder.run(&format!("s=0; {} {} > /dev/full 2> /dev/null || s=$?; echo $s", program, words));
-        assert_eq!(status.trim(), "3", "{}", words);
+    for words in WRITING {
+        let full = OpenOptions::new().write(true).open("/dev/full").unwrap();
+        let (status, error) = written_to(words, full);
+        assert_eq!(status, Some(3), "{}", words);
+        assert_eq!(error, "dwcheck-elf: cannot write: No space left on device (os error 28)\n", "{}", words);
+    }
+}
+
+/// If a program that reads the output has ended, such as head, nothing is said; the status is the one that shells show
+/// for programs which SIGPIPE ends.
+#[test]
+fn output_that_nobody_reads_ends_the_program_in_silence() {
+    for words in WRITING {
+        let (reader, writer) = UnixStream::pair().unwrap();
+        drop(reader);
+        assert_eq!(written_to(words, OwnedFd::from(writer)), (Some(128 + 13), String::new()), "{}", words);
     }
 }

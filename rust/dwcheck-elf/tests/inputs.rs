@@ -47,3 +47,40 @@ fn packed_core_files() {
     );
     assert!(bounded(&folder, "stack mini").1.contains("but a minidump: "));
 }
+
+/// What a file is that no command reads, and what to do.
+#[test]
+fn files_of_other_kinds_say_what_they_are() {
+    let folder = Folder::new("other-kinds");
+    folder.run("echo 'int x;' | gcc -x c - -c -o a.o && cp a.o module.ko");
+    folder.run("ar rc lib.a a.o && ar rcT thin.a a.o && xz -k module.ko && gzip -k module.ko && printf BZh91AY > module.ko.bz2");
+    folder.run(
+        "printf '#!/bin/sh\\n' > script && cp /usr/lib/x86_64-linux-gnu/libc.so linked.so && printf 'text' > text",
+    );
+    for (file, why) in [
+        ("lib.a", "an archive, not an ELF file; take its objects out by ar x"),
+        ("thin.a", "an archive, not an ELF file; take its objects out by ar x"),
+        ("module.ko.xz", "compressed by xz, not an ELF file; unpack it by unxz"),
+        ("module.ko.gz", "compressed by gzip, not an ELF file; unpack it by gunzip"),
+        ("module.ko.bz2", "compressed by bzip2, not an ELF file; unpack it by bunzip2"),
+        ("script", "a script, not an ELF file; name the program that it runs"),
+        ("linked.so", "a script of the linker, not an ELF file; name the library that it names"),
+        ("text", "not an ELF file"),
+    ] {
+        for words in ["check", "rows", "lint", "survey", "report -o page", "vars --thread 1 --core"] {
+            let (status, error) = bounded(&folder, &format!("{} {}", words, file));
+            assert_eq!(status, 3, "{} {}: {}", words, file, error);
+            let said = match (words, why.split_once(", not an ELF file; ")) {
+                ("vars --thread 1 --core", Some((kind, help))) => format!("not a core file, but {}: {}", kind, help),
+                ("vars --thread 1 --core", None) => "not a core file that can be read".to_string(),
+                _ => why.to_string(),
+            };
+            assert!(error.contains(&format!("{}: {}", file, said)), "{} {}: {}", words, file, error);
+        }
+    }
+    for words in ["check", "rows", "stack"] {
+        let (status, error) = bounded(&folder, &format!("{} -", words));
+        assert_eq!(status, 3, "{}", words);
+        assert!(error.contains("cannot read -: ") && error.ends_with("; standard input is /dev/stdin\n"), "{}", error);
+    }
+}

@@ -7,6 +7,8 @@ use common::{has, Folder, C, CXX};
 use dwcheck_elf::lint::Sections;
 use dwcheck_elf::program::Program;
 use dwcheck_lint::lint::lint;
+use std::env;
+use std::path::Path;
 
 /// A function whose push has no row, one that gives rbx to nobody, and one that is right.
 const TEXT: &str = ".text
@@ -230,6 +232,21 @@ wrong: .cfi_startproc
 .section .rodata
 table: .byte (2b-2b)/4, (3b-2b)/4
 ";
+
+/// The code of the C library has rows, which it gets while it is built.
+#[test]
+fn nothing_is_found_in_the_library() {
+    let folder = Folder::new("lint_library");
+    let archive = Path::new(&env::var_os("DWCHECK_LIB_DIR").expect("the folder of libdwcheck.a")).join("libdwcheck.a");
+    folder.run(&format!("ar x '{}'", archive.display()));
+    let ran = dwcheck_elf(&folder, "lint dwcheck.o");
+    assert_eq!((ran.status, ran.error.as_str()), (0, ""), "{}", ran.out);
+    let counts = ran.out.strip_prefix("dwcheck.o: fdes ").expect("counts");
+    let functions = folder.run("readelf -sW dwcheck.o | awk '$4 == \"FUNC\" && $3 > 0' | wc -l");
+    assert_eq!(counts.split(' ').next(), Some(functions.trim()), "{}", ran.out);
+    let numbers: Vec<&str> = counts.trim().split(' ').collect();
+    assert_eq!(numbers[2], numbers[4], "all instructions are judged: {}", ran.out);
+}
 
 #[test]
 fn code_for_aarch64() {

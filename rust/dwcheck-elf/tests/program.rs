@@ -316,7 +316,15 @@ fn files_without_sections() {
     assert_eq!((program.debug_frame(), program.debug_loclists(), program.eh_frame()), (Ok(None), Ok(None), Ok(None)));
     let bytes = folder.bytes("debug");
     assert_eq!(Program::read(&bytes).unwrap().eh_frame(), Ok(None), "the section has no bytes there");
-    for bytes in [&b""[..], b"\x7fELF", b"#!/bin/sh\n", &bytes[..40]] {
+    for bytes in [&b"\x7fELF"[..], &bytes[..40]] {
         assert!(matches!(Program::read(bytes), Err(ProgramError::Elf(_))));
+    }
+    for (bytes, kind) in [(&b""[..], None), (b"text", None), (b"#!/bin/sh\n", Some("a script"))] {
+        let error = Program::read(bytes).err();
+        assert!(
+            matches!(&error, Some(ProgramError::NotElf(other)) if other.map(|other| other.kind) == kind),
+            "{:?}",
+            error
+        );
     }
 }

@@ -3,8 +3,9 @@
 use dwcheck_elf::inspect::InspectError;
 use dwcheck_elf::text::Plain;
 use std::fmt;
-use std::io;
+use std::io::{self, Write};
 use std::path::Path;
+use std::process::ExitCode;
 
 /// The result of a run that reached its end.
 #[derive(Clone, Copy, Debug, PartialEq, Eq, PartialOrd, Ord)]
@@ -27,8 +28,12 @@ pub enum Failure {
     /// A file can't be read or checked.
     File(String),
     /// The output can't be written.
-    Output,
+    Output(io::Error),
 }
+
+/// The status of a program whose output is a pipe that nobody reads any more: what shells show for one that SIGPIPE
+/// has ended.
+const PIPE_CLOSED: u8 = 128 + 13;
 
 impl Done {
     /// The exit status.
@@ -47,8 +52,24 @@ impl Failure {
     pub fn status(&self) -> u8 {
         match self {
             Failure::Argument(_) => 2,
-            Failure::File(_) | Failure::Output => 3,
+            Failure::File(_) => 3,
+            Failure::Output(error) if is_closed(error) => PIPE_CLOSED,
+            Failure::Output(_) => 3,
         }
+    }
+
+    /// Ends the program: says on standard error why, unless the reader of the output has ended, such as `head`.
+    pub fn end(&self) -> ExitCode {
+        if !matches!(self, Failure::Output(error) if is_closed(error)) {
+            // If standard error is closed, nobody can read the message, so it doesn't matter that this fails.
+            let _ = writeln!(io::stderr(), "dwcheck-elf: {}", self);
+        }
+        ExitCode::from(self.status())
+    }
+
+    /// The failure for a file that can't be opened or read.
+    pub fn reading(path: &Path, error: &io::Error) -> Self {
+        Failure::File(format!("cannot read {}: {}", shown(path), why_unread(path, error)))
     }
 
     /// The failure for a file whose sections can't be checked.
@@ -57,9 +78,22 @@ impl Failure {
     }
 }
 
+/// Whether what was written goes to a pipe that nobody reads any more.
+fn is_closed(error: &io::Error) -> bool {
+    error.kind() == io::ErrorKind::BrokenPipe
+}
+
+/// Why a file can't be opened or read, and what to do if its name means standard input elsewhere.
+fn why_unread(path: &Path, error: &io::Error) -> String {
+    if path == Path::new("-") && error.kind() == io::ErrorKind::NotFound {
+        return format!("{}; standard input is /dev/stdin", error);
+    }
+    error.to_string()
+}
+
 impl From<io::Error> for Failure {
-    fn from(_: io::Error) -> Self {
-        Failure::Output
+    fn from(error: io::Error) -> Self {
+        Failure::Output(error)
     }
 }
 
@@ -67,7 +101,7 @@ impl fmt::Display for Failure {
     fn fmt(&self, f: &mut fmt::Formatter<'_>) -> fmt::Result {
         match self {
             Failure::Argument(text) | Failure::File(text) => f.write_str(text),
-            Failure::Output => f.write_str("cannot write"),
+            Failure::Output(error) => write!(f, "cannot write: {}", error),
         }
     }
 }

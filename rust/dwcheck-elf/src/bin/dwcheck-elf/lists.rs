@@ -19,11 +19,11 @@ pub fn locs(words: &LocsWords, out: &mut impl Write) -> Result<Done, Failure> {
     let program = program(&words.program, &data)?;
     let target = program.target();
     let functions = program.functions();
-    let list = number_argument(&words.list, target)?;
+    let list = number_argument("LIST", &words.list, target)?;
     let list =
-        u32::try_from(list).map_err(|_| Failure::Argument("bad argument: the list is past 0xffffffff".to_string()))?;
-    let base = address(&words.base, target, &functions, 0)?;
-    let address = address(&words.address, target, &functions, 0)?;
+        u32::try_from(list).map_err(|_| Failure::Argument("bad argument: LIST is past 0xffffffff".to_string()))?;
+    let base = address("BASE", &words.base, target, &functions, 0)?;
+    let address = address("ADDRESS", &words.address, target, &functions, 0)?;
     let state = words.state.as_ref().map_or(Ok(StateFile::default()), |path| state_file(path, target))?;
     let lists =
         program.debug_loclists().map_err(|error| Failure::File(format!("{}: {}", shown(&words.program), error)))?;

@@ -31,11 +31,11 @@ fn main() -> ExitCode {
             // If standard error is closed, nobody can read the message, so it doesn't matter that
             // this fails.
             let printed = error.print().and_then(|()| io::stdout().flush());
-            return ExitCode::from(match (error.use_stderr(), printed) {
-                (true, _) => 2,
-                (false, Ok(())) => 0,
-                (false, Err(_)) => Failure::Output.status(),
-            });
+            return match (error.use_stderr(), printed) {
+                (true, _) => ExitCode::from(2),
+                (false, Ok(())) => ExitCode::SUCCESS,
+                (false, Err(error)) => Failure::from(error).end(),
+            };
         }
     };
     let mut out = BufWriter::new(io::stdout().lock());
@@ -45,10 +45,7 @@ fn main() -> ExitCode {
     });
     match ended {
         Ok(done) => ExitCode::from(done.status()),
-        Err(failure) => {
-            let _ = writeln!(io::stderr(), "dwcheck-elf: {}", failure);
-            ExitCode::from(failure.status())
-        }
+        Err(failure) => failure.end(),
     }
 }
 

@@ -12,6 +12,7 @@ use dwcheck_elf::names::Spot;
 use dwcheck_elf::program::Program;
 use dwcheck_elf::state_file::address as number;
 use dwcheck_elf::target::Target;
+use dwcheck_elf::text::Plain;
 use std::fmt;
 use std::fs::File;
 use std::io::{self, Read, Write};
@@ -19,7 +20,7 @@ use std::path::Path;
 
 /// Opens an ELF file, which may also be a pipe or another file that isn't regular.
 pub fn read(path: &Path) -> Result<Bytes, Failure> {
-    Bytes::of_elf(path).map_err(|error| Failure::File(format!("cannot read {}: {}", shown(path), error)))
+    Bytes::of_elf(path).map_err(|error| Failure::reading(path, &error))
 }
 
 /// Reads a text to its end, even if it is a pipe or another file that isn't regular.
@@ -29,7 +30,7 @@ pub fn read_text(path: &Path) -> Result<Vec<u8>, Failure> {
         File::open(path)?.read_to_end(&mut bytes)?;
         Ok(bytes)
     };
-    content().map_err(|error| Failure::File(format!("cannot read {}: {}", shown(path), error)))
+    content().map_err(|error| Failure::reading(path, &error))
 }
 
 /// Reads the headers of an ELF file.
@@ -129,23 +130,24 @@ pub fn named(functions: &Functions<'_>, address: u64) -> String {
     Spot::at(functions, address).map_or_else(String::new, |spot| format!(" ({})", spot))
 }
 
-/// Reads an argument that is a number, such as `0x1130`.
-pub fn number_argument(text: &str, target: Target) -> Result<u64, Failure> {
-    number(text, target).ok_or_else(|| Failure::Argument(format!("bad argument: {} isn't an address as 0x1130", text)))
+/// Reads the argument with this name that is a number, such as `0x1130`.
+pub fn number_argument(name: &str, text: &str, target: Target) -> Result<u64, Failure> {
+    let bad = || format!("bad argument: {} is {}, which isn't an address as 0x1130", name, Plain(text));
+    number(text, target).ok_or_else(|| Failure::Argument(bad()))
 }
 
-/// Reads an argument that is an address in the process: a number, or a function of the program with
+/// Reads the argument with this name that is an address in the process: a number, or a function of the program with
 /// or without an offset, such as `main+4`. `load` is where the program is loaded. It is added to
 /// the address of a function, but not to a number.
-pub fn address(text: &str, target: Target, functions: &Functions<'_>, load: u64) -> Result<u64, Failure> {
+pub fn address(name: &str, text: &str, target: Target, functions: &Functions<'_>, load: u64) -> Result<u64, Failure> {
     if let Some(number) = number(text, target) {
         return Ok(number);
     }
     if text.starts_with("0x") {
-        return number_argument(text, target);
+        return number_argument(name, text, target);
     }
     match functions.parse(text) {
         Ok(address) => Ok(target.wrap(address.wrapping_add(load))),
-        Err(error) => Err(Failure::Argument(format!("bad argument: {}", error))),
+        Err(error) => Err(Failure::Argument(format!("bad argument: {}: {}", name, error))),
     }
 }

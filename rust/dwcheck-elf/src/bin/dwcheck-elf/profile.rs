@@ -51,7 +51,7 @@ fn read(words: &ProfileWords) -> Result<(Profile, Names), Failure> {
     let options = options(words)?;
     let kernel = words.kallsyms.clone();
     if let Some(path) = &kernel {
-        File::open(path).map_err(|error| Failure::File(format!("cannot read {}: {}", shown(path), error)))?;
+        File::open(path).map_err(|error| Failure::reading(path, &error))?;
     }
     let mut recording = open(&words.recording)?;
     check_event(words, recording.about().events())?;

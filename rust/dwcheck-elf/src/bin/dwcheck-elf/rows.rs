@@ -85,8 +85,8 @@ pub fn row(words: &RowWords, out: &mut impl Write) -> Result<Done, Failure> {
     let program = opened::program(&words.program, &data)?;
     let functions = program.functions();
     let target = program.target();
-    let load = number_argument(&words.load, target)?;
-    let loaded = address(&words.address, target, &functions, load)?;
+    let load = number_argument("--load", &words.load, target)?;
+    let loaded = address("ADDRESS", &words.address, target, &functions, load)?;
     let linked = target.wrap(loaded.wrapping_sub(load));
     let opened = Opened::read(&words.program, &program)?;
     for frames in &opened.frames {

@@ -102,7 +102,7 @@ fn print(
 
 fn given(program: &Path) -> Result<Given, Failure> {
     let path = program.canonicalize();
-    let path = path.map_err(|error| Failure::File(format!("cannot read {}: {}", shown(program), error)))?;
+    let path = path.map_err(|error| Failure::reading(program, &error))?;
     Ok(Given { bytes: read(&path)?, path })
 }
 

@@ -60,17 +60,34 @@ fn of_process(words: &VarsWords, pid: u32, shape: Shape) -> Result<Vec<Function>
     of_frame(words, &core, &Files::of_live(&core, pid), shape)
 }
 
+/// The failure for a thread that isn't there, or for a core file without threads.
+fn no_thread(wanted: Option<u32>, core: &CoreFile<'_>) -> Failure {
+    const SHOWN: usize = 8;
+    let known: Vec<_> = core.threads().iter().take(SHOWN).map(|thread| thread.id.to_string()).collect();
+    let more = if core.threads().len() > SHOWN { " and others" } else { "" };
+    Failure::Argument(match wanted {
+        Some(tid) if !known.is_empty() => {
+            format!("bad argument: --thread is {}, and the threads are {}{}", tid, known.join(", "), more)
+        }
+        _ => "bad argument: there is no thread".to_string(),
+    })
+}
+
 /// The functions of the frame that is asked for.
 fn of_frame(words: &VarsWords, core: &CoreFile<'_>, files: &Files, shape: Shape) -> Result<Vec<Function>, Failure> {
     let stacks = Stacks::of(core, files);
     let is_wanted = |tid: u32| words.thread.map_or(true, |wanted| wanted == tid);
     let thread = core.threads().iter().find(|thread| is_wanted(thread.id));
-    let thread = thread.ok_or_else(|| Failure::Argument("bad argument: there is no such thread".to_string()))?;
+    let thread = thread.ok_or_else(|| no_thread(words.thread, core))?;
     let limit = words.frame.saturating_add(1 + MAX_CALLERS);
     let options = WalkOptions { limit, keeps_registers: true, ..WalkOptions::default() };
     let stack = stacks.walk(thread, options).map_err(|error| Failure::File(error.to_string()))?;
     if words.frame >= stack.frames.len() {
-        return Err(Failure::Argument(format!("bad argument: the stack has {} frames", stack.frames.len())));
+        let count = stack.frames.len();
+        return Err(Failure::Argument(format!(
+            "bad argument: --frame is {}, and the stack has {} frames, counted from 0",
+            words.frame, count
+        )));
     }
     let functions = stacks.variables(&stack, words.frame, shape);
     for (file, why) in stacks.missing() {
@@ -90,8 +107,8 @@ fn of_program(
     let data = read(path)?;
     let program = program(path, &data)?;
     let target = program.target();
-    let load = number_argument(&words.load, target)?;
-    let address = address(at, target, &program.functions(), load)?;
+    let load = number_argument("--load", &words.load, target)?;
+    let address = address("ADDRESS", at, target, &program.functions(), load)?;
     let state = words.state.as_ref().map_or(Ok(StateFile::default()), |path| state_file(path, target))?;
     let files = DebugFiles::default();
     let variables = variables(path, &program, &files)?;

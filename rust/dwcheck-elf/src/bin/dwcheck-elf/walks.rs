@@ -67,14 +67,16 @@ impl<'a> Loaded<'a> {
 /// Lists the modules that the command line names: first the program, whose bytes are `data`, then
 /// the further modules, whose files are read here.
 fn given(words: &UnwindWords, target: Target, data: Bytes) -> Result<Vec<Given>, Failure> {
-    let load = number_argument(&words.modules.load, target)?;
+    let load = number_argument("--load", &words.modules.load, target)?;
     let mut all = vec![Given { path: words.program.clone(), load, data }];
     for module in &words.modules.module {
         let bytes = module.as_bytes();
-        let bad = || Failure::Argument(format!("bad argument: {} isn't LOAD=FILE", module.to_string_lossy()));
+        let bad = || {
+            Failure::Argument(format!("bad argument: --module is {}, which isn't LOAD=FILE", module.to_string_lossy()))
+        };
         let equals = bytes.iter().position(|byte| *byte == b'=').ok_or_else(bad)?;
         let load = std::str::from_utf8(&bytes[..equals]).map_err(|_| bad())?;
-        let load = number_argument(load, target)?;
+        let load = number_argument("LOAD of --module", load, target)?;
         let path = PathBuf::from(OsStr::from_bytes(&bytes[equals + 1..]));
         if path.as_os_str().is_empty() {
             return Err(bad());
@@ -125,7 +127,7 @@ fn run<W: Write>(
     let state = state_file(&words.state, target)?;
     let loaded = loaded(&given, target)?;
     let (functions, load) = &loaded.functions[0];
-    let address = address(&words.address, target, functions, *load)?;
+    let address = address("ADDRESS", &words.address, target, functions, *load)?;
     ask(&loaded, address, &state, out)?;
     Ok(loaded.opened.iter().map(|(.., opened)| opened.done()).max().unwrap_or(Done::Accepted))
 }
@@ -173,7 +175,9 @@ pub fn unwind(words: &UnwindWords, out: &mut impl Write) -> Result<Done, Failure
 
 /// Shows the frames of a stack.
 pub fn backtrace(words: &BacktraceWords, out: &mut impl Write) -> Result<Done, Failure> {
-    let bad = || Failure::Argument(format!("bad argument: {} isn't a count of frames up to 65535", words.limit));
+    let bad = || {
+        Failure::Argument(format!("bad argument: LIMIT is {}, which isn't a count of frames up to 65535", words.limit))
+    };
     let limit = short(&words.limit).ok_or_else(bad)?;
     run(&words.frame, out, |loaded, address, file, out| {
         let blocks = file.blocks();

@@ -1,6 +1,8 @@
 //! Finds the ELF files in folders, each once.
 
 use dwcheck_elf::mapped::Bytes;
+use dwcheck_elf::other_file::OtherFile;
+use dwcheck_elf::program::ProgramError;
 use rayon::prelude::*;
 use std::collections::hash_map::RandomState;
 use std::collections::{HashMap, HashSet};
@@ -16,12 +18,6 @@ pub const LARGEST: u64 = 4 << 30;
 
 /// What an ELF file begins with.
 const MAGIC: &[u8; 4] = b"\x7fELF";
-
-/// What archives of objects begin with: those that hold them, and those that only name them.
-const ARCHIVES: [&[u8]; 2] = [b"!<arch>\n", b"!<thin>\n"];
-
-/// How many bytes tell what a file is.
-const STARTS: usize = 8;
 
 /// ELF files. No two have the same bytes.
 #[derive(Debug, Default)]
@@ -83,7 +79,7 @@ impl Walk {
         let checked = path.metadata().and_then(|metadata| Ok((why_not_elf(path, &metadata)?, metadata)));
         match checked {
             Ok((None, metadata)) => self.add(path.to_path_buf(), &metadata),
-            Ok((Some(why), _)) => self.unread.push((path.to_path_buf(), why.to_string())),
+            Ok((Some(why), _)) => self.unread.push((path.to_path_buf(), why)),
             Err(error) => self.unread.push((path.to_path_buf(), error.to_string())),
         }
     }
@@ -124,25 +120,24 @@ fn is_elf(path: &Path) -> io::Result<bool> {
 }
 
 /// Why a file that was named isn't an ELF file. `None` if it is one, or a folder.
-fn why_not_elf(path: &Path, metadata: &Metadata) -> io::Result<Option<&'static str>> {
+fn why_not_elf(path: &Path, metadata: &Metadata) -> io::Result<Option<String>> {
     if metadata.is_dir() {
         return Ok(None);
     }
     if !metadata.is_file() {
-        return Ok(Some("neither a regular file nor a folder"));
+        return Ok(Some("neither a regular file nor a folder".to_string()));
     }
     let start = start(path)?;
-    Ok(match ARCHIVES.iter().any(|magic| start.starts_with(*magic)) {
-        _ if start.starts_with(MAGIC) => None,
-        true => Some("an archive, not an ELF file; take its objects out by ar x"),
-        false => Some("not an ELF file"),
-    })
+    if start.starts_with(MAGIC) {
+        return Ok(None);
+    }
+    Ok(Some(ProgramError::NotElf(OtherFile::of(&start)).to_string()))
 }
 
 /// The first bytes of a file, by which its kind is known.
 fn start(path: &Path) -> io::Result<Vec<u8>> {
-    let mut start = Vec::with_capacity(STARTS);
-    File::open(path)?.take(STARTS as u64).read_to_end(&mut start)?;
+    let mut start = Vec::with_capacity(OtherFile::STARTS);
+    File::open(path)?.take(OtherFile::STARTS as u64).read_to_end(&mut start)?;
     Ok(start)
 }
 

@@ -75,8 +75,7 @@ fn traced(words: &TraceWords) -> Result<Done, Failure> {
 /// Runs a program, and says of each finding of the lint whether it is so.
 pub fn confirm(words: &LintWords, out: &mut impl Write) -> Result<Done, Failure> {
     let paths = words.paths.iter().map(|path| {
-        let path =
-            path.canonicalize().map_err(|error| Failure::File(format!("cannot read {}: {}", shown(path), error)))?;
+        let path = path.canonicalize().map_err(|error| Failure::reading(path, &error))?;
         pattern(&glob::Pattern::escape(&path.to_string_lossy()))
     });
     let options = Options {

@@ -1,0 +1,54 @@
+#!/usr/bin/env bash
+# Takes clang's place in the kit, so that the code of the library gets unwind rows of its own.
+#   tools/clang_with_rows.sh CLANG WORD..   runs CLANG with these words
+# If they compile a module of LLVM (`-c -x ir MODULE -o OBJECT`), each of its functions first gets the attribute
+# `uwtable`. So the object has .eh_frame; its code is the same, byte for byte. Everything else goes to CLANG as it
+# is. If something fails, the last line of errors says what, also in the file that ROWS_LOG names, if any.
+set -u
+
+fail() { # WHAT
+    echo "tools/clang_with_rows.sh: $1" | tee -a "${ROWS_LOG:-/dev/null}" >&2
+    exit 1
+}
+
+[ $# -gt 0 ] || fail "a clang must be named"
+clang=$1
+shift
+
+# Where the module is among the words, counted from 1; 0 if no module is compiled into an object.
+place_of_module() { # WORD..
+    local place=0 is_compiled=0 i
+    for ((i = 1; i <= $#; i++)); do
+        case ${!i} in
+        -c) is_compiled=1 ;;
+        -x) local language=$((i + 1)) module=$((i + 2))
+            if [ "${!language:-}" = ir ] && [ -f "${!module:-}" ]; then place=$module; fi ;;
+        esac
+    done
+    echo $((place * is_compiled))
+}
+
+# The words with which clang writes a module as text, and changes nothing: those of the call, but for the object.
+words_for_text() { # TEXT WORD..
+    local text=$1
+    shift
+    words=()
+    while [ $# -gt 0 ]; do
+        case $1 in
+        -c) ;;
+        -o) shift ;;
+        *) words+=("$1") ;;
+        esac
+        shift
+    done
+    words+=(-S -emit-llvm -O0 -Xclang -disable-llvm-passes -o "$text")
+}
+
+place=$(place_of_module "$@")
+[ "$place" -gt 0 ] || exec "$clang" "$@"
+folder=$(mktemp -d) || fail "there is no temporary folder"
+trap 'rm -rf "$folder"' EXIT
+words_for_text "$folder/module.ll" "$@"
+"$clang" "${words[@]}" || fail "the module can't be written as text by $clang"
+sed -i 's/^\(attributes #[0-9]* = {\)/\1 uwtable/' "$folder/module.ll" || fail "the text of the module can't be changed"
+"$clang" "${@:1:place-1}" "$folder/module.ll" "${@:place+1}" || fail "the module with rows can't be compiled by $clang"
