@@ -6,8 +6,6 @@
 mod bytes;
 #[cfg(test)]
 mod certificates;
-#[cfg(test)]
-mod errors;
 pub mod examples;
 #[cfg(test)]
 mod inputs;

@@ -185,14 +185,18 @@ fn descending(alloc: Global) -> Result<Vec<u8>, AllocError> {
 
 /// Where the row of an address ends; 0 if it has none. The section and its table must agree.
 fn end_at(rt: &impl Abort, frame: &CheckedFrame<'_>, table: &UnwindTable, address: u64) -> usize {
-    let by_section = frame
-        .row_for_address(address)
-        .map(|row| (row.start_address(), row.end_address()));
-    let by_table = table
-        .row_for_address(address)
-        .map(|row| (row.start_address(), row.end_address()));
-    assert_eq!(rt; by_section, by_table, "{address:#x}");
-    by_table.map_or(0, |(_, end)| end as usize)
+    match (
+        frame.row_for_address(address),
+        table.row_for_address(address),
+    ) {
+        (Some(row), Some(stored)) => {
+            assert_eq!(rt; row.start_address(), stored.start_address());
+            assert_eq!(rt; row.end_address(), stored.end_address());
+            row.end_address() as usize
+        }
+        (None, None) => 0,
+        _ => panic!(rt; "{address:#x} has a row in one of them alone"),
+    }
 }
 
 /// Compiles the table of a section. The ends of the rows of four addresses.
@@ -267,9 +271,11 @@ fn has_modules(rt: &impl Abort, process: &Process, count: usize) {
     assert_eq!(rt; process.modules().len(), count);
     for ((load_address, address), module) in PLACES.iter().zip(process.modules()) {
         assert_eq!(rt; module.load_address, *load_address);
-        let found = process.row_for_address(*address);
-        let row = found.map(|found| (found.load_address, found.row.start_address()));
-        assert_eq!(rt; row, Some((*load_address, 0x1004)));
+        let Some(found) = process.row_for_address(*address) else {
+            panic!(rt; "no row")
+        };
+        assert_eq!(rt; found.load_address, *load_address);
+        assert_eq!(rt; found.row.start_address(), 0x1004);
     }
 }
 
@@ -348,10 +354,10 @@ fn of_eh_frame(alloc: Global, call: Call, section: &[u8]) -> Result<Numbers, Fau
             };
             match process.add_eh_frame(alloc, section, 0x40_0000, None, 7, 1 << 16) {
                 Ok(id) => {
-                    let found = process.row_for_address(0x40_100a);
-                    let (start, end) = found.map_or((0, 0), |found| {
-                        (found.row.start_address(), found.row.end_address())
-                    });
+                    let (start, end) = match process.row_for_address(0x40_100a) {
+                        Some(found) => (found.row.start_address(), found.row.end_address()),
+                        None => (0, 0),
+                    };
                     Ok((id as usize, start as usize, end as usize, 0))
                 }
                 Err(Refusal::Section(fault)) if process.modules().is_empty() => Err(fault),
@@ -696,36 +702,41 @@ fn finds_callers(rt: &impl Abort, checked: &Checked<'_>, table: &UnwindTable) {
     assert!(rt; dw_unwind::unwind(table, &abi, 0x1020, &REGISTERS, &Unknown).is_none());
 }
 
-/// Addresses at `FUNCTION`, each with where its row begins and ends, or `None` if it has no row.
-const RANGES: [(u64, Option<(u64, u64)>); 4] = [
-    (0xfff, None),
-    (0x1000, Some((0x1000, 0x1001))),
-    (0x101f, Some((0x1004, 0x1020))),
-    (0x1020, None),
-];
+/// Addresses at `FUNCTION`, each with where its row begins and ends.
+const RANGES: [(u64, u64, u64); 2] = [(0x1000, 0x1000, 0x1001), (0x101f, 0x1004, 0x1020)];
 
-/// Looks up rows of `FUNCTION`: by their addresses, and one after the other, also once more with
-/// the same iterator and the same row.
+/// Looks up rows of `FUNCTION` by their addresses.
 fn finds_rows(rt: &impl Abort, frame: &CheckedFrame<'_>) {
-    assert_eq!(rt; frame.section(), FUNCTION.as_slice());
-    for (address, range) in &RANGES {
-        let row = frame.row_for_address(*address);
-        let found = row.map(|row| (row.start_address(), row.end_address()));
-        assert_eq!(rt; found, *range, "{address:#x}");
+    for (address, start, end) in &RANGES {
+        let Some(row) = frame.row_for_address(*address) else {
+            panic!(rt; "{address:#x} has no row")
+        };
+        assert_eq!(rt; (row.start_address(), row.end_address()), (*start, *end));
     }
+    assert!(rt; frame.row_for_address(0xfff).is_none());
+    assert!(rt; frame.row_for_address(0x1020).is_none());
+}
+
+/// Looks up rows of `FUNCTION` one after the other, also once more with the same iterator and the
+/// same row.
+fn goes_through_rows(rt: &impl Abort, frame: &CheckedFrame<'_>) {
     let Some(fde) = frame.fde_for_address(0x1000) else {
         panic!(rt; "no FDE")
     };
     let mut rows = frame.rows(&fde);
-    assert_eq!(rt; rows.next().map(|row| row.end_address()), Some(0x1001));
-    assert_eq!(rt; rows.next().map(|row| row.end_address()), Some(0x1004));
-    frame.rows_into(&fde, &mut rows);
     let mut row = UnwindTableRow::empty();
+    assert!(rt; rows.next().is_some() && rows.next_into(&mut row));
+    assert_eq!(rt; row.end_address(), 0x1004);
+    frame.rows_into(&fde, &mut rows);
     assert!(rt; rows.next_into(&mut row));
     assert_eq!(rt; row.end_address(), 0x1001);
-    let found = frame.row_for_address_into(0x1001, &mut row);
-    let places = found.map(|(cie, fde)| (cie.offset, fde.offset));
-    assert_eq!(rt; (places, row.end_address()), (Some((0, 24)), 0x1004));
+    let Some((cie, fde)) = frame.row_for_address_into(0x1001, &mut row) else {
+        panic!(rt; "no row")
+    };
+    assert_eq!(rt;
+        (cie.offset, fde.offset, row.end_address()),
+        (0, 24, 0x1004)
+    );
     // An address without a row leaves the row as it was.
     assert!(rt; frame.row_for_address_into(0x1020, &mut row).is_none());
     assert_eq!(rt; row.end_address(), 0x1004);
@@ -735,11 +746,11 @@ fn finds_rows(rt: &impl Abort, frame: &CheckedFrame<'_>) {
 fn finds_locations(rt: &impl Abort, lists: &CheckedLists<'_>) {
     let list = lists.list(0xc).expect(rt, "a list");
     let mut locations = lists.locations_at(&list, 0x1000, 0x1005);
-    let found = locations.next();
-    assert_eq!(rt;
-        found.map(|(offset, checked)| (offset, checked.expression().bytes())),
-        Some((0x10, [0x50].as_slice()))
-    );
+    let Some((offset, checked)) = locations.next() else {
+        panic!(rt; "no location")
+    };
+    assert_eq!(rt; offset, 0x10);
+    assert_eq!(rt; checked.expression().bytes(), [0x50].as_slice());
     assert!(rt; locations.next().is_none());
     assert!(rt; lists.list(0xd).is_none());
 }
@@ -772,6 +783,7 @@ fn checks(rt: &impl Abort, alloc: Global, looks_up: bool) -> bool {
     if looks_up {
         finds_callers(rt, &checked, &table);
         finds_rows(rt, checked.frame());
+        goes_through_rows(rt, checked.frame());
         finds_locations(rt, checked.lists());
         evaluates(rt, &frame);
     }
