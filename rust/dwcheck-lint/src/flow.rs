@@ -123,8 +123,7 @@ impl<'m, 'c> Flow<'m, 'c> {
         let bytes = usize::try_from(fde.end - fde.begin).ok().and_then(|size| module.bytes_at(fde.begin).get(..size));
         let bytes = bytes.filter(|bytes| bytes.len() <= MOST_BYTES).ok_or("the code isn't in the file, or too long")?;
         let rows = module.rows.rows(fde)?;
-        let pads = fde.landings.iter().map(|landing| landing.pad);
-        let code = Code::decode(module.machine, fde.begin, bytes, pads, std::mem::take(&mut room.code));
+        let code = Code::decode(module.machine, fde, bytes, &rows, std::mem::take(&mut room.code));
         let mut blocks = std::mem::take(&mut room.blocks);
         blocks.resize(bytes.len(), NONE);
         let mut flow = Flow {
@@ -233,7 +232,7 @@ impl<'m, 'c> Flow<'m, 'c> {
                 }
                 self.assume(follow, offset);
             }
-            offset = self.code.next(offset);
+            offset = self.code.next_certain(offset);
             if offset < self.code.length() && self.code.get(offset).is_none() {
                 self.code.lead(offset);
             }

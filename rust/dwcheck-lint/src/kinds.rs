@@ -117,13 +117,8 @@ impl Kind {
             Some(Effect::Transfer(transfer)) if moved(&transfer) > 0 => Kind::PopWithoutRow,
             Some(Effect::Transfer(transfer)) if moved(&transfer) < 0 && is_late(module, group) => Kind::LatePush,
             Some(Effect::Transfer(transfer)) if moved(&transfer) < 0 => Kind::PushWithoutRow,
-            Some(Effect::Push { .. } | Effect::PushMemory { .. } | Effect::PushOther | Effect::PushFlags) => {
-                if is_late(module, group) {
-                    Kind::LatePush
-                } else {
-                    Kind::PushWithoutRow
-                }
-            }
+            Some(effect) if effect.is_push() && is_late(module, group) => Kind::LatePush,
+            Some(effect) if effect.is_push() => Kind::PushWithoutRow,
             Some(Effect::Pop { .. } | Effect::PopOther { .. } | Effect::PopFlags | Effect::Leave) => {
                 Kind::PopWithoutRow
             }

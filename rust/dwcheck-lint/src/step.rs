@@ -54,6 +54,12 @@ impl Step<'_> {
             Effect::Exchange { one, other } => self.exchange(one, other),
             Effect::Set { to, number } => self.state.set(to, Value::Number(number)),
             Effect::Add { to, from, number } => self.state.set(to, self.state.get(from).plus(number)),
+            Effect::Calculate { register, operation, is_half } => match self.state.get(register) {
+                Value::Number(number) => {
+                    self.state.set(register, Value::Number(operation.applied(number, is_half)));
+                }
+                _ => self.write(Registers::of(&[register.0]), None),
+            },
             Effect::Insert { to, mask, number } => self.insert(to, mask, number),
             Effect::AddRegister { to, from, by, scale } => self.add_register(to, from, by, scale),
             Effect::SubtractRegister { to, from, by } => self.subtract_register(to, from, by),
@@ -96,6 +102,12 @@ impl Step<'_> {
             }
             Effect::PopFlags => {
                 self.pop();
+            }
+            Effect::Enter { bytes } => {
+                let (pointer, frame) = (self.machine.stack_pointer, self.machine.frame_pointer);
+                self.push(self.state.get(frame));
+                self.state.set(frame, self.state.get(pointer));
+                self.state.set(pointer, self.state.get(pointer).plus(-i64::from(bytes)));
             }
             Effect::Leave => {
                 let frame = self.machine.frame_pointer;

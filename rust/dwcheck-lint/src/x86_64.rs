@@ -3,7 +3,7 @@
 mod common;
 mod remembered;
 
-use crate::instruction::{Condition, Effect, Entry, Instruction, Place, Scale, Target};
+use crate::instruction::{Condition, Effect, Entry, Instruction, Operation, Place, Scale, Target};
 use crate::machine::Machine;
 use crate::register::{Register, Registers};
 use crate::zydis::{decoded, text, Decoded, Mnemonic, Operand, OperandKind, NO_REGISTER, RIP};
@@ -192,6 +192,10 @@ fn effect(found: &Decoded) -> Option<Effect> {
             Some(Effect::Align { to: register, from: register, mask }).filter(|_| mask.is_some() || register == RSP)
         }
         Mnemonic::Xor => zero(first, second),
+        Mnemonic::Negate => calculate(first, Operation::Negate),
+        Mnemonic::Invert => calculate(first, Operation::Invert),
+        Mnemonic::ShiftLeft => calculate(first, Operation::ShiftLeft(shift(first, second)?)),
+        Mnemonic::ShiftRight => calculate(first, Operation::ShiftRight(shift(first, second)?)),
         Mnemonic::Exchange => Some(Effect::Exchange { one: first.whole_register()?, other: second.whole_register()? }),
         Mnemonic::MoveIf => Some(Effect::MayMove { to: first.whole_register()?, from: second.whole_register()? }),
         Mnemonic::Compare => compare(first, second),
@@ -211,6 +215,8 @@ fn stack_or_jump(found: &Decoded) -> Option<Effect> {
         }
         Mnemonic::PushFlags => Some(Effect::PushFlags),
         Mnemonic::PopFlags => Some(Effect::PopFlags),
+        Mnemonic::Enter if found.width == 16 => None,
+        Mnemonic::Enter => enter(&found.operands),
         Mnemonic::Leave => Some(Effect::Leave),
         Mnemonic::Return => Some(Effect::Return),
         Mnemonic::Padding => Some(Effect::Padding),
@@ -232,12 +238,32 @@ fn zero(first: &Operand, second: &Operand) -> Option<Effect> {
     Some(Effect::Set { to: register(first.register)?, number: 0 }).filter(|_| is_zeroed && is_wide)
 }
 
+/// An operation on a number in a register or in its lower half.
+fn calculate(operand: &Operand, operation: Operation) -> Option<Effect> {
+    let is_register = operand.kind() == OperandKind::Register && operand.bits >= 32;
+    let register = register(operand.register).filter(|_| is_register)?;
+    Some(Effect::Calculate { register, operation, is_half: operand.bits == 32 })
+}
+
+/// The bits by which an operand is shifted, of which the processor takes the lowest ones.
+fn shift(operand: &Operand, by: &Operand) -> Option<u8> {
+    let mask = if operand.bits == 64 { 63 } else { 31 };
+    by.immediate().map(|bits| (bits & mask) as u8)
+}
+
 fn push(operand: &Operand) -> Effect {
     match (operand.whole_register(), operand.place()) {
         (Some(from), _) => Effect::Push { from },
         (_, Some(from)) => Effect::PushMemory { from },
         _ => Effect::PushOther,
     }
+}
+
+/// `enter`: the bytes of the frame, and the number of pointers to outer frames, which are pushed before.
+fn enter(operands: &[Operand; 2]) -> Option<Effect> {
+    let (frame, depth) = (operands[0].immediate()?, operands[1].immediate()?);
+    let bytes = (frame & 0xffff) + 8 * (depth & 31);
+    Some(Effect::Enter { bytes: u32::try_from(bytes).ok()? })
 }
 
 fn jump_if(operand: &Operand, condition: Condition) -> Option<Effect> {
@@ -255,7 +281,14 @@ fn lea(first: &Operand, second: &Operand) -> Option<Effect> {
     if let Some(Place { base: from, offset: number }) = second.place() {
         return Some(Effect::Add { to, from, number: number.into() });
     }
-    Some(Effect::Derive { to, from: register(second.base)? })
+    let from = register(second.base)?;
+    match register(second.index) {
+        Some(by) if second.value == 0 && (to == RSP || from == RSP) => {
+            let scale = Scale { shift: second.scale.trailing_zeros() as u8, ..Scale::ONE };
+            Some(Effect::AddRegister { to, from, by, scale })
+        }
+        _ => Some(Effect::Derive { to, from }),
+    }
 }
 
 fn mov(first: &Operand, second: &Operand) -> Option<Effect> {
@@ -283,8 +316,10 @@ fn load(to: Register, operand: &Operand) -> Option<Effect> {
 }
 
 fn add_number(operand: &Operand, number: i64) -> Option<Effect> {
-    let register = operand.whole_register()?;
-    Some(Effect::Add { to: register, from: register, number })
+    match operand.whole_register() {
+        Some(register) => Some(Effect::Add { to: register, from: register, number }),
+        None => calculate(operand, Operation::Add(number as i32)),
+    }
 }
 
 fn add(first: &Operand, second: &Operand) -> Option<Effect> {

@@ -8,7 +8,8 @@
 /* Instructions that are told apart. All others are OTHER. */
 enum mnemonic {
     OTHER, PUSH, POP, PUSHF, POPF, LEAVE, RET, PADDING, STOP, CALL, JMP, JZ, JNZ, JCC, LEA, MOV, MOVSXD,
-    ADD, SUB, INC, DEC, AND, XOR, XCHG, SYSCALL, CMP, CMOV
+    ADD, SUB, INC, DEC, AND, XOR, XCHG, SYSCALL, CMP, CMOV, ENTER,
+    NEG, NOT, SHL, SHR
 };
 
 enum operand_kind { NONE, REGISTER, MEMORY, IMMEDIATE, TARGET };
@@ -93,6 +94,7 @@ static uint8_t mnemonic_of(const ZydisDecodedInstruction *in)
     case ZYDIS_MNEMONIC_POP: return POP;
     case ZYDIS_MNEMONIC_PUSHFQ: return PUSHF;
     case ZYDIS_MNEMONIC_POPFQ: return POPF;
+    case ZYDIS_MNEMONIC_ENTER: return ENTER;
     case ZYDIS_MNEMONIC_LEAVE: return LEAVE;
     case ZYDIS_MNEMONIC_RET: case ZYDIS_MNEMONIC_IRETQ: return RET;
     case ZYDIS_MNEMONIC_NOP: case ZYDIS_MNEMONIC_INT3: return PADDING;
@@ -110,6 +112,10 @@ static uint8_t mnemonic_of(const ZydisDecodedInstruction *in)
     case ZYDIS_MNEMONIC_DEC: return DEC;
     case ZYDIS_MNEMONIC_AND: return AND;
     case ZYDIS_MNEMONIC_XOR: return XOR;
+    case ZYDIS_MNEMONIC_NEG: return NEG;
+    case ZYDIS_MNEMONIC_NOT: return NOT;
+    case ZYDIS_MNEMONIC_SHL: return SHL;
+    case ZYDIS_MNEMONIC_SHR: return SHR;
     case ZYDIS_MNEMONIC_XCHG: return XCHG;
     case ZYDIS_MNEMONIC_SYSCALL: return SYSCALL;
     case ZYDIS_MNEMONIC_CMP: return CMP;

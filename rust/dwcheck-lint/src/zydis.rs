@@ -43,9 +43,14 @@ pub(crate) enum Mnemonic {
     System,
     Compare,
     MoveIf,
+    Enter,
+    Negate,
+    Invert,
+    ShiftLeft,
+    ShiftRight,
 }
 
-const MNEMONICS: [Mnemonic; 27] = [
+const MNEMONICS: [Mnemonic; 32] = [
     Mnemonic::Other,
     Mnemonic::Push,
     Mnemonic::Pop,
@@ -73,6 +78,11 @@ const MNEMONICS: [Mnemonic; 27] = [
     Mnemonic::System,
     Mnemonic::Compare,
     Mnemonic::MoveIf,
+    Mnemonic::Enter,
+    Mnemonic::Negate,
+    Mnemonic::Invert,
+    Mnemonic::ShiftLeft,
+    Mnemonic::ShiftRight,
 ];
 
 /// What an operand is, by the numbers of `zydis.c`.

@@ -172,7 +172,11 @@ pub(super) fn of_group(number: u8, field: u8, opcode: Opcode) -> Option<Opcode> 
     let (mnemonic, is_written) = match (number, field) {
         (0x80..=0x83, _) => (SUMS[usize::from(field & 7)], field != 7),
         (0x90..=0x9f | 0xc6 | 0xc7, 0) => (opcode.mnemonic, opcode.is_written),
-        (0xc0 | 0xc1 | 0xd0..=0xd3, 0..=5 | 7) | (0xf6 | 0xf7, 2 | 3) => (Other, true),
+        (0xc0 | 0xc1, 4) => (ShiftLeft, true),
+        (0xc0 | 0xc1, 5) => (ShiftRight, true),
+        (0xc0 | 0xc1 | 0xd0..=0xd3, 0..=3 | 7) | (0xd2 | 0xd3, 4 | 5) => (Other, true),
+        (0xf6 | 0xf7, 2) => (Invert, true),
+        (0xf6 | 0xf7, 3) => (Negate, true),
         (0xf6, 0) => return Some(opcode.immediate(1)),
         (0xf7, 0) => return Some(opcode.immediate(4)),
         (0xfe | 0xff, 0) => (Increment, true),
