@@ -288,7 +288,7 @@ impl Judge<'_> {
     fn judge_slot(&self, address: Value, register: Register) -> Result<Option<()>, WrongRule> {
         match address {
             Value::Unknown => Ok(None),
-            Value::Address { base, offset } => match self.state.slot(base, offset) {
+            Value::Address { base, offset } => match self.stores.held(self.state, base, offset) {
                 Some(value) => self.is_entry(value, register, WrongRule::Overwritten),
                 None if self.state.is_partial(base) || base.is_assumed() || self.stores.has(base, offset) => Ok(None),
                 None => Err(WrongRule::NeverSaved),

@@ -147,7 +147,8 @@ impl Step<'_> {
 
     fn overwrite(&mut self, place: Place, bytes: u8) {
         if let Value::Address { base, offset } = self.state.get(place.base) {
-            self.state.overwrite(base, offset.wrapping_add(place.offset.into()), i64::from(bytes));
+            let begin = offset.wrapping_add(place.offset.into());
+            self.state.overwrite(base, begin, i64::from(bytes), Value::Clobbered);
         }
     }
 

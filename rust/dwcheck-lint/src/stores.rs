@@ -1,7 +1,8 @@
 //! What a function stores, anywhere in it.
 //!
 //! "This slot never held the value" needs to know every slot to which the function ever stores an
-//! entry value. While the flow is followed, not all of them are known yet, so an answer may have been
+//! entry value. "This slot doesn't hold the value here" needs to know whether the function stores one where
+//! it can't be followed. While the flow is followed, not all of this is known yet, so an answer may have been
 //! wrong: then [`Stores::is_outdated`] says that the flow has to be followed again.
 
 use crate::instruction::Place;
@@ -20,6 +21,11 @@ pub struct Stores {
     slots: BTreeSet<(Base, i64)>,
     /// The slots that were read as never stored to.
     denied: BTreeSet<(Base, i64)>,
+    /// Whether an entry value was stored at an address whose distance from the CFA isn't known.
+    has_strayed: bool,
+    /// Whether a slot was read as one that holds no entry value at that place, though one is stored there
+    /// elsewhere.
+    denied_stray: bool,
     /// Whether an entry value was stored at an address that isn't known.
     has_escaped: bool,
     /// Whether memory at an unknown address was read as if no entry value had been stored there.
@@ -48,6 +54,7 @@ impl Stores {
     pub fn restart(&mut self) {
         self.denied.clear();
         self.denied_escape = false;
+        self.denied_stray = false;
         self.is_outdated = false;
     }
 
@@ -62,6 +69,13 @@ impl Stores {
         }
     }
 
+    /// What a slot holds, if that is known. A slot that holds no entry value counts as such only if the function
+    /// stores one there elsewhere, and all such stores are followed.
+    pub fn held(&self, state: &State, base: Base, offset: i64) -> Option<Value> {
+        let is_followed = || self.has(base, offset) && !self.has_strayed;
+        state.slot(base, offset).filter(|value| *value != Value::Clobbered || is_followed())
+    }
+
     /// Notes that a register's entry value is copied.
     pub fn note_copy(&mut self, value: Value) {
         if let Value::Entry(register) = value {
@@ -72,8 +86,11 @@ impl Stores {
     /// What a word of memory holds.
     pub fn load(&mut self, state: &State, place: Place) -> Value {
         match state.get(place.base).plus_of_place(place) {
-            Value::Address { base, offset } => match state.slot(base, offset) {
-                Some(value) => value,
+            Value::Address { base, offset } => match self.held(state, base, offset) {
+                Some(value) => {
+                    self.denied_stray |= value == Value::Clobbered;
+                    value
+                }
                 None if state.is_partial(base) || self.has(base, offset) => Value::Unknown,
                 None => {
                     self.denied.insert((base, offset));
@@ -101,9 +118,23 @@ impl Stores {
             Value::Address { base, offset } if is_kept(value) => {
                 state.put(base, offset, value);
                 self.add(base, offset);
+                if base != Base::CFA {
+                    self.stray(value);
+                }
             }
-            Value::Address { base, offset } => state.overwrite(base, offset, 8),
-            _ => self.escape(machine.return_address, value),
+            Value::Address { base, offset } => state.overwrite(base, offset, 8, value),
+            _ => {
+                self.stray(value);
+                self.escape(machine.return_address, value);
+            }
+        }
+    }
+
+    /// Notes that a value is stored at an address whose distance from the CFA isn't known.
+    fn stray(&mut self, value: Value) {
+        if matches!(value, Value::Entry(_)) && !self.has_strayed {
+            self.has_strayed = true;
+            self.is_outdated |= self.denied_stray;
         }
     }
 
