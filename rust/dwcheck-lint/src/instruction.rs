@@ -143,6 +143,10 @@ pub enum Effect {
     },
     /// Copies a register.
     Move { to: Register, from: Register },
+    /// Copies a register to a vector register, of which a part may be left as it is.
+    ToVector { from: Register },
+    /// Copies a part of a vector register.
+    FromVector { to: Register },
     /// Copies a register, or doesn't.
     MayMove { to: Register, from: Register },
     /// Exchanges two registers.
@@ -337,6 +341,7 @@ impl Effect {
             Effect::Calculate { register, .. } => Registers::of(&[register.0]),
             Effect::Exchange { one, other } => Registers::of(&[one.0, other.0]),
             Effect::Move { to, .. }
+            | Effect::FromVector { to }
             | Effect::MayMove { to, .. }
             | Effect::Set { to, .. }
             | Effect::Add { to, .. }

@@ -47,6 +47,11 @@ impl Step<'_> {
                 self.stores.note_copy(value);
                 self.state.set(to, value);
             }
+            Effect::ToVector { from } => self.stores.note_vector(self.state.get(from)),
+            Effect::FromVector { to } => {
+                let value = self.stores.of_vector();
+                self.set_loaded(to, value);
+            }
             Effect::MayMove { to, from } => {
                 let merged = self.state.get(to).merged(self.state.get(from));
                 self.state.set(to, merged);
@@ -145,10 +150,11 @@ impl Step<'_> {
         }
     }
 
+    /// Stores something that isn't followed: a number, or what is in a vector register.
     fn overwrite(&mut self, place: Place, bytes: u8) {
         if let Value::Address { base, offset } = self.state.get(place.base) {
             let begin = offset.wrapping_add(place.offset.into());
-            self.state.overwrite(base, begin, i64::from(bytes), Value::Clobbered);
+            self.state.overwrite(base, begin, i64::from(bytes), self.stores.of_vector());
         }
     }
 

@@ -30,6 +30,8 @@ pub struct Stores {
     has_escaped: bool,
     /// Whether memory at an unknown address was read as if no entry value had been stored there.
     denied_escape: bool,
+    /// Whether an entry value is copied to a vector register. What vector registers hold isn't followed.
+    pub is_in_vectors: bool,
     /// The registers whose entry values are copied anywhere.
     pub saved: Registers,
     /// Whether the return address is stored at an address that isn't known: code that moves its
@@ -58,9 +60,26 @@ impl Stores {
         self.is_outdated = false;
     }
 
-    /// Whether an entry value is ever stored in a slot, as far as is known by now.
+    /// Whether an entry value is perhaps ever stored in a slot, as far as is known by now.
     pub fn has(&self, base: Base, offset: i64) -> bool {
-        self.slots.contains(&(base, offset))
+        self.is_in_vectors || self.slots.contains(&(base, offset))
+    }
+
+    /// What a vector register perhaps holds.
+    pub fn of_vector(&self) -> Value {
+        if self.is_in_vectors {
+            Value::Unknown
+        } else {
+            Value::Clobbered
+        }
+    }
+
+    /// Notes that a value is copied to a vector register.
+    pub fn note_vector(&mut self, value: Value) {
+        self.note_copy(value);
+        if matches!(value, Value::Entry(_)) && !self.is_in_vectors {
+            (self.is_in_vectors, self.is_outdated) = (true, true);
+        }
     }
 
     fn add(&mut self, base: Base, offset: i64) {

@@ -10,8 +10,10 @@ use crate::zydis::{decoded, text, Decoded, Mnemonic, Operand, OperandKind, NO_RE
 use common::common;
 use remembered::remembered;
 
-const NAMES: [&str; 17] = [
+const NAMES: [&str; 33] = [
     "rax", "rdx", "rcx", "rbx", "rsi", "rdi", "rbp", "rsp", "r8", "r9", "r10", "r11", "r12", "r13", "r14", "r15", "ra",
+    "xmm0", "xmm1", "xmm2", "xmm3", "xmm4", "xmm5", "xmm6", "xmm7", "xmm8", "xmm9", "xmm10", "xmm11", "xmm12", "xmm13",
+    "xmm14", "xmm15",
 ];
 
 /// The DWARF numbers of the registers, by the numbers that instructions have for them.
@@ -192,10 +194,13 @@ fn effect(found: &Decoded) -> Option<Effect> {
             Some(Effect::Align { to: register, from: register, mask }).filter(|_| mask.is_some() || register == RSP)
         }
         Mnemonic::Xor => zero(first, second),
+        // Rule "hardened stack pointer": the bits that are set are zeros unless the processor speculates.
+        Mnemonic::Or => (first.whole_register() == Some(RSP)).then_some(Effect::Nothing),
         Mnemonic::Negate => calculate(first, Operation::Negate),
         Mnemonic::Invert => calculate(first, Operation::Invert),
         Mnemonic::ShiftLeft => calculate(first, Operation::ShiftLeft(shift(first, second)?)),
         Mnemonic::ShiftRight => calculate(first, Operation::ShiftRight(shift(first, second)?)),
+        Mnemonic::MoveVector => move_vector(first, second),
         Mnemonic::Exchange => Some(Effect::Exchange { one: first.whole_register()?, other: second.whole_register()? }),
         Mnemonic::MoveIf => Some(Effect::MayMove { to: first.whole_register()?, from: second.whole_register()? }),
         Mnemonic::Compare => compare(first, second),
@@ -303,6 +308,16 @@ fn mov(first: &Operand, second: &Operand) -> Option<Effect> {
         (Some(to), Some(from)) => Some(Effect::Move { to, from }),
         (Some(to), None) => load(to, second),
         (None, Some(from)) if first.is_memory() => Some(Effect::Store { from, to: first.place() }),
+        _ => None,
+    }
+}
+
+/// A copy between a general register and a vector register, which has no number here.
+fn move_vector(first: &Operand, second: &Operand) -> Option<Effect> {
+    let is_vector = |operand: &Operand| operand.kind() == OperandKind::Register && operand.register == NO_REGISTER;
+    match (first.whole_register(), second.whole_register()) {
+        (None, Some(from)) if is_vector(first) => Some(Effect::ToVector { from }),
+        (Some(to), None) if is_vector(second) => Some(Effect::FromVector { to }),
         _ => None,
     }
 }

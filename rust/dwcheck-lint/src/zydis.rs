@@ -48,9 +48,11 @@ pub(crate) enum Mnemonic {
     Invert,
     ShiftLeft,
     ShiftRight,
+    MoveVector,
+    Or,
 }
 
-const MNEMONICS: [Mnemonic; 32] = [
+const MNEMONICS: [Mnemonic; 34] = [
     Mnemonic::Other,
     Mnemonic::Push,
     Mnemonic::Pop,
@@ -83,6 +85,8 @@ const MNEMONICS: [Mnemonic; 32] = [
     Mnemonic::Invert,
     Mnemonic::ShiftLeft,
     Mnemonic::ShiftRight,
+    Mnemonic::MoveVector,
+    Mnemonic::Or,
 ];
 
 /// What an operand is, by the numbers of `zydis.c`.

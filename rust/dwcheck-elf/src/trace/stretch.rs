@@ -338,6 +338,9 @@ fn is_plain(effect: &Effect, length: u8) -> bool {
         | Effect::MayWrite { .. }
         | Effect::Move { .. }
         | Effect::MayMove { .. }
+        | Effect::ToVector { .. }
+        | Effect::FromVector { .. }
+        | Effect::Calculate { .. }
         | Effect::Exchange { .. }
         | Effect::Set { .. }
         | Effect::Add { .. }
