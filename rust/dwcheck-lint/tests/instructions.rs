@@ -15,7 +15,7 @@ fn enter_begins_a_frame() {
         .cfi_def_cfa rsp, 8
         .cfi_restore rbp
         ret";
-    X86_64.planted("enter", "push without row", text);
+    X86_64.planted("enter", "wrong CFA", text);
 }
 
 /// The pointers to outer frames are on the stack, too.
@@ -83,4 +83,39 @@ fn numbers_that_only_the_row_knows() {
         );
         X86_64.quiet("followed", &text, "");
     }
+}
+
+/// clang's -mspeculative-load-hardening keeps in the upper bits of the stack pointer whether the processor speculates.
+#[test]
+fn a_hardened_stack_pointer() {
+    let text = "sub $24, %rsp
+        .cfi_adjust_cfa_offset 24
+        mov %rsp, %rax
+        sar $63, %rax
+        shl $47, %rax
+        or %rax, %rsp
+        call *%rdi
+        mov %rsp, %rcx
+        sar $63, %rcx
+        shl $47, %rcx
+        or %rcx, %rsp
+        add $24, %rsp
+        .cfi_adjust_cfa_offset -24
+        ret";
+    X86_64.judged("hardened", text, "");
+}
+
+/// A row that follows a push, but wrongly.
+#[test]
+fn rows_that_change_wrongly() {
+    let text = "push %rbx
+        WRONG .cfi_adjust_cfa_offset 16
+        RIGHT .cfi_adjust_cfa_offset 8
+        .cfi_offset rbx, -16
+        call *%rdi
+        pop %rbx
+        .cfi_def_cfa_offset 8
+        .cfi_restore rbx
+        ret";
+    X86_64.planted("change", "wrong CFA", text);
 }
