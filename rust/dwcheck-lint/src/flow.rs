@@ -149,6 +149,7 @@ impl<'m, 'c> Flow<'m, 'c> {
             is_settled: false,
             code,
         };
+        flow.stores.frame = flow.stores.frame.with(flow.said.frame);
         flow.needs_callees = flow.frame_is_in_changeable_register();
         Ok(flow)
     }

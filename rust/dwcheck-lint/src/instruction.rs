@@ -182,6 +182,8 @@ pub enum Effect {
     LoadEntry { to: Register, base: Option<Register>, offset: i64, entry: Entry },
     /// Loads or stores several registers, or one and changes the register of the place.
     Transfer(Transfer),
+    /// Stores a number of some bytes.
+    StoreNumber { to: Place, bytes: u8 },
     /// Stores a whole register. The place is `None` if it isn't a register plus an offset.
     Store { from: Register, to: Option<Place> },
     /// Pushes a register.

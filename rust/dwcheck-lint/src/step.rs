@@ -81,6 +81,7 @@ impl Step<'_> {
             }
             Effect::LoadEntry { to, base, offset, entry } => self.load_entry(to, base, offset, entry),
             Effect::Store { from, to } => self.store(to, self.state.get(from)),
+            Effect::StoreNumber { to, bytes } => self.overwrite(to, bytes, Value::Clobbered),
             Effect::Transfer(transfer) => self.transfer(&transfer),
             _ => self.apply_to_stack(effect),
         }
@@ -150,17 +151,18 @@ impl Step<'_> {
         }
     }
 
-    /// Stores something that isn't followed: a number, or what is in a vector register.
-    fn overwrite(&mut self, place: Place, bytes: u8) {
+    /// Stores a value in some bytes.
+    fn overwrite(&mut self, place: Place, bytes: u8, value: Value) {
         if let Value::Address { base, offset } = self.state.get(place.base) {
             let begin = offset.wrapping_add(place.offset.into());
-            self.state.overwrite(base, begin, i64::from(bytes), self.stores.of_vector());
+            let value = self.stores.overwriting(Some(place), value);
+            self.state.overwrite(base, begin, i64::from(bytes), value);
         }
     }
 
     fn write(&mut self, registers: Registers, stored: Option<(Place, NonZeroU8)>) {
         if let Some((place, bytes)) = stored {
-            self.overwrite(place, bytes.get());
+            self.overwrite(place, bytes.get(), Value::Unknown);
         }
         let pointer = self.machine.stack_pointer;
         registers.iter().for_each(|register| {
@@ -267,7 +269,7 @@ impl Step<'_> {
                 Some(_) if transfer.is_load => *loaded = self.stores.load(self.state, place),
                 _ if transfer.is_load => {}
                 from => {
-                    self.overwrite(place, transfer.bytes);
+                    self.overwrite(place, transfer.bytes, Value::Unknown);
                     if let Some(from) = from {
                         self.store(Some(place), self.state.get(from));
                     }

@@ -30,6 +30,9 @@ pub struct Stores {
     has_escaped: bool,
     /// Whether memory at an unknown address was read as if no entry value had been stored there.
     denied_escape: bool,
+    /// The stack pointer, and the registers by which rows give the CFA. An address in another register may come of
+    /// memory that a callee has changed.
+    pub frame: Registers,
     /// Whether an entry value is copied to a vector register. What vector registers hold isn't followed.
     pub is_in_vectors: bool,
     /// The registers whose entry values are copied anywhere.
@@ -44,7 +47,9 @@ impl Stores {
     /// Nothing is stored but the return address, if a call does that.
     pub fn new(machine: &Machine) -> Stores {
         let slot = machine.return_slot.map(|offset| (Base::CFA, offset));
-        Stores { slots: slot.into_iter().collect(), ..Stores::default() }
+        let mut stores = Stores { slots: slot.into_iter().collect(), ..Stores::default() };
+        stores.frame.insert(machine.stack_pointer);
+        stores
     }
 
     /// Whether an answer that was given before turned out to be wrong.
@@ -91,7 +96,7 @@ impl Stores {
     /// What a slot holds, if that is known. A slot that holds no entry value counts as such only if the function
     /// stores one there elsewhere, and all such stores are followed.
     pub fn held(&self, state: &State, base: Base, offset: i64) -> Option<Value> {
-        let is_followed = || self.has(base, offset) && !self.has_strayed;
+        let is_followed = || self.has(base, offset) && !self.has_strayed && !self.is_in_vectors;
         state.slot(base, offset).filter(|value| *value != Value::Clobbered || is_followed())
     }
 
@@ -141,11 +146,22 @@ impl Stores {
                     self.stray(value);
                 }
             }
-            Value::Address { base, offset } => state.overwrite(base, offset, 8, value),
+            Value::Address { base, offset } => {
+                let value = self.overwriting(place, value);
+                state.overwrite(base, offset, 8, value);
+            }
             _ => {
                 self.stray(value);
                 self.escape(machine.return_address, value);
             }
+        }
+    }
+
+    /// What is known to be stored at a place: nothing if the register of the place isn't one of the frame.
+    pub fn overwriting(&self, place: Option<Place>, value: Value) -> Value {
+        match place.filter(|place| self.frame.contains(place.base)) {
+            Some(_) => value,
+            None => Value::Unknown,
         }
     }
 

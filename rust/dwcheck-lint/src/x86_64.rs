@@ -88,7 +88,11 @@ fn by_zydis(bytes: &[u8], address: u64) -> (Instruction, bool) {
 fn is_only_written(effect: &Effect) -> bool {
     matches!(
         effect,
-        Effect::Nothing | Effect::Write { .. } | Effect::CompareNumber { .. } | Effect::Store { to: None, .. }
+        Effect::Nothing
+            | Effect::Write { .. }
+            | Effect::StoreNumber { .. }
+            | Effect::CompareNumber { .. }
+            | Effect::Store { to: None, .. }
     )
 }
 
@@ -168,7 +172,15 @@ fn write(found: &Decoded) -> Effect {
         written &= written - 1;
     }
     match register(found.stored_base).filter(|_| found.stored_bytes > 0) {
-        Some(base) => Effect::write(registers, Place { base, offset: found.stored_offset }, found.stored_bytes),
+        Some(base) => {
+            let (to, bytes) = (Place { base, offset: found.stored_offset }, found.stored_bytes);
+            let is_number = found.mnemonic() == Mnemonic::Mov && found.operands[1].immediate().is_some();
+            if is_number {
+                Effect::StoreNumber { to, bytes }
+            } else {
+                Effect::write(registers, to, bytes)
+            }
+        }
         None if registers.is_empty() => Effect::Nothing,
         None => Effect::Write { registers, stored: None },
     }

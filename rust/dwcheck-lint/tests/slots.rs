@@ -169,6 +169,72 @@ fn stores_that_are_not_followed() {
     }
 }
 
+/// A callee may change a pointer that is in memory, such as that of a vector to the elements in its own frame.
+#[test]
+fn stores_by_pointers_from_memory() {
+    let text = "push %rbx
+        .cfi_adjust_cfa_offset 8
+        .cfi_offset rbx, -16
+        sub $64, %rsp
+        .cfi_adjust_cfa_offset 64
+        lea 16(%rsp), %rax
+        mov %rax, (%rsp)
+        mov %rsp, %rdi
+        call *%rsi
+        mov (%rsp), %rdx
+        mov %rax, 48(%rdx)
+        movq $0, 48(%rdx)
+        xor %ebx, %ebx
+        call *%rsi
+        add $64, %rsp
+        .cfi_adjust_cfa_offset -64
+        pop %rbx
+        .cfi_adjust_cfa_offset -8
+        .cfi_restore rbx
+        ret";
+    X86_64.quiet("pointer", text, "");
+}
+
+/// A barrier for memory changes nothing there.
+#[test]
+fn barriers_on_the_stack() {
+    let text = "push %rbx
+        .cfi_adjust_cfa_offset 8
+        .cfi_offset rbx, -16
+        mov %rdi, %rbx
+        lock orq $0, (%rsp)
+        lock addl $0, (%rsp)
+        mov %rbx, %rax
+        pop %rbx
+        .cfi_adjust_cfa_offset -8
+        .cfi_restore rbx
+        ret";
+    X86_64.quiet("barrier", text, "");
+}
+
+/// By the frame pointer, a slot is overwritten as well.
+#[test]
+fn a_slot_that_is_overwritten_by_the_frame_pointer() {
+    let text = "push %rbp
+        .cfi_adjust_cfa_offset 8
+        .cfi_offset rbp, -16
+        mov %rsp, %rbp
+        .cfi_def_cfa_register rbp
+        push %rbx
+        .cfi_offset rbx, -24
+        mov %rbx, %r8
+        mov %rdi, %rbx
+        WRONG movq $0, -8(%rbp)
+        lea (%rbx, %rbx), %rax
+        mov %r8, %rbx
+        .cfi_restore rbx
+        leave
+        .cfi_restore rbp
+        .cfi_def_cfa rsp, 8
+        ret";
+    X86_64.planted("frame", "slot overwritten", text);
+}
+
 /// What is in a register that isn't known may be what was saved there.
 #[test]
 fn values_that_are_not_known() {
