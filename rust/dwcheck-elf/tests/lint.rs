@@ -96,6 +96,23 @@ fn known_findings_are_left_out() {
         ran.out
     );
     assert_eq!(dwcheck_elf(&folder, "lint --known nowhere all/wrong.so").status, 3);
+    for option in ["--json", "--sarif"] {
+        folder.write("known", dwcheck_elf(&folder, &format!("lint {} all/wrong.so", option)).out);
+        let ran = dwcheck_elf(&folder, "lint --known known all/wrong.so");
+        assert_eq!(ran.status, 3, "{}", ran.out);
+        assert!(ran.error.contains("cannot read known: it is JSON; "), "{}", ran.error);
+    }
+}
+
+#[test]
+fn a_named_file_without_rows_is_said() {
+    let folder = Folder::new("lint-empty");
+    folder.write("a.s", ".text\n nop\n ret\n");
+    folder.run("mkdir all && gcc -c a.s -o all/a.o");
+    let ran = dwcheck_elf(&folder, "lint all/a.o");
+    assert_eq!((ran.status, ran.error.as_str()), (3, "dwcheck-elf: all/a.o: no FDEs, so no rows to compare\n"));
+    let ran = dwcheck_elf(&folder, "lint all");
+    assert_eq!((ran.status, ran.error.as_str()), (0, ""), "{}", ran.out);
 }
 
 #[test]
@@ -444,6 +461,12 @@ fn findings_as_sarif() {
         let shown = folder.run("python3 show.py < document");
         assert_eq!((ran.status, shown), (1, format!("push without row error {} wrong+0x1\n", expected)));
     }
+    let rules = folder.run(
+        "python3 -c \"import json; rules = json.load(open('document'))['runs'][0]['tool']['driver']['rules']\n\
+         print(*(rule['id'] + ': ' + rule['shortDescription']['text'] for rule in rules), sep='\\n')\"",
+    );
+    assert!(rules.contains("\npush without row: A push, and no row follows.\n"), "{}", rules);
+    assert!(rules.lines().all(|rule| rule.ends_with('.')), "{}", rules);
     assert_eq!(dwcheck_elf(&folder, "lint --sarif --json linked").status, 2);
 }
 

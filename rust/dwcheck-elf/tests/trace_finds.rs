@@ -302,6 +302,48 @@ fn findings_of_the_lint_are_confirmed() {
     assert!(said[never..].contains(&"    run: not reached"), "{}", ran.out);
 }
 
+/// A function whose callee stores a register in its frame. The lint takes a callee to leave that alone.
+const REFUTED: &str = ".text
+    .globl main
+    .type main, @function
+    main: .cfi_startproc
+    sub $24, %rsp
+    .cfi_adjust_cfa_offset 24
+    mov %rbx, 8(%rsp)
+    call keep
+    nop
+    .cfi_offset rbx, -16
+    xor %eax, %eax
+    .cfi_restore rbx
+    add $24, %rsp
+    .cfi_adjust_cfa_offset -24
+    ret
+    .cfi_endproc
+    .size main, .-main
+    .type keep, @function
+    keep: .cfi_startproc
+    mov %rbx, 24(%rsp)
+    ret
+    .cfi_endproc
+    .size keep, .-keep
+    .section .note.GNU-stack,\"\",@progbits
+";
+
+/// What is refuted is a defect of the lint, so the status doesn't say that something is found.
+#[test]
+fn findings_that_are_refuted_are_not_in_the_status() {
+    if !may_trace_programs() {
+        return;
+    }
+    let folder = Folder::new("trace-refuted");
+    folder.write("refuted.s", REFUTED);
+    folder.run("gcc refuted.s -o refuted");
+    let ran = common::run::dwcheck_elf(&folder, "lint refuted --confirm -- ./refuted");
+    let said: Vec<_> = ran.lines();
+    assert_eq!(said.last(), Some(&"findings 1 confirmed 0 refuted 1 not-reached 0"), "{}{}", ran.out, ran.error);
+    assert_eq!(ran.status, 0, "{}{}", ran.out, ran.error);
+}
+
 /// A library with a defect.
 const LIBRARY: &str = "
         .globl loaded

@@ -322,6 +322,59 @@ fn the_first_frames() {
     }
 }
 
+const STUB: &str = r#"
+asm(".text\n"
+    ".type stub, @function\n"
+    "stub: .cfi_startproc\n"
+    "pop saved(%rip)\n"
+    ".cfi_adjust_cfa_offset -8\n"
+    "mov %rsp, saved+8(%rip)\n"
+    "sub $8, %rsp\n"
+    ".cfi_adjust_cfa_offset 8\n"
+    "jmp *%rax\n"
+    ".cfi_endproc\n"
+    ".type called, @function\n"
+    "called: .cfi_startproc\n"
+    "push %rbx\n"
+    ".cfi_adjust_cfa_offset 8\n"
+    ".cfi_offset rbx, -16\n"
+    "mov %rdi, %rbx\n"
+    "call strlen@plt\n"
+    "movsbl (%rbx), %edx\n"
+    "add %edx, %eax\n"
+    "pop %rbx\n"
+    ".cfi_adjust_cfa_offset -8\n"
+    ".cfi_restore rbx\n"
+    "ret\n"
+    ".cfi_endproc\n"
+    ".globl main\n"
+    ".type main, @function\n"
+    "main: .cfi_startproc\n"
+    "sub $8, %rsp\n"
+    ".cfi_adjust_cfa_offset 8\n"
+    "lea called(%rip), %rax\n"
+    "lea text(%rip), %rdi\n"
+    "call stub\n"
+    "xor %eax, %eax\n"
+    "add $8, %rsp\n"
+    ".cfi_adjust_cfa_offset -8\n"
+    "ret\n"
+    ".cfi_endproc\n"
+    ".section .rodata\n"
+    "text: .asciz \"abc\"\n"
+    ".bss\n"
+    ".balign 8\n"
+    "saved: .zero 16\n"
+    ".text\n");
+"#;
+
+/// Rule "after-jump": a stub pops its return address, stores it, keeps it on the stack and jumps, as OCaml's
+/// `caml_c_call` does. The frame of the function that it jumps to isn't known, also after its calls.
+#[test]
+fn stubs_that_store_their_return_addresses() {
+    quiet("stub", "after-jump", "gcc", STUB);
+}
+
 /// Programs of Go run as they are: their stacks move, so their functions aren't stepped.
 #[test]
 fn programs_of_go() {

@@ -8,9 +8,36 @@ use crate::stores::Stores;
 use crate::table::{Cfa, Fde, Row, Rule};
 use crate::value::{Base, Value};
 
-/// The state at the entry of a function that is called.
-pub fn entered(machine: &Machine, row: &Row<'_>) -> State {
+/// The number of bytes of a slot.
+const WORD: i64 = 8;
+
+/// How many slots are taken from rows at most. No function that a compiler writes has more.
+const MOST_RULES: usize = 20;
+
+/// The offsets from the CFA at which rows say that registers are saved, below the stack pointer at the entry of a
+/// function that is called. Nothing is saved there yet at the entry.
+pub fn unsaved(machine: &Machine, rows: &[Row<'_>]) -> Vec<i64> {
+    let is_judged = |register| machine.kept.contains(register) || *register == machine.return_address;
+    let rules = rows.iter().flat_map(|row| &row.rules).filter(|(register, _)| is_judged(register));
+    let mut offsets = Vec::new();
+    for (_, rule) in rules {
+        match rule {
+            Rule::Offset(offset) if *offset <= -machine.entry_offset - WORD && !offsets.contains(offset) => {
+                offsets.push(*offset);
+            }
+            _ => {}
+        }
+        if offsets.len() >= MOST_RULES {
+            break;
+        }
+    }
+    offsets
+}
+
+/// The state at the entry of a function that is called, with slots in which nothing is saved yet.
+pub fn entered(machine: &Machine, row: &Row<'_>, unsaved: &[i64]) -> State {
     let mut state = State::unknown(false);
+    unsaved.iter().for_each(|offset| state.put(Base::CFA, *offset, Value::Clobbered));
     for register in machine.followed() {
         let is_kept = machine.kept.contains(&register);
         state.set(register, if is_kept { Value::Entry(register) } else { Value::Clobbered });

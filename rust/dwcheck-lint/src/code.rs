@@ -2,6 +2,7 @@
 
 use crate::instruction::{Effect, Instruction};
 use crate::machine::Machine;
+use crate::table::{Fde, Row};
 
 /// No instruction was decoded at an offset.
 const NONE: u32 = u32::MAX;
@@ -31,6 +32,8 @@ pub struct Lists {
     leaders: Vec<bool>,
     /// The offsets that are still to be decoded. Empty between calls.
     work: Vec<u32>,
+    /// The offsets at which rows begin, ascending.
+    rows: Vec<u32>,
 }
 
 impl Lists {
@@ -42,6 +45,7 @@ impl Lists {
         self.at.resize(bytes, NONE);
         self.leaders.clear();
         self.leaders.resize(bytes, false);
+        self.rows.clear();
     }
 
     /// Frees what is more than most code needs.
@@ -52,23 +56,20 @@ impl Lists {
         self.at.shrink_to(USUAL_BYTES);
         self.leaders.clear();
         self.leaders.shrink_to(USUAL_BYTES);
+        self.rows.clear();
+        self.rows.shrink_to(USUAL_BYTES / SHORT);
     }
 }
 
 impl<'a> Code<'a> {
-    /// Decodes all instructions: what is reached by jumps that are direct, from the first address and
-    /// from the landing pads, and then what is between.
-    pub fn decode(
-        machine: &'a Machine,
-        begin: u64,
-        bytes: &'a [u8],
-        pads: impl Iterator<Item = u64>,
-        mut lists: Lists,
-    ) -> Code<'a> {
+    /// Decodes all instructions of an FDE with these rows: what is reached by jumps that are direct, from the first
+    /// address and from the landing pads, and then what is between.
+    pub fn decode(machine: &'a Machine, fde: &Fde, bytes: &'a [u8], rows: &[Row<'_>], mut lists: Lists) -> Code<'a> {
         lists.begin(bytes.len());
-        let mut code = Code { machine, begin, bytes, lists, leader_count: 0 };
+        let mut code = Code { machine, begin: fde.begin, bytes, lists, leader_count: 0 };
+        code.lists.rows = rows.iter().filter_map(|row| code.offset(row.begin)).collect();
         code.lead(0);
-        for offset in pads.filter_map(|pad| code.offset(pad)).collect::<Vec<_>>() {
+        for offset in fde.landings.iter().filter_map(|landing| code.offset(landing.pad)).collect::<Vec<_>>() {
             code.lead(offset);
         }
         let mut offset = 0;
@@ -76,7 +77,7 @@ impl<'a> Code<'a> {
             if code.get(offset).is_none() {
                 code.lead(offset);
             }
-            offset = code.next(offset);
+            offset = code.next_certain(offset);
         }
         code
     }
@@ -122,6 +123,20 @@ impl<'a> Code<'a> {
     /// The offset after the instruction at an offset.
     pub fn next(&self, offset: u32) -> u32 {
         offset + self.get(offset).map_or(1, |instruction| u32::from(instruction.length))
+    }
+
+    /// The offset after an offset at which an instruction begins for certain. After bytes that can't be decoded and
+    /// whose number isn't known, that is where a row begins, or where decoding began for another reason.
+    pub fn next_certain(&self, offset: u32) -> u32 {
+        let next = self.next(offset);
+        match self.get(offset) {
+            Some(Instruction { length: 1, effect: Effect::Invalid }) => {
+                let row = self.lists.rows.partition_point(|row| *row <= offset);
+                let end = self.lists.rows.get(row).copied().unwrap_or_else(|| self.length());
+                (next..end).find(|at| self.get(*at).is_some()).unwrap_or(end)
+            }
+            _ => next,
+        }
     }
 
     /// The offset of an instruction that ends at an offset.

@@ -55,6 +55,8 @@ pub struct Coverage {
     pub unknown_jumps: u32,
     /// Places in FDEs that aren't code.
     pub data: u32,
+    /// Places that are reached and whose bytes can't be decoded. Judgement ends there.
+    pub undecoded: u32,
     /// Instructions that were not judged, by the reason.
     pub unjudged: [u32; REASONS.len()],
 }
@@ -81,6 +83,7 @@ impl Coverage {
         self.assumed += other.assumed;
         self.unknown_jumps += other.unknown_jumps;
         self.data += other.data;
+        self.undecoded += other.undecoded;
         self.unjudged.iter_mut().zip(&other.unjudged).for_each(|(one, other)| *one += other);
     }
 
@@ -96,6 +99,7 @@ impl Coverage {
             ("assumed", self.assumed),
             ("unknown-jumps", self.unknown_jumps),
             ("data", self.data),
+            ("undecoded", self.undecoded),
         ];
         counts.into_iter().chain(REASONS.iter().map(|(reason, name)| (*name, self.skipped(*reason)))).collect()
     }

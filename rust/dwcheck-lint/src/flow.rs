@@ -1,6 +1,6 @@
 //! Follows the flow of control through an FDE's code until nothing new is found.
 
-use crate::assume::{assumed, entered};
+use crate::assume::{assumed, entered, unsaved};
 use crate::callees::{leads_elsewhere, Callees};
 use crate::code::{Code, Lists, USUAL_BYTES};
 use crate::follow::{Follow, Tally};
@@ -73,6 +73,8 @@ pub struct Flow<'m, 'c> {
     pub code: Code<'m>,
     /// What its rows speak of.
     pub said: Said,
+    /// The slots in which its rows say that registers are saved, and nothing is at its entry.
+    unsaved: Vec<i64>,
     /// Whether its rows are meant for calls only.
     pub is_for_calls: bool,
     /// What it stores.
@@ -123,8 +125,7 @@ impl<'m, 'c> Flow<'m, 'c> {
         let bytes = usize::try_from(fde.end - fde.begin).ok().and_then(|size| module.bytes_at(fde.begin).get(..size));
         let bytes = bytes.filter(|bytes| bytes.len() <= MOST_BYTES).ok_or("the code isn't in the file, or too long")?;
         let rows = module.rows.rows(fde)?;
-        let pads = fde.landings.iter().map(|landing| landing.pad);
-        let code = Code::decode(module.machine, fde.begin, bytes, pads, std::mem::take(&mut room.code));
+        let code = Code::decode(module.machine, fde, bytes, &rows, std::mem::take(&mut room.code));
         let mut blocks = std::mem::take(&mut room.blocks);
         blocks.resize(bytes.len(), NONE);
         let mut flow = Flow {
@@ -132,6 +133,7 @@ impl<'m, 'c> Flow<'m, 'c> {
             callees,
             fde,
             said: Said::of(module.machine, &rows),
+            unsaved: unsaved(module.machine, &rows),
             is_for_calls: has_rows_for_calls(module, &rows),
             rows,
             stores: Stores::new(module.machine),
@@ -147,6 +149,7 @@ impl<'m, 'c> Flow<'m, 'c> {
             is_settled: false,
             code,
         };
+        flow.stores.frame = flow.stores.frame.with(flow.said.frame);
         flow.needs_callees = flow.frame_is_in_changeable_register();
         Ok(flow)
     }
@@ -201,7 +204,7 @@ impl<'m, 'c> Flow<'m, 'c> {
         let machine = self.module.machine;
         let is_called = |row| is_entry_row(self.module, row) || self.fde.is_called;
         match (self.rows.first(), brought.get(&self.fde.begin)) {
-            (Some(row), _) if is_called(row) => entered(machine, row),
+            (Some(row), _) if is_called(row) => entered(machine, row, &self.unsaved),
             (_, Some(state)) => state.clone(),
             (Some(row), None) => assumed(machine, row, self.fde, 0),
             (None, None) => State::unknown(true),
@@ -233,7 +236,7 @@ impl<'m, 'c> Flow<'m, 'c> {
                 }
                 self.assume(follow, offset);
             }
-            offset = self.code.next(offset);
+            offset = self.code.next_certain(offset);
             if offset < self.code.length() && self.code.get(offset).is_none() {
                 self.code.lead(offset);
             }

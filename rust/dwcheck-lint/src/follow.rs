@@ -6,6 +6,7 @@
 
 use crate::coverage::Coverage;
 use crate::flow::Flow;
+use crate::instruction::Effect;
 use crate::judge::Facts;
 use crate::state::State;
 use crate::table::row_at;
@@ -22,6 +23,7 @@ pub struct Tally {
     assumed: u32,
     unknown_jumps: u32,
     data: u32,
+    undecoded: u32,
     /// The registers that hold something else at a return.
     pub lost: Facts,
     /// How many returns there are at which the stack pointer isn't at the return address.
@@ -48,6 +50,7 @@ impl Tally {
         coverage.assumed += self.assumed;
         coverage.unknown_jumps += self.unknown_jumps;
         coverage.data += self.data;
+        coverage.undecoded += self.undecoded;
     }
 }
 
@@ -70,8 +73,11 @@ impl<'m> Visitor<'m> for Follow {
         }
     }
 
-    fn data(&mut self, _: &Flow<'m, '_>, _: u32) {
-        self.tally.data += 1;
+    fn data(&mut self, flow: &Flow<'m, '_>, at: u32) {
+        match flow.code.effect(at) {
+            Effect::Invalid => self.tally.undecoded += 1,
+            _ => self.tally.data += 1,
+        }
     }
 
     fn edge(&mut self, flow: &mut Flow<'m, '_>, edge: Edge, state: &State) {

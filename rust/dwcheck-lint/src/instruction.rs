@@ -76,6 +76,21 @@ pub struct Scale {
     pub is_extended: bool,
 }
 
+/// What is done with a number in a register.
+#[derive(Clone, Copy, Debug, PartialEq, Eq)]
+pub enum Operation {
+    /// Its sign is changed.
+    Negate,
+    /// Its bits are inverted.
+    Invert,
+    /// It is shifted to the left by a number of bits.
+    ShiftLeft(u8),
+    /// It is shifted to the right by a number of bits, and zeros come in.
+    ShiftRight(u8),
+    /// A number is added.
+    Add(i32),
+}
+
 /// Up to four registers, of which some aren't followed, such as a register that is always zero. They take a byte
 /// each, so that all effects of instructions are small.
 #[derive(Clone, Copy, Debug, PartialEq, Eq)]
@@ -128,6 +143,10 @@ pub enum Effect {
     },
     /// Copies a register.
     Move { to: Register, from: Register },
+    /// Copies a register to a vector register, of which a part may be left as it is.
+    ToVector { from: Register },
+    /// Copies a part of a vector register.
+    FromVector { to: Register },
     /// Copies a register, or doesn't.
     MayMove { to: Register, from: Register },
     /// Exchanges two registers.
@@ -136,6 +155,8 @@ pub enum Effect {
     Set { to: Register, number: i64 },
     /// Sets a register to another one plus a number.
     Add { to: Register, from: Register, number: i64 },
+    /// Changes the number in a register. If it is half, the lower 32 bits are changed, and the others become zeros.
+    Calculate { register: Register, operation: Operation, is_half: bool },
     /// Sets some bits of a register, those of `mask`, to those of a number.
     Insert { to: Register, mask: i64, number: i64 },
     /// Sets a register to the sum of two.
@@ -161,6 +182,8 @@ pub enum Effect {
     LoadEntry { to: Register, base: Option<Register>, offset: i64, entry: Entry },
     /// Loads or stores several registers, or one and changes the register of the place.
     Transfer(Transfer),
+    /// Stores a number of some bytes.
+    StoreNumber { to: Place, bytes: u8 },
     /// Stores a whole register. The place is `None` if it isn't a register plus an offset.
     Store { from: Register, to: Option<Place> },
     /// Pushes a register.
@@ -177,6 +200,9 @@ pub enum Effect {
     PopOther { to: Option<Place> },
     /// Pops the flags.
     PopFlags,
+    /// Begins a frame: the frame pointer is pushed and set to the stack pointer, which is then lowered by a number
+    /// of bytes.
+    Enter { bytes: u32 },
     /// Ends a frame: the stack pointer is set to the frame pointer, which is then popped.
     Leave,
     /// Compares two registers.
@@ -193,7 +219,7 @@ pub enum Effect {
     Return,
     /// Ends the program, or traps.
     Stop,
-    /// The bytes aren't an instruction.
+    /// The bytes aren't an instruction that is known. If the length is 1, it isn't known how many bytes it has.
     Invalid,
 }
 
@@ -207,6 +233,25 @@ impl Entry {
 impl Scale {
     /// A register as it is.
     pub const ONE: Scale = Scale { shift: 0, is_extended: false };
+}
+
+impl Operation {
+    /// What it makes of a number, or of its lower 32 bits.
+    pub fn applied(self, number: i64, is_half: bool) -> i64 {
+        let number = if is_half { number & 0xffff_ffff } else { number };
+        let result = match self {
+            Operation::Negate => number.wrapping_neg(),
+            Operation::Invert => !number,
+            Operation::ShiftLeft(bits) => number.wrapping_shl(bits.into()),
+            Operation::ShiftRight(bits) => (number as u64).wrapping_shr(bits.into()) as i64,
+            Operation::Add(added) => number.wrapping_add(added.into()),
+        };
+        if is_half {
+            result & 0xffff_ffff
+        } else {
+            result
+        }
+    }
 }
 
 impl From<[Option<Register>; 4]> for FourRegisters {
@@ -269,6 +314,12 @@ impl Effect {
         }
     }
 
+    /// Whether it pushes, and perhaps more.
+    pub fn is_push(&self) -> bool {
+        use Effect::{Enter, Push, PushFlags, PushMemory, PushOther};
+        matches!(self, Push { .. } | PushMemory { .. } | PushOther | PushFlags | Enter { .. })
+    }
+
     /// Whether it changes no value that is followed.
     pub fn changes_nothing(&self) -> bool {
         matches!(self, Effect::Nothing | Effect::Padding | Effect::Compare { .. } | Effect::CompareNumber { .. })
@@ -289,8 +340,10 @@ impl Effect {
                 registers
             }
             Effect::Transfer(transfer) => transfer.written(),
+            Effect::Calculate { register, .. } => Registers::of(&[register.0]),
             Effect::Exchange { one, other } => Registers::of(&[one.0, other.0]),
             Effect::Move { to, .. }
+            | Effect::FromVector { to }
             | Effect::MayMove { to, .. }
             | Effect::Set { to, .. }
             | Effect::Add { to, .. }

@@ -146,6 +146,8 @@ pub fn unjudged(machine: &Machine, row: &Row<'_>) -> Option<Unjudged> {
 pub struct Said {
     /// The registers that have a rule in a row.
     pub registers: Registers,
+    /// The registers by which a row gives the CFA.
+    pub frame: Registers,
     /// Whether the function returns by `__builtin_eh_return`.
     pub returns_to_handler: bool,
 }
@@ -156,6 +158,11 @@ impl Said {
         let mut said = Said::default();
         let all = rows.iter().flat_map(|row| &row.rules).filter(|(register, _)| machine.is_followed(*register));
         all.for_each(|(register, _)| said.registers.insert(*register));
+        let by_register = |row: &Row<'_>| match row.cfa {
+            Cfa::Offset(register, _) => Some(register),
+            Cfa::Expression(_) => None,
+        };
+        rows.iter().filter_map(by_register).for_each(|register| said.frame.insert(register));
         said.returns_to_handler = rows.iter().any(|row| unjudged(machine, row) == Some(Unjudged::ExceptionReturn));
         said
     }
@@ -288,7 +295,7 @@ impl Judge<'_> {
     fn judge_slot(&self, address: Value, register: Register) -> Result<Option<()>, WrongRule> {
         match address {
             Value::Unknown => Ok(None),
-            Value::Address { base, offset } => match self.state.slot(base, offset) {
+            Value::Address { base, offset } => match self.stores.held(self.state, base, offset) {
                 Some(value) => self.is_entry(value, register, WrongRule::Overwritten),
                 None if self.state.is_partial(base) || base.is_assumed() || self.stores.has(base, offset) => Ok(None),
                 None => Err(WrongRule::NeverSaved),

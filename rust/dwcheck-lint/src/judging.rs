@@ -180,8 +180,11 @@ impl<'m> Visitor<'m> for Judging<'m, '_> {
         }
     }
 
-    fn data(&mut self, _: &Flow<'m, '_>, _: u32) {
-        self.coverage.data += 1;
+    fn data(&mut self, flow: &Flow<'m, '_>, at: u32) {
+        match flow.code.effect(at) {
+            Effect::Invalid => self.coverage.undecoded += 1,
+            _ => self.coverage.data += 1,
+        }
     }
 
     fn edge(&mut self, flow: &mut Flow<'m, '_>, edge: Edge, state: &State) {

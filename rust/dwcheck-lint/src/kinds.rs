@@ -10,15 +10,18 @@ use crate::table::{Cfa, Row, Rule};
 use std::fmt;
 
 macro_rules! kinds {
-    ($($(#[$doc:meta])* $kind:ident = $name:literal,)*) => {
+    ($($(#[doc = $doc:literal])* $kind:ident = $name:literal,)*) => {
         /// What is wrong, as far as it can be told.
         #[derive(Clone, Copy, Debug, PartialEq, Eq, PartialOrd, Ord, Hash)]
         pub enum Kind {
-            $($(#[$doc])* $kind,)*
+            $($(#[doc = $doc])* $kind,)*
         }
 
         /// All kinds, with their names.
         pub const KINDS: &[(Kind, &str)] = &[$((Kind::$kind, $name),)*];
+
+        /// What each kind means, in the order of [`KINDS`].
+        const MEANINGS: &[&str] = &[$(concat!($($doc),*),)*];
     };
 }
 
@@ -61,7 +64,7 @@ kinds! {
     RegisterOverwritten = "register overwritten",
     /// The register was never saved where the row says.
     NeverSaved = "register never saved",
-    /// Something else is where the row says that the register was saved.
+    /// Something else is where the row says that the register was saved, or nothing is there yet.
     SlotOverwritten = "slot overwritten",
     /// The function doesn't give the register back at all.
     Private = "private",
@@ -78,11 +81,17 @@ impl Kind {
             Kind::ReturnAddressSigning
         } else if wrong.has(Facts::RETURN_ADDRESS) {
             Kind::ReturnAddress
-        } else if wrong.without(lost).is_empty() {
+        } else if wrong.without(lost).is_empty() && !group.mark.verdict.rules.contains(&Some(WrongRule::Overwritten)) {
             Kind::Private
         } else {
             Kind::of_registers(module, group)
         }
+    }
+
+    /// What it means, in a sentence or two.
+    pub fn meaning(self) -> &'static str {
+        let place = KINDS.iter().position(|(kind, _)| *kind == self);
+        place.and_then(|place| MEANINGS.get(place)).map_or("", |meaning| meaning.trim())
     }
 
     /// Whether it only says where the row is wrong, and not by which instruction.
@@ -109,21 +118,25 @@ impl Kind {
         }
     }
 
-    /// The kind by the instruction after which the CFA is wrong.
+    /// The kind by the instruction after which the CFA is wrong, and by whether its row follows.
     fn of_instruction(module: &Module<'_>, group: &Group<'_>) -> Kind {
+        use Kind::{PopWithoutRow, PushWithoutRow, SubtractionWithoutRow};
+        match Kind::of_motion(module, group) {
+            PopWithoutRow | PushWithoutRow | SubtractionWithoutRow if has_row(module, group) => Kind::WrongCfa,
+            kind => kind,
+        }
+    }
+
+    /// The kind by the instruction after which the CFA is wrong, if no row follows it at once.
+    fn of_motion(module: &Module<'_>, group: &Group<'_>) -> Kind {
         let pointer = module.machine.stack_pointer;
         let moved = |transfer: &Transfer| if transfer.place.base == pointer { transfer.added } else { 0 };
         match group.mark.before.map(|(_, effect)| effect) {
             Some(Effect::Transfer(transfer)) if moved(&transfer) > 0 => Kind::PopWithoutRow,
             Some(Effect::Transfer(transfer)) if moved(&transfer) < 0 && is_late(module, group) => Kind::LatePush,
             Some(Effect::Transfer(transfer)) if moved(&transfer) < 0 => Kind::PushWithoutRow,
-            Some(Effect::Push { .. } | Effect::PushMemory { .. } | Effect::PushOther | Effect::PushFlags) => {
-                if is_late(module, group) {
-                    Kind::LatePush
-                } else {
-                    Kind::PushWithoutRow
-                }
-            }
+            Some(effect) if effect.is_push() && is_late(module, group) => Kind::LatePush,
+            Some(effect) if effect.is_push() => Kind::PushWithoutRow,
             Some(Effect::Pop { .. } | Effect::PopOther { .. } | Effect::PopFlags | Effect::Leave) => {
                 Kind::PopWithoutRow
             }
@@ -173,6 +186,13 @@ fn is_by_stack_pointer(module: &Module<'_>, row: &Row<'_>) -> bool {
 fn is_in_part(module: &Module<'_>, address: u64) -> bool {
     let begin = module.fde_at(address).map(|fde| module.fdes[fde].begin);
     begin.and_then(|begin| module.rows.row(begin)).map_or(false, |row| !is_entry_row(module, &row))
+}
+
+/// Whether the row of a group gives the CFA otherwise than that of the instruction before it, so that it follows, if
+/// wrongly.
+fn has_row(module: &Module<'_>, group: &Group<'_>) -> bool {
+    let before = group.mark.before.and_then(|(address, _)| module.rows.row(address));
+    before.map_or(false, |row| row.cfa != group.mark.row.cfa)
 }
 
 /// Whether the row after a group is the one that would have been right in it.

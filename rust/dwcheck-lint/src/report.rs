@@ -31,6 +31,10 @@ pub struct Place<'a, 'm>(pub &'a Module<'m>, pub u64);
 /// A string of JSON, with its quotes.
 pub struct Quoted<'a>(pub &'a str);
 
+/// What is said of a finding that rests on an assumption.
+const ASSUMED_NOTE: &str = "nothing is seen to lead to this code, or to the code that leads here, \
+    so an earlier row was taken to be right, which may be the wrong one";
+
 /// A register plus a number: `rsp+16`.
 pub struct Sum<'a>(pub &'a Machine, pub Register, pub i64);
 
@@ -117,8 +121,16 @@ impl Finding<'_> {
         places.join(" ")
     }
 
-    /// The directive that would have made the row right, if one would.
+    /// Whether what is known of the code was taken from a row, so that this one is wrong only if that one is right.
+    pub fn is_assumed(&self) -> bool {
+        self.mark.is_assumed
+    }
+
+    /// The directive that would have made the row right, if one would. `None` if that rests on an assumption.
     pub fn directive(&self) -> Option<String> {
+        if self.is_assumed() {
+            return None;
+        }
         match (self.mark.row.cfa, self.mark.truth.cfa) {
             (Cfa::Offset(register, _), Some((other, offset))) if self.mark.verdict.wrong.has(Facts::CFA) => {
                 if register == other {
@@ -157,6 +169,9 @@ impl fmt::Display for Text<'_, '_> {
         if let Some(directive) = finding.directive() {
             write!(f, "; right would be: {}", directive)?;
         }
+        if finding.is_assumed() {
+            write!(f, "\n    note: {}", ASSUMED_NOTE)?;
+        }
         if finding.has_odd_return {
             f.write_str("\n    note: at a return of this function the stack pointer isn't at the return address")?;
         }
@@ -191,7 +206,7 @@ impl fmt::Display for Json<'_, '_> {
         let names: Vec<_> = finding.wrong.names(machine).map(|name| Quoted(name).to_string()).collect();
         write!(f, ",\"registers\":[{}]", names.join(","))?;
         write!(f, ",\"addresses\":{},\"places\":{}", finding.addresses, finding.places)?;
-        write!(f, ",\"odd-return\":{}}}", finding.has_odd_return)
+        write!(f, ",\"assumed\":{},\"odd-return\":{}}}", finding.is_assumed(), finding.has_odd_return)
     }
 }
 
@@ -214,7 +229,7 @@ impl fmt::Display for Coverage {
     fn fmt(&self, f: &mut fmt::Formatter<'_>) -> fmt::Result {
         write!(f, "fdes {} instructions {} judged {}", self.fdes, self.instructions, self.judged)?;
         let skipped = REASONS.iter().map(|(reason, name)| (*name, self.skipped(*reason)));
-        let others = [("signal-frames", self.signal_frames), ("unread", self.unread)];
+        let others = [("signal-frames", self.signal_frames), ("unread", self.unread), ("undecoded", self.undecoded)];
         let mut counts = skipped.chain(others).filter(|(_, count)| *count > 0);
         counts.try_for_each(|(name, count)| write!(f, " {} {}", name, count))
     }

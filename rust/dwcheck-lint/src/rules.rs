@@ -9,7 +9,7 @@ use crate::instruction::{Effect, Target};
 use crate::judge::{unjudged, Facts};
 use crate::module::Module;
 use crate::state::State;
-use crate::table::Row;
+use crate::table::{Cfa, Row};
 use crate::value::Value;
 
 /// How many instructions the default of a switch is looked for in.
@@ -29,8 +29,8 @@ pub fn is_only_padding(code: &Code<'_>, offset: u32) -> Option<u32> {
     Some(at).filter(|at| *at != offset)
 }
 
-/// Rule "data in code": whether there is no code at an offset, whose instruction does this. Functions written
-/// by hand have data between their instructions.
+/// Rule "data in code": whether there is no code at an offset, whose instruction does this, or none that can be
+/// decoded. Functions written by hand have data between their instructions.
 pub fn is_data(code: &Code<'_>, offset: u32, effect: &Effect, state: &State) -> bool {
     matches!(effect, Effect::Invalid) || state.is_assumed && code.has_zeros(offset)
 }
@@ -57,6 +57,19 @@ pub fn row_changes_after_call(flow: &Flow<'_, '_>, call: u32, state: &State) -> 
         (Some(row), Some(next)) if row.begin != next.begin && !row.says_the_same(next) => {
             !flow.disagreement(next, state, after).wrong.is_empty()
         }
+        _ => false,
+    }
+}
+
+/// Rule "rows that follow": whether the row after an instruction that moves the stack pointer by a number that isn't
+/// known has another offset from it. Then whoever wrote the row knew the number.
+pub fn row_follows(flow: &Flow<'_, '_>, at: u32) -> bool {
+    let offset = |at| match flow.row(flow.code.address(at))?.cfa {
+        Cfa::Offset(register, offset) => Some(offset).filter(|_| register == flow.module.machine.stack_pointer),
+        Cfa::Expression(_) => None,
+    };
+    match (offset(at), offset(flow.code.next(at))) {
+        (Some(before), Some(after)) => before != after,
         _ => false,
     }
 }

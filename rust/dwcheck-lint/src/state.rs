@@ -40,7 +40,8 @@ pub struct State {
     slots: Rc<Slots>,
     /// Whether it comes of a row that was taken as an assumption, so that nothing is known of slots
     /// that aren't listed. Otherwise it was followed from the function's entry, and a slot to which
-    /// the function never stores an entry value holds none.
+    /// the function never stores an entry value holds none. A slot to which it does is unknown if it
+    /// isn't listed: where ways meet, what differs isn't listed anymore.
     pub is_assumed: bool,
     /// Whether a slot was left out because there were too many.
     is_full: bool,
@@ -154,6 +155,21 @@ impl State {
         }
     }
 
+    /// Notes that slots get other values. If these are known not to be entry values, slots that held one stay
+    /// listed, as such that hold none.
+    fn lose(&mut self, is_lost: impl Fn(&Slot) -> bool, is_known: bool) {
+        let changes = |slot: &Slot| is_lost(slot) && !(is_known && slot.value == Value::Clobbered);
+        if !self.slots.iter().any(changes) {
+            return;
+        }
+        self.changes.has_slots = true;
+        Rc::make_mut(&mut self.slots).retain(|slot| {
+            let (is_lost, is_noted) = (is_lost(slot), is_known && slot.value.is_entry_or_none());
+            slot.value = if is_lost { Value::Clobbered } else { slot.value };
+            !is_lost || is_noted
+        });
+    }
+
     /// What a slot holds. `None` if it isn't listed.
     pub fn slot(&self, base: Base, offset: i64) -> Option<Value> {
         self.slots.iter().find(|slot| (slot.base, slot.offset) == (base, offset)).map(|slot| slot.value)
@@ -167,24 +183,27 @@ impl State {
 
     /// Stores a value in a slot.
     pub fn put(&mut self, base: Base, offset: i64, value: Value) {
-        self.overwrite(base, offset, WORD);
+        self.overwrite(base, offset, WORD, value);
         self.changes.has_slots = true;
-        if self.slots.len() < MOST_SLOTS {
-            Rc::make_mut(&mut self.slots).push(Slot { base, offset, value });
-        } else {
-            self.is_full = true;
+        let slots = Rc::make_mut(&mut self.slots);
+        match slots.iter().position(|slot| (slot.base, slot.offset) == (base, offset)) {
+            Some(place) => slots[place].value = value,
+            None if slots.len() < MOST_SLOTS => slots.push(Slot { base, offset, value }),
+            None => self.is_full = true,
         }
     }
 
-    /// Forgets the slots that share a byte with a range of bytes.
-    pub fn overwrite(&mut self, base: Base, offset: i64, bytes: i64) {
+    /// Notes that a value is stored in a range of bytes, in whole or in part. No slot that shares a byte with them
+    /// holds what it held.
+    pub fn overwrite(&mut self, base: Base, offset: i64, bytes: i64, value: Value) {
         let (end, first) = (offset.wrapping_add(bytes), offset.wrapping_sub(WORD));
-        self.retain(|slot| slot.base != base || slot.offset >= end || slot.offset <= first);
+        let is_lost = |slot: &Slot| slot.base == base && slot.offset < end && slot.offset > first;
+        self.lose(is_lost, value != Value::Unknown);
     }
 
-    /// Forgets the slots below an address: a call may overwrite them.
+    /// Notes that a call may overwrite the slots below an address.
     pub fn overwrite_below(&mut self, base: Base, offset: i64) {
-        self.retain(|slot| slot.base != base || slot.offset >= offset);
+        self.lose(|slot| slot.base == base && slot.offset < offset, true);
     }
 
     /// Forgets everything that is relative to a base, because the code that makes it runs again.
@@ -283,9 +302,11 @@ mod tests {
     fn a_store_ends_what_it_overlaps() {
         let mut state = State::unknown(false);
         state.put(Base::CFA, -16, Value::Entry(Register(6)));
-        state.overwrite(Base::CFA, -8, 8);
+        state.overwrite(Base::CFA, -8, 8, Value::Clobbered);
         assert_eq!(state.slot(Base::CFA, -16), Some(Value::Entry(Register(6))));
-        state.overwrite(Base::CFA, -9, 1);
+        state.overwrite(Base::CFA, -9, 1, Value::Clobbered);
+        assert_eq!(state.slot(Base::CFA, -16), Some(Value::Clobbered));
+        state.overwrite(Base::CFA, -9, 1, Value::Unknown);
         assert_eq!(state.slot(Base::CFA, -16), None);
     }
 

@@ -47,6 +47,11 @@ impl Step<'_> {
                 self.stores.note_copy(value);
                 self.state.set(to, value);
             }
+            Effect::ToVector { from } => self.stores.note_vector(self.state.get(from)),
+            Effect::FromVector { to } => {
+                let value = self.stores.of_vector();
+                self.set_loaded(to, value);
+            }
             Effect::MayMove { to, from } => {
                 let merged = self.state.get(to).merged(self.state.get(from));
                 self.state.set(to, merged);
@@ -54,6 +59,12 @@ impl Step<'_> {
             Effect::Exchange { one, other } => self.exchange(one, other),
             Effect::Set { to, number } => self.state.set(to, Value::Number(number)),
             Effect::Add { to, from, number } => self.state.set(to, self.state.get(from).plus(number)),
+            Effect::Calculate { register, operation, is_half } => match self.state.get(register) {
+                Value::Number(number) => {
+                    self.state.set(register, Value::Number(operation.applied(number, is_half)));
+                }
+                _ => self.write(Registers::of(&[register.0]), None),
+            },
             Effect::Insert { to, mask, number } => self.insert(to, mask, number),
             Effect::AddRegister { to, from, by, scale } => self.add_register(to, from, by, scale),
             Effect::SubtractRegister { to, from, by } => self.subtract_register(to, from, by),
@@ -70,6 +81,7 @@ impl Step<'_> {
             }
             Effect::LoadEntry { to, base, offset, entry } => self.load_entry(to, base, offset, entry),
             Effect::Store { from, to } => self.store(to, self.state.get(from)),
+            Effect::StoreNumber { to, bytes } => self.overwrite(to, bytes, Value::Clobbered),
             Effect::Transfer(transfer) => self.transfer(&transfer),
             _ => self.apply_to_stack(effect),
         }
@@ -96,6 +108,12 @@ impl Step<'_> {
             }
             Effect::PopFlags => {
                 self.pop();
+            }
+            Effect::Enter { bytes } => {
+                let (pointer, frame) = (self.machine.stack_pointer, self.machine.frame_pointer);
+                self.push(self.state.get(frame));
+                self.state.set(frame, self.state.get(pointer));
+                self.state.set(pointer, self.state.get(pointer).plus(-i64::from(bytes)));
             }
             Effect::Leave => {
                 let frame = self.machine.frame_pointer;
@@ -133,15 +151,18 @@ impl Step<'_> {
         }
     }
 
-    fn overwrite(&mut self, place: Place, bytes: u8) {
+    /// Stores a value in some bytes.
+    fn overwrite(&mut self, place: Place, bytes: u8, value: Value) {
         if let Value::Address { base, offset } = self.state.get(place.base) {
-            self.state.overwrite(base, offset.wrapping_add(place.offset.into()), i64::from(bytes));
+            let begin = offset.wrapping_add(place.offset.into());
+            let value = self.stores.overwriting(Some(place), value);
+            self.state.overwrite(base, begin, i64::from(bytes), value);
         }
     }
 
     fn write(&mut self, registers: Registers, stored: Option<(Place, NonZeroU8)>) {
         if let Some((place, bytes)) = stored {
-            self.overwrite(place, bytes.get());
+            self.overwrite(place, bytes.get(), Value::Unknown);
         }
         let pointer = self.machine.stack_pointer;
         registers.iter().for_each(|register| {
@@ -248,7 +269,7 @@ impl Step<'_> {
                 Some(_) if transfer.is_load => *loaded = self.stores.load(self.state, place),
                 _ if transfer.is_load => {}
                 from => {
-                    self.overwrite(place, transfer.bytes);
+                    self.overwrite(place, transfer.bytes, Value::Unknown);
                     if let Some(from) = from {
                         self.store(Some(place), self.state.get(from));
                     }

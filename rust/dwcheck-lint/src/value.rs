@@ -163,6 +163,11 @@ impl Value {
         }
     }
 
+    /// Whether it is known to be an entry value, or to be none.
+    pub fn is_entry_or_none(self) -> bool {
+        matches!(self, Value::Clobbered | Value::Entry(_) | Value::SignedReturn { .. })
+    }
+
     /// What is known of a value that was made of this one in a way that isn't followed.
     #[must_use]
     pub fn derived(self) -> Value {

@@ -7,7 +7,7 @@ use crate::register::Register;
 use crate::rules;
 use crate::state::{Changes, State};
 use crate::step::{Called, Step};
-use crate::value::Value;
+use crate::value::{Base, Value};
 
 /// Why a block leads to another.
 #[derive(Clone, Copy, Debug, PartialEq, Eq)]
@@ -70,7 +70,7 @@ pub trait Visitor<'m> {
     /// An instruction.
     fn instruction(&mut self, _flow: &Flow<'m, '_>, _here: Here<'_>) {}
 
-    /// Bytes that aren't code.
+    /// Bytes that aren't code, or that can't be decoded.
     fn data(&mut self, _flow: &Flow<'m, '_>, _at: u32) {}
 
     /// A way to another block.
@@ -152,9 +152,20 @@ impl<'m, V: Visitor<'m>> Walk<'_, V> {
                 if !effect.changes_nothing() {
                     let (machine, stores) = (flow.module.machine, &mut flow.stores);
                     Step { machine, state: &mut self.state, stores, at: self.at }.apply(effect);
+                    self.trust_row(flow);
                 }
             }
             self.at = flow.code.next(self.at);
+        }
+    }
+
+    /// If the instruction has moved the stack pointer by a number that isn't known, but that the row knows, nothing
+    /// is known of the stack pointer.
+    fn trust_row(&mut self, flow: &Flow<'m, '_>) {
+        let pointer = flow.module.machine.stack_pointer;
+        let made = Value::Address { base: Base::made_at(self.at), offset: 0 };
+        if self.state.get(pointer) == made && rules::row_follows(flow, self.at) {
+            self.state.set(pointer, Value::Unknown);
         }
     }
 

@@ -3,15 +3,17 @@
 mod common;
 mod remembered;
 
-use crate::instruction::{Condition, Effect, Entry, Instruction, Place, Scale, Target};
+use crate::instruction::{Condition, Effect, Entry, Instruction, Operation, Place, Scale, Target};
 use crate::machine::Machine;
 use crate::register::{Register, Registers};
 use crate::zydis::{decoded, text, Decoded, Mnemonic, Operand, OperandKind, NO_REGISTER, RIP};
 use common::common;
 use remembered::remembered;
 
-const NAMES: [&str; 17] = [
+const NAMES: [&str; 33] = [
     "rax", "rdx", "rcx", "rbx", "rsi", "rdi", "rbp", "rsp", "r8", "r9", "r10", "r11", "r12", "r13", "r14", "r15", "ra",
+    "xmm0", "xmm1", "xmm2", "xmm3", "xmm4", "xmm5", "xmm6", "xmm7", "xmm8", "xmm9", "xmm10", "xmm11", "xmm12", "xmm13",
+    "xmm14", "xmm15",
 ];
 
 /// The DWARF numbers of the registers, by the numbers that instructions have for them.
@@ -86,7 +88,11 @@ fn by_zydis(bytes: &[u8], address: u64) -> (Instruction, bool) {
 fn is_only_written(effect: &Effect) -> bool {
     matches!(
         effect,
-        Effect::Nothing | Effect::Write { .. } | Effect::CompareNumber { .. } | Effect::Store { to: None, .. }
+        Effect::Nothing
+            | Effect::Write { .. }
+            | Effect::StoreNumber { .. }
+            | Effect::CompareNumber { .. }
+            | Effect::Store { to: None, .. }
     )
 }
 
@@ -166,7 +172,15 @@ fn write(found: &Decoded) -> Effect {
         written &= written - 1;
     }
     match register(found.stored_base).filter(|_| found.stored_bytes > 0) {
-        Some(base) => Effect::write(registers, Place { base, offset: found.stored_offset }, found.stored_bytes),
+        Some(base) => {
+            let (to, bytes) = (Place { base, offset: found.stored_offset }, found.stored_bytes);
+            let is_number = found.mnemonic() == Mnemonic::Mov && found.operands[1].immediate().is_some();
+            if is_number {
+                Effect::StoreNumber { to, bytes }
+            } else {
+                Effect::write(registers, to, bytes)
+            }
+        }
         None if registers.is_empty() => Effect::Nothing,
         None => Effect::Write { registers, stored: None },
     }
@@ -192,6 +206,13 @@ fn effect(found: &Decoded) -> Option<Effect> {
             Some(Effect::Align { to: register, from: register, mask }).filter(|_| mask.is_some() || register == RSP)
         }
         Mnemonic::Xor => zero(first, second),
+        // Rule "hardened stack pointer": the bits that are set are zeros unless the processor speculates.
+        Mnemonic::Or => (first.whole_register() == Some(RSP)).then_some(Effect::Nothing),
+        Mnemonic::Negate => calculate(first, Operation::Negate),
+        Mnemonic::Invert => calculate(first, Operation::Invert),
+        Mnemonic::ShiftLeft => calculate(first, Operation::ShiftLeft(shift(first, second)?)),
+        Mnemonic::ShiftRight => calculate(first, Operation::ShiftRight(shift(first, second)?)),
+        Mnemonic::MoveVector => move_vector(first, second),
         Mnemonic::Exchange => Some(Effect::Exchange { one: first.whole_register()?, other: second.whole_register()? }),
         Mnemonic::MoveIf => Some(Effect::MayMove { to: first.whole_register()?, from: second.whole_register()? }),
         Mnemonic::Compare => compare(first, second),
@@ -211,6 +232,8 @@ fn stack_or_jump(found: &Decoded) -> Option<Effect> {
         }
         Mnemonic::PushFlags => Some(Effect::PushFlags),
         Mnemonic::PopFlags => Some(Effect::PopFlags),
+        Mnemonic::Enter if found.width == 16 => None,
+        Mnemonic::Enter => enter(&found.operands),
         Mnemonic::Leave => Some(Effect::Leave),
         Mnemonic::Return => Some(Effect::Return),
         Mnemonic::Padding => Some(Effect::Padding),
@@ -232,12 +255,32 @@ fn zero(first: &Operand, second: &Operand) -> Option<Effect> {
     Some(Effect::Set { to: register(first.register)?, number: 0 }).filter(|_| is_zeroed && is_wide)
 }
 
+/// An operation on a number in a register or in its lower half.
+fn calculate(operand: &Operand, operation: Operation) -> Option<Effect> {
+    let is_register = operand.kind() == OperandKind::Register && operand.bits >= 32;
+    let register = register(operand.register).filter(|_| is_register)?;
+    Some(Effect::Calculate { register, operation, is_half: operand.bits == 32 })
+}
+
+/// The bits by which an operand is shifted, of which the processor takes the lowest ones.
+fn shift(operand: &Operand, by: &Operand) -> Option<u8> {
+    let mask = if operand.bits == 64 { 63 } else { 31 };
+    by.immediate().map(|bits| (bits & mask) as u8)
+}
+
 fn push(operand: &Operand) -> Effect {
     match (operand.whole_register(), operand.place()) {
         (Some(from), _) => Effect::Push { from },
         (_, Some(from)) => Effect::PushMemory { from },
         _ => Effect::PushOther,
     }
+}
+
+/// `enter`: the bytes of the frame, and the number of pointers to outer frames, which are pushed before.
+fn enter(operands: &[Operand; 2]) -> Option<Effect> {
+    let (frame, depth) = (operands[0].immediate()?, operands[1].immediate()?);
+    let bytes = (frame & 0xffff) + 8 * (depth & 31);
+    Some(Effect::Enter { bytes: u32::try_from(bytes).ok()? })
 }
 
 fn jump_if(operand: &Operand, condition: Condition) -> Option<Effect> {
@@ -255,7 +298,14 @@ fn lea(first: &Operand, second: &Operand) -> Option<Effect> {
     if let Some(Place { base: from, offset: number }) = second.place() {
         return Some(Effect::Add { to, from, number: number.into() });
     }
-    Some(Effect::Derive { to, from: register(second.base)? })
+    let from = register(second.base)?;
+    match register(second.index) {
+        Some(by) if second.value == 0 && (to == RSP || from == RSP) => {
+            let scale = Scale { shift: second.scale.trailing_zeros() as u8, ..Scale::ONE };
+            Some(Effect::AddRegister { to, from, by, scale })
+        }
+        _ => Some(Effect::Derive { to, from }),
+    }
 }
 
 fn mov(first: &Operand, second: &Operand) -> Option<Effect> {
@@ -274,6 +324,16 @@ fn mov(first: &Operand, second: &Operand) -> Option<Effect> {
     }
 }
 
+/// A copy between a general register and a vector register, which has no number here.
+fn move_vector(first: &Operand, second: &Operand) -> Option<Effect> {
+    let is_vector = |operand: &Operand| operand.kind() == OperandKind::Register && operand.register == NO_REGISTER;
+    match (first.whole_register(), second.whole_register()) {
+        (None, Some(from)) if is_vector(first) => Some(Effect::ToVector { from }),
+        (Some(to), None) if is_vector(second) => Some(Effect::FromVector { to }),
+        _ => None,
+    }
+}
+
 fn load(to: Register, operand: &Operand) -> Option<Effect> {
     if let Some(from) = operand.place() {
         return Some(Effect::Load { to, from });
@@ -283,8 +343,10 @@ fn load(to: Register, operand: &Operand) -> Option<Effect> {
 }
 
 fn add_number(operand: &Operand, number: i64) -> Option<Effect> {
-    let register = operand.whole_register()?;
-    Some(Effect::Add { to: register, from: register, number })
+    match operand.whole_register() {
+        Some(register) => Some(Effect::Add { to: register, from: register, number }),
+        None => calculate(operand, Operation::Add(number as i32)),
+    }
 }
 
 fn add(first: &Operand, second: &Operand) -> Option<Effect> {

@@ -8,7 +8,8 @@
 /* Instructions that are told apart. All others are OTHER. */
 enum mnemonic {
     OTHER, PUSH, POP, PUSHF, POPF, LEAVE, RET, PADDING, STOP, CALL, JMP, JZ, JNZ, JCC, LEA, MOV, MOVSXD,
-    ADD, SUB, INC, DEC, AND, XOR, XCHG, SYSCALL, CMP, CMOV
+    ADD, SUB, INC, DEC, AND, XOR, XCHG, SYSCALL, CMP, CMOV, ENTER,
+    NEG, NOT, SHL, SHR, MOVE_VECTOR, OR
 };
 
 enum operand_kind { NONE, REGISTER, MEMORY, IMMEDIATE, TARGET };
@@ -93,6 +94,7 @@ static uint8_t mnemonic_of(const ZydisDecodedInstruction *in)
     case ZYDIS_MNEMONIC_POP: return POP;
     case ZYDIS_MNEMONIC_PUSHFQ: return PUSHF;
     case ZYDIS_MNEMONIC_POPFQ: return POPF;
+    case ZYDIS_MNEMONIC_ENTER: return ENTER;
     case ZYDIS_MNEMONIC_LEAVE: return LEAVE;
     case ZYDIS_MNEMONIC_RET: case ZYDIS_MNEMONIC_IRETQ: return RET;
     case ZYDIS_MNEMONIC_NOP: case ZYDIS_MNEMONIC_INT3: return PADDING;
@@ -110,6 +112,13 @@ static uint8_t mnemonic_of(const ZydisDecodedInstruction *in)
     case ZYDIS_MNEMONIC_DEC: return DEC;
     case ZYDIS_MNEMONIC_AND: return AND;
     case ZYDIS_MNEMONIC_XOR: return XOR;
+    case ZYDIS_MNEMONIC_OR: return OR;
+    case ZYDIS_MNEMONIC_NEG: return NEG;
+    case ZYDIS_MNEMONIC_NOT: return NOT;
+    case ZYDIS_MNEMONIC_SHL: return SHL;
+    case ZYDIS_MNEMONIC_SHR: return SHR;
+    case ZYDIS_MNEMONIC_MOVQ: case ZYDIS_MNEMONIC_VMOVQ: case ZYDIS_MNEMONIC_PINSRQ: case ZYDIS_MNEMONIC_PEXTRQ:
+    case ZYDIS_MNEMONIC_VPINSRQ: case ZYDIS_MNEMONIC_VPEXTRQ: return MOVE_VECTOR;
     case ZYDIS_MNEMONIC_XCHG: return XCHG;
     case ZYDIS_MNEMONIC_SYSCALL: return SYSCALL;
     case ZYDIS_MNEMONIC_CMP: return CMP;
@@ -216,6 +225,9 @@ int dwcheck_lint_zydis_decode(const uint8_t *bytes, size_t length, uint64_t addr
     out->operand_count = in.operand_count_visible;
     for (int i = 0; i < in.operand_count_visible && i < 2; i++)
         set_operand(&out->operands[i], &operands[i], address + in.length);
+    /* What is put into a copy of a vector is the operand after that. */
+    if (in.mnemonic == ZYDIS_MNEMONIC_VPINSRQ)
+        set_operand(&out->operands[1], &operands[2], address + in.length);
     for (int i = 0; i < in.operand_count; i++)
         add_write(out, &operands[i]);
     return 1;

@@ -43,9 +43,16 @@ pub(crate) enum Mnemonic {
     System,
     Compare,
     MoveIf,
+    Enter,
+    Negate,
+    Invert,
+    ShiftLeft,
+    ShiftRight,
+    MoveVector,
+    Or,
 }
 
-const MNEMONICS: [Mnemonic; 27] = [
+const MNEMONICS: [Mnemonic; 34] = [
     Mnemonic::Other,
     Mnemonic::Push,
     Mnemonic::Pop,
@@ -73,6 +80,13 @@ const MNEMONICS: [Mnemonic; 27] = [
     Mnemonic::System,
     Mnemonic::Compare,
     Mnemonic::MoveIf,
+    Mnemonic::Enter,
+    Mnemonic::Negate,
+    Mnemonic::Invert,
+    Mnemonic::ShiftLeft,
+    Mnemonic::ShiftRight,
+    Mnemonic::MoveVector,
+    Mnemonic::Or,
 ];
 
 /// What an operand is, by the numbers of `zydis.c`.

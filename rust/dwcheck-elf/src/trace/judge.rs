@@ -312,7 +312,7 @@ fn verdict(judged: Judged, unwound: &Unwound, frame: &Frame) -> Verdict {
         let wrong = match judged.kept[index] {
             Kept::Unknown => continue,
             Kept::InPlace => WrongRule::Changed,
-            Kept::Elsewhere => WrongRule::Overwritten,
+            Kept::Elsewhere => WrongRule::Elsewhere,
         };
         if *value != Some(*kept) {
             verdict.wrong.add(Facts::kept(index));

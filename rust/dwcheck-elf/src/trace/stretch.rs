@@ -338,6 +338,9 @@ fn is_plain(effect: &Effect, length: u8) -> bool {
         | Effect::MayWrite { .. }
         | Effect::Move { .. }
         | Effect::MayMove { .. }
+        | Effect::ToVector { .. }
+        | Effect::FromVector { .. }
+        | Effect::Calculate { .. }
         | Effect::Exchange { .. }
         | Effect::Set { .. }
         | Effect::Add { .. }
@@ -349,6 +352,7 @@ fn is_plain(effect: &Effect, length: u8) -> bool {
         | Effect::Load { .. }
         | Effect::LoadEntry { .. }
         | Effect::Store { .. }
+        | Effect::StoreNumber { .. }
         | Effect::Compare { .. }
         | Effect::CompareNumber { .. } => true,
         _ => false,
@@ -359,6 +363,7 @@ fn is_plain(effect: &Effect, length: u8) -> bool {
 fn stored(effect: &Effect) -> Option<(Location, u64)> {
     match effect {
         Effect::Store { to: Some(place), .. } => Some((*place, 8)),
+        Effect::StoreNumber { to, bytes } => Some((*to, u64::from(*bytes))),
         Effect::Write { stored: Some((place, bytes)), .. } => Some((*place, u64::from(bytes.get()))),
         _ => None,
     }

@@ -71,6 +71,11 @@ impl Tracer<'_, '_> {
         if let Some(awaited) = frame.awaited.take() {
             space.forget_return(awaited.address);
         }
+        // The frame on top may be another one than that of the call, such as where a stub has left its own frame and
+        // jumped to the function that calls.
+        if frame.is_distrusted && frame.seen_in != thread.here.fde {
+            return true;
+        }
         frame.is_distrusted = false;
         frame.seen_in = thread.here.fde;
         if self.has_other_registers(thread, space) {

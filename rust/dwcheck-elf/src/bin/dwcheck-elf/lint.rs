@@ -14,7 +14,9 @@ use dwcheck_lint::kinds::{Kind, KINDS};
 use known::Known;
 use linted::{linted, Linted, Outcome, Shown};
 use rayon::prelude::*;
+use std::fmt;
 use std::io::{self, Write};
+use std::path::Path;
 
 /// What is counted over all files.
 #[derive(Default)]
@@ -68,6 +70,17 @@ fn kind(name: &str) -> Result<Kind, Failure> {
     })
 }
 
+/// Says something of a file on standard error. If that is closed, nobody can read it, so it doesn't matter that it
+/// fails.
+fn say(path: &Path, what: &dyn fmt::Display) {
+    let _ = writeln!(io::stderr(), "dwcheck-elf: {}: {}", shown(path), what);
+}
+
+/// Whether a file has no FDEs.
+fn is_empty(coverage: &Coverage) -> bool {
+    coverage.fdes + coverage.signal_frames + coverage.unread == 0
+}
+
 impl Totals {
     /// Writes what was found in a file, and counts it.
     fn write(&mut self, out: &mut impl Write, one: Linted, words: &LintWords, known: &Known) -> io::Result<()> {
@@ -76,9 +89,11 @@ impl Totals {
             Outcome::Judged { findings, coverage, unused, text } => {
                 self.files += 1;
                 self.coverage.add(&coverage);
-                for reason in unused {
-                    let _ = writeln!(io::stderr(), "dwcheck-elf: {}: {}", shown(&path), reason);
+                if is_empty(&coverage) && unused.is_empty() && words.paths.contains(&path) {
+                    self.unread += 1;
+                    say(&path, &"no FDEs, so no rows to compare");
                 }
+                unused.iter().for_each(|reason| say(&path, reason));
                 let mut known = known.of(&path);
                 for finding in findings {
                     if known.take(&finding.key) {
@@ -98,7 +113,7 @@ impl Totals {
             }
             Outcome::Other(error) if words.paths.contains(&path) => {
                 self.unread += 1;
-                let _ = writeln!(io::stderr(), "dwcheck-elf: {}: {}", shown(&path), error);
+                say(&path, &error);
                 Ok(())
             }
             Outcome::Other(_) => {
@@ -107,7 +122,7 @@ impl Totals {
             }
             Outcome::Unread(error) => {
                 self.unread += 1;
-                let _ = writeln!(io::stderr(), "dwcheck-elf: {}: {}", shown(&path), error);
+                say(&path, &error);
                 Ok(())
             }
         }

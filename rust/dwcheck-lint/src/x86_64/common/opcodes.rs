@@ -57,7 +57,7 @@ const UNREAD: Opcode = Opcode::of(Shape::Unread, Mnemonic::Other);
 /// The operations of the opcodes below 0x40, and of the groups 0x80 to 0x83.
 const SUMS: [Mnemonic; 8] = [
     Mnemonic::Add,
-    Mnemonic::Other,
+    Mnemonic::Or,
     Mnemonic::Other,
     Mnemonic::Other,
     Mnemonic::And,
@@ -172,7 +172,11 @@ pub(super) fn of_group(number: u8, field: u8, opcode: Opcode) -> Option<Opcode> 
     let (mnemonic, is_written) = match (number, field) {
         (0x80..=0x83, _) => (SUMS[usize::from(field & 7)], field != 7),
         (0x90..=0x9f | 0xc6 | 0xc7, 0) => (opcode.mnemonic, opcode.is_written),
-        (0xc0 | 0xc1 | 0xd0..=0xd3, 0..=5 | 7) | (0xf6 | 0xf7, 2 | 3) => (Other, true),
+        (0xc0 | 0xc1, 4) => (ShiftLeft, true),
+        (0xc0 | 0xc1, 5) => (ShiftRight, true),
+        (0xc0 | 0xc1 | 0xd0..=0xd3, 0..=3 | 7) | (0xd2 | 0xd3, 4 | 5) => (Other, true),
+        (0xf6 | 0xf7, 2) => (Invert, true),
+        (0xf6 | 0xf7, 3) => (Negate, true),
         (0xf6, 0) => return Some(opcode.immediate(1)),
         (0xf7, 0) => return Some(opcode.immediate(4)),
         (0xfe | 0xff, 0) => (Increment, true),
@@ -210,7 +214,7 @@ const fn vector(prefix: u8, number: u8) -> Opcode {
         (0xf3, 0x11) => store.bytes(4),
         (_, 0x10 | 0x58 | 0x59 | 0x5c | 0x5e) | (0x66 | 0xf3, 0x6f) | (0xf3, 0x7e) => to_vector,
         (0xf2 | 0xf3, 0x2a) => to_vector,
-        (0x66, 0x28 | 0x2e | 0x2f | 0x54..=0x57 | 0x60..=0x62 | 0x6c..=0x6e | 0x74..=0x76) => to_vector,
+        (0x66, 0x28 | 0x2e | 0x2f | 0x54..=0x57 | 0x60..=0x62 | 0x6c | 0x6d | 0x74..=0x76) => to_vector,
         (0x66, 0xd4 | 0xdb | 0xeb | 0xef | 0xfa..=0xfe) => to_vector,
         (0x66, 0x70) => to_vector.immediate(1),
         _ => UNREAD,

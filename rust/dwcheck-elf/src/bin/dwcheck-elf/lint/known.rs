@@ -1,6 +1,6 @@
 //! Findings that are known: a baseline, so that a run shows only what is new.
 
-use crate::end::Failure;
+use crate::end::{shown, Failure};
 use crate::opened::read;
 use dwcheck_lint::finding::Severity;
 use dwcheck_lint::kinds::KINDS;
@@ -24,9 +24,13 @@ pub struct Known(HashMap<String, Vec<Key>>);
 pub struct Remaining(Vec<Key>);
 
 impl Known {
-    /// Reads the findings in the output of an earlier run. Other lines are passed over.
+    /// Reads the findings in the output of an earlier run, which has to be text. Other lines are passed over.
     pub fn read(path: &Path) -> Result<Known, Failure> {
         let bytes = read(path)?;
+        if bytes.starts_with(b"{") {
+            let reason = "it is JSON; known findings are read from text, as lint writes it without --json and --sarif";
+            return Err(Failure::File(format!("cannot read {}: {}", shown(path), reason)));
+        }
         let mut known = Known::default();
         for line in String::from_utf8_lossy(&bytes).lines() {
             if let Some((file, key)) = parsed(line) {

@@ -4,7 +4,7 @@ use crate::sarif::place;
 use dwcheck_elf::lines::SourceLine;
 use dwcheck_lint::coverage::Coverage;
 use dwcheck_lint::finding::{Finding, Severity};
-use dwcheck_lint::kinds::KINDS;
+use dwcheck_lint::kinds::{Kind, KINDS};
 use dwcheck_lint::module::Module;
 use dwcheck_lint::report::Place;
 use serde_json::{json, Value};
@@ -36,6 +36,7 @@ pub fn result(
             "place": Place(module, address).to_string(),
             "severity": finding.severity.to_string(),
             "directive": finding.directive(),
+            "assumed": finding.is_assumed(),
             "addresses": finding.addresses,
         },
     })
@@ -43,7 +44,8 @@ pub fn result(
 
 /// The whole document.
 pub fn document(results: Vec<Value>, coverage: &Coverage) -> Value {
-    let rules: Vec<_> = KINDS.iter().map(|(_, name)| json!({ "id": name })).collect();
+    let rule = |(kind, name): &(Kind, &str)| json!({ "id": name, "shortDescription": { "text": kind.meaning() } });
+    let rules: Vec<_> = KINDS.iter().map(rule).collect();
     let counts: serde_json::Map<_, _> =
         coverage.named().into_iter().map(|(name, count)| (name.to_string(), json!(count))).collect();
     crate::sarif::document(results, rules, json!({ "coverage": counts }))
