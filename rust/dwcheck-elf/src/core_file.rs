@@ -1,6 +1,7 @@
 //! A core file: the threads, the memory and the mapped files of a process that died.
 
 mod files;
+mod in_memory;
 mod memory;
 mod modules;
 mod notes;
