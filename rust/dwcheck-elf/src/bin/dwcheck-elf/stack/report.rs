@@ -3,7 +3,7 @@
 use crate::arguments::StackWords;
 use crate::end::Failure;
 use dwcheck_elf::core_file::{CoreFile, Signal, Thread};
-use dwcheck_elf::stack::{Instruction, Stack, Stacks, Stop, WalkOptions};
+use dwcheck_elf::stack::{Instruction, Listed, Stack, Stacks, Stop, WalkOptions};
 use dwcheck_elf::text::{Address, Plain};
 use serde_json::{json, Value};
 use std::collections::HashMap;
@@ -41,8 +41,13 @@ impl<'r, 'a> Report<'r, 'a> {
         }
         let missing = self.stacks.missing();
         warnings.splice(..0, missing.iter().map(|(path, why)| format!("{}: {}", Plain(&path.to_string_lossy()), why)));
+        let modules = self.stacks.modules();
         if self.words.json {
-            writeln!(out, "],\"warnings\":{}}}", Value::from(warnings.clone()))?;
+            let modules: Vec<_> = modules.iter().map(Listed::json).collect();
+            write!(out, "],\"modules\":{},", Value::from(modules))?;
+            writeln!(out, "\"warnings\":{}}}", Value::from(warnings.clone()))?;
+        } else if self.words.modules {
+            modules.iter().try_for_each(|module| writeln!(out, "{}", module))?;
         }
         Ok(())
     }
@@ -144,7 +149,8 @@ impl<'r, 'a> Report<'r, 'a> {
     fn write_group(&self, out: &mut impl Write, number: usize, group: &Group<'r, 'a>) -> io::Result<()> {
         if self.words.json {
             let comma = if number > 0 { "," } else { "" };
-            return write!(out, "{}\n{}", comma, self.json_group(group));
+            write!(out, "{}\n", comma)?;
+            return self.write_json_group(out, group);
         }
         write!(out, "{}", if group.threads.len() > 1 { "threads" } else { "thread" })?;
         for (number, thread) in group.threads.iter().enumerate() {
@@ -154,13 +160,18 @@ impl<'r, 'a> Report<'r, 'a> {
         write!(out, ":\n{}", group.stack.lines())
     }
 
-    fn json_group(&self, group: &Group<'r, 'a>) -> Value {
+    fn write_json_group(&self, out: &mut impl Write, group: &Group<'r, 'a>) -> io::Result<()> {
         let threads = group.threads.iter();
-        let threads =
-            threads.map(|thread| json!({ "id": thread.id, "name": self.name(thread), "signal": thread.signal }));
-        let mut object = group.stack.json();
-        object["threads"] = threads.collect();
-        object
+        let threads: Value = threads
+            .map(|thread| json!({ "id": thread.id, "name": self.name(thread), "signal": thread.signal }))
+            .collect();
+        write!(out, "{{\"frames\":[")?;
+        for number in 0..group.stack.frames.len() {
+            let frame = group.stack.json_frame(number).unwrap_or_default();
+            write!(out, "{}{}", if number > 0 { "," } else { "" }, frame)?;
+        }
+        let (stop, thread) = (group.stack.json_stop(), group.stack.thread);
+        write!(out, "],\"stop\":{},\"thread\":{},\"threads\":{}}}", stop, thread, threads)
     }
 }
 
