@@ -167,7 +167,7 @@ impl Files {
     pub(super) fn find_image(&self, path: &[u8]) -> Option<(usize, &[u8])> {
         let place = *self.places.get(path)?;
         let file = self.files.get(place)?;
-        let bytes = file.bytes.as_deref().ok().or_else(|| file.image.as_deref())?;
+        let bytes = file.bytes.as_deref().ok().or(file.image.as_deref())?;
         Some((place, bytes))
     }
 }
