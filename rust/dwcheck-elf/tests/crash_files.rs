@@ -268,7 +268,7 @@ int main(void) { return deep(20000) + 1; }",
     folder.make_core("./program");
     let program = env!("CARGO_BIN_EXE_dwcheck-elf");
     let run = |words: &str| {
-        folder.run(&format!("ulimit -v 150000; {} stack --no-inline --no-source --limit 100000 {} core | grep -o ' deep+\\|\"deep\"' | wc -l", program, words))
+        folder.run(&format!("ulimit -v 90000; {} stack --no-inline --no-source --limit 100000 {} core | grep -o ' deep+\\|\"deep\"' | wc -l", program, words))
     };
     assert_eq!((run("").trim(), run("--json").trim()), ("20001", "20001"));
 }
