@@ -5,6 +5,7 @@
 //! refused costs that FDE alone. A frame that no row is found for may have a caller that is found by
 //! another rule; such a caller is a guess, and marked with the rule ([`FoundBy`]).
 
+mod abort;
 mod guess;
 mod instruction;
 mod json;

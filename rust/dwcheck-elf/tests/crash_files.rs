@@ -272,3 +272,55 @@ int main(void) { return deep(20000) + 1; }",
     };
     assert_eq!((run("").trim(), run("--json").trim()), ("20001", "20001"));
 }
+
+/// Ends by a failed assertion, or by a signal of another process.
+const ENDS: &str = "
+#include <assert.h>
+#include <signal.h>
+#include <stdlib.h>
+#include <unistd.h>
+int main(int c, char **v) {
+    int number = atoi(v[1]);
+    if (number == 0 && fork() == 0) {
+        kill(getppid(), SIGQUIT);
+        return 0;
+    }
+    if (number == 0) for (;;) pause();
+    assert(number == 2);
+    abort();
+}
+";
+
+/// What the process was told before it ended: the message of an assertion, its command line, and which process sent
+/// the signal. A process that aborts itself has none of a sender.
+#[test]
+fn messages_command_lines_and_senders() {
+    let folder = Folder::new("files-ends");
+    if !has("gdb") {
+        return;
+    }
+    folder.write("a.c", ENDS);
+    folder.run("gcc -O1 a.c -o program");
+    let document = || -> Value {
+        serde_json::from_str(&dwcheck_elf(&folder, "stack --no-inline --no-source --json core").out).unwrap()
+    };
+    folder.crash("./program 1");
+    let message = "abort message: program: a.c:13: main: Assertion `number == 2' failed.";
+    let ran = dwcheck_elf(&folder, "stack --no-inline --no-source core");
+    assert_eq!(ran.lines()[1], message, "{}", ran.out);
+    let json = document();
+    assert_eq!(json["abort_message"], message.strip_prefix("abort message: ").unwrap());
+    assert!(json["command"].as_str().unwrap().ends_with("program 1"), "{}", json["command"]);
+    folder.crash("./program 2");
+    let ran = dwcheck_elf(&folder, "stack --no-inline --no-source core");
+    assert!(ran.lines()[1].starts_with("thread "), "{}", ran.out);
+    folder.crash("./program 0");
+    let ran = dwcheck_elf(&folder, "stack --no-inline --no-source core");
+    let sent = ran.lines()[1].strip_prefix("sent by process ").unwrap_or_else(|| panic!("{}", ran.out)).to_string();
+    let uid = folder.run("id -u");
+    assert!(sent.ends_with(&format!(" of user {}", uid.trim())), "{}", ran.out);
+    let json = document();
+    let sender = &json["signal"]["sender"];
+    assert_eq!(sent, format!("{} of user {}", sender["pid"], sender["uid"]));
+    assert!(sender["pid"].as_u64() > json["pid"].as_u64() && json["abort_message"].is_null(), "{}", json["signal"]);
+}

@@ -96,9 +96,12 @@ impl<'r, 'a> Report<'r, 'a> {
             let signal = signal.map(|signal| self.json_signal(signal));
             write!(out, "{{\"pid\":{},", Value::from(process.map(|process| process.id)))?;
             write!(out, "\"name\":{},", Value::from(process.map(|process| process.name.clone())))?;
+            let command = process.and_then(|process| process.command.clone());
+            write!(out, "\"command\":{},", Value::from(command))?;
             let longest = self.longest_stop.map(|longest| longest.as_micros() as u64);
             write!(out, "\"longest_stop_us\":{},", Value::from(longest))?;
             write!(out, "\"signal\":{},", Value::from(signal))?;
+            write!(out, "\"abort_message\":{},", Value::from(self.stacks.abort_message()))?;
             let instruction = self.stacks.instruction().map(json_instruction);
             return write!(out, "\"instruction\":{},\"threads\":[", Value::from(instruction));
         }
@@ -117,6 +120,13 @@ impl<'r, 'a> Report<'r, 'a> {
             write!(out, ", address {}", Address(self.core.target(), address))?;
         }
         writeln!(out)?;
+        let own = self.core.process().map(|process| process.id);
+        if let Some(sender) = signal.sent_by().filter(|sender| Some(sender.pid) != own) {
+            writeln!(out, "sent by process {} of user {}", sender.pid, sender.uid)?;
+        }
+        if let Some(message) = self.stacks.abort_message() {
+            writeln!(out, "abort message: {}", Plain(&message))?;
+        }
         self.stacks.instruction().map_or(Ok(()), |instruction| self.write_instruction(out, &instruction))
     }
 
@@ -137,6 +147,7 @@ impl<'r, 'a> Report<'r, 'a> {
             "code": signal.code,
             "code_name": signal.code_name(),
             "address": signal.fault_address().map(|address| format!("{:#x}", address)),
+            "sender": signal.sent_by().map(|sender| json!({ "pid": sender.pid, "uid": sender.uid })),
         })
     }
 
@@ -149,7 +160,7 @@ impl<'r, 'a> Report<'r, 'a> {
     fn write_group(&self, out: &mut impl Write, number: usize, group: &Group<'r, 'a>) -> io::Result<()> {
         if self.words.json {
             let comma = if number > 0 { "," } else { "" };
-            write!(out, "{}\n", comma)?;
+            writeln!(out, "{}", comma)?;
             return self.write_json_group(out, group);
         }
         write!(out, "{}", if group.threads.len() > 1 { "threads" } else { "thread" })?;
