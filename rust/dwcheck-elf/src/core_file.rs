@@ -1,6 +1,7 @@
 //! A core file: the threads, the memory and the mapped files of a process that died.
 
 mod files;
+mod in_memory;
 mod memory;
 mod modules;
 mod notes;
@@ -13,7 +14,7 @@ pub use memory::{Block, Memory, Origin};
 pub use modules::{Image, Module};
 pub use notes::{Mapping, ProcessInfo};
 pub use registers::Thread;
-pub use signal::Signal;
+pub use signal::{Sender, Signal};
 
 use crate::abi::{abi, Abi};
 use crate::live::{can_differ, Snapshot};
@@ -155,7 +156,11 @@ impl<'data> CoreFile<'data> {
             vdso: auxiliary(notes::AT_SYSINFO_EHDR),
             entry: auxiliary(notes::AT_ENTRY),
             name: None,
-            process: Some(ProcessInfo { id: process.id, name: process.name.clone().unwrap_or_default() }),
+            process: Some(ProcessInfo {
+                id: process.id,
+                name: process.name.clone().unwrap_or_default(),
+                command: None,
+            }),
             pac_mask: *pac_mask,
             segments,
         }
@@ -181,7 +186,7 @@ impl<'data> CoreFile<'data> {
     /// signal that the first thread received.
     pub fn signal(&self) -> Option<Signal> {
         let number = self.threads.first().map_or(0, |thread| thread.signal);
-        let received = Signal { number: number.into(), code: None, address: 0 };
+        let received = Signal { number: number.into(), code: None, address: 0, sender: None };
         self.signal.or_else(|| Some(received).filter(|received| received.number != 0))
     }
 

@@ -3,6 +3,7 @@
 
 use crate::mapped::Bytes;
 use crate::program::Program;
+use crate::text::Plain;
 use std::ffi::OsStr;
 use std::fmt;
 use std::fs::File;
@@ -99,12 +100,30 @@ impl DebugFiles {
         unfit.map_or(Ok(None), Err)
     }
 
-    /// The file that `.gnu_debugaltlink` of a file of debug information names, which has what several
-    /// such files share.
-    pub fn shared(&self, program: &Program<'_>) -> Option<&Bytes> {
-        let (_, id) = program.debug_alt_link()?;
-        let file = self.root.join(FOLDER).join(".build-id").join(name_of(id));
-        self.open(&file).ok()?.filter(|bytes| same_id(bytes, id).is_ok())
+    /// The file that `.gnu_debugaltlink` of the file `path` names, which has what several such files share: by its
+    /// build id, or by its path, which may be relative to the folder of `path`. If it isn't there, the error says so.
+    pub fn shared(&self, path: &Path, program: &Program<'_>) -> Result<Option<&Bytes>, String> {
+        let (name, id) = match program.debug_alt_link() {
+            Some(found) => found,
+            None => return Ok(None),
+        };
+        let name = Path::new(OsStr::from_bytes(name));
+        let by_id = self.root.join(FOLDER).join(".build-id").join(name_of(id));
+        let has_id = |bytes: &&Bytes| Program::read(bytes).map_or(false, |program| program.build_id() == Some(id));
+        let mut found = std::iter::once(by_id).chain(self.named_by(path, name));
+        let found = found.find_map(|file| self.open(&file).ok().flatten().filter(has_id));
+        found.map(Some).ok_or_else(|| {
+            let name = name.to_string_lossy();
+            format!("the file with debug information that it shares, {}, isn't there", Plain(&name))
+        })
+    }
+
+    /// Where a file may be that the file `path` names.
+    fn named_by(&self, path: &Path, name: &Path) -> Vec<PathBuf> {
+        let whole = path.canonicalize().ok();
+        let near = [Some(path), whole.as_deref()].into_iter().flatten().filter_map(Path::parent);
+        let inside = |path: PathBuf| path.strip_prefix(&self.root).map_or_else(|_| path.clone(), Path::to_path_buf);
+        near.map(|folder| self.root.join(without_turns(&inside(folder.join(name))))).collect()
     }
 
     /// The file at an absolute path. `None` if it isn't there, or can't be read.
@@ -136,6 +155,21 @@ impl DebugFiles {
     }
 }
 
+/// A path without `..`, relative to the folder that stands for `/`.
+fn without_turns(path: &Path) -> PathBuf {
+    let mut straight = PathBuf::new();
+    for part in path.components() {
+        match part {
+            Component::Normal(part) => straight.push(part),
+            Component::ParentDir => {
+                straight.pop();
+            }
+            _ => {}
+        }
+    }
+    straight
+}
+
 /// The name of a file by its build id, such as `3f/2ab01c.debug`.
 fn name_of(id: &[u8]) -> String {
     let digits = hex(id);
@@ -143,7 +177,8 @@ fn name_of(id: &[u8]) -> String {
     format!("{}/{}.debug", first, rest)
 }
 
-fn hex(id: &[u8]) -> String {
+/// A build id in hex digits.
+pub(crate) fn hex(id: &[u8]) -> String {
     id.iter().map(|byte| format!("{:02x}", byte)).collect()
 }
 

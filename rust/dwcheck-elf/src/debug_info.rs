@@ -8,9 +8,10 @@ pub(crate) use split::SplitFile;
 pub(crate) use units::{Die, Units};
 
 use crate::program::{Program, ProgramError};
-use gimli::{Dwarf, EndianSlice, RangeIter, RunTimeEndian, SectionId};
+use gimli::{Dwarf, EndianSlice, RangeIter, RunTimeEndian, SectionId, Unit};
 use std::borrow::Cow;
 use std::ops::Range;
+use std::path::PathBuf;
 use typed_arena::Arena;
 
 /// The bytes of a section.
@@ -59,4 +60,18 @@ pub(crate) fn ranges_of(mut ranges: RangeIter<Slice<'_>>) -> Vec<Range<u64>> {
         }
     }
     all
+}
+
+/// The path of a source file of a unit, by its number in the unit's line table. Files are numbered from 0 on in DWARF
+/// 5, and from 1 on before.
+pub(crate) fn file_path(dwarf: &Dwarf<Slice<'_>>, unit: &Unit<Slice<'_>>, index: u64) -> Option<String> {
+    let header = unit.line_program.as_ref()?.header();
+    let file = header.file(index)?;
+    let mut path = unit.comp_dir.map_or_else(PathBuf::new, |folder| PathBuf::from(&*folder.to_string_lossy()));
+    // The folder 0 is the unit's.
+    let folder = file.directory(header).filter(|_| file.directory_index() != 0);
+    for part in folder.into_iter().chain([file.path_name()]) {
+        path.push(&*dwarf.attr_string(unit, part).ok()?.to_string_lossy());
+    }
+    Some(path.to_string_lossy().into_owned())
 }

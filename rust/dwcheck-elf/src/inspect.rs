@@ -137,16 +137,19 @@ pub fn inspect_lists_of_file<'data>(
         true => None,
         false => files.find(path, program).map_err(|(path, why)| (path, why.to_string()))?,
     };
-    let lists = |program: &Program<'_>| {
-        let shared = files.shared(program).and_then(|bytes| Program::read(bytes).ok());
+    let lists = |path: &Path, program: &Program<'_>| {
+        let shared = files.shared(path, program).ok().flatten().and_then(|bytes| Program::read(bytes).ok());
         lists::inspect_lists(program, shared.as_ref(), Some(files), check)
     };
     match separate {
         Some((path, bytes)) => match Program::read(bytes) {
-            Ok(separate) => Ok((Some(path), lists(&separate))),
+            Ok(separate) => {
+                let lists = lists(&path, &separate);
+                Ok((Some(path), lists))
+            }
             Err(error) => Err((path, error.to_string())),
         },
-        None if program.has_bytes(".debug_info") => Ok((None, lists(program))),
+        None if program.has_bytes(".debug_info") => Ok((None, lists(path, program))),
         None => Ok((None, inspect_lists(program, None, check))),
     }
 }

@@ -1,9 +1,9 @@
 //! Finds the source lines and the inlined functions of addresses, by the debug information of a
 //! program.
 
-use crate::debug_info::{self, Slice};
+use crate::debug_info::{self, file_path, Slice};
 use crate::program::Program;
-use gimli::{Dwarf, EndianSlice, SectionId, Unit};
+use gimli::{AttributeValue, Dwarf, EndianSlice, SectionId, Unit, UnitOffset};
 use once_cell::unsync::OnceCell;
 use typed_arena::Arena;
 
@@ -85,12 +85,39 @@ impl<'a> Lines<'a> {
             return found;
         }
         if let Ok(mut frames) = self.context.find_frames(address) {
+            let mut inlined = None;
             while let Ok(Some(frame)) = frames.next() {
                 let name = frame.function.as_ref().and_then(|function| Some(function.raw_name().ok()?.into_owned()));
-                found.push(At { name, source: frame.location.and_then(SourceLine::of) });
+                let source = frame.location.and_then(|location| self.source(location, address, inlined));
+                found.push(At { name, source });
+                inlined = frame.dw_die_offset;
             }
         }
         found
+    }
+
+    /// Whether the debug information of the unit at an address is in a file of its own (`-gsplit-dwarf`).
+    pub(crate) fn is_split(&self, address: u64) -> bool {
+        self.context.find_dwarf_unit(address).map_or(false, |unit| unit.dwo_id.is_some())
+    }
+
+    /// The line of a location: that of an address, or that of the call of an inlined function, which has its entry
+    /// at this offset. `addr2line` has no file for a call in the file 0, which in DWARF 5 is the unit's own.
+    fn source(
+        &self,
+        location: addr2line::Location<'_>,
+        address: u64,
+        inlined: Option<UnitOffset<usize>>,
+    ) -> Option<SourceLine> {
+        if location.file.is_some() {
+            return SourceLine::of(location);
+        }
+        let unit = self.context.find_dwarf_unit(address)?;
+        let file = match unit.entry(inlined?).ok()?.attr_value(gimli::DW_AT_call_file).ok()?? {
+            AttributeValue::FileIndex(index) => file_path(self.context.dwarf(), unit, index)?,
+            _ => return None,
+        };
+        SourceLine::of(addr2line::Location { file: Some(&file), ..location })
     }
 }
 

@@ -12,7 +12,7 @@ use crate::relocate::{self, RelocationError};
 use crate::target::{AddressSize, Order, Target};
 use flate2::{Decompress, FlushDecompress};
 use object::elf;
-use object::read::{CompressionFormat, Object, ObjectSection, ObjectSegment};
+use object::read::{CompressionFormat, Object, ObjectSection, ObjectSegment, ObjectSymbol};
 use object::{SectionFlags, SegmentFlags};
 use std::borrow::Cow;
 use std::fmt;
@@ -222,6 +222,13 @@ impl<'data> Program<'data> {
             None => return Ok(None),
         };
         Ok(Some(Program::read(&bytes)?.own_functions().into_owned()))
+    }
+
+    /// The address of a variable with this name, by the symbols of the file.
+    pub(crate) fn variable(&self, name: &str) -> Option<u64> {
+        let is_wanted = |symbol: &object::Symbol<'data, '_>| !symbol.is_undefined() && symbol.name() == Ok(name);
+        let mut symbols = self.file.dynamic_symbols().chain(self.file.symbols());
+        symbols.find(is_wanted).map(|symbol| symbol.address())
     }
 
     /// The file's build id, which its file of debug information has too.

@@ -5,9 +5,11 @@
 //! refused costs that FDE alone. A frame that no row is found for may have a caller that is found by
 //! another rule; such a caller is a guess, and marked with the rule ([`FoundBy`]).
 
+mod abort;
 mod guess;
 mod instruction;
 mod json;
+mod listed;
 mod names;
 mod section;
 mod signal_return;
@@ -19,17 +21,17 @@ mod walker;
 pub use crate::lines::SourceLine;
 pub(crate) use guess::ends_with_call;
 pub use instruction::Instruction;
+pub use listed::Listed;
 pub(crate) use names::Names;
 pub use names::{Inlined, NameOptions, Place};
 pub use text::Lines;
 
 use crate::core_file::{CoreFile, Files, Memory, Thread};
-use crate::text::Plain;
 use crate::variables::{Shape, Variables};
 use dwcheck::{Block, Registers};
 pub(crate) use section::SectionTable;
 use std::cell::RefCell;
-use std::collections::{BTreeMap, HashMap, HashSet};
+use std::collections::{BTreeMap, BTreeSet, HashMap, HashSet};
 use std::fmt;
 use std::path::{Path, PathBuf};
 pub(crate) use tables::add as add_fde;
@@ -67,12 +69,16 @@ pub struct Stacks<'a> {
     names: RefCell<HashMap<usize, Names<'a>>>,
     /// The debug information of each module of whose frames the variables were asked for, by its index.
     variables: RefCell<HashMap<usize, Option<Variables<'a>>>>,
-    /// The modules of which debug information is in files that aren't read, each with one of these.
+    /// The modules of which debug information is in files that aren't read, and what is said of one of these.
     split: RefCell<BTreeMap<PathBuf, String>>,
+    /// The modules of which the debug information that they share with others isn't there.
+    unshared: RefCell<BTreeMap<PathBuf, String>>,
     /// How much of variables texts and JSON show. `None` if they show none.
     shape: Option<Shape>,
     /// Whether texts and JSON show the registers of frames that have them.
     shows_registers: bool,
+    /// Whether texts show where in their modules frames are.
+    shows_modules: bool,
 }
 
 /// How to walk.
@@ -94,7 +100,8 @@ pub enum FoundBy {
     /// By a row of an unwind table.
     Row,
     /// A guess: the frame that it called isn't at an executable address, so a call led there. On
-    /// x86, the return address is at the stack pointer, and on aarch64 it is in x30.
+    /// x86, the return address is at the stack pointer, and on aarch64 it is in x30. On x86 also: no row
+    /// covers the frame that it called, and the word at the stack pointer follows a call.
     Call,
     /// A guess: no row covers the frame that it called, whose frame pointer leads to the caller.
     FramePointer,
@@ -213,8 +220,10 @@ impl<'a> Stacks<'a> {
             names: RefCell::default(),
             variables: RefCell::default(),
             split: RefCell::default(),
+            unshared: RefCell::default(),
             shape: None,
             shows_registers: true,
+            shows_modules: false,
         }
     }
 
@@ -229,6 +238,11 @@ impl<'a> Stacks<'a> {
     pub fn show_variables(&mut self, shape: Shape, shows_registers: bool) {
         self.shape = Some(shape);
         self.shows_registers = shows_registers;
+    }
+
+    /// Says that texts show the addresses of frames as they are in the files of their modules.
+    pub fn show_modules(&mut self) {
+        self.shows_modules = true;
     }
 
     /// Adds the program of a core that doesn't list its mapped files, such as qemu's. Does nothing
@@ -248,13 +262,9 @@ impl<'a> Stacks<'a> {
     /// with the reason.
     pub fn missing(&self) -> Vec<(PathBuf, String)> {
         let (tables, names) = (self.tables.borrow(), self.names.borrow());
-        let mut named: Vec<_> = names.values().flat_map(|names| &names.problems).cloned().collect();
-        named.sort();
-        let split = self.split.borrow();
-        let split = split.iter().map(|(path, name)| {
-            let why = format!("its debug information is in another file, {}, which isn't there", Plain(name));
-            (path.clone(), why)
-        });
+        let mut named: BTreeSet<_> = names.values().flat_map(|names| &names.problems).cloned().collect();
+        named.extend(self.unshared.borrow().clone());
+        let split = self.split.borrow().clone();
         self.unread.iter().chain(tables.problems()).cloned().chain(named).chain(split).collect()
     }
 
@@ -311,8 +321,14 @@ impl<'a> Stacks<'a> {
         let read = || Names::read(&module.path, module.image.bytes(), self.files.debug_files(), self.name_options);
         let names = names.entry(place).or_insert_with(read);
         let linked = |address: u64| self.core.target().wrap(address.wrapping_sub(module.bias));
-        let found = names.place(linked(frame.address), linked(looked_up), self.name_options);
-        Place { module: Some(module.path.clone()), ..found }
+        let (address, looked_up, options) = (linked(frame.address), linked(looked_up), self.name_options);
+        let split = names.is_split(looked_up).then(|| self.split_functions(place, module, looked_up)).flatten();
+        let found = match split {
+            Some(called) => names.place_in(address, looked_up, called, options),
+            None => names.place(address, looked_up, options),
+        };
+        let (build_id, address_in_module) = (names.build_id.clone(), Some(address));
+        Place { module: Some(module.path.clone()), build_id, address_in_module, ..found }
     }
 }
 

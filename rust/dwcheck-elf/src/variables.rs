@@ -17,6 +17,7 @@ mod types;
 mod value;
 
 pub use place::{Machine, Missing, Place, Pointee};
+pub(crate) use split::Called;
 pub use text::Lines;
 pub use thread_local::Loaded;
 pub use value::{Shape, Value};

@@ -5,7 +5,7 @@ mod common;
 
 use common::cores::{addresses, by_eu_stack, by_gdb, frames, stop};
 use common::run::dwcheck_elf;
-use common::{has, skipped, Folder};
+use common::{has, may_trace, skipped, Folder};
 
 /// Crashes in the way that its argument names.
 const CRASH: &str = r#"
@@ -212,6 +212,91 @@ fn a_handler_that_returns_to_code_without_rows() {
         assert!(shown[at + 1].contains(" faulty") && shown[at + 1].ends_with(" guess: signal return"), "{}", ran.out);
         assert_eq!(ran.out.matches(" guess: ").count(), 1);
     }
+}
+
+/// The same with the number of the call as the assembler's shorter instruction, which gdb doesn't know: the functions
+/// are those of the other program.
+#[test]
+fn a_handler_that_returns_by_the_shorter_instruction() {
+    let folder = Folder::new("crash-short-return");
+    folder.write("a.c", OWN_RETURN);
+    let functions = |code: &str| {
+        folder.run(&format!("gcc -O1 -DFLAGS=0 '-DCODE=\"{}\"' a.c -o own", code));
+        folder.make_core("./own");
+        let ran = dwcheck_elf(&folder, "stack --no-inline --no-source core");
+        frames(&ran.out).iter().map(|line| line.split([' ', '+']).nth(1).unwrap().to_string()).collect::<Vec<_>>()
+    };
+    if has("gdb") {
+        let longer = functions("mov $15, %rax\\n syscall");
+        assert!(longer.contains(&"faulty".to_string()) && longer.contains(&"main".to_string()), "{:?}", longer);
+        assert_eq!(functions("mov $15, %eax\\n syscall"), longer);
+    }
+}
+
+/// Code that no row covers and that has no frame: `bare` is called, `jumps` leads to it, and `framed` has a frame
+/// pointer and a return address of another call at its stack pointer.
+const BARE: &str = r#"
+#include <stdlib.h>
+#include <string.h>
+void bare(void), jumps(void), framed(void);
+asm(".text\n.globl bare, jumps, framed\nbare: ud2\njumps: jmp bare\n"
+    "framed: push %rbp\n mov %rsp, %rbp\n lea after(%rip), %rax\n push %rax\n ud2\n call atoi@plt\nafter: nop\n");
+void (*volatile called)(void);
+__attribute__((noinline)) int calls(int n) { volatile int kept = n; bare(); return kept; }
+__attribute__((noinline)) int leads(int n) { volatile int kept = n; jumps(); return kept; }
+__attribute__((noinline)) int points(int n) { volatile int kept = n; called = bare; called(); return kept; }
+__attribute__((noinline)) int frames(int n) { volatile int kept = n; framed(); return kept; }
+int main(int c, char **v) {
+    int (*all[])(int) = {calls, leads, points, frames};
+    return all[atoi(v[1])](c) + 1;
+}
+"#;
+
+/// The innermost frame has no row: its caller is found by the return address at the stack pointer, and isn't skipped,
+/// although its frame pointer leads to the caller's caller. The frames are those of the source.
+#[test]
+fn callers_of_code_without_rows_and_frames() {
+    let folder = Folder::new("crash-bare");
+    if !has("gdb") {
+        return;
+    }
+    folder.write("a.c", BARE);
+    folder.run("gcc -O1 -fno-omit-frame-pointer a.c -o bare");
+    for (way, function, guess) in
+        [(0, "calls", "call"), (1, "leads", "call"), (2, "points", "call"), (3, "frames", "frame pointer")]
+    {
+        folder.crash(&format!("./bare {}", way));
+        let ran = dwcheck_elf(&folder, "stack --no-inline --no-source core");
+        let shown = frames(&ran.out);
+        assert!(shown[1].contains(&format!(" {}+", function)), "{}", ran.out);
+        assert!(shown[1].ends_with(&format!(" guess: {}", guess)) && shown[2].contains(" main+"), "{}", ran.out);
+        assert_eq!((ran.out.matches(" guess: ").count(), stop(&ran.out)), (1, "stop: return undefined"));
+    }
+}
+
+/// lld writes no FDE for the stubs of the procedure linkage table. The frames are gdb's.
+#[test]
+fn a_stub_that_no_row_covers() {
+    let folder = Folder::new("crash-stub");
+    if !has("ld.lld") || !may_trace() {
+        return;
+    }
+    folder.write(
+        "a.c",
+        "#include <stdlib.h>
+__attribute__((noinline)) int f(const char *s, char **e) { volatile int k = strtol(s, e, 10); return k; }
+int main(int c, char **v) { return f(\"12\", 0); }",
+    );
+    folder.run("gcc -O1 -fno-omit-frame-pointer -fuse-ld=lld a.c -o stub");
+    let stub = folder.run("objdump -d -j .plt stub | sed -n 's/^0*\\([0-9a-f]*\\) <strtol@plt>:/\\1/p'");
+    let base = "$(gdb --batch -ex 'set startup-with-shell off' -ex starti -ex 'info proc mappings' ./stub | awk '/stub/ {print $1; exit}')";
+    let stop = format!("base={}; gdb --batch -ex 'set startup-with-shell off' -ex starti -ex \"break *(0x{}+$base)\" -ex continue -ex 'gcore core' ./stub > gdb.log 2>&1", base, stub.trim());
+    folder.run(&stop);
+    let ran = dwcheck_elf(&folder, "stack --no-inline --no-source core");
+    let shown = frames(&ran.out);
+    assert_eq!(addresses(&shown), by_gdb(&folder, "stub"), "{}", ran.out);
+    assert!(shown[0].contains(" strtol@plt ") && shown[1].contains(" f+"), "{}", ran.out);
+    assert!(shown[1].ends_with(" guess: call") && ran.out.matches(" guess: ").count() == 1, "{}", ran.out);
 }
 
 /// A return address that isn't code isn't a frame. gdb shows frames with what it finds on the stack.

@@ -156,3 +156,81 @@ fn separate_files_of_debug_information() {
     assert!(changed.error.ends_with(why), "{}", changed.error);
     assert_eq!(changed.out, bare.out);
 }
+
+/// A function that is inlined into another one, in the first file of the unit: DWARF 5 numbers it 0, which clang uses.
+const CHECKED: &str = "
+#include <stdlib.h>
+static inline void check(int v) {
+    if (v > 0)
+        abort();
+}
+__attribute__((noinline)) int work(int v) {
+    check(v);
+    return v + 1;
+}
+int main(int c, char **v) { return work(c) + 1; }
+";
+
+/// The lines of the frame in `work`, without the addresses and the files of modules.
+fn work(folder: &Folder, words: &str) -> (Vec<String>, String) {
+    let ran = dwcheck_elf(folder, &format!("stack --root root {}", words));
+    let lines = ran.out.lines().skip_while(|line| !line.contains(" check inlined ")).take(4);
+    let home = format!("{}/", folder.path().display());
+    let short = |line: &str| line.split(' ').skip(2).collect::<Vec<_>>().join(" ").replace(&home, "");
+    (lines.map(short).collect(), ran.error)
+}
+
+/// The lines that the source says, as gdb and addr2line do.
+const WORK: [&str; 2] = ["check inlined (program) at a.c:5", "(program) at a.c:8"];
+
+/// Makes a core file of a program that is built by this command, without the C library's debug information.
+fn crash(folder: &Folder, command: &str) {
+    folder.write("a.c", CHECKED);
+    folder.run(&format!("{} a.c -o program", command));
+    folder.make_core("./program");
+    make_root(folder);
+}
+
+fn is_work(lines: &[String]) -> bool {
+    lines.len() > 1 && lines[0] == WORK[0] && lines[1].starts_with("work") && lines[1].ends_with(WORK[1])
+}
+
+/// The frame around an inlined function has its line, also if that is in the file 0.
+#[test]
+fn a_call_in_the_first_file_of_a_unit_has_its_line() {
+    for (compiler, version) in [("gcc", 5), ("clang", 5), ("clang", 4)] {
+        let folder = Folder::new(&format!("places-file0-{}-{}", compiler, version));
+        if !has(compiler) || !has("gdb") {
+            continue;
+        }
+        crash(&folder, &format!("{} -O2 -gdwarf-{}", compiler, version));
+        let (lines, error) = work(&folder, "core");
+        assert!(is_work(&lines) && error.is_empty(), "{} {}: {:?}{}", compiler, version, lines, error);
+    }
+}
+
+/// With `-gsplit-dwarf` too, inlined functions have frames of their own, with their variables. If the file isn't
+/// there, standard error names it.
+#[test]
+fn inlined_functions_of_split_units() {
+    for (compiler, version) in [("gcc", 5), ("clang", 5), ("gcc", 4), ("clang", 4)] {
+        let folder = Folder::new(&format!("places-split-{}-{}", compiler, version));
+        if !has(compiler) || !has("gdb") {
+            continue;
+        }
+        crash(&folder, &format!("{} -O2 -g -gdwarf-{} -gsplit-dwarf", compiler, version));
+        folder.run("cp *.dwo root$PWD");
+        let (lines, error) = work(&folder, "core");
+        assert!(is_work(&lines) && error.is_empty(), "{} {}: {:?}{}", compiler, version, lines, error);
+        if version == 5 {
+            let (lines, _) = work(&folder, "--vars core");
+            assert!(lines[1].contains("param v: int") && lines[2].starts_with("work"), "{:?}", lines);
+            assert!(lines[3].contains("param v: int"), "{:?}", lines);
+        }
+        folder.run("rm root$PWD/*.dwo");
+        let (lines, error) = work(&folder, "core");
+        assert!(lines.is_empty(), "{:?}", lines);
+        assert!(error.contains("/program: its debug information is in another file, "), "{}", error);
+        assert!(error.ends_with(".dwo, which isn't there\n"), "{}", error);
+    }
+}

@@ -73,6 +73,44 @@ fn values_of_each_kind_of_type() {
     }
 }
 
+/// Arrays of arrays, and a number that is the sum of constants.
+const NESTED: &str = "
+enum flags { A = 1, B = 2, C = 4 };
+__attribute__((noinline)) int work(int n) {
+    int plain[2][3] = {{1, 2, 3}, {n, 5, 6}};
+    char texts[2][4] = {\"ab\", \"cd\"};
+    short large[3][100] = {[1] = {[99] = 7}};
+    enum flags some = A | C, other = (enum flags)(8 + n);
+    __builtin_trap();
+    return plain[1][0] + texts[0][0] + large[1][99] + some + other;
+}
+int main(int argc, char **argv) { return work(argc); }
+";
+
+/// The values are those of the source, as gdb shows them: `{{1, 2, 3}, {1, 5, 6}}` and `(A | C)`.
+#[test]
+fn arrays_of_arrays_and_sums_of_constants() {
+    let folder = Folder::new("vars-nested");
+    if !may_trace() {
+        return;
+    }
+    folder.write("a.c", NESTED);
+    folder.run("gcc -O0 -g a.c -o program");
+    folder.crash("./program");
+    let found = values(&dwcheck_elf(&folder, "vars --core core"));
+    let expected = [
+        "var plain: int [2][3] = {{1, 2, 3}, {1, 5, 6}}",
+        "var texts: char [2][4] = {\"ab\", \"cd\"}",
+        "var some: enum flags = A|C",
+        "var other: enum flags = 9",
+    ];
+    for line in expected {
+        assert!(found.iter().any(|found| found == line), "{:?} has no {}", found, line);
+    }
+    let large = found.iter().find(|line| line.starts_with("var large: short int [3][100] = {{0, ")).unwrap();
+    assert!(large.ends_with(", 0, 7}, 1 more}"), "{}", large);
+}
+
 /// Numbers of enumerations for which there is no name. Those of an enumeration without negative constants have no
 /// sign, so that `unnamed` is more than the greatest signed number.
 const ENUMERATIONS: &str = "

@@ -79,7 +79,7 @@ fn variables_of_fortran() {
             let variables = [
                 "var big: logical(kind=4) = true",
                 "var counts: integer(kind=4) [3] = {4, 8, -3}",
-                "var grid: integer(kind=4) [2][3] = {1, 2, 3, 4, 5, 6}",
+                "var grid: integer(kind=4) [2][3] = {{1, 2}, {3, 4}, {5, 6}}",
                 "var half: real(kind=4) = 0.5",
                 "var wide: integer(kind=8) = 5000000000",
             ];

@@ -1,5 +1,6 @@
 //! Opens the files that a process had mapped into memory when it died.
 
+use super::in_memory::{build_id, has_same_id, image};
 use super::{CoreFile, Mapping};
 use crate::debug_files::DebugFiles;
 use crate::mapped::Bytes;
@@ -21,6 +22,23 @@ pub struct MappedFile {
     /// The bytes that the file has now, or why they can't be used. If
     /// [`use_program`](Files::use_program) has replaced them, the bytes of the program.
     pub bytes: Result<Bytes, FileError>,
+    /// If they can't be used, the bytes of the file that the core has, without section headers, if it has all of its
+    /// segments that can't be written to.
+    image: Option<Bytes>,
+    /// The build id that the core has of it.
+    build_id: Option<Vec<u8>>,
+}
+
+impl MappedFile {
+    /// Whether neither the file nor what the core has of it can be used.
+    pub(crate) fn is_lost(&self) -> bool {
+        self.bytes.is_err() && self.image.is_none()
+    }
+
+    /// The build id that the core has of the file.
+    pub(crate) fn build_id(&self) -> Option<&[u8]> {
+        self.build_id.as_deref()
+    }
 }
 
 /// Why a mapped file can't be used.
@@ -82,9 +100,25 @@ impl Files {
             let bytes = open(mapping);
             let starts = starts.remove(mapping.path).unwrap_or_default();
             let bytes = bytes.and_then(|bytes| same(core, &starts, bytes));
-            files.files.push(MappedFile { path, bytes });
+            let build_id = starts.iter().find_map(|start| build_id(core.bytes_from(start.begin)?).map(<[u8]>::to_vec));
+            files.files.push(MappedFile { path, bytes, image: None, build_id });
         }
+        files.take_images(core);
         files
+    }
+
+    /// Takes the bytes of files that can't be used from the core, all together not more than the core has.
+    fn take_images(&mut self, core: &CoreFile<'_>) {
+        if self.files.iter().all(|file| file.bytes.is_ok()) {
+            return;
+        }
+        let (memory, starts) = (core.held(), starts(core));
+        let mut left = memory.blocks().map(|block| block.bytes.len()).sum();
+        for file in self.files.iter_mut().filter(|file| file.bytes.is_err()) {
+            let starts = starts.get(file.path.as_os_str().as_bytes()).map_or(&[][..], Vec::as_slice);
+            let mut begins = starts.iter().map(|start| start.begin);
+            file.image = begins.find_map(|begin| image(&memory, begin, core.target(), &mut left)).map(Bytes::from);
+        }
     }
 
     /// Uses `bytes` as the content of the program's file, for a program that isn't at its path in
@@ -98,6 +132,7 @@ impl Files {
         match place.and_then(|place| self.files.get_mut(*place)) {
             Some(file) => {
                 file.bytes = Ok(bytes.clone());
+                file.image = None;
                 true
             }
             None => false,
@@ -125,6 +160,14 @@ impl Files {
     pub(super) fn find(&self, path: &[u8]) -> Option<(usize, &[u8])> {
         let place = *self.places.get(path)?;
         let bytes = self.files.get(place)?.bytes.as_deref().ok()?;
+        Some((place, bytes))
+    }
+
+    /// The same, but for a file that can't be used, the bytes of it that the core has.
+    pub(super) fn find_image(&self, path: &[u8]) -> Option<(usize, &[u8])> {
+        let place = *self.places.get(path)?;
+        let file = self.files.get(place)?;
+        let bytes = file.bytes.as_deref().ok().or(file.image.as_deref())?;
         Some((place, bytes))
     }
 }
@@ -165,14 +208,18 @@ fn same(core: &CoreFile<'_>, starts: &[&Mapping<'_>], bytes: Bytes) -> Result<By
 
 /// Whether a file with these bytes still seems to be the one that was mapped. `starts` are the
 /// mappings of its beginning. If the core has the beginning of an ELF file there, the file has to
-/// begin with the same bytes. Other files aren't compared.
+/// begin with the same bytes, or to have the same build id: a process may change its code. Other files
+/// aren't compared.
 fn is_same(core: &CoreFile<'_>, starts: &[&Mapping<'_>], bytes: &[u8]) -> bool {
     starts.iter().all(|mapping| {
         let size = usize::try_from(mapping.end.saturating_sub(mapping.begin)).unwrap_or(COMPARED).min(COMPARED);
         let held = core.bytes_from(mapping.begin).unwrap_or(&[]);
         let held = held.get(..size).unwrap_or(held);
         let held = held.get(..bytes.len()).unwrap_or(held);
-        !held.starts_with(b"\x7fELF") || bytes.starts_with(held)
+        let is_same = || {
+            bytes.starts_with(held) || core.bytes_from(mapping.begin).map_or(false, |memory| has_same_id(memory, bytes))
+        };
+        !held.starts_with(b"\x7fELF") || is_same()
     })
 }
 

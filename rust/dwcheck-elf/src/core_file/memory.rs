@@ -55,10 +55,7 @@ impl<'data> CoreFile<'data> {
     where
         'data: 'a,
     {
-        let mut memory = Memory::default();
-        for segment in &self.segments {
-            memory.add(Block { address: segment.address, bytes: segment.bytes, origin: Origin::Core });
-        }
+        let mut memory = self.held();
         for mapping in self.mappings().iter().filter(|mapping| !mapping.has_changed) {
             let found = files.find(mapping.path).and_then(|(place, bytes)| {
                 let begin = usize::try_from(mapping.offset).ok()?;
@@ -69,6 +66,17 @@ impl<'data> CoreFile<'data> {
             if let Some((place, bytes)) = found {
                 memory.add(Block { address: mapping.begin, bytes, origin: Origin::File(place) });
             }
+        }
+        memory
+    }
+}
+
+impl<'data> CoreFile<'data> {
+    /// The bytes of memory that the core has itself.
+    pub(super) fn held(&self) -> Memory<'data> {
+        let mut memory = Memory::default();
+        for segment in &self.segments {
+            memory.add(Block { address: segment.address, bytes: segment.bytes, origin: Origin::Core });
         }
         memory
     }

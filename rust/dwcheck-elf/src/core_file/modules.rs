@@ -153,7 +153,7 @@ impl<'a> Finder<'a> {
     /// a new module with it. Does nothing if the mapping has no part of an ELF file that can be
     /// read.
     fn add(&mut self, mapping: &Mapping<'_>) {
-        let (place, bytes) = match self.files.find(mapping.path) {
+        let (place, bytes) = match self.files.find_image(mapping.path) {
             Some(found) => found,
             None => return,
         };

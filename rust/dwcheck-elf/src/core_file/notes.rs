@@ -1,7 +1,7 @@
 //! Reads the notes of a core file.
 
 use super::registers::{thread, vectors, Thread};
-use super::{CoreError, Signal};
+use super::{CoreError, Sender, Signal};
 use crate::abi::Abi;
 use crate::bytes::{Cursor, ReadError};
 use crate::live::Map;
@@ -54,6 +54,8 @@ pub struct ProcessInfo {
     /// The name of its first thread, which is the beginning of the program's name if the program
     /// didn't change it.
     pub name: String,
+    /// The beginning of its command line, at most 79 bytes, if the core file has it.
+    pub command: Option<String>,
 }
 
 /// What the notes that were read so far say.
@@ -151,8 +153,14 @@ fn signal(bytes: &[u8], target: Target) -> Result<Signal, ReadError> {
     if target.address_size == AddressSize::Eight {
         cursor.take(4)?;
     }
+    let mut ids = cursor.clone();
     let address = cursor.number(target.address_size.bytes())?;
-    Ok(Signal { number, code, address })
+    let ids = (ids.number(4), ids.number(4));
+    let sender = match ids {
+        (Ok(pid), Ok(uid)) => Some(Sender { pid: pid as u32, uid: uid as u32 }),
+        _ => None,
+    };
+    Ok(Signal { number, code, address, sender })
 }
 
 /// Finds the value whose type is `wanted` in the auxiliary vector, which is pairs of a type and a
@@ -171,7 +179,7 @@ pub(super) fn auxiliary(bytes: &[u8], target: Target, wanted: u64) -> Option<u64
 /// Reads an `NT_PRPSINFO` note (`struct elf_prpsinfo`).
 fn process(bytes: &[u8], target: Target) -> Result<ProcessInfo, ReadError> {
     // Four bytes, the flags in a word, the ids of the user and the group, four ids of 4 bytes, of
-    // which the first is the process's, and 16 bytes for the name.
+    // which the first is the process's, 16 bytes for the name, and 80 for the command line.
     let id = match target.address_size {
         AddressSize::Four => 12,
         AddressSize::Eight => 24,
@@ -181,6 +189,10 @@ fn process(bytes: &[u8], target: Target) -> Result<ProcessInfo, ReadError> {
     let id = cursor.number(4)? as u32;
     cursor.take(12)?;
     let name = cursor.take(16)?;
-    let name = name.split(|byte| *byte == 0).next().unwrap_or(&[]);
-    Ok(ProcessInfo { id, name: String::from_utf8_lossy(name).into_owned() })
+    let text = |bytes: &[u8]| {
+        let bytes = bytes.split(|byte| *byte == 0).next().unwrap_or(&[]);
+        String::from_utf8_lossy(bytes).into_owned()
+    };
+    let command = cursor.take(80).ok().map(|command| text(command).trim_end().to_string());
+    Ok(ProcessInfo { id, name: text(name), command: command.filter(|command| !command.is_empty()) })
 }

@@ -12,6 +12,17 @@ pub struct Signal {
     /// For SIGSEGV, SIGBUS, SIGILL and SIGFPE: the address of the fault. For any other signal, this
     /// has no meaning.
     pub address: u64,
+    /// The process that sent it. For signals that no process sent, this has no meaning.
+    pub sender: Option<Sender>,
+}
+
+/// A process that sent a signal.
+#[derive(Clone, Copy, Debug, PartialEq, Eq)]
+pub struct Sender {
+    /// The process's id.
+    pub pid: u32,
+    /// The id of its user.
+    pub uid: u32,
 }
 
 /// Causes that a signal of any number may have.
@@ -56,6 +67,11 @@ impl Signal {
     pub fn fault_address(&self) -> Option<u64> {
         let is_fault = !self.causes().is_empty() && self.code.map_or(false, |code| code > 0 && code != 0x80);
         Some(self.address).filter(|_| is_fault)
+    }
+
+    /// The process that sent the signal, if one did: by `kill`, `sigqueue`, `tgkill` or a message queue.
+    pub fn sent_by(&self) -> Option<Sender> {
+        self.sender.filter(|_| matches!(self.code, Some(0 | -1 | -3 | -6)))
     }
 
     /// Whether an instruction caused the signal, which wasn't carried out. False for a breakpoint.

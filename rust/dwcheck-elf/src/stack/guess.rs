@@ -40,6 +40,26 @@ impl Guesser<'_> {
         Some(guess).filter(|_| self.is_code(address) && self.may_follow_call(address))
     }
 
+    /// The caller of a frame in code of x86 that no row covers and that hasn't changed the stack yet, such as a stub of
+    /// a procedure linkage table: the word at the stack pointer follows a call. If it is one to a fixed address, that
+    /// has to be an address for which `may_lead` is true.
+    pub fn by_return_address(&self, may_lead: impl Fn(u64) -> bool) -> Option<Guess> {
+        let guess = self.by_call().filter(|_| self.core.abi().link_register.is_none())?;
+        let is_call = ends_with_call(&self.before(guess.address)?);
+        Some(guess).filter(|guess| is_call && self.called_before(guess.address).map_or(true, may_lead))
+    }
+
+    /// Where the call of x86 before an address leads, if it is one to a fixed address.
+    pub fn called_before(&self, address: u64) -> Option<u64> {
+        let target = direct_target(&self.before(address)?, address)?;
+        Some(self.core.target().wrap(target)).filter(|_| self.core.abi().link_register.is_none())
+    }
+
+    fn before(&self, address: u64) -> Option<[u8; 7]> {
+        let mut before = [0; 7];
+        self.memory.read(address.checked_sub(7)?, &mut before).then_some(before)
+    }
+
     /// The code at an address by which a signal handler returns to the kernel, if that is what it is. A handler
     /// returns there, so no call is before it.
     pub fn signal_return(&self, address: u64) -> Option<&'static SignalReturn> {
@@ -99,9 +119,7 @@ impl Guesser<'_> {
 
     /// Whether a call may come before an address. False only for code of x86 that is known.
     pub fn may_follow_call(&self, address: u64) -> bool {
-        let mut before = [0; 7];
-        let is_known = address >= 7 && self.memory.read(address - 7, &mut before);
-        self.core.abi().link_register.is_some() || !is_known || ends_with_call(&before)
+        self.core.abi().link_register.is_some() || self.before(address).map_or(true, |before| ends_with_call(&before))
     }
 }
 
@@ -113,6 +131,14 @@ pub(crate) fn ends_with_call(code: &[u8; 7]) -> bool {
         code == 0xff && modrm >> 3 & 7 == 2 && length_of(modrm) == length
     };
     code[2] == 0xe8 || [2, 3, 4, 6, 7].into_iter().any(is_indirect)
+}
+
+/// Where a near call leads that ends at an address, if it is one to a fixed address.
+fn direct_target(code: &[u8; 7], end: u64) -> Option<u64> {
+    match *code {
+        [_, _, 0xe8, a, b, c, d] => Some(end.wrapping_add(i64::from(i32::from_le_bytes([a, b, c, d])) as u64)),
+        _ => None,
+    }
 }
 
 /// The length of an instruction ff whose ModRM byte is this one.

@@ -9,16 +9,22 @@ impl Stack<'_, '_> {
     /// The stack as an object. Addresses are strings such as `"0x401136"`, because numbers of JSON
     /// are exact only up to 2^53. docs/OUTPUT.md lists the keys.
     pub fn json(&self) -> Value {
-        let frames: Vec<_> = self.frames.iter().enumerate().map(|(number, frame)| self.frame(number, frame)).collect();
-        json!({
-            "thread": self.thread,
-            "frames": frames,
-            "stop": Why(self.stacks.core.target(), self.stop).to_string(),
-        })
+        let frames: Vec<_> = (0..self.frames.len()).filter_map(|number| self.json_frame(number)).collect();
+        json!({ "thread": self.thread, "frames": frames, "stop": self.json_stop() })
+    }
+
+    /// A frame as an object. All of them together may be large.
+    pub fn json_frame(&self, number: usize) -> Option<Value> {
+        Some(self.frame(number, self.frames.get(number)?))
+    }
+
+    /// Why there are no more frames.
+    pub fn json_stop(&self) -> Value {
+        Why(self.stacks.core.target(), self.stop).to_string().into()
     }
 
     fn frame(&self, number: usize, frame: &Frame) -> Value {
-        let Place { module, function, offset, source, inlined } = self.stacks.place(frame);
+        let Place { module, build_id, address_in_module, function, offset, source, inlined } = self.stacks.place(frame);
         let mut object = json!({
             "number": number,
             "address": hex(frame.address),
@@ -28,6 +34,8 @@ impl Stack<'_, '_> {
             "signal_frame": frame.is_signal_frame,
             "cfa": frame.cfa.map(hex),
             "module": module.map(|path| path.to_string_lossy().into_owned()),
+            "build_id": build_id,
+            "module_offset": address_in_module.map(hex),
             "function": function,
             "offset": offset,
             "inlined": inlined.iter().map(inlined_function).collect::<Vec<_>>(),

@@ -1,11 +1,12 @@
 //! Names of functions, and lines of source files.
 
-use crate::debug_files::DebugFiles;
+use crate::debug_files::{hex, DebugFiles};
 use crate::functions::Functions;
 use crate::inlined;
 use crate::lines::{At, Lines, SourceLine};
 use crate::names::{raw_name, shown_name, Spot, STUB};
 use crate::program::Program;
+use crate::variables::Called;
 use rustc_hash::FxHashMap;
 use std::path::{Path, PathBuf};
 
@@ -45,6 +46,10 @@ pub struct Inlined {
 pub struct Place {
     /// The file whose code it is in.
     pub module: Option<PathBuf>,
+    /// The file's build id, in hex digits.
+    pub build_id: Option<String>,
+    /// The frame's address as it is in the file.
+    pub address_in_module: Option<u64>,
     /// The name of the function.
     pub function: Option<String>,
     /// The number of bytes from the function's first address to the frame's address. `None` if only
@@ -82,6 +87,8 @@ impl Debug<'_> {
 
 /// The names of a module.
 pub(crate) struct Names<'a> {
+    /// The build id of the file, in hex digits.
+    pub build_id: Option<String>,
     functions: Functions<'a>,
     debug: Debug<'a>,
     /// The files of debug information that aren't used, and why.
@@ -98,24 +105,37 @@ impl Default for NameOptions {
 struct Files<'p, 'a> {
     path: &'p Path,
     program: Program<'a>,
-    debug: Option<Program<'a>>,
-    /// Why a separate file isn't used.
-    problem: Option<(PathBuf, String)>,
+    debug: Option<(PathBuf, Program<'a>)>,
+    /// The files of debug information that aren't used, and why.
+    problems: Vec<(PathBuf, String)>,
 }
 
 impl<'p, 'a> Files<'p, 'a> {
     fn open(path: &'p Path, bytes: &'a [u8], debug_files: &'a DebugFiles) -> Option<Self> {
         let program = Program::read(bytes).ok()?;
-        let (debug, problem) = match debug_files.of(path, &program) {
-            Ok(debug) => (debug.and_then(|bytes| Program::read(bytes).ok()), None),
-            Err((path, why)) => (None, Some((path, why.to_string()))),
+        let (debug, problems) = match debug_files.find(path, &program) {
+            Ok(debug) => (debug.and_then(|(path, bytes)| Some((path, Program::read(bytes).ok()?))), Vec::new()),
+            Err((path, why)) => (None, vec![(path, why.to_string())]),
         };
-        Some(Files { path, program, debug, problem })
+        Some(Files { path, program, debug, problems })
     }
 
-    /// The file that has the debug information.
-    fn source(&self) -> &Program<'a> {
-        self.debug.as_ref().filter(|_| !self.program.has_section(".debug_info")).unwrap_or(&self.program)
+    /// The file that has the debug information, and its path.
+    fn source(&self) -> (&Path, &Program<'a>) {
+        let separate = self.debug.as_ref().filter(|_| !self.program.has_section(".debug_info"));
+        separate.map_or((self.path, &self.program), |(path, debug)| (path, debug))
+    }
+
+    /// The file that has what several files of debug information share. If it isn't there, that is one of the problems.
+    fn shared(&mut self, debug_files: &'a DebugFiles) -> Option<Program<'a>> {
+        let (path, source) = self.source();
+        match debug_files.shared(path, source) {
+            Ok(shared) => shared.and_then(|bytes| Program::read(bytes).ok()),
+            Err(why) => {
+                self.problems.push((self.path.to_path_buf(), why));
+                None
+            }
+        }
     }
 
     /// The symbols of both files.
@@ -123,12 +143,13 @@ impl<'p, 'a> Files<'p, 'a> {
         let (own, problem) = self.program.all_functions();
         let problem = problem.map(|problem| (self.path.to_path_buf(), problem.to_string()));
         Names {
+            build_id: self.program.build_id().map(hex),
             functions: match &self.debug {
-                Some(debug) => own.with(debug.functions()),
+                Some((_, debug)) => own.with(debug.functions()),
                 None => own,
             },
             debug: Debug::None,
-            problems: problem.into_iter().chain(self.problem.clone()).collect(),
+            problems: problem.into_iter().chain(self.problems.iter().cloned()).collect(),
         }
     }
 }
@@ -137,27 +158,26 @@ impl<'a> Names<'a> {
     /// Reads the symbols and the debug information of a file with these bytes, also those of its separate
     /// file of debug information.
     pub fn read(path: &Path, bytes: &'a [u8], debug_files: &'a DebugFiles, options: NameOptions) -> Self {
-        let files = match Files::open(path, bytes, debug_files) {
+        let mut files = match Files::open(path, bytes, debug_files) {
             Some(files) => files,
             None => return Names::none(),
         };
-        let mut names = files.symbols();
-        if options.source || options.inlined {
-            let shared = debug_files.shared(files.source()).and_then(|bytes| Program::read(bytes).ok());
-            let lines = Lines::read(files.source(), shared.as_ref(), debug_files.unpacked());
-            names.debug = lines.map_or(Debug::None, Debug::Lines);
+        if !options.source && !options.inlined {
+            return files.symbols();
         }
-        names
+        let shared = files.shared(debug_files);
+        let lines = Lines::read(files.source().1, shared.as_ref(), debug_files.unpacked());
+        Names { debug: lines.map_or(Debug::None, Debug::Lines), ..files.symbols() }
     }
 
     /// The same for addresses that are known beforehand, ascending, and without lines. This takes less time.
     pub fn read_for(path: &Path, bytes: &'a [u8], debug_files: &'a DebugFiles, addresses: &[u64]) -> Self {
-        let files = match Files::open(path, bytes, debug_files) {
+        let mut files = match Files::open(path, bytes, debug_files) {
             Some(files) => files,
             None => return Names::none(),
         };
-        let source = files.source();
-        let shared = debug_files.shared(source).and_then(|bytes| Program::read(bytes).ok());
+        let shared = files.shared(debug_files);
+        let (_, source) = files.source();
         // Linkers make the stubs in these sections, of which compilers say nothing.
         let stubs: Vec<_> = source.code_sections().into_iter().filter(|(name, _)| name.starts_with(".plt")).collect();
         let is_stub = |address: &u64| stubs.iter().any(|(_, range)| range.contains(address));
@@ -169,18 +189,39 @@ impl<'a> Names<'a> {
 
     /// No names.
     fn none() -> Self {
-        Names { functions: Functions::default(), debug: Debug::None, problems: Vec::new() }
+        Names { build_id: None, functions: Functions::default(), debug: Debug::None, problems: Vec::new() }
+    }
+
+    /// Whether the debug information of an address is in a file of its own (`-gsplit-dwarf`).
+    pub fn is_split(&self, address: u64) -> bool {
+        matches!(&self.debug, Debug::Lines(lines) if lines.is_split(address))
     }
 
     /// Where an address in the file is. `looked_up` is `address`, or the byte before it if `address`
     /// follows a call.
     pub fn place(&self, address: u64, looked_up: u64, options: NameOptions) -> Place {
+        self.place_of(address, looked_up, self.debug.functions(looked_up), options)
+    }
+
+    /// The same, with the functions that a file of its own has there, the outermost first.
+    pub fn place_in(&self, address: u64, looked_up: u64, called: Vec<Called>, options: NameOptions) -> Place {
+        let line = match &self.debug {
+            Debug::Lines(lines) => lines.line(looked_up),
+            _ => None,
+        };
+        let calls = called.iter().skip(1).map(|inner| inner.call.clone()).chain([line]);
+        let mut found: Vec<_> =
+            called.iter().zip(calls).map(|(one, source)| At { name: one.name.clone(), source }).collect();
+        found.reverse();
+        self.place_of(address, looked_up, found, options)
+    }
+
+    fn place_of(&self, address: u64, looked_up: u64, mut found: Vec<At>, options: NameOptions) -> Place {
         let mut place = Place::default();
         if let Some(spot) = Spot::at(&self.functions, looked_up) {
             place.function = Some(options.shown(without_version(spot.name)));
             place.offset = Some(spot.offset.saturating_add(address.wrapping_sub(looked_up)));
         }
-        let mut found = self.debug.functions(looked_up);
         if let Some(At { name, source }) = found.pop() {
             place.source = source.filter(|_| options.source);
             place.function = place.function.or_else(|| name.map(|name| options.shown(&name)));

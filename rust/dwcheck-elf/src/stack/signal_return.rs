@@ -16,7 +16,7 @@ pub(super) struct SignalReturn {
 }
 
 /// The codes that are known. The registers are in the kernel's structure `sigcontext`.
-const ALL: [SignalReturn; 4] = [
+const ALL: [SignalReturn; 5] = [
     // mov $15, %rax; syscall. The structure begins with r8.
     SignalReturn {
         machine: elf::EM_X86_64,
@@ -24,6 +24,8 @@ const ALL: [SignalReturn; 4] = [
         offset: 40,
         registers: &X86_64,
     },
+    // mov $15, %eax; syscall.
+    SignalReturn { machine: elf::EM_X86_64, code: &[0xb8, 15, 0, 0, 0, 0x0f, 0x05], offset: 40, registers: &X86_64 },
     // pop %eax; mov $119, %eax; int $0x80. The signal's number and four segments come before edi.
     SignalReturn { machine: elf::EM_386, code: &[0x58, 0xb8, 119, 0, 0, 0, 0xcd, 0x80], offset: 20, registers: &I386 },
     // mov $173, %eax; int $0x80, for SA_SIGINFO. Its arguments, `siginfo_t` and the head of `ucontext_t` come before.

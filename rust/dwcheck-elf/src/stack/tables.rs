@@ -150,6 +150,14 @@ impl<'a> Tables<'a> {
         Ok(caller.filter(|_| self.compiled_at(address).map_or(false, |compiled| compiled.begin == address)))
     }
 
+    /// Whether an FDE that can be used covers an address.
+    pub fn covers(&mut self, address: u64) -> Result<bool, Error> {
+        if self.process.module_at(address).is_none() {
+            self.compile(address)?;
+        }
+        Ok(self.compiled_at(address).is_some())
+    }
+
     fn compiled_at(&self, address: u64) -> Option<&Compiled> {
         self.process.module_at(address).and_then(|module| self.compiled.get(module.cookie as usize))
     }

@@ -62,9 +62,11 @@ impl<'s, 'a> Stack<'s, 'a> {
     }
 
     fn write_frame(&self, f: &mut fmt::Formatter<'_>, number: usize, frame: &Frame) -> fmt::Result {
-        let Place { module, function, offset, source, inlined } = self.stacks.place(frame);
+        let Place { module, address_in_module, function, offset, source, inlined, .. } = self.stacks.place(frame);
         let address = Address(self.stacks.core.target(), frame.address);
-        let module = module.map(|path| path.to_string_lossy().into_owned());
+        let shown = address_in_module.filter(|_| self.stacks.shows_modules);
+        let shown = shown.map_or_else(String::new, |address| format!("+{:#x}", address));
+        let module = module.map(|path| format!("{}{}", Plain(&path.to_string_lossy()), shown));
         let mut functions = self.functions(number);
         for one in inlined {
             let name = if one.name.is_empty() { "?" } else { &one.name };
@@ -108,7 +110,7 @@ impl<'s, 'a> Stack<'s, 'a> {
 /// Writes the file and the line of a frame.
 fn write_end(f: &mut fmt::Formatter<'_>, module: &Option<String>, source: &Option<SourceLine>) -> fmt::Result {
     if let Some(module) = module {
-        write!(f, " ({})", Plain(module))?;
+        write!(f, " ({})", module)?;
     }
     source.as_ref().map_or(Ok(()), |source| write!(f, " at {}", source))
 }

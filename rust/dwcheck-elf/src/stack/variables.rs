@@ -1,9 +1,10 @@
 //! The variables of frames.
 
 use super::{Frame, Stack, Stacks};
-use crate::core_file::{Files, Module};
+use crate::core_file::Module;
 use crate::program::Program;
-use crate::variables::{self, Function, Loaded, Shape, Step, Variables};
+use crate::text::Plain;
+use crate::variables::{self, Called, Function, Loaded, Shape, Step, Variables};
 
 /// How many callers of a frame may be asked for entry values.
 const MAX_CALLERS: usize = 16;
@@ -29,7 +30,7 @@ impl<'a> Stacks<'a> {
         let pointer = self.core.abi().stack_pointer;
         let blocks = self.blocks(steps.first().and_then(|step| step.registers.get(pointer)).unwrap_or(0));
         let mut opened = self.variables.borrow_mut();
-        let opened = opened.entry(place).or_insert_with(|| open(module, self.files));
+        let opened = opened.entry(place).or_insert_with(|| self.open(module));
         let (target, load) = (self.core.target(), module.bias);
         let file = Some(self.loaded(module, tables.modules()));
         let thread_pointer = stack.thread_pointer();
@@ -40,14 +41,40 @@ impl<'a> Stacks<'a> {
         };
         let functions = variables.at(&frame, shape);
         let missing = if functions.is_empty() { variables.missing_file(&frame) } else { None };
-        if let Some(name) = missing {
-            self.split.borrow_mut().insert(module.path.clone(), name);
-        }
+        missing.into_iter().for_each(|name| self.note_missing(module, &name));
         functions
     }
-}
 
-impl<'a> Stacks<'a> {
+    /// The functions at an address of a module's file, the outermost first, if the debug information of the unit there
+    /// is in a file of its own. `None` if that isn't there, or has no function there.
+    pub(super) fn split_functions(&self, place: usize, module: &Module<'a>, address: u64) -> Option<Vec<Called>> {
+        let mut opened = self.variables.borrow_mut();
+        let variables = opened.entry(place).or_insert_with(|| self.open(module)).as_ref()?;
+        variables.split_functions(address).map_err(|name| self.note_missing(module, &name)).ok()?
+    }
+
+    /// Notes that a file isn't there that has the debug information of a unit of a module.
+    fn note_missing(&self, module: &Module<'a>, name: &str) {
+        let why = format!("its debug information is in another file, {}, which isn't there", Plain(name));
+        self.split.borrow_mut().insert(module.path.clone(), why);
+    }
+
+    /// The debug information of a module. `None` if it has none that can be read.
+    fn open(&self, module: &Module<'a>) -> Option<Variables<'a>> {
+        let files = self.files.debug_files();
+        let program = Program::read(module.image.bytes()).ok()?;
+        let separate = files.find(&module.path, &program).ok().flatten();
+        let separate = separate.and_then(|(path, bytes)| Some((path, Program::read(bytes).ok()?)));
+        let separate = separate.filter(|_| !program.has_bytes(".debug_info"));
+        let (path, debug) = separate.unwrap_or_else(|| (module.path.clone(), program));
+        let shared = files.shared(&path, &debug).unwrap_or_else(|why| {
+            self.unshared.borrow_mut().insert(module.path.clone(), why);
+            None
+        });
+        let shared = shared.and_then(|bytes| Program::read(bytes).ok());
+        Variables::read(&debug, shared.as_ref(), files).ok()
+    }
+
     fn loaded(&self, module: &Module<'a>, modules: &[Module<'a>]) -> Loaded<'a> {
         let has_glibc = modules.iter().any(|module| module.path.ends_with("libc.so.6"));
         let (bytes, bias) = (module.image.bytes(), module.bias);
@@ -82,14 +109,4 @@ fn step(frame: &Frame) -> Step {
         registers: frame.registers.iter().copied().collect(),
         cfa: frame.cfa,
     }
-}
-
-/// The debug information of a module. `None` if it has none that can be read.
-fn open<'a>(module: &Module<'a>, files: &'a Files) -> Option<Variables<'a>> {
-    let program = Program::read(module.image.bytes()).ok()?;
-    let separate = files.debug_files().of(&module.path, &program).ok().flatten();
-    let separate = separate.and_then(|bytes| Program::read(bytes).ok());
-    let debug = separate.filter(|_| !program.has_bytes(".debug_info")).unwrap_or(program);
-    let shared = files.debug_files().shared(&debug).and_then(|bytes| Program::read(bytes).ok());
-    Variables::read(&debug, shared.as_ref(), files.debug_files()).ok()
 }

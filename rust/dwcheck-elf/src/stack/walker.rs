@@ -7,6 +7,9 @@ use crate::core_file::{CoreFile, Memory};
 use dwcheck::{Abi, Answer, Block, Error, Registers, State};
 use std::collections::HashSet;
 
+/// How far before an address of code that is in no file the function may begin that has it.
+const LONGEST_FUNCTION: u64 = 1 << 20;
+
 /// A walk up the stack of a thread.
 pub(super) struct Walker<'w, 'a> {
     pub core: &'a CoreFile<'a>,
@@ -73,7 +76,10 @@ impl Walker<'_, '_> {
         match found {
             Some(found) => Ok(self.by_row(frame, found)),
             None if !is_call => self.by_row_at_begin(frame, &state, &guesser),
-            None => Ok(self.by_guess(frame, self.guess(frame, &guesser))),
+            None => {
+                let guess = self.guess(frame, &guesser)?;
+                Ok(self.by_guess(frame, guess))
+            }
         }
     }
 
@@ -90,7 +96,10 @@ impl Walker<'_, '_> {
                 frame.is_after_call = false;
                 Ok(self.by_row(frame, found))
             }
-            None => Ok(self.by_guess(frame, self.guess(frame, guesser))),
+            None => {
+                let guess = self.guess(frame, guesser)?;
+                Ok(self.by_guess(frame, guess))
+            }
         }
     }
 
@@ -118,12 +127,35 @@ impl Walker<'_, '_> {
     }
 
     /// The caller of a frame that no row covers.
-    fn guess(&self, frame: &Frame, guesser: &Guesser<'_>) -> Option<Guess> {
-        match (self.options.is_strict, self.core.is_executable(frame.address)) {
+    fn guess(&mut self, frame: &Frame, guesser: &Guesser<'_>) -> Result<Option<Guess>, Error> {
+        Ok(match (self.options.is_strict, self.core.is_executable(frame.address)) {
             (true, _) => None,
+            (_, true) if !frame.is_after_call => self.guess_innermost(frame.address, guesser)?,
             (_, true) => guesser.by_frame_pointer(),
             (_, false) if !frame.is_after_call => guesser.by_call(),
             _ => None,
+        })
+    }
+
+    /// The caller of code that no row covers and that called nothing. The frame to which the frame pointer leads is its
+    /// caller's, and not its own, if it hasn't made one yet. Then the return address is at the stack pointer.
+    fn guess_innermost(&mut self, address: u64, guesser: &Guesser<'_>) -> Result<Option<Guess>, Error> {
+        let framed = guesser.by_frame_pointer();
+        let target = framed.as_ref().and_then(|framed| guesser.called_before(framed.address));
+        if let Some(target) = target.filter(|target| *target <= address && self.may_lead(*target, address)) {
+            if !self.tables.covers(target)? {
+                return Ok(framed);
+            }
+        }
+        Ok(guesser.by_return_address(|target| self.may_lead(target, address)).or(framed))
+    }
+
+    /// Whether a call to one address may lead to another one: they are in the same file, in which the call may lead to a
+    /// jump; or both in none, and the second one is near.
+    fn may_lead(&self, target: u64, address: u64) -> bool {
+        match (self.tables.module_at(target), self.tables.module_at(address)) {
+            (None, None) => address.checked_sub(target).map_or(false, |past| past < LONGEST_FUNCTION),
+            (one, other) => one == other,
         }
     }
 

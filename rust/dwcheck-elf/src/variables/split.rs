@@ -1,12 +1,62 @@
 //! The variables of units whose debug information is in files of their own (`-gsplit-dwarf`).
 
 use super::functions::FunctionIndex;
+use super::scopes::{scopes, Scope};
 use super::{Variables, NEEDED};
-use crate::debug_info::SplitFile;
+use crate::debug_info::{file_path, SplitFile};
+use crate::lines::SourceLine;
+use gimli::AttributeValue;
 use std::cell::RefCell;
 use std::rc::Rc;
 
+/// A function at an address.
+#[derive(Clone, Debug, PartialEq, Eq)]
+pub(crate) struct Called {
+    /// Its name as linkers see it, or else as in the source code. `None` if it has none.
+    pub name: Option<String>,
+    /// If it is inlined, the line that calls it.
+    pub call: Option<SourceLine>,
+}
+
 impl<'a> Variables<'a> {
+    /// The functions at an address, the outermost first, if the debug information of the unit there is in a file of
+    /// its own: the function, then those that are inlined there. `None` if the unit has no function there, or isn't
+    /// such a one.
+    ///
+    /// # Errors
+    ///
+    /// The name of the file, if it isn't there or isn't the unit's.
+    pub(crate) fn split_functions(&self, address: u64) -> Result<Option<Vec<Called>>, String> {
+        let named = self.functions.units_at(address).find_map(|index| Some((index, self.split_name(index)?)));
+        let (index, name) = match named {
+            Some(named) => named,
+            None => return Ok(None),
+        };
+        let split = self.split_at(address).ok_or(name)?;
+        let function = split.functions.function(&split.units, address);
+        let called = |scope: &Scope<'_, 'a>| Called { name: split.linked_name(scope), call: self.call(index, scope) };
+        Ok(function.map(|function| scopes(function, address).iter().map(called).collect()))
+    }
+
+    fn linked_name(&self, scope: &Scope<'_, 'a>) -> Option<String> {
+        let linked = scope.function.inherited(gimli::DW_AT_linkage_name);
+        linked.and_then(|(die, name)| die.string(name)).or_else(|| scope.function.name())
+    }
+
+    /// The line that calls an inlined function. The program has the table of lines to which its entry refers, with
+    /// the unit that has this index.
+    fn call(&self, index: usize, scope: &Scope<'_, 'a>) -> Option<SourceLine> {
+        let number = |name| scope.function.attribute(name)?.udata_value();
+        let file = match scope.function.attribute(gimli::DW_AT_call_file)? {
+            AttributeValue::FileIndex(file) => file,
+            _ => return None,
+        };
+        let file = file_path(&self.units.dwarf, &*self.units.unit(index).ok()?, file)?;
+        let line = |name| number(name).and_then(|line| u32::try_from(line).ok());
+        let column = line(gimli::DW_AT_call_column).filter(|column| *column > 0);
+        Some(SourceLine { file, line: line(gimli::DW_AT_call_line), column })
+    }
+
     /// What a file of its own has of the unit with an address of code. `None` if the unit has no such file, or
     /// if the file isn't there or isn't the unit's.
     pub(super) fn split_at(&self, address: u64) -> Option<Rc<Variables<'a>>> {

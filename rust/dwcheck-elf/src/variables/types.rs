@@ -103,18 +103,37 @@ fn count_of(range: &Die<'_, '_>) -> Option<u64> {
 
 /// The index of the first element where the language says it: 1 in Fortran and Ada, else 0.
 fn lowest(range: &Die<'_, '_>) -> i64 {
-    let root = Die { offset: gimli::UnitOffset(range.unit.header.header_size()), ..range.clone() };
-    match root.attribute(gimli::DW_AT_language) {
-        Some(AttributeValue::Language(
+    let is_ada = matches!(language(range), Some(gimli::DW_LANG_Ada83 | gimli::DW_LANG_Ada95));
+    i64::from(is_ada || is_fortran(range))
+}
+
+fn is_fortran(die: &Die<'_, '_>) -> bool {
+    matches!(
+        language(die),
+        Some(
             gimli::DW_LANG_Fortran77
-            | gimli::DW_LANG_Fortran90
-            | gimli::DW_LANG_Fortran95
-            | gimli::DW_LANG_Fortran03
-            | gimli::DW_LANG_Fortran08
-            | gimli::DW_LANG_Ada83
-            | gimli::DW_LANG_Ada95,
-        )) => 1,
-        _ => 0,
+                | gimli::DW_LANG_Fortran90
+                | gimli::DW_LANG_Fortran95
+                | gimli::DW_LANG_Fortran03
+                | gimli::DW_LANG_Fortran08
+        )
+    )
+}
+
+/// The language of an entry's unit.
+fn language(die: &Die<'_, '_>) -> Option<gimli::DwLang> {
+    let root = Die { offset: gimli::UnitOffset(die.unit.header.header_size()), ..die.clone() };
+    match root.attribute(gimli::DW_AT_language)? {
+        AttributeValue::Language(language) => Some(language),
+        _ => None,
+    }
+}
+
+/// Whether the elements of an array that differ in the first dimension are next to each other, as in Fortran.
+pub(super) fn is_column_major(array: &Die<'_, '_>) -> bool {
+    match array.attribute(gimli::DW_AT_ordering) {
+        Some(AttributeValue::Ordering(ordering)) => ordering == gimli::DW_ORD_col_major,
+        _ => is_fortran(array),
     }
 }
 

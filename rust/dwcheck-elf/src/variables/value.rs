@@ -5,7 +5,7 @@ mod variants;
 
 use super::location::Locator;
 use super::place::{Missing, Place, Pointee};
-use super::types::{dimensions, is_pointer, name_of, number, plain, size_of, type_of};
+use super::types::{dimensions, is_column_major, is_pointer, name_of, number, plain, size_of, type_of};
 use crate::debug_info::Die;
 use crate::target::Order;
 use gimli::{AttributeValue, DebugInfoOffset, DwAte};
@@ -50,6 +50,15 @@ struct Part<'p> {
     place: &'p Place,
     size: usize,
     offset: usize,
+}
+
+/// What all dimensions of an array have in common.
+struct Array<'e, 'v, 'a> {
+    element: &'e Die<'v, 'a>,
+    /// The size of an element.
+    size: usize,
+    is_text: bool,
+    shape: Shape,
 }
 
 /// The greatest depth to which structures and arrays are followed. In a hostile file, a structure can have
@@ -145,7 +154,7 @@ impl<'v, 'a> Locator<'v, 'a> {
         let found = constants.find(|one| one.tag() == Some(gimli::DW_TAG_enumerator) && is_wanted(one));
         let name = found.and_then(|one| one.name());
         let number = || if is_unsigned(kind) { value.to_string() } else { signed(&bytes).to_string() };
-        Ok(Value::Plain(name.unwrap_or_else(number)))
+        Ok(Value::Plain(name.or_else(|| flags(kind, value)).unwrap_or_else(number)))
     }
 
     fn pointer(&self, kind: &Die<'v, 'a>, part: Part<'_>, shape: Shape) -> Result<Value, Missing> {
@@ -163,23 +172,60 @@ impl<'v, 'a> Locator<'v, 'a> {
         let element = type_of(kind).ok_or(Missing::Unsupported("an array without a type"))?;
         let size = size_of(&element).and_then(|size| usize::try_from(size).ok()).filter(|size| *size > 0);
         let size = size.ok_or(Missing::Unsupported("elements whose size isn't a constant"))?;
-        let count = dimensions(kind).into_iter().try_fold(1u64, |all, count| all.checked_mul(count?));
-        let count = count.ok_or(Missing::Unsupported("a length that isn't a constant"))?;
-        if plain(&element).map_or(false, |element| is_character(&element)) {
-            return self.characters(part, usize::try_from(count).unwrap_or(usize::MAX), shape);
+        let mut counts = Vec::new();
+        for count in dimensions(kind) {
+            let count = count.and_then(|count| usize::try_from(count).ok());
+            counts.push(count.ok_or(Missing::Unsupported("a length that isn't a constant"))?);
         }
-        if shape.depth == 0 {
+        if counts.len() > MAX_DEPTH || counts.is_empty() {
+            return Err(Missing::Unsupported("an array of so many dimensions"));
+        }
+        if is_column_major(kind) {
+            counts.reverse();
+        }
+        let is_text = plain(&element).map_or(false, |element| is_character(&element));
+        if shape.depth == 0 && !(is_text && counts.len() == 1) {
             return Ok(Value::Deeper);
         }
-        let shown = usize::try_from(count).unwrap_or(usize::MAX).min(shape.length).min(*left);
-        *left -= shown;
-        let inner = Shape { depth: shape.depth - 1, ..shape };
-        let elements = (0..shown).map(|index| {
-            let offset = part.offset.saturating_add(index.saturating_mul(size));
-            self.part(&element, Part { offset, ..part }, inner, left)
-        });
-        let elements: Vec<_> = elements.collect();
-        let more = count - elements.len() as u64;
+        let mut room = shape.length.min(*left);
+        let array = Array { element: &element, size, is_text, shape };
+        self.dimension(&array, &counts, part, &mut room, left)
+    }
+
+    /// A dimension of an array. `room` is how many more elements are shown.
+    fn dimension(
+        &self,
+        array: &Array<'_, 'v, 'a>,
+        counts: &[usize],
+        part: Part<'_>,
+        room: &mut usize,
+        left: &mut usize,
+    ) -> Result<Value, Missing> {
+        let (count, inner) = match counts {
+            [count, inner @ ..] => (*count, inner),
+            [] => return Err(Missing::Unsupported("an array without dimensions")),
+        };
+        if inner.is_empty() && array.is_text {
+            *room = room.saturating_sub(1);
+            return self.characters(part, count, array.shape);
+        }
+        let size = inner.iter().fold(array.size, |size, count| size.saturating_mul(*count));
+        let shape = Shape { depth: array.shape.depth.saturating_sub(1), ..array.shape };
+        let mut elements = Vec::new();
+        while elements.len() < count && *room > 0 {
+            let offset = part.offset.saturating_add(elements.len().saturating_mul(size));
+            let part = Part { offset, ..part };
+            if inner.is_empty() {
+                (*room, *left) = (*room - 1, left.saturating_sub(1));
+                elements.push(self.part(array.element, part, shape, left));
+            } else {
+                // An array without elements takes room, too.
+                let before = *room;
+                elements.push(self.dimension(array, inner, part, room, left));
+                *room = (*room).min(before - 1);
+            }
+        }
+        let more = (count - elements.len()) as u64;
         Ok(Value::Elements(elements, more))
     }
 
@@ -284,6 +330,23 @@ fn is_unsigned(kind: &Die<'_, '_>) -> bool {
         }
         _ => !kind.children().iter().any(is_negative),
     }
+}
+
+/// A sum of constants of an enumeration, if these have no bits in common, such as `A|C`.
+fn flags(kind: &Die<'_, '_>, value: u128) -> Option<String> {
+    let (mut all, mut found, mut names) = (0, 0, Vec::new());
+    for one in kind.children().iter().filter(|one| one.tag() == Some(gimli::DW_TAG_enumerator)) {
+        let bits = number(one, gimli::DW_AT_const_value).filter(|_| !is_negative(one)).map(u128::from)?;
+        if all & bits != 0 {
+            return None;
+        }
+        all |= bits;
+        if bits != 0 && value & bits == bits {
+            found |= bits;
+            names.push(one.name()?);
+        }
+    }
+    Some(names.join("|")).filter(|names| found == value && !names.is_empty())
 }
 
 /// Whether an entry has a negative number.

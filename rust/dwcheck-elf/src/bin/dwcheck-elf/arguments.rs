@@ -220,6 +220,9 @@ pub struct StackWords {
     /// Print the stack of several threads once if it is the same
     #[arg(long, conflicts_with = "vars")]
     pub group: bool,
+    /// Print where in its file each frame is, and after the stacks all modules with their build ids
+    #[arg(long)]
+    pub modules: bool,
     /// Write one document of JSON, whose keys docs/OUTPUT.md lists
     #[arg(long)]
     pub json: bool,

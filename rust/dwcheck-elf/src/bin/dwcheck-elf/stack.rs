@@ -91,6 +91,9 @@ fn print(
     if words.vars {
         stacks.show_variables(Shape { depth: words.depth, ..Shape::default() }, words.registers);
     }
+    if words.modules {
+        stacks.show_modules();
+    }
     let report = Report { words, core, stacks, longest_stop };
     report.write(out, &mut warnings)?;
     out.flush()?;

@@ -10,6 +10,7 @@ use dwcheck_elf::abi::abi;
 use dwcheck_elf::core_file::{CoreFile, Files};
 use dwcheck_elf::debug_files::DebugFiles;
 use dwcheck_elf::live::Snapshot;
+use dwcheck_elf::mapped::Bytes;
 use dwcheck_elf::modules::Modules;
 use dwcheck_elf::program::Program;
 use dwcheck_elf::stack::{Stacks, WalkOptions};
@@ -18,7 +19,7 @@ use dwcheck_elf::text::Plain;
 use dwcheck_elf::variables::{Frame, Function, Loaded, Shape, Step, Variables};
 use serde_json::json;
 use std::io::Write;
-use std::path::Path;
+use std::path::{Path, PathBuf};
 
 /// How many callers are looked up for entry values.
 const MAX_CALLERS: usize = 16;
@@ -144,15 +145,20 @@ fn variables<'a>(path: &Path, program: &Program<'a>, files: &'a DebugFiles) -> R
     let separate = match program.has_bytes(".debug_info") {
         true => None,
         false => {
-            files.of(&whole, program).map_err(|(file, why)| Failure::File(format!("{}: {}", shown(&file), why)))?
+            files.find(&whole, program).map_err(|(file, why)| Failure::File(format!("{}: {}", shown(&file), why)))?
         }
     };
-    let separate = separate.map(|bytes| Program::read(bytes)).transpose().map_err(|error| failed(error.to_string()))?;
-    let debug = separate.as_ref().unwrap_or(program);
+    let read = |(path, bytes): (PathBuf, &'a Bytes)| Program::read(bytes).map(|program| (path, program));
+    let separate = separate.map(read).transpose().map_err(|error| failed(error.to_string()))?;
+    let (place, debug) = separate.as_ref().map_or((&whole, program), |(path, debug)| (path, debug));
     if !debug.has_bytes(".debug_info") {
         return Err(failed("no .debug_info, and no separate file of debug information".to_string()));
     }
-    let shared = files.shared(debug).and_then(|bytes| Program::read(bytes).ok());
+    let shared = files.shared(place, debug).unwrap_or_else(|why| {
+        note(path, why);
+        None
+    });
+    let shared = shared.and_then(|bytes| Program::read(bytes).ok());
     Variables::read(debug, shared.as_ref(), files).map_err(|error| failed(error.to_string()))
 }
 

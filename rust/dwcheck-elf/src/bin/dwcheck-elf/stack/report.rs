@@ -3,7 +3,7 @@
 use crate::arguments::StackWords;
 use crate::end::Failure;
 use dwcheck_elf::core_file::{CoreFile, Signal, Thread};
-use dwcheck_elf::stack::{Instruction, Stack, Stacks, Stop, WalkOptions};
+use dwcheck_elf::stack::{Instruction, Listed, Stack, Stacks, Stop, WalkOptions};
 use dwcheck_elf::text::{Address, Plain};
 use serde_json::{json, Value};
 use std::collections::HashMap;
@@ -41,8 +41,13 @@ impl<'r, 'a> Report<'r, 'a> {
         }
         let missing = self.stacks.missing();
         warnings.splice(..0, missing.iter().map(|(path, why)| format!("{}: {}", Plain(&path.to_string_lossy()), why)));
+        let modules = self.stacks.modules();
         if self.words.json {
-            writeln!(out, "],\"warnings\":{}}}", Value::from(warnings.clone()))?;
+            let modules: Vec<_> = modules.iter().map(Listed::json).collect();
+            write!(out, "],\"modules\":{},", Value::from(modules))?;
+            writeln!(out, "\"warnings\":{}}}", Value::from(warnings.clone()))?;
+        } else if self.words.modules {
+            modules.iter().try_for_each(|module| writeln!(out, "{}", module))?;
         }
         Ok(())
     }
@@ -91,9 +96,12 @@ impl<'r, 'a> Report<'r, 'a> {
             let signal = signal.map(|signal| self.json_signal(signal));
             write!(out, "{{\"pid\":{},", Value::from(process.map(|process| process.id)))?;
             write!(out, "\"name\":{},", Value::from(process.map(|process| process.name.clone())))?;
+            let command = process.and_then(|process| process.command.clone());
+            write!(out, "\"command\":{},", Value::from(command))?;
             let longest = self.longest_stop.map(|longest| longest.as_micros() as u64);
             write!(out, "\"longest_stop_us\":{},", Value::from(longest))?;
             write!(out, "\"signal\":{},", Value::from(signal))?;
+            write!(out, "\"abort_message\":{},", Value::from(self.stacks.abort_message()))?;
             let instruction = self.stacks.instruction().map(json_instruction);
             return write!(out, "\"instruction\":{},\"threads\":[", Value::from(instruction));
         }
@@ -112,6 +120,13 @@ impl<'r, 'a> Report<'r, 'a> {
             write!(out, ", address {}", Address(self.core.target(), address))?;
         }
         writeln!(out)?;
+        let own = self.core.process().map(|process| process.id);
+        if let Some(sender) = signal.sent_by().filter(|sender| Some(sender.pid) != own) {
+            writeln!(out, "sent by process {} of user {}", sender.pid, sender.uid)?;
+        }
+        if let Some(message) = self.stacks.abort_message() {
+            writeln!(out, "abort message: {}", Plain(&message))?;
+        }
         self.stacks.instruction().map_or(Ok(()), |instruction| self.write_instruction(out, &instruction))
     }
 
@@ -132,6 +147,7 @@ impl<'r, 'a> Report<'r, 'a> {
             "code": signal.code,
             "code_name": signal.code_name(),
             "address": signal.fault_address().map(|address| format!("{:#x}", address)),
+            "sender": signal.sent_by().map(|sender| json!({ "pid": sender.pid, "uid": sender.uid })),
         })
     }
 
@@ -144,7 +160,8 @@ impl<'r, 'a> Report<'r, 'a> {
     fn write_group(&self, out: &mut impl Write, number: usize, group: &Group<'r, 'a>) -> io::Result<()> {
         if self.words.json {
             let comma = if number > 0 { "," } else { "" };
-            return write!(out, "{}\n{}", comma, self.json_group(group));
+            writeln!(out, "{}", comma)?;
+            return self.write_json_group(out, group);
         }
         write!(out, "{}", if group.threads.len() > 1 { "threads" } else { "thread" })?;
         for (number, thread) in group.threads.iter().enumerate() {
@@ -154,13 +171,18 @@ impl<'r, 'a> Report<'r, 'a> {
         write!(out, ":\n{}", group.stack.lines())
     }
 
-    fn json_group(&self, group: &Group<'r, 'a>) -> Value {
+    fn write_json_group(&self, out: &mut impl Write, group: &Group<'r, 'a>) -> io::Result<()> {
         let threads = group.threads.iter();
-        let threads =
-            threads.map(|thread| json!({ "id": thread.id, "name": self.name(thread), "signal": thread.signal }));
-        let mut object = group.stack.json();
-        object["threads"] = threads.collect();
-        object
+        let threads: Value = threads
+            .map(|thread| json!({ "id": thread.id, "name": self.name(thread), "signal": thread.signal }))
+            .collect();
+        write!(out, "{{\"frames\":[")?;
+        for number in 0..group.stack.frames.len() {
+            let frame = group.stack.json_frame(number).unwrap_or_default();
+            write!(out, "{}{}", if number > 0 { "," } else { "" }, frame)?;
+        }
+        let (stop, thread) = (group.stack.json_stop(), group.stack.thread);
+        write!(out, "],\"stop\":{},\"thread\":{},\"threads\":{}}}", stop, thread, threads)
     }
 }
 
