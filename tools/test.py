@@ -358,7 +358,7 @@ def prepare():
 
 # What the gate takes from nothing, in minutes of a slow processor, its longest chain of proofs in
 # minutes, and what it takes if all is kept (docs/PERFORMANCE.md).
-FROM_NOTHING, CHAIN, OVER_KEPT = 220, 45, 15
+FROM_NOTHING, CHAIN, OVER_KEPT = 200, 45, 15
 
 
 def forecast():
