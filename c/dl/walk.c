@@ -188,17 +188,37 @@ static int is_nowhere(const ucontext_t *interrupted) {
            && !has_row((uint64_t)registers[REG_RIP], 1);
 }
 
+/* The length of an instruction ff whose operand byte is this one. */
+static int length_of(uint8_t operand) {
+    int kind = operand >> 6, has_index = (operand & 7) == 4 && kind != 3;
+    int displacement = kind == 2 || (kind == 0 && (operand & 7) == 5) ? 4 : kind == 1;
+    return 2 + has_index + displacement;
+}
+
+/* Whether a near call ends at an address: e8 and four bytes; or ff, a byte whose middle bits are 2, and what this byte
+   says that follows. */
+static int follows_call(uint64_t address) {
+    enum { LONGEST = 7, DIRECT = 5 };
+    dwcheck_block block = block_at(address - LONGEST, FIRST_PAGES);
+    if (address < LONGEST || block.length < LONGEST) return 0;
+    const uint8_t *end = block.bytes + LONGEST;
+    if (end[-DIRECT] == 0xe8) return 1;
+    for (int length = 2; length <= LONGEST; length++)
+        if (end[-length] == 0xff && (end[1 - length] >> 3 & 7) == 2 && length_of(end[1 - length]) == length) return 1;
+    return 0;
+}
+
 /* Whether a thread was interrupted where it has called what is no function: a null pointer, or any other address where
    nothing can be executed. The call has pushed its return address, and done nothing else. Then goes back to the frame
-   that made the call. In place of a call there may have been a return to a wrong address: so the address must be one of
-   code with rows, unless it was a null pointer. */
+   that made the call. In place of a call there may have been a return to a wrong address: so the address must follow a
+   call, and be one of code with rows, unless it was a null pointer. */
 static int leave_wild_call(struct start *start, const ucontext_t *interrupted) {
     dwcheck_block stack = block_at(start->registers[RSP], FIRST_PAGES);
     int is_null = start->registers[RIP] < PAGE;
     uint64_t address;
     if (stack.length < sizeof address || (!is_null && !is_nowhere(interrupted))) return 0;
     memcpy(&address, stack.bytes, sizeof address);
-    if (!is_null && !has_row(address, 0)) return 0;
+    if (!follows_call(address) || (!is_null && !has_row(address, 0))) return 0;
     start->registers[RIP] = address;
     start->registers[RSP] += sizeof address;
     start->is_exact = 0;

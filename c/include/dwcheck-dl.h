@@ -53,7 +53,7 @@ int dwcheck_dl_backtrace(void **addresses, int size);
    since a null pointer (or an address below 4096) or another wrong one was called, the second address is in
    the function that made the call. The kernel says in the context that fetching the instruction has
    faulted, so there mustn't be a row for it; and the word at the stack pointer, which the call has pushed,
-   must be an address of code with rows, unless a null pointer was called. */
+   must follow a call, and be an address of code with rows, unless a null pointer was called. */
 int dwcheck_dl_backtrace_from(const void *context, void **addresses, int size);
 
 /* The memory that can be read from `address` on, as a block for a walk: up to the end of the pages without

@@ -203,8 +203,11 @@ static void on_wild_return(int signal, siginfo_t *info, void *context) {
     siglongjmp(after_wild_call, 1);
 }
 
+static volatile uintptr_t next_word;
+
 static void return_to_missing(void) {
-    if (sigsetjmp(after_wild_call, 1) == 0) __asm__ volatile("push $1234\n\tpush %0\n\tret" : : "r"(missing) : "memory");
+    if (sigsetjmp(after_wild_call, 1) == 0)
+        __asm__ volatile("push %1\n\tpush %0\n\tret" : : "r"(missing), "r"(next_word) : "memory");
 }
 
 static void test_wild_calls(void) {
@@ -221,8 +224,11 @@ static void test_wild_calls(void) {
     }
     action.sa_sigaction = on_wild_return;
     sigaction(SIGSEGV, &action, NULL);
-    *(void **)&missing = data;
-    deep(DEPTH, return_to_missing);
+    for (size_t i = 0; i < 4; i++) { /* a number, and an address in code that doesn't follow a call */
+        *(void **)&missing = i % 2 ? data : NULL;
+        next_word = i < 2 ? 1234 : (uintptr_t)test_wild_calls + 1;
+        deep(DEPTH, return_to_missing);
+    }
     sigaction(SIGSEGV, &before, NULL);
     munmap(data, PAGE);
 }
