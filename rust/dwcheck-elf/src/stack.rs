@@ -14,6 +14,7 @@ mod names;
 mod section;
 mod signal_return;
 mod tables;
+mod tail_calls;
 mod text;
 mod variables;
 mod walker;
@@ -26,7 +27,7 @@ pub(crate) use names::Names;
 pub use names::{Inlined, NameOptions, Place};
 pub use text::Lines;
 
-use crate::core_file::{CoreFile, Files, Memory, Thread};
+use crate::core_file::{CoreFile, Files, Memory, Module, Thread};
 use crate::variables::{Shape, Variables};
 use dwcheck::{Block, Registers};
 pub(crate) use section::SectionTable;
@@ -318,8 +319,7 @@ impl<'a> Stacks<'a> {
             None => return Place::default(),
         };
         let mut names = self.names.borrow_mut();
-        let read = || Names::read(&module.path, module.image.bytes(), self.files.debug_files(), self.name_options);
-        let names = names.entry(place).or_insert_with(read);
+        let names = names.entry(place).or_insert_with(|| self.read_names(module));
         let linked = |address: u64| self.core.target().wrap(address.wrapping_sub(module.bias));
         let (address, looked_up, options) = (linked(frame.address), linked(looked_up), self.name_options);
         let split = names.is_split(looked_up).then(|| self.split_functions(place, module, looked_up)).flatten();
@@ -329,6 +329,10 @@ impl<'a> Stacks<'a> {
         };
         let (build_id, address_in_module) = (names.build_id.clone(), Some(address));
         Place { module: Some(module.path.clone()), build_id, address_in_module, ..found }
+    }
+
+    fn read_names(&self, module: &Module<'a>) -> Names<'a> {
+        Names::read(&module.path, module.image.bytes(), self.files.debug_files(), self.name_options)
     }
 }
 

@@ -39,6 +39,7 @@ impl Stack<'_, '_> {
             "function": function,
             "offset": offset,
             "inlined": inlined.iter().map(inlined_function).collect::<Vec<_>>(),
+            "tail_call_from": self.tail_call(number),
         });
         add_source(&mut object, &source);
         if self.stacks.shape.is_some() {

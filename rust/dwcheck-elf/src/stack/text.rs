@@ -52,11 +52,12 @@ impl<'s, 'a> Stack<'s, 'a> {
         Lines(self)
     }
 
-    /// Writes a line for each frame and for each inlined function, and the line that says why there
-    /// are no more frames.
+    /// Writes a line for each frame, for each inlined function and for each place where frames are missing, and the
+    /// line that says why there are no more frames.
     fn write_frames(&self, f: &mut fmt::Formatter<'_>) -> fmt::Result {
         for (number, frame) in self.frames.iter().enumerate() {
             self.write_frame(f, number, frame)?;
+            self.tail_call(number).map_or(Ok(()), |from| writeln!(f, "tail call from {}", from))?;
         }
         writeln!(f, "stop: {}", Why(self.stacks.core.target(), self.stop))
     }
