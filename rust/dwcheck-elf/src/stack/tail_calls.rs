@@ -13,7 +13,10 @@ impl Stack<'_, '_> {
     /// The function that has no frame between this frame and its caller: the caller called it, by an instruction that
     /// names its address, but the frame is in another function of the same file, so that at least one jump led there.
     pub fn tail_call(&self, number: usize) -> Option<String> {
-        let (frame, caller) = (self.frames.get(number)?, self.frames.get(number.checked_add(1)?)?);
+        let (frame, caller) = match self.without_gap(number) {
+            [frame, caller, ..] => (frame, caller),
+            _ => return None,
+        };
         if frame.is_signal_frame || !caller.is_after_call || caller.found_by != FoundBy::Row {
             return None;
         }
