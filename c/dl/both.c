@@ -10,7 +10,7 @@
 struct record {
     uint64_t offset, next, start, end, cie;
     uint64_t copied; /* where its copy is, for the CIEs of .debug_frame; 0 if it has none */
-    uint32_t kind;
+    uint32_t kind, is_64_bit;
 };
 
 struct records {
@@ -23,6 +23,13 @@ struct output {
     uint8_t *bytes; /* NULL while the length is counted */
     size_t length;
 };
+
+/* Whether the record at this offset is in the 64-bit format. */
+static uint32_t is_64_bit(const dwcheck_module *module, uint64_t offset) {
+    uint32_t length;
+    memcpy(&length, module->frame + offset, sizeof length);
+    return length == 0xffffffff;
+}
 
 /* Reads all records of a section. Returns DWCHECK_DONE; or why one can't be read, or DWCHECK_NO_MEMORY. */
 static uint32_t read_records(const dwcheck_module *module, struct records *records) {
@@ -39,7 +46,7 @@ static uint32_t read_records(const dwcheck_module *module, struct records *recor
             records->room = room;
         }
         records->first[records->count++] =
-            (struct record){offset, record.next, record.start, record.end, record.cie, 0, record.kind};
+            (struct record){offset, record.next, record.start, record.end, record.cie, 0, record.kind, is_64_bit(module, offset)};
     }
 }
 
@@ -84,15 +91,21 @@ static void put(struct output *output, const void *bytes, size_t length) {
    rest, which is the same in both. Returns where; or 0 if it is too long. */
 static uint64_t put_record(struct output *output, const dwcheck_module *other, const struct record *record, uint32_t id) {
     enum { SHORT = 4 + 4, LONG = 12 + 8, MOST = 0x7fffffff };
-    uint32_t length;
-    memcpy(&length, other->frame + record->offset, sizeof length);
-    uint64_t body = record->offset + (length == 0xffffffff ? LONG : SHORT), place = output->length;
+    uint64_t body = record->offset + (record->is_64_bit ? LONG : SHORT), place = output->length;
     if (body > record->next || record->next - body > MOST || place == 0 || place > MOST) return 0;
-    length = (uint32_t)(record->next - body + sizeof id);
+    uint32_t length = (uint32_t)(record->next - body + sizeof id);
     put(output, &length, sizeof length);
     put(output, &id, sizeof id);
     put(output, other->frame + body, (size_t)(record->next - body));
     return place;
+}
+
+/* Whether an FDE of .debug_frame may be one of code that is there: of code from `first` to `last`, but not of address 0,
+   to which linkers move the FDEs of functions that they dropped. In many modules no code begins there, but the segment
+   with the code does. */
+static int is_of_code(const struct record *record, uint64_t first, uint64_t last) {
+    return record->kind == DWCHECK_RECORD_FDE && record->start != 0 && record->start < record->end && record->start >= first
+           && record->end - 1 <= last;
 }
 
 /* Writes all of .eh_frame, and then the FDEs of .debug_frame that are wanted, each after its CIE. Returns how many;
@@ -106,9 +119,7 @@ static long put_all(struct output *output, const dwcheck_module *module, const d
     for (size_t i = 0; i < others->count; i++) others->first[i].copied = 0;
     for (size_t i = 0; i < others->count; i++) {
         const struct record *fde = &others->first[i], wanted = {.offset = fde->cie};
-        if (fde->kind != DWCHECK_RECORD_FDE || fde->start >= fde->end || fde->start < first || fde->end - 1 > last
-            || is_covered(covered, fde))
-            continue;
+        if (!is_of_code(fde, first, last) || is_covered(covered, fde)) continue;
         struct record *cie = bsearch(&wanted, others->first, others->count, sizeof wanted, by_offset);
         if (!cie || cie->kind != DWCHECK_RECORD_CIE) return -1;
         if (!cie->copied) cie->copied = put_record(output, other, cie, 0);

@@ -1,8 +1,9 @@
 #!/bin/bash
 # Builds the tests with the static library build/libdwcheck.a, or the one that LIBRARY names, and runs
-# them: those of readers.c, frozen.c, cursor.c, cache.c, dl.c, own_rows.c and both.c; those of wrapper.cc, as C++17, as C++20 and over
-# the module; and those of cases.c while allocations fail in turn, with sanitizers, and under valgrind. Before that,
-# the headers are compiled as C11, C17 and C++17; passing a pointer of a wrong type must be an error.
+# them: those of readers.c, frozen.c, cursor.c, cache.c, dl.c, own_rows.c, both.c and changed.c; those of
+# wrapper.cc, as C++17, as C++20 and over the module; and those of cases.c while allocations fail in turn, with
+# sanitizers, and under valgrind. Before that, the headers are compiled as C11, C17 and C++17; passing a pointer
+# of a wrong type must be an error.
 # Prints a line `ok NAME` or `FAILED NAME` for each, and ends with status 1 if one failed.
 set -u
 top=$(dirname "$(dirname "$(dirname "$(realpath "$0")")")")
@@ -112,6 +113,11 @@ both_sections() { # FLAG..: for the link
         readelf -SW "$out/both" | grep -q ' \.debug_frame ' && [ "$have" = "$want" ] || { printf '%s\nnot\n%s\n' "$have" "$want"; return 1; }
 }
 
+changed_section() { # builds the test of a section that changes while it is copied, and runs it
+    cc -std=gnu11 $strict -O1 -g -fsanitize=address,undefined -fno-sanitize-recover=all "$top/c/tests/changed.c" "$library" -o "$out/changed" &&
+        "$out/changed"
+}
+
 # A .debug_frame section that is refused, since two of its FDEs share addresses, takes no rows of .eh_frame away.
 refused_section() {
     local links= last="$out/overlap.o" want have
@@ -180,7 +186,9 @@ test_of "a shared object with the archives exports only what it should" exports_
 test_of "a stack under valgrind" walks_under_valgrind
 test_of "a stack whose rows are in both sections" both_sections
 test_of "a stack whose rows are in both sections, of a program without functions that aren't used" both_sections -Wl,--gc-sections
+test_of "the same, of a program whose headers and code are in one segment" both_sections -Wl,--gc-sections -Wl,-z,noseparate-code
 test_of "a stack of a program whose .debug_frame is refused" refused_section
+test_of "a .debug_frame that changes while it is copied" changed_section
 test_of "the header for C++ as C++17, beside that for C" wrapper c++17
 test_of "the header for C++ as C++20, whose frames are a range" wrapper c++20
 test_of "the header for C++ as a module of C++20" as_module

@@ -282,7 +282,7 @@ const ENDS: &str = "
 int main(int c, char **v) {
     int number = atoi(v[1]);
     if (number == 0 && fork() == 0) {
-        kill(getppid(), SIGQUIT);
+        kill(getppid(), SIGBUS);
         return 0;
     }
     if (number == 0) for (;;) pause();
