@@ -265,7 +265,9 @@ fn a_tail_call_is_marked_where_gdb_knows_one() {
         return;
     }
     for flags in ["-g", "", "-m32 -fno-pic -no-pie"] {
-        folder.run(&format!("gcc -O2 -g {} a.c -o program; gcc -O2 {0} a.c -o bare", flags));
+        // The trap stays in the function that has it.
+        let flags = format!("-O2 -fno-reorder-blocks-and-partition {}", flags);
+        folder.run(&format!("gcc -g {} a.c -o program; gcc {0} a.c -o bare", flags));
         folder.make_core("./program");
         make_root(&folder);
         let shown = folder.run("gdb --batch -x frames.gdb program core 2> /dev/null | grep -E '^(jumped|frame) '");
@@ -328,7 +330,8 @@ fn what_is_no_tail_call_is_not_marked() {
         for way in ["parted", "alias", "ifunc", "recursion"] {
             folder.make_core(&format!("./program {}", way));
             let ran = dwcheck_elf(&folder, "stack --no-source core");
-            let is_there = ran.out.contains(&format!(" by_{}+", way)) && ran.out.contains(" main+");
+            let is_by = |part: &str| ran.out.contains(&format!(" by_{}{}+", way, part));
+            let is_there = (is_by("") || is_by(".cold")) && ran.out.contains(" main+");
             assert!(is_there && !ran.out.contains("tail call"), "{}: {}{}", build, ran.out, ran.error);
             assert!(way != "parted" || build.contains(".so") || ran.out.contains(" parted.cold+"), "{}", ran.out);
         }
