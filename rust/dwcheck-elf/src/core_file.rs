@@ -21,7 +21,7 @@ use crate::live::{can_differ, Snapshot};
 use crate::other_file::OtherFile;
 use crate::target::{AddressSize, Order, Target};
 use notes::Notes;
-use object::elf::{self, FileHeader32, FileHeader64, ELFMAG, ET_CORE, PF_X, PT_LOAD};
+use object::elf::{self, FileHeader32, FileHeader64, ELFMAG, ET_CORE, PF_W, PF_X, PT_LOAD};
 use object::read::elf::{FileHeader, ProgramHeader};
 use object::read::FileKind;
 use object::Endianness;
@@ -56,6 +56,8 @@ struct CoreSegment<'data> {
     size: u64,
     /// Whether the process could execute the part.
     is_executable: bool,
+    /// Whether the process could write to the part.
+    is_writable: bool,
     /// Whether the file is cut off: its headers give this part more bytes than the file has.
     is_cut: bool,
 }
@@ -132,6 +134,7 @@ impl<'data> CoreFile<'data> {
             bytes,
             size: bytes.len() as u64,
             is_executable: false,
+            is_writable: false,
             is_cut: false,
         });
         let listed = process.maps.iter().map(|map| CoreSegment {
@@ -139,6 +142,7 @@ impl<'data> CoreFile<'data> {
             bytes: &[],
             size: map.end.saturating_sub(map.begin),
             is_executable: map.is_executable,
+            is_writable: false,
             is_cut: false,
         });
         let segments: Vec<_> = copied.chain(listed).collect();
@@ -225,8 +229,14 @@ impl<'data> CoreFile<'data> {
     ///
     /// True for every address if the core doesn't say of any of its memory that it is executable.
     pub fn is_executable(&self, address: u64) -> bool {
-        let Code { executable, listed, mapped } = &self.code;
+        let Code { executable, listed, mapped, .. } = &self.code;
         executable.is_empty() || executable.contains(address) || !listed.contains(address) && mapped.contains(address)
+    }
+
+    /// The memory round an address to which the process could write, without gaps. `None` if it couldn't write to the
+    /// address.
+    pub(crate) fn writable_at(&self, address: u64) -> Option<Range<u64>> {
+        self.code.writable.at(address).cloned()
     }
 
     /// The parts of an address range that the process could execute, ascending. Parts that the core
@@ -267,16 +277,19 @@ impl<'data> CoreSegment<'data> {
             bytes: held,
             size: header.p_memsz(endian).into(),
             is_executable: header.p_flags(endian) & PF_X != 0,
+            is_writable: header.p_flags(endian) & PF_W != 0,
             is_cut: (held.len() as u64) < size,
         }
     }
 }
 
-/// What a core says about which memory is executable.
+/// What a core says about which memory is executable or writable.
 #[derive(Clone, Debug)]
 struct Code {
     /// The executable segments.
     executable: Ranges,
+    /// The segments to which the process could write.
+    writable: Ranges,
     /// All segments.
     listed: Ranges,
     /// The mapped files.
@@ -287,8 +300,10 @@ impl Code {
     fn of(segments: &[CoreSegment<'_>], mappings: &[Mapping<'_>]) -> Self {
         let range = |segment: &CoreSegment<'_>| segment.address..segment.address.saturating_add(segment.size);
         let executable = segments.iter().filter(|segment| segment.is_executable);
+        let writable = segments.iter().filter(|segment| segment.is_writable);
         Code {
             executable: Ranges::of(executable.map(range)),
+            writable: Ranges::of(writable.map(range)),
             listed: Ranges::of(segments.iter().map(range)),
             mapped: Ranges::of(mappings.iter().map(|mapping| mapping.begin..mapping.end)),
         }

@@ -61,7 +61,7 @@ pub struct Functions<'data> {
 
 impl<'data> Function<'data> {
     /// The address after the function's last byte. A function of unknown size ends where it begins.
-    fn end(&self) -> u64 {
+    pub(crate) fn end(&self) -> u64 {
         self.begin.saturating_add(self.size)
     }
 }
@@ -128,6 +128,13 @@ impl<'data> Functions<'data> {
             .find(|function| function.end() > address);
         let found = found.or_else(|| exact.filter(|function| function.size == 0 && address < function.limit))?;
         Some((found, address - found.begin))
+    }
+
+    /// The functions whose first address is this one: one function with all its names.
+    pub(crate) fn beginning_at(&self, address: u64) -> impl Iterator<Item = &Function<'data>> {
+        let first = self.functions.partition_point(|function| function.begin < address);
+        let rest = self.functions.get(first..).unwrap_or(&[]);
+        rest.iter().take_while(move |function| function.begin == address)
     }
 
     /// The address of the function with exactly this name: the name in the file, or else the

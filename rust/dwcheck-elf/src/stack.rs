@@ -9,11 +9,14 @@ mod abort;
 mod guess;
 mod instruction;
 mod json;
+mod kept;
 mod listed;
 mod names;
+mod overflow;
 mod section;
 mod signal_return;
 mod tables;
+mod tail_calls;
 mod text;
 mod variables;
 mod walker;
@@ -26,9 +29,10 @@ pub(crate) use names::Names;
 pub use names::{Inlined, NameOptions, Place};
 pub use text::Lines;
 
-use crate::core_file::{CoreFile, Files, Memory, Thread};
+use crate::core_file::{CoreFile, Files, Memory, Module, Thread};
 use crate::variables::{Shape, Variables};
 use dwcheck::{Block, Registers};
+use kept::Walked;
 pub(crate) use section::SectionTable;
 use std::cell::RefCell;
 use std::collections::{BTreeMap, BTreeSet, HashMap, HashSet};
@@ -90,6 +94,18 @@ pub struct WalkOptions {
     pub is_strict: bool,
     /// Whether to store the registers of each frame.
     pub keeps_registers: bool,
+    /// How many of the outermost frames a stack has beside those up to the limit. If it is 0, the walk ends at the
+    /// limit. Else it goes on, to at most 1,048,576 frames.
+    pub outermost: usize,
+}
+
+/// The frames that are left out between the innermost and the outermost ones.
+#[derive(Clone, Copy, Debug, PartialEq, Eq)]
+pub struct LeftOut {
+    /// How many frames come before them.
+    pub after: usize,
+    /// How many they are.
+    pub count: usize,
 }
 
 /// How a frame was found.
@@ -161,8 +177,24 @@ pub struct Stack<'s, 'a> {
     pub thread: u64,
     /// Its frames, the innermost first.
     pub frames: Vec<Frame>,
+    /// Those that are left out of `frames`.
+    pub left_out: Option<LeftOut>,
     /// Why there are no more frames.
     pub stop: Stop,
+}
+
+impl Stack<'_, '_> {
+    /// A frame by its index in `frames`, and its callers, up to those that are left out.
+    fn without_gap(&self, index: usize) -> &[Frame] {
+        let gap = self.left_out.map(|left_out| left_out.after).filter(|after| index < *after);
+        self.frames.get(index..gap.unwrap_or(self.frames.len())).unwrap_or(&[])
+    }
+
+    /// The number of a frame, by its index in `frames`: how many frames it called, one through another.
+    pub fn number(&self, index: usize) -> usize {
+        let before = self.left_out.filter(|left_out| index >= left_out.after);
+        before.map_or(index, |left_out| index.saturating_add(left_out.count))
+    }
 }
 
 /// Why a thread has no stack.
@@ -176,7 +208,7 @@ pub enum StackError {
 
 impl Default for WalkOptions {
     fn default() -> Self {
-        WalkOptions { limit: MOST_FRAMES, is_strict: false, keeps_registers: false }
+        WalkOptions { limit: MOST_FRAMES, is_strict: false, keeps_registers: false, outermost: 0 }
     }
 }
 
@@ -296,8 +328,8 @@ impl<'a> Stacks<'a> {
             floor: None,
             seen: HashSet::new(),
         };
-        let (frames, stop) = walker.walk(address, registers).map_err(StackError::Dwcheck)?;
-        Ok(Stack { stacks: self, thread: u64::from(thread.id), frames, stop })
+        let Walked { frames, left_out, stop } = walker.walk(address, registers).map_err(StackError::Dwcheck)?;
+        Ok(Stack { stacks: self, thread: u64::from(thread.id), frames, left_out, stop })
     }
 
     /// All blocks of memory. The one that has the address `stack` comes first, because the first
@@ -318,8 +350,7 @@ impl<'a> Stacks<'a> {
             None => return Place::default(),
         };
         let mut names = self.names.borrow_mut();
-        let read = || Names::read(&module.path, module.image.bytes(), self.files.debug_files(), self.name_options);
-        let names = names.entry(place).or_insert_with(read);
+        let names = names.entry(place).or_insert_with(|| self.read_names(module));
         let linked = |address: u64| self.core.target().wrap(address.wrapping_sub(module.bias));
         let (address, looked_up, options) = (linked(frame.address), linked(looked_up), self.name_options);
         let split = names.is_split(looked_up).then(|| self.split_functions(place, module, looked_up)).flatten();
@@ -329,6 +360,10 @@ impl<'a> Stacks<'a> {
         };
         let (build_id, address_in_module) = (names.build_id.clone(), Some(address));
         Place { module: Some(module.path.clone()), build_id, address_in_module, ..found }
+    }
+
+    fn read_names(&self, module: &Module<'a>) -> Names<'a> {
+        Names::read(&module.path, module.image.bytes(), self.files.debug_files(), self.name_options)
     }
 }
 

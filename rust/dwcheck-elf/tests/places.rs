@@ -234,3 +234,106 @@ fn inlined_functions_of_split_units() {
         assert!(error.ends_with(".dwo, which isn't there\n"), "{}", error);
     }
 }
+
+/// Functions that end with a jump to the next one, and a trap in the last one.
+const JUMPS: &str = "
+#define FUNCTION __attribute__((noipa)) int
+FUNCTION last(int n) { if (n) __builtin_trap(); return n; }
+FUNCTION second(int n) { return last(n + 1); }
+FUNCTION first(int n) { return second(n + 1); }
+FUNCTION calls(int n) { volatile int kept = n; return first(kept) + kept; }
+FUNCTION jumps(int n) { return calls(n); }
+int main(int argc, char **argv) { return jumps(argc) + 1; }
+";
+
+/// Prints the function of each frame. gdb has frames for functions that ended with a jump, and marks them.
+const TAIL_CALLS: &str = "python
+frame = gdb.newest_frame()
+while frame is not None:
+    print('jumped' if frame.type() == gdb.TAILCALL_FRAME else 'frame', frame.name())
+    frame = frame.older()
+end
+";
+
+/// The function that was called and that has no frame is the outermost one of those that gdb says have jumped.
+#[test]
+fn a_tail_call_is_marked_where_gdb_knows_one() {
+    let folder = Folder::new("places-tail-calls");
+    folder.write("a.c", JUMPS);
+    folder.write("frames.gdb", TAIL_CALLS);
+    if !has("gdb") {
+        return;
+    }
+    for flags in ["-g", "", "-m32 -fno-pic -no-pie"] {
+        // The trap stays in the function that has it.
+        let flags = format!("-O2 -fno-reorder-blocks-and-partition {}", flags);
+        folder.run(&format!("gcc -g {} a.c -o program; gcc {0} a.c -o bare", flags));
+        folder.make_core("./program");
+        make_root(&folder);
+        let shown = folder.run("gdb --batch -x frames.gdb program core 2> /dev/null | grep -E '^(jumped|frame) '");
+        let own: Vec<_> = shown.lines().take_while(|line| *line != "frame main").collect();
+        assert_eq!(own, ["frame last", "jumped second", "jumped first", "frame calls", "jumped jumps"], "{}", shown);
+        let ran = dwcheck_elf(&folder, "stack --root root --no-source core");
+        let names = ran.lines().into_iter().filter(|line| line.starts_with('#') || line.starts_with("tail call"));
+        let name = |line: &str| match line.strip_prefix("tail call from ") {
+            Some(from) => format!("jumped {}", from),
+            None => format!("frame {}", line.split([' ', '+']).nth(2).unwrap()),
+        };
+        let names: Vec<_> = names.map(name).take(5).collect();
+        let expected = ["frame last", "jumped first", "frame calls", "jumped jumps", "frame main"];
+        assert_eq!(names, expected, "{}{}", ran.out, ran.error);
+        let json = document(&folder, "core");
+        let from: Vec<_> = own_frames(&json).iter().map(|frame| frame["tail_call_from"].clone()).take(3).collect();
+        assert_eq!(from, [Value::from("first"), Value::from("jumps"), Value::Null], "{}", json);
+    }
+}
+
+/// Calls that lead elsewhere than to the first address of the function that has the frame, although no function
+/// jumped to another one: to a part of the function, by another name, and by a stub.
+const NO_JUMPS: &str = "
+#define FUNCTION __attribute__((noipa)) int
+int way;
+static __attribute__((noipa, cold)) int traps(int n) { if (n) __builtin_trap(); return n; }
+FUNCTION parted(int n) { if (__builtin_expect(n, 0)) return traps(n) + 1; return n; }
+int alias(int n) __attribute__((alias(\"parted\")));
+static int one(int n) { if (n) __builtin_trap(); return n; }
+static int (*pick(void))(int) { return one; }
+int chosen(int n) __attribute__((ifunc(\"pick\")));
+FUNCTION by_parted(int n) { return parted(n) + 1; }
+FUNCTION by_alias(int n) { return alias(n) + 1; }
+FUNCTION by_ifunc(int n) { return chosen(n) + 1; }
+FUNCTION by_recursion(int n) { return n < 5 ? by_recursion(n + 1) + 1 : traps(n) + 1; }
+int start(int n, char **v) {
+    switch (v[1][0]) {
+    case 'p': return by_parted(n) + 1;
+    case 'a': return by_alias(n) + 1;
+    case 'i': return by_ifunc(n) + 1;
+    }
+    return by_recursion(n) + 1;
+}
+";
+
+#[test]
+fn what_is_no_tail_call_is_not_marked() {
+    let folder = Folder::new("places-no-tail-calls");
+    folder.write("a.c", NO_JUMPS);
+    folder.write("main.c", "int start(int, char **); int main(int c, char **v) { return start(c, v) + 1; }");
+    if !has("gdb") {
+        return;
+    }
+    for build in [
+        "gcc -O2 -g a.c main.c -o program",
+        "gcc -O2 a.c main.c -static -o program",
+        "gcc -O2 -fPIC -shared a.c -o liba.so && gcc -O2 main.c ./liba.so -o program",
+    ] {
+        folder.run(build);
+        for way in ["parted", "alias", "ifunc", "recursion"] {
+            folder.make_core(&format!("./program {}", way));
+            let ran = dwcheck_elf(&folder, "stack --no-source core");
+            let is_by = |part: &str| ran.out.contains(&format!(" by_{}{}+", way, part));
+            let is_there = (is_by("") || is_by(".cold")) && ran.out.contains(" main+");
+            assert!(is_there && !ran.out.contains("tail call"), "{}: {}{}", build, ran.out, ran.error);
+            assert!(way != "parted" || build.contains(".so") || ran.out.contains(" parted.cold+"), "{}", ran.out);
+        }
+    }
+}

@@ -2,6 +2,7 @@
 
 mod common;
 
+use common::cores::by_gdb;
 use common::run::dwcheck_elf;
 use common::{has, may_trace, skipped, Folder};
 
@@ -240,4 +241,67 @@ fn a_program_of_another_machine() {
     let theirs = addresses(&folder.run("eu-stack --core core -e program 2> /dev/null || true"));
     let mut left = theirs.iter();
     assert!(addresses(&ours.out).iter().all(|address| left.any(|other| other == address)), "{}{:?}", ours.out, theirs);
+}
+
+/// A recursion that never ends, in the first thread or in another one, or a frame that is larger than the stack. `below`
+/// reads far below a stack that is nearly empty.
+const OVERFLOWS: &str = r#"
+#include <pthread.h>
+#include <string.h>
+#include <sys/resource.h>
+__attribute__((noipa)) int deeper(int n) { volatile int kept = n; return deeper(kept + 1) + kept; }
+__attribute__((noipa)) int large(int n) { volatile char room[1 << 24]; room[0] = n; return room[n]; }
+__attribute__((noipa)) int below(int n) { volatile char *near = (char *)&n; return near[-(1 << 24)]; }
+static void *begin(void *n) { return (void *)(long)deeper((int)(long)n); }
+int main(int c, char **v) {
+    struct rlimit size = {1 << 18, 1 << 18};
+    pthread_attr_t small;
+    pthread_t thread;
+    setrlimit(RLIMIT_STACK, &size);
+    if (!strcmp(v[1], "large")) return large(c) + 1;
+    if (!strcmp(v[1], "below")) return below(c) + 1;
+    if (!strcmp(v[1], "null")) return *(volatile int *)(long)(c - 2) + 1;
+    if (!strcmp(v[1], "main")) return deeper(c) + 1;
+    pthread_attr_init(&small);
+    pthread_attr_setstacksize(&small, 1 << 18);
+    return pthread_create(&thread, &small, begin, 0) || pthread_join(thread, 0);
+}
+"#;
+
+/// The outermost frames are shown too, with the numbers that gdb gives them.
+#[test]
+fn a_stack_overflow_is_named_and_has_both_ends() {
+    let folder = Folder::new("stacks-overflow");
+    folder.write("a.c", OVERFLOWS);
+    if !may_trace() {
+        return;
+    }
+    folder.run("gcc -O1 -g -pthread a.c -o overflow");
+    for (way, outermost) in [("main", " main+"), ("thread", " begin+")] {
+        folder.crash(&format!("./overflow {}", way));
+        let ran = dwcheck_elf(&folder, "stack --no-source --limit 5 core");
+        assert!(ran.out.starts_with("signal 11 SIGSEGV, ") && ran.lines()[1] == "stack overflow", "{}", ran.out);
+        let addresses = by_gdb(&folder, "overflow").into_iter().enumerate();
+        let all: Vec<_> = addresses.map(|(number, address)| format!("#{} {} ", number, address)).collect();
+        let ends: Vec<_> = all[..5].iter().chain(&all[all.len() - 10..]).collect();
+        let first = ran.out.split("\nthread").nth(1).unwrap();
+        let shown: Vec<_> = first.lines().filter(|line| line.starts_with('#')).collect();
+        let is_shown = shown.len() == 15 && shown.iter().zip(ends).all(|(line, begin)| line.starts_with(begin));
+        assert!(is_shown && shown[5..].iter().any(|line| line.contains(outermost)), "{}{:?}", first, all.last());
+        assert!(first.contains(&format!("\n{} frames left out\n", all.len() - 15)), "{}", first);
+        assert!(first.contains("\nstop: return undefined"), "{}", first);
+        let json = dwcheck_elf(&folder, "stack --json --limit 5 core").out;
+        let left_out = format!("\"frames_left_out\":{},\"stop\":\"return undefined\"", all.len() - 15);
+        assert!(json.contains("\"stack_overflow\":true,") && json.contains(&left_out), "{}", json);
+    }
+    folder.crash("./overflow large");
+    let ran = dwcheck_elf(&folder, "stack core");
+    assert!(ran.lines()[1] == "stack overflow" && !ran.out.contains("left out"), "{}", ran.out);
+    for way in ["below", "null"] {
+        folder.crash(&format!("./overflow {}", way));
+        let ran = dwcheck_elf(&folder, "stack core");
+        assert!(ran.out.starts_with("signal 11 SIGSEGV, ") && !ran.out.contains("stack overflow"), "{}", ran.out);
+        let json = dwcheck_elf(&folder, "stack --json core").out;
+        assert!(json.contains("\"stack_overflow\":false,"), "{}", json);
+    }
 }

@@ -26,7 +26,12 @@ impl Ranges {
     }
 
     pub fn contains(&self, address: u64) -> bool {
-        self.from(address).next().map_or(false, |range| range.contains(&address))
+        self.at(address).is_some()
+    }
+
+    /// The range that has an address.
+    pub fn at(&self, address: u64) -> Option<&Range<u64>> {
+        self.from(address).next().filter(|range| range.contains(&address))
     }
 
     /// The parts of a range that are in the set.

@@ -79,6 +79,11 @@ impl Signal {
         matches!(self.number, 4 | 7 | 8 | 11) && self.code.map_or(true, |code| code > 0)
     }
 
+    /// Whether memory is its cause: SIGSEGV and SIGBUS.
+    pub(crate) fn is_of_memory(&self) -> bool {
+        matches!(self.number, 7 | 11)
+    }
+
     fn causes(&self) -> &'static [&'static str] {
         match self.number {
             4 => &ILL,

@@ -9,13 +9,19 @@ impl Stack<'_, '_> {
     /// The stack as an object. Addresses are strings such as `"0x401136"`, because numbers of JSON
     /// are exact only up to 2^53. docs/OUTPUT.md lists the keys.
     pub fn json(&self) -> Value {
-        let frames: Vec<_> = (0..self.frames.len()).filter_map(|number| self.json_frame(number)).collect();
-        json!({ "thread": self.thread, "frames": frames, "stop": self.json_stop() })
+        let frames: Vec<_> = (0..self.frames.len()).filter_map(|index| self.json_frame(index)).collect();
+        let stop = self.json_stop();
+        json!({ "thread": self.thread, "frames": frames, "frames_left_out": self.frames_left_out(), "stop": stop })
     }
 
-    /// A frame as an object. All of them together may be large.
-    pub fn json_frame(&self, number: usize) -> Option<Value> {
-        Some(self.frame(number, self.frames.get(number)?))
+    /// A frame as an object, by its index. All of them together may be large.
+    pub fn json_frame(&self, index: usize) -> Option<Value> {
+        Some(self.frame(index, self.frames.get(index)?))
+    }
+
+    /// How many frames are left out.
+    pub fn frames_left_out(&self) -> usize {
+        self.left_out.map_or(0, |left_out| left_out.count)
     }
 
     /// Why there are no more frames.
@@ -23,10 +29,10 @@ impl Stack<'_, '_> {
         Why(self.stacks.core.target(), self.stop).to_string().into()
     }
 
-    fn frame(&self, number: usize, frame: &Frame) -> Value {
+    fn frame(&self, index: usize, frame: &Frame) -> Value {
         let Place { module, build_id, address_in_module, function, offset, source, inlined } = self.stacks.place(frame);
         let mut object = json!({
-            "number": number,
+            "number": self.number(index),
             "address": hex(frame.address),
             "after_call": frame.is_after_call,
             "found_by": frame.found_by.to_string(),
@@ -39,10 +45,11 @@ impl Stack<'_, '_> {
             "function": function,
             "offset": offset,
             "inlined": inlined.iter().map(inlined_function).collect::<Vec<_>>(),
+            "tail_call_from": self.tail_call(index),
         });
         add_source(&mut object, &source);
         if self.stacks.shape.is_some() {
-            object["functions"] = self.functions(number).iter().rev().map(Function::json).collect();
+            object["functions"] = self.functions(index).iter().rev().map(Function::json).collect();
         }
         if self.stacks.shows_registers && !frame.registers.is_empty() {
             let abi = self.stacks.core.abi();

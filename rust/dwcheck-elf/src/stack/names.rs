@@ -10,6 +10,15 @@ use crate::variables::Called;
 use rustc_hash::FxHashMap;
 use std::path::{Path, PathBuf};
 
+/// What compilers add to the name of a function for a part or a copy of it, perhaps with a number.
+const PARTS: [&str; 7] = [".cold", ".part.", ".isra.", ".constprop.", ".lto_priv.", ".llvm.", ".__part."];
+
+/// The most names of one function that are looked at.
+const MOST_NAMES: usize = 64;
+
+/// What linkers add to the name of a function for code that leads to it from far away.
+const FAR: [&str; 3] = ["_veneer", "__AArch64ADRPThunk_", "__AArch64AbsLongThunk_"];
+
 /// Which names a stack shows.
 #[derive(Clone, Copy, Debug, PartialEq, Eq)]
 pub struct NameOptions {
@@ -216,6 +225,23 @@ impl<'a> Names<'a> {
         self.place_of(address, looked_up, found, options)
     }
 
+    /// The name of the function at whose first address a call leads, if what it reached is in another function. `None`
+    /// if it may be in a part of the same one, or if it isn't known where both functions end.
+    pub fn left(&self, called: u64, reached: u64, options: NameOptions) -> Option<String> {
+        let (from, past) = self.functions.at(called)?;
+        let (to, _) = self.functions.at(reached)?;
+        let are_apart = from.size > 0 && to.size > 0 && (from.end() <= to.begin || to.end() <= from.begin);
+        if past > 0 || !are_apart || from.name.ends_with(STUB) || FAR.iter().any(|part| from.name.contains(part)) {
+            return None;
+        }
+        let is_part =
+            self.functions.beginning_at(from.begin).take(MOST_NAMES).any(|one| stem(&one.name) == stem(&to.name));
+        let function = |address| self.debug.functions(address).pop().and_then(|function| function.name);
+        let is_same = |name: String| function(reached) == Some(name);
+        let is_left = !is_part && !function(called).map_or(false, is_same);
+        is_left.then(|| options.shown(without_version(&from.name)))
+    }
+
     fn place_of(&self, address: u64, looked_up: u64, mut found: Vec<At>, options: NameOptions) -> Place {
         let mut place = Place::default();
         if let Some(spot) = Spot::at(&self.functions, looked_up) {
@@ -233,6 +259,12 @@ impl<'a> Names<'a> {
         place.inlined = inlined.collect();
         place
     }
+}
+
+/// A function's name without what compilers add to the names of its parts and copies.
+fn stem(name: &str) -> &str {
+    let ends = PARTS.iter().filter_map(|part| name.find(part)).filter(|end| *end > 0);
+    ends.min().map_or(name, |end| &name[..end])
 }
 
 /// A symbol's name without the version that `.symtab` has in it, such as `@@GLIBC_2.34`.

@@ -52,22 +52,25 @@ impl<'s, 'a> Stack<'s, 'a> {
         Lines(self)
     }
 
-    /// Writes a line for each frame and for each inlined function, and the line that says why there
-    /// are no more frames.
+    /// Writes a line for each frame, for each inlined function and for each place where frames are missing, and the
+    /// line that says why there are no more frames.
     fn write_frames(&self, f: &mut fmt::Formatter<'_>) -> fmt::Result {
-        for (number, frame) in self.frames.iter().enumerate() {
-            self.write_frame(f, number, frame)?;
+        for (index, frame) in self.frames.iter().enumerate() {
+            let left_out = self.left_out.filter(|left_out| left_out.after == index);
+            left_out.map_or(Ok(()), |left_out| writeln!(f, "{} frames left out", left_out.count))?;
+            self.write_frame(f, index, frame)?;
+            self.tail_call(index).map_or(Ok(()), |from| writeln!(f, "tail call from {}", from))?;
         }
         writeln!(f, "stop: {}", Why(self.stacks.core.target(), self.stop))
     }
 
-    fn write_frame(&self, f: &mut fmt::Formatter<'_>, number: usize, frame: &Frame) -> fmt::Result {
+    fn write_frame(&self, f: &mut fmt::Formatter<'_>, index: usize, frame: &Frame) -> fmt::Result {
         let Place { module, address_in_module, function, offset, source, inlined, .. } = self.stacks.place(frame);
         let address = Address(self.stacks.core.target(), frame.address);
         let shown = address_in_module.filter(|_| self.stacks.shows_modules);
         let shown = shown.map_or_else(String::new, |address| format!("+{:#x}", address));
         let module = module.map(|path| format!("{}{}", Plain(&path.to_string_lossy()), shown));
-        let mut functions = self.functions(number);
+        let (mut functions, number) = (self.functions(index), self.number(index));
         for one in inlined {
             let name = if one.name.is_empty() { "?" } else { &one.name };
             write!(f, "#{} {} {} inlined", number, address, name)?;

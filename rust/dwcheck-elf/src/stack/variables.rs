@@ -16,7 +16,7 @@ impl<'a> Stacks<'a> {
     pub fn variables(&self, stack: &Stack<'_, 'a>, frame: usize, shape: Shape) -> Vec<Function> {
         let tables = self.tables.borrow();
         let module_of = |frame: &Frame| tables.module_at(frame.looked_up());
-        let (is_innermost, frames) = (frame == 0, stack.frames.get(frame..).unwrap_or(&[]));
+        let (is_innermost, frames) = (frame == 0, stack.without_gap(frame));
         let place = frames.first().and_then(module_of);
         let (place, module) = match place.and_then(|place| Some((place, tables.modules().get(place)?))) {
             Some(found) => found,

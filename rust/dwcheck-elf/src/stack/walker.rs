@@ -1,6 +1,7 @@
 //! Walks up the stack of a thread.
 
 use super::guess::{Guess, Guesser};
+use super::kept::{Kept, Walked};
 use super::tables::{Found, Tables};
 use super::{FoundBy, Frame, Stop, WalkOptions};
 use crate::core_file::{CoreFile, Memory};
@@ -32,26 +33,26 @@ enum Caller {
 
 impl Walker<'_, '_> {
     /// The frames from the one with these registers on, and why there are no more.
-    pub fn walk(mut self, address: u64, mut registers: Registers) -> Result<(Vec<Frame>, Stop), Error> {
-        let mut frames = Vec::new();
+    pub fn walk(mut self, address: u64, mut registers: Registers) -> Result<Walked, Error> {
+        let mut kept = Kept::new(self.options);
         let mut next = Frame::first(address);
         loop {
-            if frames.len() >= self.options.limit {
-                return Ok((frames, Stop::Limit));
+            if kept.is_full() {
+                return Ok(kept.end(Stop::Limit));
             }
             if self.options.keeps_registers {
                 next.registers = registers.iter().collect();
             }
             match self.caller(&mut next, &registers)? {
                 Caller::Frame(frame, known) => {
-                    frames.push(std::mem::replace(&mut next, frame));
+                    kept.push(std::mem::replace(&mut next, frame));
                     registers = known;
                 }
                 // The frame is among those before it.
-                Caller::None(Stop::Loop) => return Ok((frames, Stop::Loop)),
+                Caller::None(Stop::Loop) => return Ok(kept.end(Stop::Loop)),
                 Caller::None(stop) => {
-                    frames.push(next);
-                    return Ok((frames, stop));
+                    kept.push(next);
+                    return Ok(kept.end(stop));
                 }
             }
         }

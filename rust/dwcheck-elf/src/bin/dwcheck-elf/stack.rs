@@ -94,7 +94,8 @@ fn print(
     if words.modules {
         stacks.show_modules();
     }
-    let report = Report { words, core, stacks, longest_stop };
+    let overflowed = stacks.overflowed();
+    let report = Report { words, core, stacks, longest_stop, overflowed };
     report.write(out, &mut warnings)?;
     out.flush()?;
     for warning in warnings {

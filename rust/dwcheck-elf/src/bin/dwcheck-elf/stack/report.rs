@@ -17,7 +17,12 @@ pub struct Report<'r, 'a> {
     pub stacks: &'r Stacks<'a>,
     /// For a process that runs: the longest time for which a thread was stopped.
     pub longest_stop: Option<Duration>,
+    /// The thread whose stack overflowed.
+    pub overflowed: Option<u32>,
 }
+
+/// How many of the outermost frames of a stack that overflowed are shown.
+const OUTERMOST: usize = 10;
 
 /// The stack of one thread, or of several threads that have the same one.
 struct Group<'r, 'a> {
@@ -67,6 +72,7 @@ impl<'r, 'a> Report<'r, 'a> {
             limit: self.words.limit,
             is_strict: self.words.strict,
             keeps_registers: self.words.registers || self.words.vars,
+            outermost: if self.overflowed == Some(thread.id) { OUTERMOST } else { 0 },
         };
         self.stacks.walk(thread, options).map_err(|error| Failure::File(format!("thread {}: {}", thread.id, error)))
     }
@@ -90,22 +96,10 @@ impl<'r, 'a> Report<'r, 'a> {
     }
 
     fn write_head(&self, out: &mut impl Write) -> io::Result<()> {
-        let signal = self.core.signal();
         if self.words.json {
-            let process = self.core.process();
-            let signal = signal.map(|signal| self.json_signal(signal));
-            write!(out, "{{\"pid\":{},", Value::from(process.map(|process| process.id)))?;
-            write!(out, "\"name\":{},", Value::from(process.map(|process| process.name.clone())))?;
-            let command = process.and_then(|process| process.command.clone());
-            write!(out, "\"command\":{},", Value::from(command))?;
-            let longest = self.longest_stop.map(|longest| longest.as_micros() as u64);
-            write!(out, "\"longest_stop_us\":{},", Value::from(longest))?;
-            write!(out, "\"signal\":{},", Value::from(signal))?;
-            write!(out, "\"abort_message\":{},", Value::from(self.stacks.abort_message()))?;
-            let instruction = self.stacks.instruction().map(json_instruction);
-            return write!(out, "\"instruction\":{},\"threads\":[", Value::from(instruction));
+            return self.write_json_head(out);
         }
-        let signal = match signal {
+        let signal = match self.core.signal() {
             Some(signal) => signal,
             None => return Ok(()),
         };
@@ -120,6 +114,9 @@ impl<'r, 'a> Report<'r, 'a> {
             write!(out, ", address {}", Address(self.core.target(), address))?;
         }
         writeln!(out)?;
+        if self.overflowed.is_some() {
+            writeln!(out, "stack overflow")?;
+        }
         let own = self.core.process().map(|process| process.id);
         if let Some(sender) = signal.sent_by().filter(|sender| Some(sender.pid) != own) {
             writeln!(out, "sent by process {} of user {}", sender.pid, sender.uid)?;
@@ -128,6 +125,22 @@ impl<'r, 'a> Report<'r, 'a> {
             writeln!(out, "abort message: {}", Plain(&message))?;
         }
         self.stacks.instruction().map_or(Ok(()), |instruction| self.write_instruction(out, &instruction))
+    }
+
+    fn write_json_head(&self, out: &mut impl Write) -> io::Result<()> {
+        let process = self.core.process();
+        let signal = self.core.signal().map(|signal| self.json_signal(signal));
+        write!(out, "{{\"pid\":{},", Value::from(process.map(|process| process.id)))?;
+        write!(out, "\"name\":{},", Value::from(process.map(|process| process.name.clone())))?;
+        let command = process.and_then(|process| process.command.clone());
+        write!(out, "\"command\":{},", Value::from(command))?;
+        let longest = self.longest_stop.map(|longest| longest.as_micros() as u64);
+        write!(out, "\"longest_stop_us\":{},", Value::from(longest))?;
+        write!(out, "\"signal\":{},", Value::from(signal))?;
+        write!(out, "\"stack_overflow\":{},", self.overflowed.is_some())?;
+        write!(out, "\"abort_message\":{},", Value::from(self.stacks.abort_message()))?;
+        let instruction = self.stacks.instruction().map(json_instruction);
+        write!(out, "\"instruction\":{},\"threads\":[", Value::from(instruction))
     }
 
     fn write_instruction(&self, out: &mut impl Write, instruction: &Instruction) -> io::Result<()> {
@@ -177,12 +190,13 @@ impl<'r, 'a> Report<'r, 'a> {
             .map(|thread| json!({ "id": thread.id, "name": self.name(thread), "signal": thread.signal }))
             .collect();
         write!(out, "{{\"frames\":[")?;
-        for number in 0..group.stack.frames.len() {
-            let frame = group.stack.json_frame(number).unwrap_or_default();
-            write!(out, "{}{}", if number > 0 { "," } else { "" }, frame)?;
+        for index in 0..group.stack.frames.len() {
+            let frame = group.stack.json_frame(index).unwrap_or_default();
+            write!(out, "{}{}", if index > 0 { "," } else { "" }, frame)?;
         }
         let (stop, thread) = (group.stack.json_stop(), group.stack.thread);
-        write!(out, "],\"stop\":{},\"thread\":{},\"threads\":{}}}", stop, thread, threads)
+        write!(out, "],\"frames_left_out\":{},", group.stack.frames_left_out())?;
+        write!(out, "\"stop\":{},\"thread\":{},\"threads\":{}}}", stop, thread, threads)
     }
 }
 

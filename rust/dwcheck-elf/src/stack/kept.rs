@@ -1,0 +1,54 @@
+//! The frames of a walk that are kept: the innermost ones, and the outermost ones of a stack that has too many.
+
+use super::{Frame, LeftOut, Stop, WalkOptions};
+use std::collections::VecDeque;
+
+/// The most frames of a stack of which the outermost ones are looked for. A stack of 8 MB has half as many.
+const MOST_PASSED: usize = 1 << 20;
+
+/// The frames so far.
+pub(super) struct Kept {
+    options: WalkOptions,
+    frames: Vec<Frame>,
+    /// The last ones of those that are past the limit.
+    outermost: VecDeque<Frame>,
+    /// How many frames there were.
+    count: usize,
+}
+
+/// A walk that has ended.
+pub(super) struct Walked {
+    pub frames: Vec<Frame>,
+    pub left_out: Option<LeftOut>,
+    pub stop: Stop,
+}
+
+impl Kept {
+    pub fn new(options: WalkOptions) -> Self {
+        Kept { options, frames: Vec::new(), outermost: VecDeque::new(), count: 0 }
+    }
+
+    /// Whether no other frame is looked for.
+    pub fn is_full(&self) -> bool {
+        let most = if self.options.outermost == 0 { 0 } else { MOST_PASSED };
+        self.count >= self.options.limit.max(most)
+    }
+
+    pub fn push(&mut self, frame: Frame) {
+        self.count += 1;
+        if self.frames.len() < self.options.limit {
+            return self.frames.push(frame);
+        }
+        if self.outermost.len() >= self.options.outermost {
+            self.outermost.pop_front();
+        }
+        self.outermost.push_back(frame);
+    }
+
+    pub fn end(mut self, stop: Stop) -> Walked {
+        let after = self.frames.len();
+        let count = self.count - after - self.outermost.len();
+        self.frames.extend(self.outermost);
+        Walked { frames: self.frames, left_out: Some(LeftOut { after, count }).filter(|_| count > 0), stop }
+    }
+}
