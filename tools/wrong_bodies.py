@@ -217,9 +217,15 @@ def path_of(crate, function):
     return module if owner is None else f"{owner or module}::{function.name}"
 
 
+def calls_itself(lines, at):
+    """Whether the function that begins at a line calls itself. Its proof is that of a cycle of calls."""
+    _, end, name = function_around(lines, at)
+    return any(re.search(rf"\b{name}\(", line) for line in lines[at + 1:end + 1])
+
+
 def plain_functions(crate):
-    """The functions of a crate that aren't those of a trait: the file, the number of the first line, and
-    the names of the modules, the type and the function."""
+    """The functions of a crate that aren't those of a trait and don't call themselves: the file, the
+    number of the first line, and the names of the modules, the type and the function."""
     for path in sorted((CRATES / crate.name / "src").rglob("*.rt")):
         lines = path.read_text(encoding="utf-8").splitlines()
         file = path.relative_to(CRATES / crate.name).as_posix()
@@ -227,7 +233,7 @@ def plain_functions(crate):
         for at, line in enumerate(lines):
             head = HEAD.match(line)
             owner = owner_of(lines, at) if head and len(head[1]) in (0, 4) else None
-            if owner is not None:
+            if owner is not None and not calls_itself(lines, at):
                 yield file, at + 1, [*modules, *([owner] if owner else []), head[2]]
 
 
