@@ -217,10 +217,12 @@ def path_of(crate, function):
     return module if owner is None else f"{owner or module}::{function.name}"
 
 
-def calls_itself(lines, at):
-    """Whether the function that begins at a line calls itself. Its proof is that of a cycle of calls."""
+def calls_itself(lines, at, owner):
+    """Whether the function that begins at a line, of this type if any, calls itself. Its proof is that
+    of a cycle of calls."""
     _, end, name = function_around(lines, at)
-    return any(re.search(rf"\b{name}\(", line) for line in lines[at + 1:end + 1])
+    before = rf"(?:self\.|Self::|\b{owner}::)" if owner else r"(?<![\w.:])"
+    return any(re.search(rf"{before}{name}\(", line) for line in lines[at + 1:end + 1])
 
 
 def plain_functions(crate):
@@ -233,7 +235,7 @@ def plain_functions(crate):
         for at, line in enumerate(lines):
             head = HEAD.match(line)
             owner = owner_of(lines, at) if head and len(head[1]) in (0, 4) else None
-            if owner is not None and not calls_itself(lines, at):
+            if owner is not None and not calls_itself(lines, at, owner):
                 yield file, at + 1, [*modules, *([owner] if owner else []), head[2]]
 
 

@@ -10,6 +10,8 @@ pub mod examples;
 #[cfg(test)]
 mod inputs;
 #[cfg(test)]
+mod look_ups;
+#[cfg(test)]
 mod refused_memory;
 #[cfg(test)]
 mod texts;

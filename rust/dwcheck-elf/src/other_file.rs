@@ -1,4 +1,4 @@
-//! What a file is that is no ELF file, by its first bytes, and what to do with it.
+//! What a file is that isn't an ELF file, by its first bytes, and what to do with it.
 
 use std::fmt;
 

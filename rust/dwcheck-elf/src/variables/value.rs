@@ -178,7 +178,7 @@ impl<'v, 'a> Locator<'v, 'a> {
             counts.push(count.ok_or(Missing::Unsupported("a length that isn't a constant"))?);
         }
         if counts.len() > MAX_DEPTH || counts.is_empty() {
-            return Err(Missing::Unsupported("an array of so many dimensions"));
+            return Err(Missing::Unsupported("an array of too many dimensions"));
         }
         if is_column_major(kind) {
             counts.reverse();
