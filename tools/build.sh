@@ -1,7 +1,8 @@
 #!/usr/bin/env bash
 # Proves and builds what is written in Rattle, and copies the results into the folder build/.
-#   tools/build.sh        build/dwcheck and build/libdwcheck_c.a
-#   tools/build.sh sum    prints a checksum of everything that is proved
+#   tools/build.sh          build/dwcheck and build/libdwcheck_c.a
+#   tools/build.sh archive  build/libdwcheck_c.a alone, over what an `rt ci` has proved so far
+#   tools/build.sh sum      prints a checksum of everything that is proved
 # The crates are proved by `rt ci`, side by side, on a copy without tests and wrong bodies. It keeps
 # what it has proved on this machine, so only what has changed is proved again, here and in
 # `make test`. If `make test` has just proved these very files, which the checksum in build/proved
@@ -25,13 +26,14 @@ stop() { # LOG: shows why a command failed
     exit 1
 }
 
-# How many proofs run side by side: one on each processor, and 3 GB of memory for each.
-lanes() {
+# How many jobs the library's proof gets: one on each processor, with 3 GB of memory for each, but at
+# most four.
+jobs() {
     local fit=$(($(sed -n 's/^MemTotal: *\([0-9]*\) kB/\1/p' /proc/meminfo) / 3000000))
-    [ "$fit" -lt "$(nproc)" ] || fit=$(nproc)
-    echo "$((fit > 0 ? fit : 1))"
+    printf '%s\n' "$(nproc)" "$fit" 4 | sort -n | head -n 1 | sed 's/^0$/1/'
 }
 
+# Nothing else runs, so a proof for which no other one waits gets the processors that are free.
 prove_copy() { # FOLDER: proves a copy of the crates there
     mkdir "$1/crates"
     for name in $(names); do
@@ -40,16 +42,22 @@ prove_copy() { # FOLDER: proves a copy of the crates there
     done
     grep -E "^($(names | tr '\n' '|')none)( staticlib)?:" crates.txt > "$1/crates.txt"
     cp HANDLES "$1/"
-    echo "proving $(names | wc -l) crates, but for those that were proved on this machine before; in all 25 minutes on 4 processors"
-    (cd "$1" && RT_JOBS=${RT_JOBS:-$(lanes)} rt ci 2>&1 < /dev/null) | tee build/log |
+    echo "proving $(names | wc -l) crates, but for those that were proved on this machine before; in all about half an hour on 4 processors"
+    (cd "$1" && rt ci 2>&1 < /dev/null) | tee build/log |
         sed -un 's/^rt: \([a-z_]*\) \(proved\|NOT PROVED\)$/\1 \2/p' || stop build/log
 }
 
-take_proved() { # FOLDER: copies what `make test` has proved; `rt ci` may put other libraries in its place
-    for name in $(names); do
-        mkdir -p "$1/crates/$name/out"
-        cp -r "crates/$name/out/." "$1/crates/$name/out/"
+take_proved() { # FOLDER NAME..: copies what `make test` has proved; `rt ci` may put other libraries in its place
+    local folder=$1 name
+    shift
+    for name in "$@"; do
+        mkdir -p "$folder/crates/$name/out"
+        cp -r "crates/$name/out/." "$folder/crates/$name/out/"
     done
+}
+
+library_names() { # the crates and the kit's libraries that the library uses
+    sed -n 's/^dwcheck_c staticlib: //p' crates.txt | tr ' ' '\n' | sed '/^$/d'
 }
 
 # Makes a folder as the kit's `toolchain`, but with tools/clang_with_rows.sh in clang's place, so that the library's
@@ -70,11 +78,11 @@ note_without_rows() { # ARCHIVE
     [ "$rows" -ge "$functions" ] || echo "note: $((functions - rows)) of the library's $functions functions have no unwind rows, so walks that interrupt them are cut" >&2
 }
 
-build_library() { # FOLDER
+build_library() { # FOLDER JOBS
     local kit words=() name
     kit=$(dirname "$(rt doc)")
     link_toolchain "$kit/toolchain" "$1/toolchain"
-    for name in $(sed -n 's/^dwcheck_c staticlib: //p' crates.txt) std; do
+    for name in $(library_names) std; do
         if [ -d "crates/$name" ]; then
             words+=(--extern "$name=$1/crates/$name/out/rlib/$name.rlib" -L "dependency=$1/crates/$name/out/rlib")
         else
@@ -83,7 +91,7 @@ build_library() { # FOLDER
     done
     (cd crates/dwcheck_c && "$kit/bin/rattle" build --crate-name dwcheck_c src/lib.rt --crate-type staticlib "${words[@]}" \
         -L "dependency=$kit/rlibs" --antt-project "$kit/rattle/logic/antt-project.json" \
-        --logic-built "$kit/logic_built" --toolchain "$1/toolchain" --backend llvm --jobs 2 \
+        --logic-built "$kit/logic_built" --toolchain "$1/toolchain" --backend llvm --jobs "$2" \
         -o "$1/libdwcheck_c.a") > build/log 2>&1 < /dev/null || {
         [ ! -s "$1/toolchain/why" ] || stop "$1/toolchain/why"
         stop build/log
@@ -95,24 +103,53 @@ put() { # FILE TO: copies a file, unless it is there already with the same bytes
     cmp -s "$1" "$2" || cp "$1" "$2"
 }
 
-build() {
+is_of_now() { # FILE CHECKSUM: whether the file has the checksum
+    [ -f "$1" ] && [ "$(cat "$1")" = "$2" ]
+}
+
+archive_sum() { # a checksum of all that the library is made from
+    { sum && rt version && cat tools/build.sh tools/clang_with_rows.sh; } | sha256sum | cut -d ' ' -f 1
+}
+
+begin() {
     mkdir -p build
     work=$(mktemp -d)
     trap 'rm -rf "$work"' EXIT
-    if [ -f build/proved ] && [ "$(cat build/proved)" = "$(sum)" ] && [ -f crates/dwcheck/out/dwcheck ]; then
-        take_proved "$work"
+}
+
+archive() { # JOBS: builds the library over the crates in $work
+    local now
+    now=$(archive_sum)
+    rm -f build/archive.sum
+    build_library "$work" "$1"
+    put "$work/libdwcheck_c.a" build/libdwcheck_c.a
+    echo "$now" > build/archive.sum
+}
+
+build_archive() { # Proofs of other crates keep the other processors busy.
+    begin
+    take_proved "$work" $(library_names | grep -xF "$(names)")
+    archive 1
+}
+
+build() {
+    begin
+    if is_of_now build/proved "$(sum)" && [ -f crates/dwcheck/out/dwcheck ]; then
+        take_proved "$work" $(names)
     else
         prove_copy "$work"
     fi
-    echo "proving and building dwcheck_c"
-    build_library "$work"
+    if ! { [ -f build/libdwcheck_c.a ] && is_of_now build/archive.sum "$(archive_sum)"; }; then
+        echo "proving and building dwcheck_c"
+        archive "$(jobs)"
+    fi
     put "$work/crates/dwcheck/out/dwcheck" build/dwcheck
-    put "$work/libdwcheck_c.a" build/libdwcheck_c.a
 }
 
 set -o pipefail
 case ${1:-} in
 "") build ;;
+archive) build_archive ;;
 sum) sum ;;
-*) echo "usage: tools/build.sh [sum]" >&2 && exit 2 ;;
+*) echo "usage: tools/build.sh [archive|sum]" >&2 && exit 2 ;;
 esac

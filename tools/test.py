@@ -5,8 +5,8 @@
 
 First it installs the Debian packages that are missing (tools/packages.sh), and says what the run
 will take. Then it runs the stages below, or only those that are named. What needs no proof begins at
-once, beside `proofs`; `build` begins as soon as `proofs` has proved what is built, while wrong
-bodies are still tried; and what runs the built programs begins after it. Each stage prints a line
+once, beside `proofs`; `archive` and `build` begin as soon as `proofs` has proved what they build
+from, while wrong bodies are still tried; and what runs the built programs begins after them. Each stage prints a line
 when it begins, a line now and then while it runs, and a line with its counts when it ends. Its whole
 output goes to build/test/STAGE.log. The last lines say what the run took, and `N passed, M failed`,
 the sum of all stages. A test that can't run is a failure, except where the machine forbids perf or
@@ -51,8 +51,8 @@ class Counts:
 @dataclass
 class Stage:
     """A part of the tests: a command, how to count in what it prints, which lines tell how far it is,
-    and the events for which it waits: `proved`, when `rt ci` has proved what is built, or the end of
-    the stage `proofs` or `build`."""
+    and the events for which it waits: `below`, when `rt ci` has proved the crates that the library
+    uses; `proved`, when it has proved all that is built; or the end of a stage that Gate.events names."""
 
     name: str
     what: str
@@ -130,8 +130,10 @@ STAGES = [
           counted_lines, progress="^(ok .*)", after=(), environment=RUST),
     Stage("code", "rust/dwcheck-lint", "cd rust/dwcheck-lint && nice -n 10 ../cargo.sh test --no-fail-fast", counted_by_cargo,
           after=(), environment=RUST),
+    Stage("archive", "the library for C, which is proved while it is built", "tools/build.sh archive && echo 'ok archive' || echo 'FAILED archive'",
+          counted_lines, after=("below",)),
     Stage("build", "the programs and the libraries", "make -s all && echo 'ok build' || echo 'FAILED build'", counted_lines,
-          progress="^(proving .*)", after=("proved",)),
+          progress="^(proving .*)", after=("proved", "archive")),
     Stage("rust", "rust/dwcheck and its documentation, also under valgrind", "rust/dwcheck/run.sh", counted_by_cargo,
           environment=RUST),
     Stage("pages", "the commands in README.md and docs/", "bench/pages.py build/dwcheck --elf build/dwcheck-elf --slow", counted_pages,
@@ -186,15 +188,21 @@ class Proofs:
 
     def __init__(self):
         lines = (TOP / "crates.txt").read_text(encoding="utf-8").splitlines()
-        uses = {words[0]: words[1:] for line in lines if (words := re.findall(r"\w+", line.replace(" staticlib:", ":"))) and line[0] != "#"}
-        self.crates, self.proved = set(uses), set()
+        self.uses = {words[0]: words[1:] for line in lines if (words := re.findall(r"\w+", line.replace(" staticlib:", ":"))) and line[0] != "#"}
+        self.crates, self.proved = set(self.uses), set()
         # The library itself, dwcheck_c, is proved while it is built.
-        self.built, below = set(), ["dwcheck", *uses["dwcheck_c"]]
-        while below:
-            name = below.pop()
-            if name in uses and name not in self.built:
-                self.built.add(name)
-                below += uses[name]
+        self.below = self.with_below(self.uses["dwcheck_c"])
+        self.built = self.below | self.with_below(["dwcheck"])
+
+    def with_below(self, names):
+        """Those of these that are crates here, and all crates that they use, also through others."""
+        found, left = set(), list(names)
+        while left:
+            name = left.pop()
+            if name in self.uses and name not in found:
+                found.add(name)
+                left += self.uses[name]
+        return found
 
     def of_line(self, text):
         """Notes what a line of progress says, and returns what to print for it."""
@@ -205,13 +213,14 @@ class Proofs:
         note_proved(name)
         return f"{text}{'' if words else ' was proved before'} ({len(self.proved)} of {len(self.crates)} crates)"
 
-    def are_done(self):
-        return self.built <= self.proved
+    def events(self):
+        """The events that have happened."""
+        return [name for name, needs in (("below", self.below), ("proved", self.built)) if needs <= self.proved]
 
 
-def run(stage, reporter, proofs=None, on_proofs=lambda: None):
+def run(stage, reporter, proofs=None, on_event=lambda name: None):
     """Runs a stage's command, and returns its counts. Prints how far it is. If `proofs` is passed, calls
-    `on_proofs` once what is built is proved."""
+    `on_event` with each event that has happened."""
     events, ended = 0, threading.Event()
 
     def reassure():
@@ -230,8 +239,8 @@ def run(stage, reporter, proofs=None, on_proofs=lambda: None):
             if found := re.match(stage.progress, line):
                 events += 1
                 reporter.say(f"{stage.name}: " + (proofs.of_line(found[1]) if proofs else f"{events}. {found[1]}"))
-                if proofs and proofs.are_done():
-                    on_proofs()
+                for name in proofs.events() if proofs else []:
+                    on_event(name)
             elif line.startswith("note: the machine "):
                 reporter.say(line.rstrip())
         _, status, used = os.wait4(process.pid, 0)
@@ -293,25 +302,26 @@ class Gate:
 
     def __init__(self, stages, reporter):
         self.stages, self.reporter = stages, reporter
-        self.events = {name: Event() for name in ("proved", "proofs", "build")}
+        self.events = {name: Event() for name in ("below", "proved", "proofs", "archive", "build")}
         # What no stage of this run does has been done before.
-        for name in self.events.keys() - {stage.name for stage in stages} - {"proved"}:
+        for name in self.events.keys() - {stage.name for stage in stages} - {"below", "proved"}:
             self.events[name].happens()
         if self.events["proofs"].is_well:
+            self.events["below"].happens()
             self.events["proved"].happens()
         # Most of the time a stage waits for one processor.
         self.places = threading.Semaphore(len(os.sched_getaffinity(0)))
 
-    def on_proofs(self):
-        """What is built is proved: tools/build.sh need not prove it once more."""
-        if not self.events["proved"].happened.is_set():
+    def on_event(self, name):
+        """Notes an event. What is proved, tools/build.sh need not prove once more."""
+        if name == "proved" and not self.events[name].happened.is_set():
             note_what_is_proved()
-            self.events["proved"].happens()
+        self.events[name].happens()
 
     def counts_of(self, stage):
         """Runs a stage, and returns its counts."""
         if stage.name == "proofs":
-            return run_and_show(stage, self.reporter, proofs=Proofs(), on_proofs=self.on_proofs)
+            return run_and_show(stage, self.reporter, proofs=Proofs(), on_event=self.on_event)
         if stage.name in self.events:
             return run_and_show(stage, self.reporter)
         with self.places:
@@ -328,6 +338,7 @@ class Gate:
         if stage.name in self.events:
             self.events[stage.name].happens(not counts.failed)
         if stage.name == "proofs":
+            self.events["below"].happens(False)
             self.events["proved"].happens(False)
             note_proved("end")
         return counts
@@ -356,9 +367,9 @@ def prepare():
             sys.exit(f"make test: {ready.stderr.strip()}")
 
 
-# What the gate takes from nothing, in minutes of a slow processor, its longest chain of proofs in
-# minutes, and what it takes if all is kept (docs/PERFORMANCE.md).
-FROM_NOTHING, CHAIN, OVER_KEPT = 200, 45, 15
+# What the gate takes from nothing, in minutes of a processor, its longest chain of proofs in minutes,
+# and what it takes if all is kept (docs/PERFORMANCE.md).
+FROM_NOTHING, CHAIN, OVER_KEPT = 190, 45, 15
 
 
 def forecast():
