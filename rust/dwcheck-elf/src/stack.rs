@@ -15,6 +15,7 @@ mod names;
 mod overflow;
 mod section;
 mod signal_return;
+mod stub;
 mod tables;
 mod tail_calls;
 mod text;
@@ -117,7 +118,8 @@ pub enum FoundBy {
     Row,
     /// A guess: the frame that it called isn't at an executable address, so a call led there. On
     /// x86, the return address is at the stack pointer, and on aarch64 it is in x30. On x86 also: no row
-    /// covers the frame that it called, and the word at the stack pointer follows a call.
+    /// covers the frame that it called, and the word at the stack pointer follows a call, or that above what a
+    /// stub of a procedure linkage table has pushed.
     Call,
     /// A guess: no row covers the frame that it called, whose frame pointer leads to the caller.
     FramePointer,

@@ -1,7 +1,7 @@
 //! Finds the caller of a frame that no row is found for. The result is a guess.
 
 use super::signal_return::SignalReturn;
-use super::FoundBy;
+use super::{stub, FoundBy};
 use crate::core_file::{CoreFile, Memory};
 use dwcheck::Registers;
 
@@ -27,8 +27,13 @@ impl Guesser<'_> {
     /// The caller of a frame whose address isn't executable, because a call led there: on x86 the
     /// return address is at the stack pointer, on aarch64 it is in x30.
     pub fn by_call(&self) -> Option<Guess> {
+        self.by_call_below(0)
+    }
+
+    /// The same where `pushed` words are on the stack below the return address.
+    fn by_call_below(&self, pushed: u64) -> Option<Guess> {
         let abi = self.core.abi();
-        let stack = self.registers.get(abi.stack_pointer)?;
+        let stack = self.registers.get(abi.stack_pointer)?.checked_add(pushed * self.word_size())?;
         let (address, cfa) = match abi.link_register {
             Some(link) => (self.core.without_code(self.registers.get(link)?), stack),
             None => (self.word(stack)?, stack.checked_add(self.word_size())?),
@@ -40,13 +45,20 @@ impl Guesser<'_> {
         Some(guess).filter(|_| self.is_code(address) && self.may_follow_call(address))
     }
 
-    /// The caller of a frame in code of x86 that no row covers and that hasn't changed the stack yet, such as a stub of
-    /// a procedure linkage table: the word at the stack pointer follows a call. If it is one to a fixed address, that
-    /// has to be an address for which `may_lead` is true.
-    pub fn by_return_address(&self, may_lead: impl Fn(u64) -> bool) -> Option<Guess> {
-        let guess = self.by_call().filter(|_| self.core.abi().link_register.is_none())?;
+    /// The caller of a frame in code of x86 at an address that no row covers, and that hasn't changed the stack yet or is
+    /// a stub of a procedure linkage table: the word at the stack pointer, or above what the stub has pushed, follows
+    /// a call. If it is one to a fixed address, that has to be an address for which `may_lead` is true.
+    pub fn by_return_address(&self, address: u64, may_lead: impl Fn(u64) -> bool) -> Option<Guess> {
+        let guess = self.by_call_below(self.pushed_at(address)).filter(|_| self.core.abi().link_register.is_none())?;
         let is_call = ends_with_call(&self.before(guess.address)?);
         Some(guess).filter(|guess| is_call && self.called_before(guess.address).map_or(true, may_lead))
+    }
+
+    /// How many words a stub of a procedure linkage table has pushed, if the code at an address is one.
+    fn pushed_at(&self, address: u64) -> u64 {
+        let top = self.registers.get(self.core.abi().stack_pointer).and_then(|stack| self.word(stack));
+        let code = self.memory.at_most(address, stub::LONGEST);
+        self.before(address).zip(top).map_or(0, |(before, top)| stub::pushed(&before, &code, top as u32))
     }
 
     /// Where the call of x86 before an address leads, if it is one to a fixed address.

@@ -148,7 +148,7 @@ impl Walker<'_, '_> {
                 return Ok(framed);
             }
         }
-        Ok(guesser.by_return_address(|target| self.may_lead(target, address)).or(framed))
+        Ok(guesser.by_return_address(address, |target| self.may_lead(target, address)).or(framed))
     }
 
     /// Whether a call to one address may lead to another one: they are in the same file, in which the call may lead to a
