@@ -13,6 +13,7 @@ mod kept;
 mod listed;
 mod names;
 mod overflow;
+mod per_file;
 mod section;
 mod signal_return;
 mod stub;

@@ -1,5 +1,6 @@
 //! The message that glibc keeps when it ends a process, such as that of a failed assertion.
 
+use super::per_file::PerFile;
 use super::Stacks;
 use crate::core_file::Module;
 use crate::program::Program;
@@ -19,12 +20,14 @@ impl Stacks<'_> {
         self.core.signal().filter(|signal| signal.number == SIGABRT)?;
         let tables = self.tables.borrow();
         let has_glibc = |module: &&Module<'_>| module.path.ends_with("libc.so.6") || self.core.begins_in(module);
-        tables.modules().iter().filter(has_glibc).find_map(|module| self.message_of(module))
+        let mut variables = PerFile::new(|program: &Program<'_>| program.variable(VARIABLE));
+        let mut modules = tables.modules().iter().filter(has_glibc);
+        modules.find_map(|module| self.message_at(module, variables.of(module)?))
     }
 
-    fn message_of(&self, module: &Module<'_>) -> Option<String> {
+    /// The message to which a variable of a module leads, whose address in the file is `linked`.
+    fn message_at(&self, module: &Module<'_>, linked: u64) -> Option<String> {
         let target = self.core.target();
-        let linked = Program::read(module.image.bytes()).ok()?.variable(VARIABLE)?;
         let mut word = [0; 8];
         let word = word.get_mut(..usize::from(target.address_size.bytes()))?;
         let is_known = self.memory.read(target.wrap(linked.wrapping_add(module.bias)), word);

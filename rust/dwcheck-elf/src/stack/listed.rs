@@ -1,6 +1,7 @@
 //! The list of the modules of a process, by which frames can be named on another machine.
 
 use super::json::hex as address;
+use super::per_file::PerFile;
 use super::Stacks;
 use crate::core_file::Mapping;
 use crate::debug_files::hex;
@@ -33,9 +34,10 @@ impl Stacks<'_> {
     /// The modules of the process, and the files with code that can't be used, by their addresses.
     pub fn modules(&self) -> Vec<Listed> {
         let tables = self.tables.borrow();
+        let mut build_ids = PerFile::new(|program: &Program<'_>| program.build_id().map(hex));
         let modules = tables.modules().iter().map(|module| Listed {
             path: module.path.clone(),
-            build_id: Program::read(module.image.bytes()).ok().and_then(|program| program.build_id().map(hex)),
+            build_id: build_ids.of(module),
             begin: module.begin,
             end: module.end,
             bias: Some(module.bias),

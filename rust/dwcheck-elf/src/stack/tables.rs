@@ -38,7 +38,7 @@ struct FileTables<'a> {
 
 /// What tells files apart: the index of a mapped file, or that it is the program or the vDSO. A file
 /// that is mapped several times is read once.
-type FileKey = (u8, usize);
+pub(super) type FileKey = (u8, usize);
 
 /// A part of a module's code: its addresses in the process, and the index of the module.
 #[derive(Clone, Debug)]
@@ -227,7 +227,8 @@ impl<'a> Tables<'a> {
     }
 }
 
-fn key(module: &Module<'_>) -> FileKey {
+/// What tells the file of a module from others.
+pub(super) fn key(module: &Module<'_>) -> FileKey {
     match module.image {
         Image::File(place, _) => (0, place),
         Image::Program(_) => (1, 0),
