@@ -55,7 +55,8 @@ def plain(value, depth=1):
     """A value of gdb as `vars --json` writes it. None if it has none."""
     kind = value.type.strip_typedefs()
     if kind.code in (gdb.TYPE_CODE_REF, gdb.TYPE_CODE_RVALUE_REF):
-        return hex(int(value.referenced_value().address))
+        target = value.referenced_value()
+        return {"address": hex(int(target.address)), "value": part(target, depth)}
     if value.is_optimized_out:
         return None
     if kind.code == gdb.TYPE_CODE_PTR:

@@ -58,6 +58,8 @@ pub struct Variables<'a> {
     units: Units<'a>,
     functions: FunctionIndex,
     target: Target,
+    /// The machine's number (`e_machine`).
+    machine: u16,
     loc: &'a [u8],
     loclists: &'a [u8],
     files: &'a DebugFiles,
@@ -186,8 +188,8 @@ impl<'a> Variables<'a> {
         let units = Units::read(dwarf(program, &NEEDED, unpacked).map_err(fail)?, shared);
         let units = units.map_err(|error| VariablesError::DebugInfo(error.to_string()))?;
         let functions = FunctionIndex::of(&units);
-        let (target, splits) = (program.target(), RefCell::default());
-        Ok(Variables { units, functions, target, loc, loclists, files, splits })
+        let (target, machine, splits) = (program.target(), program.machine(), RefCell::default());
+        Ok(Variables { units, functions, target, machine, loc, loclists, files, splits })
     }
 
     /// The functions at the address of a frame with their variables, the outermost first: the function, then

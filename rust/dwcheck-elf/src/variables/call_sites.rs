@@ -2,7 +2,7 @@
 //! (DWARF 5, section 3.4).
 
 use super::location::Locator;
-use super::place::Place;
+use super::place::{Missing, Place};
 use super::scopes::place;
 use crate::debug_info::{Die, Slice};
 use gimli::{AttributeValue, DwAt};
@@ -42,14 +42,14 @@ impl<'v, 'a> Locator<'v, 'a> {
         }
         let parameter = site.children().into_iter().find(is_wanted)?;
         let value = expression(&parameter, gimli::DW_AT_call_value, gimli::DW_AT_GNU_call_site_value)?;
-        locator.computed(&parameter, value.slice())
+        locator.computed(&parameter, value.slice()).ok()
     }
 
     /// The value of an expression that isn't a location.
-    fn computed(&self, die: &Die<'v, 'a>, expression: &[u8]) -> Option<u64> {
-        match self.evaluated(die, &[expression, &[STACK_VALUE]].concat()).ok()? {
-            Place::Value(value) => Some(value),
-            _ => None,
+    pub(super) fn computed(&self, die: &Die<'v, 'a>, expression: &[u8]) -> Result<u64, Missing> {
+        match self.evaluated(die, &[expression, &[STACK_VALUE]].concat())? {
+            Place::Value(value) => Ok(value),
+            _ => Err(Missing::Unsupported("a result of this kind")),
         }
     }
 
@@ -60,7 +60,7 @@ impl<'v, 'a> Locator<'v, 'a> {
             return is_same_function(&self.function, &origin);
         }
         let target = expression(site, gimli::DW_AT_call_target, gimli::DW_AT_GNU_call_site_target);
-        let target = target.and_then(|target| caller.computed(site, target.slice()));
+        let target = target.and_then(|target| caller.computed(site, target.slice()).ok());
         let entry = self.function.attribute(gimli::DW_AT_low_pc);
         let entry = entry.and_then(|entry| self.variables.units.dwarf.attr_address(&self.function.unit, entry).ok()?);
         let entry = entry.map(|entry| self.variables.target.wrap(entry.wrapping_add(self.frame.load)));

@@ -98,3 +98,8 @@ fn functions(units: &Units<'_>, index: usize) -> Result<Ranges<UnitOffset<usize>
     functions.sort_by_key(|(range, _)| range.start);
     Ok(functions)
 }
+
+/// The first address of a function: that of the first of its ranges.
+pub(super) fn begin_of(function: &Die<'_, '_>) -> Option<u64> {
+    ranges_of(function.ranges()?).first().map(|range| range.start)
+}

@@ -35,8 +35,9 @@ fn value(of: &Value) -> Json {
     let part = |part: &Result<Value, Missing>| part.as_ref().map_or(Json::Null, value);
     match of {
         Value::Plain(text) => json!(text),
-        Value::Text(address, text) => json!({ "address": address, "text": text }),
+        Value::Text { address, text, .. } => json!({ "address": address, "text": text }),
         Value::Pointer(name, of) => json!({ "points_to": name, "value": value(of) }),
+        Value::Reference(address, of) => json!({ "address": address, "value": part(of) }),
         Value::Members(members) => members.iter().map(|(name, member)| (name.clone(), part(member))).collect(),
         Value::Elements(elements, _) => elements.iter().map(part).collect(),
         Value::Deeper => Json::Null,

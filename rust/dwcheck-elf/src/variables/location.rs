@@ -16,7 +16,7 @@ use std::rc::Rc;
 /// How deep evaluations may be nested: entry values of entry values, implicit pointers of such.
 const MAX_DEPTH: usize = 8;
 
-/// How many such operations are looked up for a frame. In a hostile file, each may need several others.
+/// How many such operations, and lengths of arrays, are looked up for a frame. In a hostile file, each may need several others.
 const MAX_KNOWN: usize = 1 << 14;
 
 /// Looks up where the variables of a frame are.
@@ -127,7 +127,7 @@ impl<'v, 'a> Locator<'v, 'a> {
         if self.depth >= MAX_DEPTH {
             return None;
         }
-        self.left.set(self.left.get().checked_sub(1)?);
+        self.take_look_up()?;
         let mut cursor = Cursor::new(operands, self.variables.target);
         match hole {
             Hole::EntryValue => {
@@ -141,6 +141,12 @@ impl<'v, 'a> Locator<'v, 'a> {
             Hole::FormTlsAddress => self.thread_block(),
             _ => None,
         }
+    }
+
+    /// Counts an operation or a length that is looked up. `None` if there are too many for the frame.
+    pub fn take_look_up(&self) -> Option<()> {
+        self.left.set(self.left.get().checked_sub(1)?);
+        Some(())
     }
 
     fn thread_block(&self) -> Option<u64> {
@@ -197,7 +203,7 @@ impl<'v, 'a> Locator<'v, 'a> {
                     let pointer = self.implicit_pointer(die, expression.get(spot.original..).unwrap_or(&[]));
                     pointer.ok_or(Missing::NotEvaluated(Hole::ImplicitPointer))
                 }
-                Some(spot) => Err(Missing::NotEvaluated(spot.hole)),
+                Some(spot) => Err(Missing::by_hole(spot.hole)),
                 None => Err(unreadable(&rewritten.bytes, at as usize, self.variables.target)),
             },
             _ => Err(Missing::Unsupported("a result of this kind")),
@@ -220,7 +226,7 @@ impl<'v, 'a> Locator<'v, 'a> {
                     found.into_iter().next().map_or(Err(Missing::OptimizedOut), |piece| place_of(piece.location))
                 }
                 Outcome::Unreadable { at } => Err(match rewritten.hole_at(begin + at as usize) {
-                    Some(spot) => Missing::NotEvaluated(spot.hole),
+                    Some(spot) => Missing::by_hole(spot.hole),
                     None => unreadable(part, at as usize, target),
                 }),
                 Outcome::DivisionByZero { .. } => Err(Missing::DivisionByZero),

@@ -8,7 +8,7 @@ use std::fmt;
 /// Why a variable or a part of it has no value.
 #[derive(Clone, Debug, PartialEq, Eq)]
 pub enum Missing {
-    /// It has no location at the address.
+    /// It has no location at the address, or one that only the caller may have known.
     OptimizedOut,
     /// Its expression has an operation that isn't evaluated.
     NotEvaluated(Hole),
@@ -48,6 +48,17 @@ pub struct Pointee {
     pub past: i64,
     /// The offset in `.debug_info` of the variable's entry.
     pub entry: usize,
+}
+
+impl Missing {
+    /// Why an expression with an operation that isn't evaluated has no value. A value that only the caller may have
+    /// known is gone, as gdb takes it.
+    pub(super) fn by_hole(hole: Hole) -> Missing {
+        match hole {
+            Hole::EntryValue | Hole::ParameterRef => Missing::OptimizedOut,
+            hole => Missing::NotEvaluated(hole),
+        }
+    }
 }
 
 /// The registers and the memory of a frame.

@@ -78,7 +78,7 @@ impl<'a> Variables<'a> {
         let split = SplitFile::open(&self.units.root(index)?, self.files)?;
         let (units, loclists) = (split.units(&NEEDED)?, split.loclists().ok()?);
         let functions = FunctionIndex::of_split(self.functions.ranges_of(index));
-        let (target, files, splits) = (self.target, self.files, RefCell::default());
-        Some(Variables { units, functions, target, loc: &[], loclists, files, splits })
+        let (target, machine, files, splits) = (self.target, self.machine, self.files, RefCell::default());
+        Some(Variables { units, functions, target, machine, loc: &[], loclists, files, splits })
     }
 }

@@ -51,9 +51,13 @@ impl fmt::Display for Value {
     fn fmt(&self, f: &mut fmt::Formatter<'_>) -> fmt::Result {
         match self {
             Value::Plain(text) => write!(f, "{}", Plain(text)),
-            Value::Text(address, text) => write!(f, "{} \"{}\"", address, text),
+            Value::Text { address, prefix, text } => write!(f, "{} {}\"{}\"", address, prefix, text),
             Value::Pointer(Some(name), value) => write!(f, "&{}, {}", Plain(name), value),
             Value::Pointer(None, value) => write!(f, "&{}", value),
+            Value::Reference(address, value) => {
+                write!(f, "@{}: ", address)?;
+                write_part(f, value)
+            }
             Value::Members(members) => {
                 f.write_str("{")?;
                 for (index, (name, value)) in members.iter().enumerate() {

@@ -5,10 +5,10 @@ use crate::debug_info::Die;
 use gimli::{AttributeValue, DwTag};
 
 /// How many types are passed on the way to the one that a name or a qualifier stands for.
-const MAX_TYPES: usize = 32;
+pub(super) const MAX_TYPES: usize = 32;
 
-/// The most elements of all dimensions of an array whose size is known.
-const MAX_SIZE: u64 = 1 << 40;
+/// The most bytes and the most elements of an array.
+pub(super) const MAX_SIZE: u64 = 1 << 40;
 
 /// The type of a variable or a member, or of what a type points to. `None` for `void`.
 pub(super) fn type_of<'u, 'a>(die: &Die<'u, 'a>) -> Option<Die<'u, 'a>> {
@@ -19,10 +19,14 @@ pub(super) fn type_of<'u, 'a>(die: &Die<'u, 'a>) -> Option<Die<'u, 'a>> {
 /// The type that a name such as `size_t` or a qualifier such as `const` stands for. If it is only declared here, and
 /// is defined in another unit, it is the one of that unit.
 pub(super) fn plain<'u, 'a>(of: &Die<'u, 'a>) -> Option<Die<'u, 'a>> {
-    let next = |die: &Die<'u, 'a>| die.tag().filter(|tag| is_other_name(*tag)).and_then(|_| type_of(die));
-    let mut types = std::iter::successors(Some(of.clone()), next).take(MAX_TYPES);
-    let found = types.find(|die| !die.tag().map_or(false, is_other_name))?;
+    let found = other_names(of).find(|die| !die.tag().map_or(false, is_other_name))?;
     Some(found.units.defined(found))
+}
+
+/// A type, then those that it is another name of, or that it qualifies.
+pub(super) fn other_names<'u, 'a>(of: &Die<'u, 'a>) -> impl Iterator<Item = Die<'u, 'a>> {
+    let next = |die: &Die<'u, 'a>| die.tag().filter(|tag| is_other_name(*tag)).and_then(|_| type_of(die));
+    std::iter::successors(Some(of.clone()), next).take(MAX_TYPES)
 }
 
 fn is_other_name(tag: DwTag) -> bool {
@@ -44,70 +48,84 @@ pub(super) fn number(die: &Die<'_, '_>, name: gimli::DwAt) -> Option<u64> {
     value.udata_value().or_else(|| value.sdata_value().map(|number| number as u64))
 }
 
-/// The size of a type in bytes. `None` if it isn't known.
+/// The size of a type in bytes. `None` if it isn't a constant.
 pub(super) fn size_of(of: &Die<'_, '_>) -> Option<u64> {
+    size_within(of, MAX_TYPES)
+}
+
+/// The same for a type that consists of at most `left` types inside each other that have no size of their own.
+fn size_within(of: &Die<'_, '_>, left: usize) -> Option<u64> {
     let die = plain(of)?;
     if let Some(size) = number(&die, gimli::DW_AT_byte_size) {
         return Some(size);
     }
+    let inner = || size_within(&type_of(&die)?, left.checked_sub(1)?);
+    let address_size = u64::from(die.unit.encoding().address_size);
     match die.tag()? {
         gimli::DW_TAG_array_type => {
-            let element = type_of(&die).filter(|element| place_differs(element, &die))?;
             let count = dimensions(&die).into_iter().try_fold(1u64, |all, count| all.checked_mul(count?))?;
-            element_size(&element, MAX_TYPES)?.checked_mul(count).filter(|size| *size <= MAX_SIZE)
+            inner()?.checked_mul(count).filter(|size| *size <= MAX_SIZE)
         }
-        gimli::DW_TAG_enumeration_type => type_of(&die).and_then(|inner| element_size(&inner, MAX_TYPES)),
-        tag if is_pointer(tag) => Some(u64::from(die.unit.encoding().address_size)),
+        gimli::DW_TAG_enumeration_type => inner(),
+        // The ABI of C++ has two words for a function.
+        gimli::DW_TAG_ptr_to_member_type if is_function(&plain(&type_of(&die)?)?) => address_size.checked_mul(2),
+        gimli::DW_TAG_ptr_to_member_type => Some(address_size),
+        tag if is_pointer(tag) => Some(address_size),
         _ => None,
     }
 }
 
-/// The size of a type that isn't an array without a size of its own, of which there may be only so many
-/// inside each other.
-fn element_size(of: &Die<'_, '_>, left: usize) -> Option<u64> {
-    let die = plain(of)?;
-    if let Some(size) = number(&die, gimli::DW_AT_byte_size) {
-        return Some(size);
-    }
-    let tag = die.tag()?;
-    if tag == gimli::DW_TAG_array_type && left > 0 {
-        let count = dimensions(&die).into_iter().try_fold(1u64, |all, count| all.checked_mul(count?))?;
-        return element_size(&type_of(&die)?, left - 1)?.checked_mul(count);
-    }
-    Some(u64::from(die.unit.encoding().address_size)).filter(|_| is_pointer(tag))
-}
-
-fn place_differs(one: &Die<'_, '_>, other: &Die<'_, '_>) -> bool {
-    super::scopes::place(one) != super::scopes::place(other)
-}
-
+/// Whether a type is a pointer or a reference.
 pub(super) fn is_pointer(tag: DwTag) -> bool {
-    matches!(tag, gimli::DW_TAG_pointer_type | gimli::DW_TAG_reference_type | gimli::DW_TAG_rvalue_reference_type)
+    tag == gimli::DW_TAG_pointer_type || is_reference(tag)
+}
+
+/// Whether a type is a reference of C++.
+pub(super) fn is_reference(tag: DwTag) -> bool {
+    matches!(tag, gimli::DW_TAG_reference_type | gimli::DW_TAG_rvalue_reference_type)
+}
+
+/// Whether a type is that of a function.
+pub(super) fn is_function(kind: &Die<'_, '_>) -> bool {
+    kind.tag() == Some(gimli::DW_TAG_subroutine_type)
+}
+
+/// The dimensions of an array.
+pub(super) fn ranges<'u, 'a>(array: &Die<'u, 'a>) -> Vec<Die<'u, 'a>> {
+    let mut children = array.children();
+    children.retain(|child| child.tag() == Some(gimli::DW_TAG_subrange_type));
+    children
 }
 
 /// The number of elements in each dimension of an array. `None` for one that isn't a constant.
 pub(super) fn dimensions(array: &Die<'_, '_>) -> Vec<Option<u64>> {
-    let ranges = array.children().into_iter().filter(|child| child.tag() == Some(gimli::DW_TAG_subrange_type));
-    ranges.map(|range| count_of(&range)).collect()
+    ranges(array).iter().map(constant_length).collect()
 }
 
-fn count_of(range: &Die<'_, '_>) -> Option<u64> {
+/// The number of elements in a dimension, if that is a constant.
+pub(super) fn constant_length(range: &Die<'_, '_>) -> Option<u64> {
     if let Some(count) = number(range, gimli::DW_AT_count) {
         return Some(count);
     }
-    let bound = |name| range.attribute(name).map(|_| number(range, name).map(|bound| bound as i64));
-    let upper = bound(gimli::DW_AT_upper_bound)??;
-    let lower = bound(gimli::DW_AT_lower_bound).unwrap_or_else(|| Some(lowest(range)))?;
+    let bound = |name| number(range, name).map(|bound| bound as i64);
+    let upper = bound(gimli::DW_AT_upper_bound)?;
+    let lower = if has_lowest(range) { bound(gimli::DW_AT_lower_bound)? } else { lowest(range) };
     u64::try_from(upper.checked_sub(lower)?.checked_add(1)?).ok()
 }
 
+/// Whether a dimension says which index its first element has.
+pub(super) fn has_lowest(range: &Die<'_, '_>) -> bool {
+    range.attribute(gimli::DW_AT_lower_bound).is_some()
+}
+
 /// The index of the first element where the language says it: 1 in Fortran and Ada, else 0.
-fn lowest(range: &Die<'_, '_>) -> i64 {
+pub(super) fn lowest(range: &Die<'_, '_>) -> i64 {
     let is_ada = matches!(language(range), Some(gimli::DW_LANG_Ada83 | gimli::DW_LANG_Ada95));
     i64::from(is_ada || is_fortran(range))
 }
 
-fn is_fortran(die: &Die<'_, '_>) -> bool {
+/// Whether an entry is of a unit in Fortran.
+pub(super) fn is_fortran(die: &Die<'_, '_>) -> bool {
     matches!(
         language(die),
         Some(
@@ -154,6 +172,10 @@ fn named(of: Option<Die<'_, '_>>, left: usize) -> String {
         Some(gimli::DW_TAG_pointer_type) => die.name().unwrap_or_else(|| pointer(inner(), "*")),
         Some(gimli::DW_TAG_reference_type) => pointer(inner(), "&"),
         Some(gimli::DW_TAG_rvalue_reference_type) => pointer(inner(), "&&"),
+        Some(gimli::DW_TAG_ptr_to_member_type) => {
+            let class = die.reference(gimli::DW_AT_containing_type).and_then(|class| class.name());
+            format!("{} {}::*", inner(), class.unwrap_or_default())
+        }
         Some(gimli::DW_TAG_const_type) => qualified(&die, "const", inner()),
         Some(gimli::DW_TAG_volatile_type) => qualified(&die, "volatile", inner()),
         Some(gimli::DW_TAG_restrict_type) => format!("{} restrict", inner()),

@@ -1,6 +1,7 @@
 //! Parts of structures of which only one is there, such as the variants of enums of Rust (DWARF 5, 5.7.10).
 
-use super::{cut, unsigned, Part};
+use super::numbers::{cut, unsigned};
+use super::Part;
 use crate::debug_info::Die;
 use crate::variables::location::Locator;
 use crate::variables::place::Missing;

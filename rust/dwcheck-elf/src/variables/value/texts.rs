@@ -1,43 +1,51 @@
 //! Reads texts.
 
-use super::{escaped, is_pointer, number, quoted, size_of, type_of, unsigned, Part, Shape, Value};
+use super::characters::{utf8, Characters};
+use super::numbers::unsigned;
+use super::{Part, Shape, Value};
 use crate::debug_info::Die;
 use crate::variables::location::Locator;
 use crate::variables::place::Missing;
+use crate::variables::types::{is_pointer, number, size_of, type_of};
 
 /// The types of texts of Rust and Go, which are an address and a number of bytes.
 const COUNTED: [&str; 3] = ["&str", "&mut str", "string"];
 
 impl<'v, 'a> Locator<'v, 'a> {
-    /// The text at an address, up to its 0 or to `length` bytes. `None` if no byte of it can be read.
-    pub(super) fn text(&self, address: u64, length: usize) -> Option<String> {
-        let machine = &self.machine;
-        let mut bytes = Vec::new();
-        while bytes.len() < length {
-            let byte = machine
-                .memory(address.checked_add(bytes.len() as u64)?, 1)
-                .ok()
-                .and_then(|found| found.first().copied());
-            match byte {
-                Some(0) => return Some(escaped(&bytes)),
-                Some(byte) => bytes.push(byte),
-                None if bytes.is_empty() => return None,
+    /// The text at an address, up to its 0 or to `length` characters. `None` if none of them can be read.
+    pub(super) fn text(&self, address: u64, characters: Characters, length: usize) -> Option<String> {
+        let mut units = Vec::new();
+        while units.len() < length {
+            let at = address.checked_add((units.len() * characters.width) as u64)?;
+            let unit = self.machine.memory(at, characters.width).ok();
+            match unit.map(|bytes| self.machine.target.number(&bytes) as u32) {
+                Some(0) => return Some(characters.escaped(&units)),
+                Some(unit) => units.push(unit),
+                None if units.is_empty() => return None,
                 None => break,
             }
         }
-        Some(escaped(&bytes) + "..")
+        Some(characters.escaped(&units) + "..")
     }
 
     /// A text of Fortran.
     pub(super) fn string(&self, kind: &Die<'v, 'a>, part: Part<'_>, shape: Shape) -> Result<Value, Missing> {
         let count = size_of(kind).and_then(|size| usize::try_from(size).ok());
-        self.characters(part, count.ok_or(Missing::Unsupported("a length that isn't a constant"))?, shape)
+        let count = count.ok_or(Missing::Unsupported("a length that isn't a constant"))?;
+        self.characters(part, Characters::BYTES, count, shape)
     }
 
-    /// A text of this many bytes that is part of the variable, up to its first 0.
-    pub(super) fn characters(&self, part: Part<'_>, count: usize, shape: Shape) -> Result<Value, Missing> {
-        let bytes = self.machine.bytes(part.place, part.size, part.offset, count.min(shape.length))?;
-        Ok(Value::Plain(quoted(&bytes)))
+    /// A text of this many characters that is part of the variable, up to its first 0.
+    pub(super) fn characters(
+        &self,
+        part: Part<'_>,
+        characters: Characters,
+        count: usize,
+        shape: Shape,
+    ) -> Result<Value, Missing> {
+        let length = count.min(shape.length).saturating_mul(characters.width);
+        let bytes = self.machine.bytes(part.place, part.size, part.offset, length)?;
+        Ok(Value::Plain(characters.quoted(&bytes, self.machine.target)))
     }
 
     /// A text of Rust or Go: an address and a number of bytes. `None` if the type isn't that of such texts, or
@@ -55,7 +63,7 @@ impl<'v, 'a> Locator<'v, 'a> {
         let (address, count) = (self.word(&first, part)?, usize::try_from(self.word(&second, part)?).ok()?);
         let bytes = self.machine.memory(address, count.min(shape.length)).ok()?;
         let more = if count > shape.length { ".." } else { "" };
-        Some(Value::Text(format!("{:#x}", address), escaped(&bytes) + more))
+        Some(Value::Text { address: format!("{:#x}", address), prefix: "", text: utf8(&bytes) + more })
     }
 
     /// The value of a member that is a pointer or a number.
