@@ -4,7 +4,7 @@
 use crate::mapped::Bytes;
 use crate::program::Program;
 use crate::text::Plain;
-use std::ffi::OsStr;
+use std::ffi::{OsStr, OsString};
 use std::fmt;
 use std::fs::File;
 use std::io;
@@ -118,6 +118,20 @@ impl DebugFiles {
         })
     }
 
+    /// The files that may have the debug information of units of a program whose file is `path` (`NAME.dwp`): next to
+    /// it, and in the folder of debug information by its path, its name or its build id.
+    pub(crate) fn packages(&self, path: &Path, program: &Program<'_>) -> Vec<(PathBuf, &Bytes)> {
+        let (folder, name) = match (path.parent().and_then(|folder| folder.strip_prefix("/").ok()), path.file_name()) {
+            (Some(folder), Some(name)) => (folder, package_name(name)),
+            _ => return Vec::new(),
+        };
+        let (inner, central) = (self.root.join(folder), self.root.join(FOLDER));
+        let by_name = [inner.join(&name), inner.join(".debug").join(&name), central.join(folder).join(&name)];
+        let by_id = program.build_id().map(|id| central.join(".build-id").join(name_of(id)).with_extension("dwp"));
+        let all = by_name.into_iter().chain([central.join(&name)]).chain(by_id);
+        all.filter_map(|file| Some((file.clone(), self.open(&file).ok()??))).collect()
+    }
+
     /// Where a file may be that the file `path` names.
     fn named_by(&self, path: &Path, name: &Path) -> Vec<PathBuf> {
         let whole = path.canonicalize().ok();
@@ -168,6 +182,13 @@ fn without_turns(path: &Path) -> PathBuf {
         }
     }
     straight
+}
+
+/// The name of the package of a program.
+fn package_name(program: &OsStr) -> OsString {
+    let mut name = program.to_os_string();
+    name.push(".dwp");
+    name
 }
 
 /// The name of a file by its build id, such as `3f/2ab01c.debug`.

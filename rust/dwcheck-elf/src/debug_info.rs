@@ -1,9 +1,11 @@
 //! The sections of debug information of a program, as gimli takes them.
 
 mod definitions;
+mod package;
 mod split;
 mod units;
 
+pub(crate) use package::Package;
 pub(crate) use split::SplitFile;
 pub(crate) use units::{Die, Units};
 

@@ -23,7 +23,7 @@ pub use thread_local::Loaded;
 pub use value::{Shape, Value};
 
 use crate::debug_files::DebugFiles;
-use crate::debug_info::{dwarf, section, Units};
+use crate::debug_info::{dwarf, section, Package, Units};
 use crate::program::{Program, ProgramError};
 use crate::target::Target;
 use dwcheck::{Block, Registers};
@@ -63,6 +63,8 @@ pub struct Variables<'a> {
     loc: &'a [u8],
     loclists: &'a [u8],
     files: &'a DebugFiles,
+    /// The packages that may have the debug information of units that isn't here.
+    packages: Vec<Rc<Package<'a>>>,
     /// What was opened of units whose debug information is in files of their own, by the units' indexes.
     splits: RefCell<HashMap<usize, Option<Rc<Variables<'a>>>>>,
 }
@@ -188,8 +190,9 @@ impl<'a> Variables<'a> {
         let units = Units::read(dwarf(program, &NEEDED, unpacked).map_err(fail)?, shared);
         let units = units.map_err(|error| VariablesError::DebugInfo(error.to_string()))?;
         let functions = FunctionIndex::of(&units);
-        let (target, machine, splits) = (program.target(), program.machine(), RefCell::default());
-        Ok(Variables { units, functions, target, machine, loc, loclists, files, splits })
+        let (target, machine) = (program.target(), program.machine());
+        let (packages, splits) = (Vec::new(), RefCell::default());
+        Ok(Variables { units, functions, target, machine, loc, loclists, files, packages, splits })
     }
 
     /// The functions at the address of a frame with their variables, the outermost first: the function, then

@@ -234,3 +234,41 @@ fn variables_of_a_file_of_its_own() {
         }
     }
 }
+
+/// The rest of the units is in a package of such files, which has the one of the other unit first.
+#[test]
+fn variables_of_a_package() {
+    let folder = Folder::new("vars-package");
+    if !may_trace() || !has("dwp") || !has("clang") || !has("llvm-dwp") {
+        return;
+    }
+    folder.write("a.c", SPLIT);
+    folder.write(
+        "b.c",
+        "struct unused { int x; } unused; int other(int m) { long kept = 3 * m; return kept + unused.x; }",
+    );
+    folder.run("mkdir .debug");
+    for (compiler, packer) in [("gcc -gdwarf-4", "dwp"), ("gcc -gdwarf-5", "llvm-dwp"), ("clang -gdwarf-5", "llvm-dwp")]
+    {
+        let clean = "rm -f *.dwo *.dwp .debug/*";
+        folder.run(&format!("{}; {} -O1 -g -gsplit-dwarf b.c a.c -o program", clean, compiler));
+        folder.crash("./program");
+        let shown = || {
+            ["vars --core core", "stack --vars core", "vars program work"].map(|words| dwcheck_elf(&folder, words).out)
+        };
+        let expected = shown();
+        assert!(expected[0].contains("param v: int = 1 ") || compiler.ends_with('4'), "{:?}", expected);
+        folder.run(&format!("{} -e program -o package && rm *.dwo", packer));
+        for place in ["program.dwp", ".debug/program.dwp"] {
+            folder.run(&format!("rm -f *.dwp .debug/*; cp package {}", place));
+            assert_eq!(shown(), expected, "{}", compiler);
+        }
+    }
+    // A package that has only the other unit.
+    folder.run(
+        "gcc -gdwarf-5 -gsplit-dwarf b.c a.c -o program && llvm-dwp program-b.dwo -o program.dwp && rm *.dwo .debug/*",
+    );
+    let ran = dwcheck_elf(&folder, "vars program work");
+    assert!(ran.status == 3 && ran.error.contains("program-a.dwo, which isn't there"), "{:?}", ran);
+    assert!(dwcheck_elf(&folder, "vars program other").out.contains("param m: int"), "{}", folder.path().display());
+}

@@ -124,7 +124,7 @@ fn inspect_split<'d, 'a>(
     let mut missing = Vec::new();
     for index in split {
         let root = units.as_ref().and_then(|units| units.root(*index));
-        let opened = files.and_then(|files| SplitFile::open(root.as_ref()?, files));
+        let opened = files.and_then(|files| SplitFile::open(root.as_ref()?, files, &[]));
         match opened.filter(|opened| opened.skeleton.encoding().version >= 5) {
             Some(opened) => results.extend(of_split(&opened, lowest, check)),
             None => missing.push(root.and_then(|root| root.split_file())),

@@ -72,7 +72,12 @@ impl<'a> Stacks<'a> {
             None
         });
         let shared = shared.and_then(|bytes| Program::read(bytes).ok());
-        Variables::read(&debug, shared.as_ref(), files).ok()
+        let mut variables = Variables::read(&debug, shared.as_ref(), files).ok()?;
+        variables.look_for_packages(&module.path, &debug);
+        if path != module.path {
+            variables.look_for_packages(&path, &debug);
+        }
+        Some(variables)
     }
 
     fn loaded(&self, module: &Module<'a>, modules: &[Module<'a>]) -> Loaded<'a> {

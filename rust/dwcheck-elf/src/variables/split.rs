@@ -3,10 +3,13 @@
 use super::functions::FunctionIndex;
 use super::scopes::{scopes, Scope};
 use super::{Variables, NEEDED};
-use crate::debug_info::{file_path, SplitFile};
+use crate::debug_info::{file_path, Package, SplitFile};
 use crate::lines::SourceLine;
+use crate::mapped::Bytes;
+use crate::program::Program;
 use gimli::AttributeValue;
 use std::cell::RefCell;
+use std::path::{Path, PathBuf};
 use std::rc::Rc;
 
 /// A function at an address.
@@ -57,6 +60,14 @@ impl<'a> Variables<'a> {
         Some(SourceLine { file, line: line(gimli::DW_AT_call_line), column })
     }
 
+    /// Says where the file of the program is, next to which a package may be that has the rest of its units.
+    pub fn look_for_packages(&mut self, path: &Path, program: &Program<'_>) {
+        let files = self.files;
+        let found = files.packages(path, program).into_iter();
+        let read = |(path, bytes): (PathBuf, &'a Bytes)| Package::read(path, bytes, files.unpacked());
+        self.packages.extend(found.filter_map(read).map(Rc::new));
+    }
+
     /// What a file of its own has of the unit with an address of code. `None` if the unit has no such file, or
     /// if the file isn't there or isn't the unit's.
     pub(super) fn split_at(&self, address: u64) -> Option<Rc<Variables<'a>>> {
@@ -75,10 +86,11 @@ impl<'a> Variables<'a> {
     }
 
     fn open_split(&self, index: usize) -> Option<Variables<'a>> {
-        let split = SplitFile::open(&self.units.root(index)?, self.files)?;
+        let split = SplitFile::open(&self.units.root(index)?, self.files, &self.packages)?;
         let (units, loclists) = (split.units(&NEEDED)?, split.loclists().ok()?);
         let functions = FunctionIndex::of_split(self.functions.ranges_of(index));
-        let (target, machine, files, splits) = (self.target, self.machine, self.files, RefCell::default());
-        Some(Variables { units, functions, target, machine, loc: &[], loclists, files, splits })
+        let (target, machine, files) = (self.target, self.machine, self.files);
+        let (packages, splits) = (Vec::new(), RefCell::default());
+        Some(Variables { units, functions, target, machine, loc: &[], loclists, files, packages, splits })
     }
 }

@@ -159,7 +159,11 @@ fn variables<'a>(path: &Path, program: &Program<'a>, files: &'a DebugFiles) -> R
         None
     });
     let shared = shared.and_then(|bytes| Program::read(bytes).ok());
-    Variables::read(debug, shared.as_ref(), files).map_err(|error| failed(error.to_string()))
+    let variables = Variables::read(debug, shared.as_ref(), files).map_err(|error| failed(error.to_string()));
+    variables.map(|mut variables| {
+        variables.look_for_packages(&whole, debug);
+        variables
+    })
 }
 
 /// The program's unwind tables, which give the CFA and the callers.
