@@ -9,6 +9,7 @@ use Rattle.dw_rows.specs.Section.{FrameSection, frame_of}
 use Rattle.dw_rows.specs.Section as rows
 use Rattle.dw_loclists.specs.Reading.{ListSection, IsChecked}
 use Rattle.dw_sections.specs.Checked.{check_fault, fault_within}
+use Rattle.dw_rows.proofs.sections.CheckedSections.{accepted as accepted_frame}
 use Rattle.dw_check.specs.Runs.{Reply, text, refusal, not_hex, bad_line, OfChecked}
 use Rattle.dw_check.specs.Stops.{RefusesBoth, IsRefusal}
 use Rattle.dw_sections.specs.declared.section.Section.{Section}
@@ -57,7 +58,7 @@ module _ (target : Target) (frame lists : List ℕ) (Shows : FrameSection → Li
   AreChecked = rows.IsChecked (frame_of target frame) × IsChecked (record { target = target; section = lists })
 
   accepted : check_fault target frame lists ≡ None → AreChecked
-  accepted none = let each = each_without_fault target frame lists none in (record { whole = refl; faultless = each.0 }, each.1)
+  accepted none = let each = each_without_fault target frame lists none in (accepted_frame target frame each.0, each.1)
 
   never : (fault : CheckFault) → check_fault target frame lists ≡ None → check_fault target frame lists ≡ Some fault → ⊥
   never fault none some = let both : None ≡ Some fault = sym none ∙ some in cc

@@ -10,6 +10,7 @@ use Rattle.dw_bytes.specs.declared.target.AddressSize.{AddressSize}
 use Rattle.dw_bytes.specs.declared.fault.Fault.{Fault}
 use Rattle.dw_rows.specs.Section as rows
 use Rattle.dw_rows.specs.Section.{FrameSection}
+use Rattle.dw_rows.proofs.sections.CheckedSections.{accepted as accepted_frame}
 use Rattle.dw_check.specs.Files.{GivesProcess, section_bytes, state_facts, further_modules, loaded_at}
 use Rattle.dw_check.specs.Runs.{Reply, text, refusal, not_hex, bad_line, accepted_text, frame_refusal, modules_refusal, modules_of_sections}
 use Rattle.dw_check.specs.Runs.{OfSection, OfState, OfFurther, OfProcess, IsUnreadProcess, IsBadProcess, OfModules, OfModulesAndState, Goes}
@@ -142,7 +143,7 @@ module _ (target : Target) where
   each_accepted [] none = tt
   each_accepted (m ∷ modules) none =
       let both = neither (frame_refusal target m.rows) (modules_refusal target modules) none in
-      (record { whole = refl; faultless = no_fault m.rows _ both.0 }, each_accepted modules both.1)
+      (accepted_frame target m.rows (no_fault m.rows _ both.0), each_accepted modules both.1)
 
   pub accepted : (modules : List (Module (List ℕ))) → modules_refusal target modules ≡ None
       → AreChecked (modules_of_sections target modules)

@@ -4,6 +4,7 @@ pub mod PlaceSearch
 pub mod FirstFdes
 pub mod RecordOrder
 pub mod CopiesFound
+pub mod Dwarf
 pub mod Steps
 pub mod Refusing
 pub mod Nops

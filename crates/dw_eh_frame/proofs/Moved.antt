@@ -8,7 +8,7 @@ use Rattle.dw_frame.specs.Instructions.{Instruction, offset, set_loc, advance_lo
 use Rattle.dw_frame.specs.Instructions.{offset_extended, restore_extended, undefined, same_value, register}
 use Rattle.dw_frame.specs.Instructions.{def_cfa, def_cfa_register, def_cfa_offset, def_cfa_expression, expression, offset_extended_sf}
 use Rattle.dw_frame.specs.Instructions.{def_cfa_sf, def_cfa_offset_sf, val_offset, val_offset_sf, val_expression}
-use Rattle.dw_frame.specs.Codes.{line_of, extended_line}
+use Rattle.dw_frame.specs.Codes.{dwarf_line_of, extended_line}
 use Rattle.dw_eh_frame.specs.declared.dialect.Dialect.{Dialect}
 use Rattle.dw_eh_frame.specs.Instructions.{is_unread, plain_line_of}
 use Rattle.dw_eh_frame.specs.SameInstructions.{unplaced_block, IsMoved}
@@ -112,14 +112,14 @@ extended-respect code =
     (choose (code == 0x15) _ _ (λ vs ws s. ap (λ r. val_offset_sf r ws.1.0) s.0 ∙ ap (val_offset_sf vs.0) s.1.0)
     (choose (code == 0x16) _ _ (λ vs ws s. ap (λ r. val_expression r (unplaced_block ws.1.0)) s.0 ∙ ap (val_expression vs.0) s.1.0) tt))))))))))))))))))))))
 
-line-respects : (code : ℕ) → AllRespect (line_of code)
+line-respects : (code : ℕ) → AllRespect (dwarf_line_of code)
 line-respects code =
     choose (nat_lt code 0x40) _ _ (extended-respect code)
     (choose (nat_lt code 0x80) _ _ (λ vs ws s. refl)
     (choose (nat_lt code 0xc0) _ _ (λ vs ws s. ap (offset (code - 0x80)) s.0) (λ vs ws s. refl)))
 
 plain-respects : (a : Dialect) (code : ℕ) → AllRespect (plain_line_of a code)
-plain-respects a code = choose (is_unread a code) None (line_of code) tt (line-respects code)
+plain-respects a code = choose (is_unread a code) None (dwarf_line_of code) tt (line-respects code)
 
 -- ---- instructions
 

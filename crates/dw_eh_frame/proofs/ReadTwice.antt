@@ -13,9 +13,10 @@ use Rattle.dw_bytes.specs.Sequence.{Located, located_read}
 use Rattle.dw_bytes.proofs.Codes.{coded-exact, coded-some}
 use Rattle.dw_bytes.proofs.Readers.{same-reading}
 use Rattle.dw_bytes.proofs.Sequences.{ReadsEach, Forward, located-exact, forward, goes-on, stops, ends, all-read, sequence-exact}
+use Rattle.dw_frame.specs.Dialects.{ProgramPosition, bytes_at}
 use Rattle.dw_frame.specs.Instructions.{Instruction, nop}
 use Rattle.dw_frame.specs.Codes.{instructions_of}
-use Rattle.dw_frame.proofs.EachInstruction.{exact-instruction, next-instruction, next-fault, no-instruction}
+use Rattle.dw_eh_frame.proofs.Dwarf.{dwarf_instructions, exact-dwarf, next-dwarf, fault-dwarf, no-dwarf, reads-dwarf}
 use Rattle.dw_eh_frame.specs.declared.dialect.Dialect.{Dialect}
 use Rattle.dw_eh_frame.specs.Instructions.{EhInstruction, plain, args_size, negate_ra_state, eh_line_of, eh_instruction_at, eh_instructions_of, is_foreign, EncodesEhInstruction, AreEhInstructions}
 use Rattle.dw_eh_frame.specs.Silencing.{past_instruction, piece, unread, silenced_up_to, silenced_then, silenced}
@@ -88,19 +89,19 @@ reading target at bytes = record { target = target; position = at; rest = bytes 
 record Past (target : Target) (at k : ℕ) (rest : List ℕ) : Type 0 where
   nops : List (ℕ × Instruction)
   each : AreNops nops
-  is : instructions_of (reading target at (replicate k 0 ++ rest)) ≡ map Ok nops ++ instructions_of (reading target (at + k) rest)
+  is : dwarf_instructions (reading target at (replicate k 0 ++ rest)) ≡ map Ok nops ++ dwarf_instructions (reading target (at + k) rest)
 
 past-nop : (target : Target) (at : ℕ) (rest : List ℕ)
-    → instructions_of (reading target at (0 ∷ rest)) ≡ Ok (at, nop) ∷ instructions_of (reading target (at + 1) rest)
+    → dwarf_instructions (reading target at (0 ∷ rest)) ≡ Ok (at, nop) ∷ dwarf_instructions (reading target (at + 1) rest)
 past-nop target at rest =
-    next-instruction (reading target at (0 ∷ rest)) nop (reading target (at + 1) rest)
-    ((exact-instruction (reading target at (0 ∷ rest))).only nop (reading target (at + 1) rest)
+    next-dwarf (reading target at (0 ∷ rest)) nop (reading target (at + 1) rest)
+    ((exact-dwarf (reading target at (0 ∷ rest))).only nop (reading target (at + 1) rest)
     (record { bytes = 0 ∷ []; encoded = encodes-nop target at; parts = refl; position = refl; target = refl }))
 
 past-nops : (target : Target) (at k : ℕ) (rest : List ℕ) → Past target at k rest
 past-nops target at zero rest =
     let here : at ≡ at + zero = omega arith in
-    record { nops = []; each = tt; is = ap (λ n. instructions_of (reading target n rest)) here }
+    record { nops = []; each = tt; is = ap (λ n. dwarf_instructions (reading target n rest)) here }
 past-nops target at (suc k) rest =
     let more = past-nops target (at + 1) k rest in
     let here : at + 1 + k ≡ at + suc k = omega arith in
@@ -108,11 +109,11 @@ past-nops target at (suc k) rest =
       nops = (at, nop) ∷ more.nops;
       each = (refl, more.each);
       is = past-nop target at (replicate k 0 ++ rest)
-          ∙ ap (λ (l : Items). Ok (at, nop) ∷ l) (more.is ∙ ap (λ n. map Ok more.nops ++ instructions_of (reading target n rest)) here);
+          ∙ ap (λ (l : Items). Ok (at, nop) ∷ l) (more.is ∙ ap (λ n. map Ok more.nops ++ dwarf_instructions (reading target n rest)) here);
     }
 
 silent-at : (target : Target) (at k : ℕ) (rest : List ℕ) → 0 < k
-    → (s : Silent at (instructions_of (reading target at (replicate k 0 ++ rest)))) × (s.rest ≡ instructions_of (reading target (at + k) rest))
+    → (s : Silent at (dwarf_instructions (reading target at (replicate k 0 ++ rest)))) × (s.rest ≡ dwarf_instructions (reading target (at + k) rest))
 silent-at target at zero rest some = absurd (omega arith)
 silent-at target at (suc k) rest some =
     let more = past-nops target (at + 1) k rest in
@@ -120,9 +121,9 @@ silent-at target at (suc k) rest some =
       record {
         nops = more.nops;
         each = more.each;
-        rest = instructions_of (reading target (at + suc k) rest);
+        rest = dwarf_instructions (reading target (at + suc k) rest);
         is = past-nop target at (replicate k 0 ++ rest)
-            ∙ ap (λ (l : Items). Ok (at, nop) ∷ l) (more.is ∙ ap (λ n. map Ok more.nops ++ instructions_of (reading target n rest)) here);
+            ∙ ap (λ (l : Items). Ok (at, nop) ∷ l) (more.is ∙ ap (λ n. map Ok more.nops ++ dwarf_instructions (reading target n rest)) here);
       },
       refl,
     )
@@ -145,8 +146,8 @@ plain-twice n x i others items rest is parts more =
     subst (λ (y : EhInstruction). ReadTwice (Ok (n, y) ∷ others) items) (sym is) (rest, parts, more)
 
 step-ok : (a : Dialect) (n : ℕ) (r : ReadPosition) (v : Bool) (after : ReadPosition) → past_instruction a r ≡ Ok (v, after)
-    → ReadTwice (eh_instructions_of a after) (instructions_of (written a n after))
-    → ReadTwice (eh_instructions_of a r) (instructions_of (written a (suc n) r))
+    → ReadTwice (eh_instructions_of a after) (dwarf_instructions (written a n after))
+    → ReadTwice (eh_instructions_of a r) (dwarf_instructions (written a (suc n) r))
 unfolding eh_instruction_at
 step-ok a n r v after past more =
     let found = past-reads a r v after past in
@@ -160,61 +161,61 @@ step-ok a n r v after past more =
     ap (silenced_then a (silenced_up_to a n) r) past ∙ ap (λ k. piece v k r.rest ++ silenced_up_to a n after) long in
     let place : written a n after ≡ reading r.target (r.position + length next.bytes) (silenced_up_to a n after) =
     same-reading (written a n after) (reading r.target (r.position + length next.bytes) (silenced_up_to a n after)) next.target next.position refl in
-    let goal : ReadTwice (Ok (r.position, x) ∷ eh_instructions_of a after) (instructions_of (written a (suc n) r)) =
-    subst (λ (b : List ℕ). ReadTwice (Ok (r.position, x) ∷ eh_instructions_of a after) (instructions_of (reading r.target r.position b))) (sym bytes)
+    let goal : ReadTwice (Ok (r.position, x) ∷ eh_instructions_of a after) (dwarf_instructions (written a (suc n) r)) =
+    subst (λ (b : List ℕ). ReadTwice (Ok (r.position, x) ∷ eh_instructions_of a after) (dwarf_instructions (reading r.target r.position b))) (sym bytes)
     (elim (kind-of a r.target r.position next.bytes x next.encoded) [
       | inl f ↦
           let silent = silent-at r.target r.position (length next.bytes) (silenced_up_to a n after) some in
           subst (λ u. ReadTwice (Ok (r.position, x) ∷ eh_instructions_of a after)
-          (instructions_of (reading r.target r.position (piece u (length next.bytes) r.rest ++ silenced_up_to a n after)))) (sym (found.foreign ∙ f))
+          (dwarf_instructions (reading r.target r.position (piece u (length next.bytes) r.rest ++ silenced_up_to a n after)))) (sym (found.foreign ∙ f))
           (foreign-twice r.position x (eh_instructions_of a after)
-          (instructions_of (reading r.target r.position (replicate (length next.bytes) 0 ++ silenced_up_to a n after))) silent.0 f
-          (subst (ReadTwice (eh_instructions_of a after)) (ap instructions_of place ∙ sym silent.1) more))
+          (dwarf_instructions (reading r.target r.position (replicate (length next.bytes) 0 ++ silenced_up_to a n after))) silent.0 f
+          (subst (ReadTwice (eh_instructions_of a after)) (ap dwarf_instructions place ∙ sym silent.1) more))
       | inr k ↦
           let plainly : v ≡ false = found.foreign ∙ ap is_foreign k.1 in
           let own = as-dwarf a r.target r.position next.bytes k.0 k.2 in
           let there = reading r.target (r.position + length next.bytes) (silenced_up_to a n after) in
-          let read = (exact-instruction (reading r.target r.position (next.bytes ++ silenced_up_to a n after))).only k.0 there
+          let read = (exact-dwarf (reading r.target r.position (next.bytes ++ silenced_up_to a n after))).only k.0 there
           (record { bytes = next.bytes; encoded = own; parts = refl; position = refl; target = refl }) in
           let front : piece v (length next.bytes) r.rest ≡ next.bytes =
           ap (λ u. piece u (length next.bytes) r.rest) plainly
           ∙ (ap (λ (b : List ℕ). piece false (length next.bytes) b) next.parts ∙ take-append_seam next.bytes after.rest) in
           subst (λ (b : List ℕ). ReadTwice (Ok (r.position, x) ∷ eh_instructions_of a after)
-          (instructions_of (reading r.target r.position (b ++ silenced_up_to a n after)))) (sym front)
+          (dwarf_instructions (reading r.target r.position (b ++ silenced_up_to a n after)))) (sym front)
           (plain-twice r.position x k.0 (eh_instructions_of a after)
-          (instructions_of (reading r.target r.position (next.bytes ++ silenced_up_to a n after))) (instructions_of there) k.1
-          (next-instruction (reading r.target r.position (next.bytes ++ silenced_up_to a n after)) k.0 there read)
-          (subst (ReadTwice (eh_instructions_of a after)) (ap instructions_of place) more))
+          (dwarf_instructions (reading r.target r.position (next.bytes ++ silenced_up_to a n after))) (dwarf_instructions there) k.1
+          (next-dwarf (reading r.target r.position (next.bytes ++ silenced_up_to a n after)) k.0 there read)
+          (subst (ReadTwice (eh_instructions_of a after)) (ap dwarf_instructions place) more))
     ]) in
-    subst (λ (xs : EhItems). ReadTwice xs (instructions_of (written a (suc n) r))) (sym (eh-next a r x after found.is)) goal
+    subst (λ (xs : EhItems). ReadTwice xs (dwarf_instructions (written a (suc n) r))) (sym (eh-next a r x after found.is)) goal
 
 step-err : (a : Dialect) (n : ℕ) (r : ReadPosition) (fault : Fault) → 0 < length r.rest → past_instruction a r ≡ Err fault
-    → ReadTwice (eh_instructions_of a r) (instructions_of (written a (suc n) r))
+    → ReadTwice (eh_instructions_of a r) (dwarf_instructions (written a (suc n) r))
 step-err a n r fault some past =
     let bytes : silenced_up_to a (suc n) r ≡ unread a r.rest = ap (silenced_then a (silenced_up_to a n) r) past in
     let refused = unread-refused a r.target r.position r.rest fault past in
-    let made : instructions_of (reading r.target r.position (unread a r.rest)) ≡ Err fault ∷ [] =
-    next-fault (reading r.target r.position (unread a r.rest)) fault (omega (arith, some, unread-long a r.rest)) refused in
-    subst (λ (xs : EhItems). ReadTwice xs (instructions_of (written a (suc n) r))) (sym (eh-stops a r fault some (past-refused a r fault past)))
-    (ap (λ (b : List ℕ). instructions_of (reading r.target r.position b)) bytes ∙ made)
+    let made : dwarf_instructions (reading r.target r.position (unread a r.rest)) ≡ Err fault ∷ [] =
+    fault-dwarf (reading r.target r.position (unread a r.rest)) fault (omega (arith, some, unread-long a r.rest)) refused in
+    subst (λ (xs : EhItems). ReadTwice xs (dwarf_instructions (written a (suc n) r))) (sym (eh-stops a r fault some (past-refused a r fault past)))
+    (ap (λ (b : List ℕ). dwarf_instructions (reading r.target r.position b)) bytes ∙ made)
 
 step-end : (a : Dialect) (n : ℕ) (r : ReadPosition) → length r.rest ≡ 0
-    → ReadTwice (eh_instructions_of a r) (instructions_of (written a n r))
+    → ReadTwice (eh_instructions_of a r) (dwarf_instructions (written a n r))
 step-end a n r none =
-    subst (λ (xs : EhItems). ReadTwice xs (instructions_of (written a n r))) (sym (eh-ends a r none))
-    (no-instruction (written a n r) (up-to-long a n r ∙ none))
+    subst (λ (xs : EhItems). ReadTwice xs (dwarf_instructions (written a n r))) (sym (eh-ends a r none))
+    (no-dwarf (written a n r) (up-to-long a n r ∙ none))
 
 step-by : (a : Dialect) (n : ℕ) (r : ReadPosition) (x : Result (Bool × ReadPosition) Fault) → past_instruction a r ≡ x → 0 < length r.rest
     → ((after : ReadPosition) → length after.rest < length r.rest
-    → ReadTwice (eh_instructions_of a after) (instructions_of (written a n after)))
-    → ReadTwice (eh_instructions_of a r) (instructions_of (written a (suc n) r))
+    → ReadTwice (eh_instructions_of a after) (dwarf_instructions (written a n after)))
+    → ReadTwice (eh_instructions_of a r) (dwarf_instructions (written a (suc n) r))
 step-by a n r (Ok (v, after)) is some more =
     let found = past-reads a r v after is in
     step-ok a n r v after is (more after (eh-shorter a r found.instruction after found.is))
 step-by a n r (Err fault) is some more = step-err a n r fault some is
 
 up-to-twice : (a : Dialect) (n : ℕ) (r : ReadPosition) → length r.rest ≤ n
-    → ReadTwice (eh_instructions_of a r) (instructions_of (written a n r))
+    → ReadTwice (eh_instructions_of a r) (dwarf_instructions (written a n r))
 up-to-twice a zero r few = step-end a zero r (omega arith)
 up-to-twice a (suc n) r few = elim (cases_lt 0 (length r.rest)) [
   | inr none ↦ step-end a (suc n) r (omega arith)
@@ -222,7 +223,7 @@ up-to-twice a (suc n) r few = elim (cases_lt 0 (length r.rest)) [
 ]
 
 read-twice : (a : Dialect) (r : ReadPosition)
-    → ReadTwice (eh_instructions_of a r) (instructions_of (reading r.target r.position (silenced a r)))
+    → ReadTwice (eh_instructions_of a r) (dwarf_instructions (reading r.target r.position (silenced a r)))
 unfolding silenced
 read-twice a r = up-to-twice a (length r.rest) r (omega arith)
 
@@ -236,18 +237,18 @@ pub record ReadAlike (p q : ℕ) (xs : EhItems) (ys : Items) : Type 0 where
   pub made_is : ys ≡ map (item-by (instruction-by q) q) made
   pub twice : ReadTwice own made
 
-pub read-alike : (a : Dialect) (old new : ReadPosition) → IsSameProgram a old new
+pub read-alike : (a : Dialect) (old : ReadPosition) (new : ProgramPosition) → IsSameProgram a old new
     → ReadAlike old.position new.position (eh_instructions_of a old) (instructions_of new)
 read-alike a old new same =
     let r = reading old.target 0 old.rest in
     let s = reading old.target 0 (silenced a r) in
     let old_is : old ≡ shift old.position r = same-reading old (shift old.position r) refl (omega arith) refl in
-    let new_is : new ≡ shift new.position s = same-reading new (shift new.position s) same.target (omega arith) same.bytes in
+    let new_is : bytes_at new ≡ shift new.position s = same-reading (bytes_at new) (shift new.position s) same.target (omega arith) same.bytes in
     record {
       own = eh_instructions_of a r;
-      made = instructions_of s;
+      made = dwarf_instructions s;
       own_is = ap (eh_instructions_of a) old_is ∙ eh-instructions-shifted a old.position r;
-      made_is = ap instructions_of new_is ∙ instructions-shifted new.position s;
+      made_is = reads-dwarf new same.dialect_is ∙ ap dwarf_instructions new_is ∙ instructions-shifted new.position s;
       twice = read-twice a r;
     }
 

@@ -13,7 +13,8 @@ use Rattle.dw_bytes.proofs.Readers.{ok-is}
 use Rattle.dw_bytes.proofs.Bodies.{bind-err, not-err}
 use Rattle.dw_bytes.proofs.Codes.{coded-exact, coded-some}
 use Rattle.dw_frame.specs.Instructions.{Instruction, nop}
-use Rattle.dw_frame.specs.Codes.{line_of, EncodesInstruction, AreInstructions}
+use Rattle.dw_frame.specs.Codes.{dwarf_line_of}
+use Rattle.dw_eh_frame.proofs.Dwarf.{EncodesDwarf, AreDwarf}
 use Rattle.dw_eh_frame.specs.Instructions.{EhInstruction, plain, args_size, negate_ra_state, as_plain, is_unread, is_negation, plain_line_of, eh_line_of, eh_instruction_at, is_foreign}
 use Rattle.dw_eh_frame.specs.Instructions.{EncodesEhInstruction, AreEhInstructions}
 use Rattle.dw_eh_frame.specs.declared.dialect.Dialect.{Dialect}
@@ -97,9 +98,9 @@ known-line target at bytes i false l e = e
 
 -- they are instructions of `.debug_frame`
 pub as-dwarf : (a : Dialect) (target : Target) (at : ℕ) (bytes : List ℕ) (i : Instruction) → EncodesPlain a target at bytes i
-    → EncodesInstruction target at bytes i
+    → EncodesDwarf target at bytes i
 as-dwarf a target at bytes i (code, front, operands, parts, first, others) =
-    (code, front, operands, parts, first, known-line target (at + length front) operands i (is_unread a code) (line_of code) others)
+    (code, front, operands, parts, first, known-line target (at + length front) operands i (is_unread a code) (dwarf_line_of code) others)
 
 by-kind : (target : Target) (at : ℕ) (bytes : List ℕ) (x : EhInstruction) (foreign negates w : Bool) (l : Option (Line Instruction))
     → AreOperands target (cond foreign (Some (one unsigned args_size)) (cond negates (Some (none (negate_ra_state w))) (as_plain l))) at bytes x
@@ -139,11 +140,11 @@ foreign-anywhere a target at other bytes x f (code, front, operands, parts, firs
   foreign-by target (at + length front) (other + length front) operands x (code == 0x2e) (is_negation a code) (code == 0x2c) (plain_line_of a code) f others,
 )
 
-no-line : (target : Target) (at code n : ℕ) (bytes : List ℕ) (i : Instruction) → line_of n ≡ None → (code == n) ≡ true
-    → AreOperands target (line_of code) at bytes i → ⊥
+no-line : (target : Target) (at code n : ℕ) (bytes : List ℕ) (i : Instruction) → dwarf_line_of n ≡ None → (code == n) ≡ true
+    → AreOperands target (dwarf_line_of code) at bytes i → ⊥
 no-line target at code n bytes i missing same e =
     let is : code ≡ n = grind (arith, nat_tests) in
-    let empty : line_of code ≡ None = ap line_of is ∙ missing in
+    let empty : dwarf_line_of code ≡ None = ap dwarf_line_of is ∙ missing in
     subst (λ (of : Option (Line Instruction)). AreOperands target of at bytes i) empty e
 
 plain-by : (target : Target) (at : ℕ) (bytes : List ℕ) (i : Instruction) (foreign negates w : Bool) (l : Option (Line Instruction))
@@ -162,7 +163,7 @@ either-code false p q h = absurd cc
 
 -- the code of an instruction of DWARF isn't a negation's
 never-negates : (a : Dialect) (target : Target) (at code : ℕ) (bytes : List ℕ) (i : Instruction) → is_negation a code ≡ true
-    → AreOperands target (line_of code) at bytes i → ⊥
+    → AreOperands target (dwarf_line_of code) at bytes i → ⊥
 never-negates a target at code bytes i h e = elim (either-code a.is_aarch64 (code == 0x2d) (code == 0x2c) h) [
   | inl same ↦ no-line target at code 0x2d bytes i refl same e
   | inr same ↦ no-line target at code 0x2c bytes i refl same e
@@ -179,19 +180,19 @@ as-eh a target at bytes i (code, front, operands, parts, first, others) = (
   first,
   plain-by target (at + length front) operands i (code == 0x2e) (is_negation a code) (code == 0x2c) (plain_line_of a code)
       (λ same. no-line target (at + length front) code 0x2e operands i refl same
-      (known-line target (at + length front) operands i (is_unread a code) (line_of code) others))
+      (known-line target (at + length front) operands i (is_unread a code) (dwarf_line_of code) others))
       (λ h. never-negates a target (at + length front) code operands i h
-      (known-line target (at + length front) operands i (is_unread a code) (line_of code) others)) others,
+      (known-line target (at + length front) operands i (is_unread a code) (dwarf_line_of code) others)) others,
 )
 
 -- ---- nops
 
 pub record Nops (target : Target) (at k : ℕ) : Type 0 where
   pub items : List (ℕ × Instruction)
-  pub are : AreInstructions target at (replicate k 0) items
+  pub are : AreDwarf target at (replicate k 0) items
   pub each : AreNops items
 
-pub encodes-nop : (target : Target) (at : ℕ) → EncodesInstruction target at (0 ∷ []) nop
+pub encodes-nop : (target : Target) (at : ℕ) → EncodesDwarf target at (0 ∷ []) nop
 encodes-nop target at = (0, 0 ∷ [], [], refl, one-byte target.order 0, (tt, refl, tt, refl))
 
 nops-at : (target : Target) (at k : ℕ) → Nops target at k
@@ -204,18 +205,18 @@ nops-at target at (suc k) =
       each = (refl, others.each);
     }
 
-are-append : (target : Target) (at : ℕ) (b c : List ℕ) (is js : List (ℕ × Instruction)) → AreInstructions target at b is
-    → AreInstructions target (at + length b) c js → AreInstructions target at (b ++ c) (is ++ js)
+are-append : (target : Target) (at : ℕ) (b c : List ℕ) (is js : List (ℕ × Instruction)) → AreDwarf target at b is
+    → AreDwarf target (at + length b) c js → AreDwarf target at (b ++ c) (is ++ js)
 are-append target at b c [] js are more =
     let here : at + length b ≡ at = omega (arith, ap length are) in
-    subst (λ (t : List ℕ). AreInstructions target at (t ++ c) js) (sym are) (subst (λ n. AreInstructions target n c js) here more)
+    subst (λ (t : List ℕ). AreDwarf target at (t ++ c) js) (sym are) (subst (λ n. AreDwarf target n c js) here more)
 are-append target at b c (i ∷ is) js (first, rest, parts, one_is, others) more =
     let here : at + length b ≡ at + length first + length rest = omega (arith, ap length parts, length-append first rest) in (
       first,
       rest ++ c,
       ap (λ (t : List ℕ). t ++ c) parts ∙ append_assoc first rest c,
       one_is,
-      are-append target (at + length first) rest c is js others (subst (λ n. AreInstructions target n c js) here more),
+      are-append target (at + length first) rest c is js others (subst (λ n. AreDwarf target n c js) here more),
     )
 
 -- ---- programs
@@ -223,7 +224,7 @@ are-append target at b c (i ∷ is) js (first, rest, parts, one_is, others) more
 -- the bytes encode instructions that say the same
 pub record Said (target : Target) (at : ℕ) (bytes : List ℕ) (items : List (ℕ × EhInstruction)) : Type 0 where
   pub again : List (ℕ × Instruction)
-  pub are : AreInstructions target at bytes again
+  pub are : AreDwarf target at bytes again
   pub same : SayTheSame items again
 
 abbrev reading : Target → ℕ → List ℕ → ReadPosition
@@ -295,12 +296,12 @@ said-up-to a target at from to (suc n) bytes (x ∷ items) (first, rest, parts, 
           ∙ (silenced-next a n target from first rest x.1 here
           ∙ ap (λ v. piece v (length first) (first ++ rest) ++ tail) f) in
           let long : to + length (replicate (length first) 0) ≡ to + length first = omega (arith, length-replicate {A = ℕ} (length first) 0) in
-          let are : AreInstructions target to (replicate (length first) 0 ++ tail) (nops.items ++ more.again) =
+          let are : AreDwarf target to (replicate (length first) 0 ++ tail) (nops.items ++ more.again) =
           are-append target to (replicate (length first) 0) tail nops.items more.again nops.are
-          (subst (λ k. AreInstructions target k tail more.again) (sym long) more.are) in
+          (subst (λ k. AreDwarf target k tail more.again) (sym long) more.are) in
           record {
             again = nops.items ++ more.again;
-            are = subst (λ (b : List ℕ). AreInstructions target to b (nops.items ++ more.again)) (sym made) are;
+            are = subst (λ (b : List ℕ). AreDwarf target to b (nops.items ++ more.again)) (sym made) are;
             same = say-foreign x.0 x.1 items nops.items more.again f nops.each more.same;
           }
       | inr k ↦
@@ -310,11 +311,11 @@ said-up-to a target at from to (suc n) bytes (x ∷ items) (first, rest, parts, 
           ap (λ (b : List ℕ). silenced_up_to a (suc n) (reading target from b)) parts
           ∙ (silenced-next a n target from first rest (plain near.instruction) (as-eh a target from first near.instruction near.encoded)
           ∙ ap (λ (t : List ℕ). t ++ tail) (take-append_seam first rest)) in
-          let are : AreInstructions target to (first ++ tail) ((to, far.instruction) ∷ more.again) =
+          let are : AreDwarf target to (first ++ tail) ((to, far.instruction) ∷ more.again) =
           (first, tail, refl, (refl, as-dwarf a target to first far.instruction far.encoded), more.are) in
           record {
             again = (to, far.instruction) ∷ more.again;
-            are = subst (λ (b : List ℕ). AreInstructions target to b ((to, far.instruction) ∷ more.again)) (sym made) are;
+            are = subst (λ (b : List ℕ). AreDwarf target to b ((to, far.instruction) ∷ more.again)) (sym made) are;
             same = say-plain x.0 to x.1 k.0 far.instruction items more.again k.1 far.same more.same;
           }
     ]

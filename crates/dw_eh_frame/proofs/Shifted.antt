@@ -14,7 +14,8 @@ use Rattle.dw_bytes.specs.Operands.{Block, Operand, Operands, operand_at, fits, 
 use Rattle.dw_bytes.specs.Operands.{Line, line, none, one, operands_at, coded_at}
 use Rattle.dw_bytes.specs.Sequence.{located_read, and_then, at_most_of, sequence_of}
 use Rattle.dw_frame.specs.Instructions.{Instruction}
-use Rattle.dw_frame.specs.Codes.{line_of, extended_line, instruction_at, instructions_of}
+use Rattle.dw_frame.specs.Codes.{dwarf_line_of, extended_line}
+use Rattle.dw_eh_frame.proofs.Dwarf.{dwarf_at, dwarf_instructions}
 use Rattle.dw_eh_frame.specs.declared.dialect.Dialect.{Dialect}
 use Rattle.dw_eh_frame.specs.Instructions.{EhInstruction, plain, args_size, negate_ra_state, as_plain, is_unread, is_negation, plain_line_of, eh_line_of, eh_instruction_at, eh_instructions_of}
 
@@ -246,7 +247,7 @@ extended-respects d code =
     (choose m d (code == 0x15) _ _ (λ vs. refl)
     (choose m d (code == 0x16) _ _ (λ vs. refl) tt))))))))))))))))))))))
 
-line-respects : (d code : ℕ) → Respects (instruction-by d) d (line_of code)
+line-respects : (d code : ℕ) → Respects (instruction-by d) d (dwarf_line_of code)
 line-respects d code =
     let m = instruction-by d in
     choose m d (nat_lt code 0x40) _ _ (extended-respects d code)
@@ -262,11 +263,11 @@ eh-line-respects a d code =
     choose m d (code == 0x2e) (Some (one unsigned args_size)) _ (λ vs. refl)
     (choose m d (is_negation a code) (Some (none (negate_ra_state (code == 0x2c)))) _ (λ vs. refl)
     (plain-respects d (plain_line_of a code)
-    (choose (instruction-by d) d (is_unread a code) None (line_of code) tt (line-respects d code))))
+    (choose (instruction-by d) d (is_unread a code) None (dwarf_line_of code) tt (line-respects d code))))
 
-instruction-shifted : (d : ℕ) (r : ReadPosition) → instruction_at (shift d r) ≡ shifted (instruction-by d) d (instruction_at r)
-unfolding instruction_at
-instruction-shifted d r = coded-shifted (instruction-by d) d line_of UnknownInstruction r (line-respects d)
+instruction-shifted : (d : ℕ) (r : ReadPosition) → dwarf_at (shift d r) ≡ shifted (instruction-by d) d (dwarf_at r)
+unfolding dwarf_at
+instruction-shifted d r = coded-shifted (instruction-by d) d dwarf_line_of UnknownInstruction r (line-respects d)
 
 eh-instruction-shifted : (a : Dialect) (d : ℕ) (r : ReadPosition)
     → eh_instruction_at a (shift d r) ≡ shifted (eh-instruction-by d) d (eh_instruction_at a r)
@@ -305,9 +306,9 @@ up-to-shifted m d read each (suc n) r =
     (up-to-shifted m d read each n))
 
 pub instructions-shifted : (d : ℕ) (r : ReadPosition)
-    → instructions_of (shift d r) ≡ map (item-by (instruction-by d) d) (instructions_of r)
-unfolding instructions_of sequence_of
-instructions-shifted d r = up-to-shifted (instruction-by d) d instruction_at (instruction-shifted d) (length r.rest) r
+    → dwarf_instructions (shift d r) ≡ map (item-by (instruction-by d) d) (dwarf_instructions r)
+unfolding dwarf_instructions sequence_of
+instructions-shifted d r = up-to-shifted (instruction-by d) d dwarf_at (instruction-shifted d) (length r.rest) r
 
 pub eh-instructions-shifted : (a : Dialect) (d : ℕ) (r : ReadPosition)
     → eh_instructions_of a (shift d r) ≡ map (item-by (eh-instruction-by d) d) (eh_instructions_of a r)

@@ -13,6 +13,7 @@ use Rattle.dw_bytes.specs.Bodies.{framed_at}
 use Rattle.dw_bytes.proofs.Readers.{bind-ok, ok-is}
 use Rattle.dw_bytes.proofs.Bodies.{framed-found}
 use Rattle.dw_bytes.proofs.Sequences.{Forward, goes-on, ends}
+use Rattle.dw_frame.specs.Dialects.{ProgramPosition, bytes_at}
 use Rattle.dw_frame.specs.Records.{Cie, Record, cie_record, fde_record}
 use Rattle.dw_frame.specs.Sections.{IsRecord, AreRecords}
 use Rattle.dw_eh_frame.specs.declared.pointer.Bases.{Bases}
@@ -209,8 +210,8 @@ all-inside [] (q ∷ list) are = absurd are
 all-inside (p ∷ pairs) [] are = absurd are
 all-inside (p ∷ pairs) (q ∷ list) are = (fits-inside p q are.0, all-inside pairs list are.1)
 
-fits-place : (a : Dialect) (source made at new : ℕ) (old program : ReadPosition) → IsSameProgram a old program → at ≡ made
-    → program.position + length program.rest ≡ new → old.position + length old.rest < 2 ^ 32 → Fits source at old program (place_for source old made new)
+fits-place : (a : Dialect) (source made at new : ℕ) (old : ReadPosition) (program : ProgramPosition) → IsSameProgram a old program → at ≡ made
+    → program.position + length program.rest ≡ new → old.position + length old.rest < 2 ^ 32 → Fits source at old (bytes_at program) (place_for source old made new)
 fits-place a source made at new old program same at_is ends inside =
     let long : length program.rest ≡ length old.rest =
     ap length same.bytes ∙ silenced-long a (record { target = old.target; position = 0; rest = old.rest }) in

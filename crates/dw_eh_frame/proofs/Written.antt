@@ -16,6 +16,7 @@ use Rattle.dw_bytes.specs.declared.target.Format.TheVariants.{Dwarf32}
 use Rattle.dw_bytes.specs.declared.fault.FaultKind.TheVariants.{Version, RangePastTop}
 use Rattle.dw_bytes.specs.Encoding.{Fixed, bytes_of_address, max_address}
 use Rattle.dw_bytes.specs.Fields.{Encodes, unless}
+use Rattle.dw_frame.specs.Dialects.{debug_frame, in_dialect}
 use Rattle.dw_frame.specs.Records.{is_version}
 use Rattle.dw_frame.specs.Sections.{Header, fde_header, cie_id, ends_by, top_of}
 use Rattle.dw_frame.specs.Sections.{IsHeader, IsRecord, record_from, cie_fields, fde_fields}
@@ -142,8 +143,9 @@ is-record target at fields program h header short =
 
 same-program : (a : Dialect) (target own : Target) (start : ℕ) (bytes : List ℕ) (at : ℕ) → own ≡ target
     → IsSameProgram a (record { target = own; position = start; rest = bytes })
-    (record { target = target; position = at; rest = silenced a (record { target = target; position = 0; rest = bytes }) })
+    (in_dialect debug_frame (record { target = target; position = at; rest = silenced a (record { target = target; position = 0; rest = bytes }) }))
 same-program a target own start bytes at same = record {
+  dialect_is = refl;
   target = sym same;
   bytes = ap (λ (t : Target). silenced a (record { target = t; position = 0; rest = bytes })) (sym same);
 }
@@ -197,7 +199,7 @@ writes-cie a target e old new sound short appended =
         code_alignment_factor = e.head.factors.code_alignment_factor;
         data_alignment_factor = e.head.factors.data_alignment_factor;
         return_address_register = e.head.factors.return_address_register;
-        program = record { target = target; position = length old + 4 + length fields; rest = program };
+        program = in_dialect debug_frame (record { target = target; position = length old + 4 + length fields; rest = program });
       };
       appended = appended;
       encoded = is-record target (length old) fields program (factors_of e.head.factors) header long;
@@ -249,7 +251,7 @@ writes-fde a target e pointer old new sound small short appended =
         cie_pointer_offset = length old + 4;
         initial_location = e.initial_location;
         address_range = e.address_range;
-        program = record { target = target; position = length old + 4 + length fields; rest = program };
+        program = in_dialect debug_frame (record { target = target; position = length old + 4 + length fields; rest = program });
       };
       appended = appended;
       encoded = is-record target (length old) fields program

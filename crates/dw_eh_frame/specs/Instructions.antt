@@ -8,7 +8,7 @@ use Rattle.dw_bytes.specs.Reading.{ReadPosition}
 use Rattle.dw_bytes.specs.Operands.{unsigned, Line, line, none, one, Coded, coded_at}
 use Rattle.dw_bytes.specs.Sequence.{Sequence, Located, located_read, sequence_of}
 use Rattle.dw_frame.specs.Instructions.{Instruction}
-use Rattle.dw_frame.specs.Codes.{line_of}
+use Rattle.dw_frame.specs.Codes.{dwarf_line_of}
 use Rattle.dw_eh_frame.specs.declared.dialect.Dialect.{Dialect}
 use Rattle.dw_eh_frame.specs.declared.pointer.PointerFormat.{PointerFormat}
 use Rattle.dw_eh_frame.specs.declared.pointer.PointerFormat.TheVariants.{Address}
@@ -48,7 +48,7 @@ is_unread dialect code = not dialect.has_plain_addresses && (code == 0x01)
 
 -- the table of DWARF's codes
 abbrev pub plain_line_of : Dialect → ℕ → Option (Line Instruction)
-plain_line_of dialect code = if is_unread dialect code then None else line_of code
+plain_line_of dialect code = if is_unread dialect code then None else dwarf_line_of code
 
 -- 0x2d and 0x2c are other instructions on other machines than aarch64
 abbrev pub is_negation : Dialect → ℕ → Bool

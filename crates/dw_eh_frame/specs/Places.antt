@@ -5,6 +5,7 @@ use Rattle.dw_bytes.specs.declared.fault.Fault.{Fault}
 use Rattle.dw_bytes.specs.declared.fault.FaultKind.{FaultKind}
 use Rattle.dw_bytes.specs.declared.fault.FaultKind.TheVariants.{Overlap}
 use Rattle.dw_bytes.specs.Reading.{ReadPosition}
+use Rattle.dw_frame.specs.Dialects.{bytes_at}
 use Rattle.dw_frame.specs.Records.{Record, cie_record, fde_record}
 use Rattle.dw_eh_frame.specs.declared.places.RecordPlace.{RecordPlace}
 use Rattle.dw_eh_frame.specs.Records.{EhRecord, eh_cie, eh_fde, eh_nothing}
@@ -27,8 +28,8 @@ pub record Fits (source made : ℕ) (old new : ReadPosition) (q : RecordPlace) :
   pub inside : IsInside q
 
 abbrev pub FitsPair : Pair → RecordPlace → Type 0
-FitsPair (eh_cie e, cie_record c) q = Fits e.offset c.offset e.program c.program q
-FitsPair (eh_fde e, fde_record f) q = Fits e.offset f.offset e.program f.program q
+FitsPair (eh_cie e, cie_record c) q = Fits e.offset c.offset e.program (bytes_at c.program) q
+FitsPair (eh_fde e, fde_record f) q = Fits e.offset f.offset e.program (bytes_at f.program) q
 FitsPair _ q = ⊥
 
 -- the places of pairs of records, in the same order
@@ -81,8 +82,8 @@ original_of (q ∷ places) fault = moved_or (moved q fault) fault (original_of p
 
 -- the program of a record, and where the record and its program are in `.eh_frame`
 abbrev pub written_program : Record → ReadPosition
-written_program (cie_record c) = c.program
-written_program (fde_record f) = f.program
+written_program (cie_record c) = bytes_at c.program
+written_program (fde_record f) = bytes_at f.program
 
 abbrev pub source_start : EhRecord → ℕ
 source_start (eh_cie e) = e.offset

@@ -2,6 +2,7 @@
 use Rattle.std.specs.Prelude.{◌≡◌, ℕ, Bool, true, false, List, map, filter, Contains, Ok}
 use Rattle.dw_bytes.specs.declared.target.Target.{Target}
 use Rattle.dw_bytes.specs.Reading.{ReadPosition}
+use Rattle.dw_frame.specs.Dialects.{ProgramPosition, debug_frame}
 use Rattle.dw_frame.specs.Records.{Cie, Fde, Record, cie_record, fde_record}
 use Rattle.dw_frame.specs.Sections.{AreRecords, cie_header}
 use Rattle.dw_eh_frame.specs.declared.pointer.Bases.{Bases}
@@ -14,7 +15,8 @@ use Rattle.dw_eh_frame.specs.Records.{EhCie, EhFde, EhRecord, eh_cie, eh_fde, eh
 -- The program `new` has nops in place of the instructions of the program `old` that `.debug_frame`
 -- doesn't have. Its other bytes are the same, except for what can't be read. What is silenced
 -- doesn't depend on where a program lies.
-pub record IsSameProgram (dialect : Dialect) (old new : ReadPosition) : Type 0 where
+pub record IsSameProgram (dialect : Dialect) (old : ReadPosition) (new : ProgramPosition) : Type 0 where
+  pub dialect_is : new.dialect ≡ debug_frame
   pub target : new.target ≡ old.target
   pub bytes : new.rest ≡ silenced dialect (record { target = old.target; position = 0; rest = old.rest })
 

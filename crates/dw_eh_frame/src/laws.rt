@@ -8,6 +8,7 @@ ghost use Rattle.dw_eh_frame.specs.declared.places.RecordPlace.{RecordPlace};
 ghost use Rattle.dw_eh_frame.specs.Places.{ArePlaces, IsOn, is_overlap, original_of, source_program_start, source_start, written_program};
 ghost use Rattle.dw_bytes.specs.declared.target.Target.{Target};
 ghost use Rattle.dw_bytes.specs.Reading.{ReadPosition};
+ghost use Rattle.dw_frame.specs.Dialects.{ProgramPosition};
 ghost use Rattle.dw_frame.specs.Instructions.{Instruction};
 ghost use Rattle.dw_frame.specs.Codes.{AreInstructions};
 ghost use Rattle.dw_frame.specs.Sections.{AreRecords, records_of};
@@ -28,12 +29,12 @@ pub fn programs_are_unambiguous()
 /// written for it encode the same ones, with nops in place of those of vendors. If the written
 /// program can be read, so can the program that it was written for.
 pub fn programs_say_the_same()
-    ensures said { (dialect : Dialect) (old new : ReadPosition) (items : List (ℕ × EhInstruction))
+    ensures said { (dialect : Dialect) (old : ReadPosition) (new : ProgramPosition) (items : List (ℕ × EhInstruction))
         → IsSameProgram dialect old new → AreEhInstructions dialect old.target old.position old.rest items
-        → (again : List (ℕ × Instruction)) × AreInstructions new.target new.position new.rest again
+        → (again : List (ℕ × Instruction)) × AreInstructions new.dialect new.target new.position new.rest again
         × SayTheSame items again }
-    ensures back { (dialect : Dialect) (old new : ReadPosition) (again : List (ℕ × Instruction))
-        → IsSameProgram dialect old new → AreInstructions new.target new.position new.rest again
+    ensures back { (dialect : Dialect) (old : ReadPosition) (new : ProgramPosition) (again : List (ℕ × Instruction))
+        → IsSameProgram dialect old new → AreInstructions new.dialect new.target new.position new.rest again
         → (items : List (ℕ × EhInstruction)) × AreEhInstructions dialect old.target old.position old.rest items
         × SayTheSame items again }
 {}

@@ -4,7 +4,7 @@ ghost use Rattle.std.specs.Prelude.{◌≡◌, ◌≢◌, ◌+◌, ◌^◌, ◌<
 ghost use Rattle.std.specs.List.{list_any};
 ghost use Rattle.dw_bytes.specs.Reading.{MovesForward};
 ghost use Rattle.dw_bytes.specs.Readers.{ParsesBy};
-ghost use Rattle.dw_frame.specs.Codes.{extended_line, line_of};
+ghost use Rattle.dw_frame.specs.Codes.{extended_line, dwarf_line_of};
 ghost use Rattle.dw_eh_frame.specs.Silencing.{is_silenced_or_unread, past_instruction, past_operands, silenced, unread};
 
 use crate::dialect::Dialect;
@@ -76,7 +76,7 @@ fn skip_high(cursor: &mut Cursor<'_>, code: u8, at: u32) -> Result<bool, Fault>
 #[inline(always)]
 fn skip_operands(cursor: &mut Cursor<'_>, code: u8, at: u32) -> Result<bool, Fault>
     requires { at ≤ cursor.old.position }
-    ensures exact { ParsesBy (λ v. v) (past_operands at (line_of code)) cursor.old result cursor.new }
+    ensures exact { ParsesBy (λ v. v) (past_operands at (dwarf_line_of code)) cursor.old result cursor.new }
     ensures goes_on { MovesForward cursor.old cursor.new }
 {
     match code {

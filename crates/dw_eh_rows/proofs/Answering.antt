@@ -5,6 +5,7 @@ use Rattle.dw_bytes.specs.declared.target.Target.{Target}
 use Rattle.dw_bytes.specs.declared.fault.Fault.{Fault}
 use Rattle.dw_bytes.specs.Answers.{memory}
 use Rattle.dw_rows.specs.Section.{FrameSection, IsChecked, frame_of, row_of, section_fault}
+use Rattle.dw_rows.proofs.sections.CheckedSections.{accepted}
 use Rattle.dw_eh_frame.specs.declared.pointer.Bases.{Bases}
 use Rattle.dw_eh_frame.specs.Copies.{distinct}
 use Rattle.dw_eh_frame.specs.declared.places.RecordPlace.{RecordPlace}
@@ -50,24 +51,24 @@ refused-answers a bases target section f (inr (inr first)) = inr (inr (reading-f
 -- what `exact_eh_rows` says
 abbrev pub HaveEhRows : Type 0
 HaveEhRows = (is_aarch64 : Bool) (bases : Bases) (section : List ℕ) (s : FrameSection)
-    → (written : IsRewritten is_aarch64 bases s.target section s.section) → IsChecked s → (e : EhFde) → Contains (eh_fdes written.records) e
-    → (a : ℕ) → EhCovers e a → HasOneEhRow is_aarch64 (distinct written.records) s a
+    → (written : IsRewritten is_aarch64 bases s.target section s.section) → IsChecked s → s ≡ frame_of s.target s.section
+    → (e : EhFde) → Contains (eh_fdes written.records) e → (a : ℕ) → EhCovers e a → HasOneEhRow is_aarch64 (distinct written.records) s a
 
 abbrev pub HaveNoOthers : Type 0
 HaveNoOthers = (is_aarch64 : Bool) (bases : Bases) (section : List ℕ) (s : FrameSection)
-    → (written : IsRewritten is_aarch64 bases s.target section s.section) → IsChecked s → (a : ℕ)
+    → (written : IsRewritten is_aarch64 bases s.target section s.section) → s ≡ frame_of s.target s.section → (a : ℕ)
     → ((e : EhFde) → Contains (eh_fdes written.records) e → ¬ EhCovers e a) → row_of s a ≡ None
 
 pub has-rows : HaveEhRows → HaveNoOthers → (a : Bool) (bases : Bases) (target : Target) (section made : List ℕ) (s : FrameSection)
     → s ≡ frame_of target made → IsRewritten a bases target section made → section_fault target made ≡ None → HasEhRows a bases section s
 has-rows covered others a bases target section made s is w none =
-    let checked : IsChecked (frame_of target made) = record { whole = refl; faultless = none } in
+    let checked : IsChecked (frame_of target made) = accepted target made none in
     let rows : HasEhRows a bases section (frame_of target made) = record {
       records = w.records;
       are = w.are;
-      covered = covered a bases section (frame_of target made) w checked;
+      covered = covered a bases section (frame_of target made) w checked refl;
       copies = each-kept a bases target section w.records w.are;
-      others = others a bases section (frame_of target made) w checked;
+      others = others a bases section (frame_of target made) w refl;
     } in
     subst (HasEhRows a bases section) (sym is) rows
 

@@ -14,7 +14,7 @@ use Rattle.dw_rules.specs.RowsWithExpressions.{row_with_expressions, located_at}
 use Rattle.dw_rows.specs.UnwindRows.{rows_of, has_address}
 use Rattle.dw_rows.specs.GoodPrograms.{IsGoodFdeProgram}
 use Rattle.dw_rows.specs.ExactRows.{HasOneRow}
-use Rattle.dw_rows.specs.Section.{FrameSection, Covers, IsCoverOf, IsChecked, cies_among, fdes_among, cie_at, rows_in, rows_by_cie, row_of}
+use Rattle.dw_rows.specs.Section.{FrameSection, Covers, IsCoverOf, IsChecked, frame_of, cies_among, fdes_among, cie_at, rows_in, rows_by_cie, row_of}
 use Rattle.dw_rows.proofs.sections.CheckedSections.{checked-cies-ascend}
 use Rattle.dw_rows.proofs.rows.Covering.{cover-rows}
 use Rattle.dw_rows.proofs.programs.Programs.{fde-from-good}
@@ -69,19 +69,21 @@ written-from a target records made rewriting f among =
 abbrev made-records : List Pair → List Record
 made-records pairs = map (λ (p : Pair). p.1) pairs
 
-fdes-are : (a : Bool) (records : List EhRecord) (s : FrameSection) (rewriting : IsRewriting a s.target records s.section) → IsChecked s
+fdes-are : (a : Bool) (records : List EhRecord) (s : FrameSection) (rewriting : IsRewriting a s.target records s.section)
+    → s ≡ frame_of s.target s.section
     → s.fdes ≡ fdes_among (made-records rewriting.pairs)
-fdes-are a records s rewriting checked =
+fdes-are a records s rewriting whole =
     let rs = made-records rewriting.pairs in
-    ap (λ (t : FrameSection). t.fdes) checked.whole
+    ap (λ (t : FrameSection). t.fdes) whole
     ∙ (ap (λ items. fdes_among (values_in {X = Record} items)) ((sections-are-records s.target s.section rs).1 rewriting.encoded)
     ∙ ap fdes_among (values-read rs))
 
-cies-are : (a : Bool) (records : List EhRecord) (s : FrameSection) (rewriting : IsRewriting a s.target records s.section) → IsChecked s
+cies-are : (a : Bool) (records : List EhRecord) (s : FrameSection) (rewriting : IsRewriting a s.target records s.section)
+    → s ≡ frame_of s.target s.section
     → s.cies ≡ cies_among (made-records rewriting.pairs)
-cies-are a records s rewriting checked =
+cies-are a records s rewriting whole =
     let rs = made-records rewriting.pairs in
-    ap (λ (t : FrameSection). t.cies) checked.whole
+    ap (λ (t : FrameSection). t.cies) whole
     ∙ (ap (λ items. cies_among (values_in {X = Record} items)) ((sections-are-records s.target s.section rs).1 rewriting.encoded)
     ∙ ap cies_among (values-read rs))
 
@@ -158,16 +160,16 @@ head-is : (x y : Row) (rows : List Row) → rows ≡ x ∷ [] → rows ≡ y ∷
 head-is x y rows p q = cc
 
 pub has-one-kept-row : HaveRows → AreApart → (a : Bool) (bases : Bases) (section : List ℕ) (s : FrameSection) (w : IsRewritten a bases s.target section s.section)
-    → IsChecked s → (e : EhFde) → Contains (eh_fdes (distinct w.records)) e → (x : ℕ) → EhCovers e x → HasOneEhRow a (distinct w.records) s x
-has-one-kept-row rows_law apart a bases section s w checked e among x covers =
+    → IsChecked s → s ≡ frame_of s.target s.section → (e : EhFde) → Contains (eh_fdes (distinct w.records)) e → (x : ℕ) → EhCovers e x → HasOneEhRow a (distinct w.records) s x
+has-one-kept-row rows_law apart a bases section s w checked whole e among x covers =
     let pairs = w.rewriting.pairs in
     let made = written-for a s.target (distinct w.records) s.section w.rewriting e among in
     let f = made.0 in
     let keeps = rows-kept a s.target (distinct w.records) s.section w.rewriting e f made.1 in
     let c = keeps.cie in
-    let f_among : Contains s.fdes f = subst (λ (l : List Fde). Contains l f) (sym (fdes-are a (distinct w.records) s w.rewriting checked))
+    let f_among : Contains s.fdes f = subst (λ (l : List Fde). Contains l f) (sym (fdes-are a (distinct w.records) s w.rewriting whole))
     (fde-among (made-records pairs) f (mapped (λ (p : Pair). p.1) pairs (eh_fde e, fde_record f) made.1)) in
-    let c_among : Contains s.cies c = subst (λ (l : List Cie). Contains l c) (sym (cies-are a (distinct w.records) s w.rewriting checked))
+    let c_among : Contains s.cies c = subst (λ (l : List Cie). Contains l c) (sym (cies-are a (distinct w.records) s w.rewriting whole))
     (cie-among (made-records pairs) c (mapped (λ (p : Pair). p.1) pairs (eh_cie e.cie, cie_record c) keeps.among)) in
     let cie_found : cie_at s.cies f.cie_pointer ≡ Some c = found-at s.cies (checked-cies-ascend s checked) c f.cie_pointer c_among keeps.offset in
     let here : Covers f x = covers-too e f x keeps.initial_location keeps.address_range covers in
@@ -203,7 +205,7 @@ has-one-kept-row rows_law apart a bases section s w checked e among x covers =
             let other = written-for a s.target (distinct w.records) s.section w.rewriting g g_in in
             let kept = rows-kept a s.target (distinct w.records) s.section w.rewriting g other.0 other.1 in
             let there = covers-too g other.0 x kept.initial_location kept.address_range g_covers in
-            let other_in : Contains s.fdes other.0 = subst (λ (l : List Fde). Contains l other.0) (sym (fdes-are a (distinct w.records) s w.rewriting checked))
+            let other_in : Contains s.fdes other.0 = subst (λ (l : List Fde). Contains l other.0) (sym (fdes-are a (distinct w.records) s w.rewriting whole))
             (fde-among (made-records pairs) other.0 (mapped (λ (p : Pair). p.1) pairs (eh_fde g, fde_record other.0) other.1)) in
             let same : other.0 ≡ f = law.covers.2 other.0 other_in there ∙ sym fde_is in
             let pair : (eh_fde g, fde_record other.0) ≡ (eh_fde e, fde_record f) =
@@ -224,20 +226,20 @@ has-one-kept-row rows_law apart a bases section s w checked e among x covers =
 
 -- the row of an address that any FDE covers, which may be a copy
 pub has-one-eh-row : HaveRows → AreApart → (a : Bool) (bases : Bases) (section : List ℕ) (s : FrameSection) (w : IsRewritten a bases s.target section s.section)
-    → IsChecked s → (e : EhFde) → Contains (eh_fdes w.records) e → (x : ℕ) → EhCovers e x → HasOneEhRow a (distinct w.records) s x
-has-one-eh-row rows_law apart a bases section s w checked e among x covers =
+    → IsChecked s → s ≡ frame_of s.target s.section → (e : EhFde) → Contains (eh_fdes w.records) e → (x : ℕ) → EhCovers e x → HasOneEhRow a (distinct w.records) s x
+has-one-eh-row rows_law apart a bases section s w checked whole e among x covers =
     elim (kept-or-copy w.records e (eh-record-of w.records e among)) [
-      | inl kept ↦ has-one-kept-row rows_law apart a bases section s w checked e (eh-fde-among (distinct w.records) e kept) x covers
-      | inr copy ↦ has-one-kept-row rows_law apart a bases section s w checked copy.original
+      | inl kept ↦ has-one-kept-row rows_law apart a bases section s w checked whole e (eh-fde-among (distinct w.records) e kept) x covers
+      | inr copy ↦ has-one-kept-row rows_law apart a bases section s w checked whole copy.original
           (eh-fde-among (distinct w.records) copy.original copy.kept) x
           (omega (arith, covers.0, copy.initial), omega (arith, covers.1, copy.initial, copy.range))
     ]
 
 pub has-no-row : HaveNone → (a : Bool) (bases : Bases) (section : List ℕ) (s : FrameSection) (w : IsRewritten a bases s.target section s.section)
-    → IsChecked s → (x : ℕ) → ((e : EhFde) → Contains (eh_fdes w.records) e → ¬ EhCovers e x) → row_of s x ≡ None
-has-no-row none_law a bases section s w checked x free = none_law s x (λ f f_in covers.
+    → s ≡ frame_of s.target s.section → (x : ℕ) → ((e : EhFde) → Contains (eh_fdes w.records) e → ¬ EhCovers e x) → row_of s x ≡ None
+has-no-row none_law a bases section s w whole x free = none_law s x (λ f f_in covers.
     let listed = record-of (made-records w.rewriting.pairs) f
-    (subst (λ (l : List Fde). Contains l f) (fdes-are a (distinct w.records) s w.rewriting checked) f_in) in
+    (subst (λ (l : List Fde). Contains l f) (fdes-are a (distinct w.records) s w.rewriting whole) f_in) in
     let source = written-from a s.target (distinct w.records) s.section w.rewriting f listed in
     let keeps = rows-kept a s.target (distinct w.records) s.section w.rewriting source.0 f source.1 in
     free source.0 (eh-fde-among w.records source.0 (distinct-within [] w.records (eh_fde source.0)

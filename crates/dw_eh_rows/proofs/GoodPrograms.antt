@@ -18,7 +18,7 @@ use Rattle.dw_rows.proofs.rows.RowCursors.{standing_at-none}
 use Rattle.dw_eh_frame.specs.Records.{EhCie, EhFde}
 use Rattle.dw_eh_frame.specs.Instructions.{EhInstruction, dialect_of}
 use Rattle.dw_eh_frame.proofs.ReadTwice.{EhItems, eh-programs-are-instructions}
-use Rattle.dw_eh_rows.specs.Meaning.{dialect_in, eh_effect_of, eh_effects_from, eh_expression_in}
+use Rattle.dw_eh_rows.specs.Meaning.{as_fde, dialect_in, eh_effect_of, eh_effects_from, eh_expression_in}
 use Rattle.dw_eh_rows.specs.Faults.{as_cie, eh_item_fault, eh_fault_from, cie_items, fde_items, eh_cie_fault, start_after, fde_fault_after, eh_fde_fault}
 use Rattle.dw_eh_rows.specs.WellFormed.{AreGoodEhExpressions, IsGoodEhCie, IsGoodEhFde}
 
@@ -151,7 +151,7 @@ first-is : (a : Bool) (e : EhCie) (g : IsGoodEhCie a e) → values_in (cie_items
 first-is a e g = ap (λ (l : EhItems). values_in l) (cie-read a e g) ∙ values-read g.items
 
 abbrev ending-of : EhFde → Start → List Effect → Option Fault
-ending-of e s all = standing_at (end_of e.program) (refusal_at_end s all)
+ending-of e s all = standing_at (end_of (as_fde e).program) (refusal_at_end s all)
 
 pub good-from-fde : (a : Bool) (e : EhFde) → IsGoodEhCie a e.cie → eh_fde_fault a e ≡ None → IsGoodEhFde a e
 unfolding eh_fde_fault
@@ -162,7 +162,7 @@ good-from-fde a e g h =
     let k = all-pass (refusal_at s) (ending-of e s) (as_cie e.cie) (length g.items) [] (fde_items a e) here in
     let p = eh_effects_from (as_cie e.cie) (length g.items) k.items in
     let ends : refusal_at_end s (reverse p) ≡ None =
-    standing_at-none (end_of e.program) _ (subst (λ l. ending-of e s l ≡ None) (append-nil (reverse p)) k.ends) in
+    standing_at-none (end_of (as_fde e).program) _ (subst (λ l. ending-of e s l ≡ None) (append-nil (reverse p)) k.ends) in
     let fine : Fine s p = record {
       each = λ n x at. subst (λ l. refusal_at s l x ≡ None) (append-nil (reverse (take n p))) (k.each n x at);
       ends = ends;
@@ -182,7 +182,7 @@ fde-from-good a e g =
     let p = eh_effects_from (as_cie e.cie) (length g.first.items) g.items in
     let fine : Fine s p = (fine-iff s p (omega arith)).1 g.good in
     let ends : ending-of e s (reverse p ++ []) ≡ None =
-    subst (λ l. ending-of e s l ≡ None) (sym (append-nil (reverse p))) (ap (standing_at (end_of e.program)) fine.ends) in
+    subst (λ l. ending-of e s l ≡ None) (sym (append-nil (reverse p))) (ap (standing_at (end_of (as_fde e).program)) fine.ends) in
     let k : eh_fault_from (refusal_at s) (ending-of e s) (as_cie e.cie) (length g.first.items) [] (map Ok g.items) ≡ None =
     pass-all (refusal_at s) (ending-of e s) (as_cie e.cie) (length g.first.items) [] g.items
     (λ n x at. subst (λ l. refusal_at s l x ≡ None) (sym (append-nil (reverse (take n p)))) (fine.each n x at)) g.expressions ends in

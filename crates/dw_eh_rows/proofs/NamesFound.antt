@@ -4,7 +4,7 @@ use Rattle.std.specs.Prelude.{◌==◌}
 use Rattle.std.specs.List.{cons_option}
 use Rattle.std.proofs.lemmas.Bool.Decides.{nat_tests}
 use Rattle.std.proofs.lemmas.List.Elements.{Contains-append_left, Contains-append_right}
-use Rattle.dw_bytes.specs.Reading.{ReadPosition}
+use Rattle.dw_frame.specs.Dialects.{ProgramPosition}
 use Rattle.dw_bytes.specs.Answers.{values_in}
 use Rattle.dw_frame.specs.Instructions.{Instruction}
 use Rattle.dw_frame.specs.Codes.{AreInstructions, instructions_of}
@@ -14,7 +14,7 @@ use Rattle.dw_stack.specs.Located.{LocatedExpression}
 use Rattle.dw_rules.specs.Expressions.{expression_in, expressions_in, expressions_of, cie_expressions, fde_expressions, frame_expressions, expression_at}
 use Rattle.dw_rules.specs.RowsWithExpressions.{or_nowhere, located_at}
 use Rattle.dw_rows.specs.GoodPrograms.{IsGoodCieProgram, IsGoodFdeProgram}
-use Rattle.dw_rows.specs.Section.{FrameSection, IsChecked, frame_of}
+use Rattle.dw_rows.specs.Section.{FrameSection, IsChecked, frame_with}
 use Rattle.dw_eh_rows.specs.RowsWithoutPlaces.{Names}
 use Rattle.dw_eh_rows.proofs.RowsKept.{values-read}
 
@@ -36,7 +36,7 @@ of-items (y ∷ items) item x (zero, less, is) has =
 of-items (y ∷ items) item x (suc k, less, is) has =
     further (expression_in y.1) (expressions_in items) x (of-items items item x (k, omega arith, is) has)
 
-of-program : (p : ReadPosition) (items : List (ℕ × Instruction)) → AreInstructions p.target p.position p.rest items
+of-program : (p : ProgramPosition) (items : List (ℕ × Instruction)) → AreInstructions p.dialect p.target p.position p.rest items
     → (item : ℕ × Instruction) (x : LocatedExpression) → Contains items item → expression_in item.1 ≡ Some x → Contains (expressions_of p) x
 of-program p items are item x among has =
     let read : values_in (instructions_of p) ≡ items = ap values_in ((programs-are-instructions p items).1 are) ∙ values-read items in
@@ -62,7 +62,7 @@ of-fde (g ∷ fdes) f x (suc k, less, is) own =
 
 of-section : (s : FrameSection) → IsChecked s → (x : LocatedExpression) → Contains (frame_expressions s.cies s.fdes) x → Contains s.expressions x
 of-section s checked x among =
-    let t = frame_of s.target s.section in
+    let t = frame_with s.target s.section checked.records in
     let there : Contains t.expressions x = subst (λ (u : FrameSection). Contains (frame_expressions u.cies u.fdes) x) checked.whole among in
     subst (λ (u : FrameSection). Contains u.expressions x) (sym checked.whole) there
 

@@ -14,6 +14,7 @@ use Rattle.dw_bytes.specs.Operands.{OperandKind, address, fixed, signed_fixed, u
 use Rattle.dw_bytes.specs.Operands.{Operands, operand_at, fits, range_fault, values_at, in_range, in_ranges, operands_in_range_at}
 use Rattle.dw_bytes.specs.Operands.{Line, line, operands_at, coded_at}
 use Rattle.dw_bytes.specs.Sequence.{located_read, and_then, at_most_of, sequence_of}
+use Rattle.dw_frame.specs.Dialects.{ProgramPosition, bytes_at}
 use Rattle.dw_frame.specs.Instructions.{Instruction}
 use Rattle.dw_frame.specs.Records.{Cie, Fde}
 use Rattle.dw_frame.specs.Codes.{line_of, instruction_at, instructions_of}
@@ -155,11 +156,11 @@ up-to-never read each zero r = tt
 up-to-never read each (suc n) r =
     if-any (nat_lt 0 (length r.rest)) (and_then (read r) (at_most_of read n)) (then-never (read r) (at_most_of read n) (each r) (up-to-never read each n))
 
-instructions-never : (r : ReadPosition) → AllNever (instructions_of r)
+instructions-never : (p : ProgramPosition) → AllNever (instructions_of p)
 unfolding instructions_of instruction_at sequence_of
-instructions-never r =
-    up-to-never (located_read instruction_at)
-    (λ s. located-never instruction_at s (coded-never line_of FaultKind.UnknownInstruction s refl)) (length r.rest) r
+instructions-never p =
+    up-to-never (located_read (instruction_at p.dialect))
+    (λ s. located-never (instruction_at p.dialect) s (coded-never (line_of p.dialect) FaultKind.UnknownInstruction s refl)) (length p.rest) (bytes_at p)
 
 operations-never : (r : ReadPosition) → AllNever (operations_of r)
 unfolding operations_of operation_at sequence_of

@@ -2,7 +2,7 @@
 use Rattle.std.proofs.Common.{◌≡◌, ℕ, ◌+◌, Bool, List, [], ◌∷◌, length, refl, sym, ap, ◌∙◌}
 use Rattle.std.specs.Prelude.{ℤ, pos, reverse}
 use Rattle.dw_bytes.specs.declared.target.Format.TheVariants.{Dwarf32}
-use Rattle.dw_bytes.specs.Reading.{ReadPosition}
+use Rattle.dw_frame.specs.Dialects.{ProgramPosition}
 use Rattle.dw_frame.specs.Instructions.{Instruction}
 use Rattle.dw_frame.specs.Records.{Cie}
 use Rattle.dw_frame.specs.Sections.{Header, cie_header, fde_header}
@@ -16,7 +16,7 @@ use Rattle.dw_eh_frame.proofs.OneProgram.{one-program}
 use Rattle.dw_eh_rows.specs.Meaning.{AreEhRows, numbers_of, as_fde, dialect_in, numbered, eh_effect_of, eh_effects_from, eh_rows_by}
 
 -- a CIE with these alignment factors
-abbrev pub with-factors : ReadPosition → ℕ → ℤ → Cie
+abbrev pub with-factors : ProgramPosition → ℕ → ℤ → Cie
 with-factors program code number = record {
   offset = 0;
   format = Dwarf32;
@@ -28,7 +28,7 @@ with-factors program code number = record {
 }
 
 -- the effect of an instruction depends on nothing else of a CIE
-pub by-factors : (p : ReadPosition) (c : Cie) (i : Instruction)
+pub by-factors : (p : ProgramPosition) (c : Cie) (i : Instruction)
     → effect_of c i ≡ effect_of (with-factors p c.code_alignment_factor c.data_alignment_factor) i
 by-factors p c (Instruction.advance_loc d) = refl
 by-factors p c (Instruction.offset r n) = refl
@@ -57,7 +57,7 @@ by-factors p c (Instruction.val_offset r n) = refl
 by-factors p c (Instruction.val_offset_sf r n) = refl
 by-factors p c (Instruction.val_expression r e) = refl
 
-effect-same : (p : ReadPosition) (c d : Cie) (n : ℕ) (x : EhInstruction) → c.code_alignment_factor ≡ d.code_alignment_factor
+effect-same : (p : ProgramPosition) (c d : Cie) (n : ℕ) (x : EhInstruction) → c.code_alignment_factor ≡ d.code_alignment_factor
     → c.data_alignment_factor ≡ d.data_alignment_factor → eh_effect_of c n x ≡ eh_effect_of d n x
 effect-same p c d n (plain i) code number =
     let j = numbered n i in
@@ -67,7 +67,7 @@ effect-same p c d n (plain i) code number =
 effect-same p c d n (args_size k) code number = refl
 effect-same p c d n (negate_ra_state w) code number = refl
 
-effects-same : (p : ReadPosition) (c d : Cie) (n : ℕ) (items : List (ℕ × EhInstruction)) → c.code_alignment_factor ≡ d.code_alignment_factor
+effects-same : (p : ProgramPosition) (c d : Cie) (n : ℕ) (items : List (ℕ × EhInstruction)) → c.code_alignment_factor ≡ d.code_alignment_factor
     → c.data_alignment_factor ≡ d.data_alignment_factor → eh_effects_from c n items ≡ eh_effects_from d n items
 effects-same p c d n [] code number = refl
 effects-same p c d n (x ∷ items) code number =
@@ -92,8 +92,8 @@ one-list-of-rows a e rows others x y =
     let items : x.items ≡ y.items =
     one-program (dialect_in a e) e.program.target e.program.position e.program.rest x.items y.items x.items_are y.items_are in
     let rows_same : eh_rows_by x.cie e x.first x.items ≡ eh_rows_by y.cie e x.first x.items =
-    ap (λ (l : List Effect). rows_after (start_after_cie (reverse l) (as_fde e)) [] (eh_effects_from x.cie (length x.first) x.items)) (effects-same p x.cie y.cie 0 x.first code number)
-    ∙ ap (rows_after (start_after_cie (reverse (eh_effects_from y.cie 0 x.first)) (as_fde e)) []) (effects-same p x.cie y.cie (length x.first) x.items code number) in
+    ap (λ (l : List Effect). rows_after (start_after_cie (reverse l) (as_fde e)) [] (eh_effects_from x.cie (length x.first) x.items)) (effects-same x.cie.program x.cie y.cie 0 x.first code number)
+    ∙ ap (rows_after (start_after_cie (reverse (eh_effects_from y.cie 0 x.first)) (as_fde e)) []) (effects-same x.cie.program x.cie y.cie (length x.first) x.items code number) in
     x.rows_are
     ∙ (rows_same
     ∙ (ap (λ (l : List (ℕ × EhInstruction)). eh_rows_by y.cie e l x.items) first

@@ -101,7 +101,7 @@ number-with e (fde_header h) = refl
 
 pub same-factors : (a : Bool) (e : EhCie) (c : Cie) → IsSameCie a e c → (i : Instruction) → effect_of c i ≡ effect_of (as_cie e) i
 same-factors a e c same i =
-    let r = e.program in
+    let r = c.program in
     let d = as_cie e in
     let code : c.code_alignment_factor ≡ d.code_alignment_factor = ap code-in same.numbers ∙ sym (code-with e e.head.numbers) in
     let number : c.data_alignment_factor ≡ d.data_alignment_factor = ap number-in same.numbers ∙ sym (number-with e e.head.numbers) in
@@ -155,11 +155,11 @@ fde-starts a e f c same of_cie =
     (start-alike unnamed unnamed f agree.steps agree.fit))
 
 ends-matched : (e : EhFde) (f : Fde) (s t : Start) → length f.program.rest ≡ length e.program.rest → (b c : List Effect) → SameState s t b c
-    → Matched e.program.position f.program.position (standing_at (end_of e.program) (refusal_at_end s b))
+    → Matched e.program.position f.program.position (standing_at (end_of (as_fde e).program) (refusal_at_end s b))
     (standing_at (end_of f.program) (refusal_at_end t c))
 ends-matched e f s t long b c state =
     let n = length e.program.rest in
-    let own : n + e.program.position ≡ end_of e.program = omega arith in
+    let own : n + e.program.position ≡ end_of (as_fde e).program = omega arith in
     let made : n + f.program.position ≡ end_of f.program = omega (arith, long) in
     subst (λ m. Matched e.program.position f.program.position (standing_at m (refusal_at_end s b)) (standing_at (end_of f.program) (refusal_at_end t c))) own
     (subst (λ m. Matched e.program.position f.program.position (standing_at (n + e.program.position) (refusal_at_end s b)) (standing_at m (refusal_at_end t c))) made
@@ -175,7 +175,7 @@ fde-matched a e f c same of_cie =
     let s = start_after e (first-of a e) in
     let t = fde_start c f in
     let n = length (first-of a e) in
-    let E : List Effect → Option Fault = λ all. standing_at (end_of e.program) (refusal_at_end s all) in
+    let E : List Effect → Option Fault = λ all. standing_at (end_of (as_fde e).program) (refusal_at_end s all) in
     let F : List Effect → Option Fault = λ all. standing_at (end_of f.program) (refusal_at_end t all) in
     let alike = read-alike (dialect_in a e) e.program f.program same.program in
     let long : length f.program.rest ≡ length e.program.rest =

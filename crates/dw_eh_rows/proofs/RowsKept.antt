@@ -4,7 +4,7 @@ use Rattle.std.specs.Prelude.{reverse, Contains}
 use Rattle.dw_bytes.specs.declared.target.Target.{Target}
 use Rattle.dw_frame.specs.Records.{Cie, Fde, cie_record, fde_record}
 use Rattle.dw_bytes.specs.Answers.{values_in}
-use Rattle.dw_bytes.specs.Reading.{ReadPosition}
+use Rattle.dw_frame.specs.Dialects.{ProgramPosition}
 use Rattle.dw_frame.specs.Instructions.{Instruction}
 use Rattle.dw_frame.specs.Codes.{AreInstructions, instructions_of}
 use Rattle.dw_rules.specs.Effects.{Effect, effects_by, effects_of}
@@ -27,7 +27,7 @@ values-read [] = refl
 values-read (item ∷ items) = ap (λ (l : List (ℕ × Instruction)). item ∷ l) (values-read items)
 
 -- the effects of a program whose bytes encode these instructions
-effects-read : (c : Cie) (p : ReadPosition) (items : List (ℕ × Instruction)) → AreInstructions p.target p.position p.rest items
+effects-read : (c : Cie) (p : ProgramPosition) (items : List (ℕ × Instruction)) → AreInstructions p.dialect p.target p.position p.rest items
     → effects_of c (instructions_of p) ≡ effects_by c items
 effects-read c p items are = ap (effects_of c) ((programs-are-instructions p items).1 are) ∙ ap (effects_by c) (values-read items)
 

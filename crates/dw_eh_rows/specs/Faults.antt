@@ -8,6 +8,7 @@ use Rattle.dw_bytes.specs.declared.target.Target.{Target}
 use Rattle.dw_bytes.specs.declared.fault.Fault.{Fault}
 use Rattle.dw_bytes.specs.declared.fault.FaultKind.{FaultKind}
 use Rattle.dw_bytes.specs.Answers.{values_in}
+use Rattle.dw_frame.specs.Dialects.{debug_frame, in_dialect}
 use Rattle.dw_frame.specs.Records.{Cie}
 use Rattle.dw_frame.specs.Sections.{Header, cie_header, fde_header}
 use Rattle.dw_stack.specs.Located.{located_fault}
@@ -31,7 +32,7 @@ cie_with e (cie_header h) = record {
   code_alignment_factor = h.code_alignment_factor;
   data_alignment_factor = h.data_alignment_factor;
   return_address_register = h.return_address_register;
-  program = e.program;
+  program = in_dialect debug_frame e.program;
 }
 cie_with e (fde_header h) = record {
   offset = e.offset;
@@ -40,7 +41,7 @@ cie_with e (fde_header h) = record {
   code_alignment_factor = 0;
   data_alignment_factor = pos 0;
   return_address_register = 0;
-  program = e.program;
+  program = in_dialect debug_frame e.program;
 }
 
 -- the CIE as DWARF has it, with its program where it is in `.eh_frame`
@@ -83,7 +84,7 @@ start_after e first = start_after_cie (reverse (eh_effects_from (as_cie e.cie) 0
 abbrev pub fde_fault_after : EhFde → List (ℕ × EhInstruction) → List (Result (ℕ × EhInstruction) Fault) → Option Fault
 fde_fault_after e first items =
     eh_fault_from (refusal_at (start_after e first))
-    (λ all. standing_at (end_of e.program) (refusal_at_end (start_after e first) all)) (as_cie e.cie) (length first) [] items
+    (λ all. standing_at (end_of (as_fde e).program) (refusal_at_end (start_after e first) all)) (as_cie e.cie) (length first) [] items
 
 -- the first fault of an FDE's program, where its CIE's program has none
 unfoldable pub eh_fde_fault : Bool → EhFde → Option Fault

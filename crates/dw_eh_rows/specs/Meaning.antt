@@ -3,6 +3,7 @@
 use Rattle.std.specs.Prelude.{◌≡◌, ℕ, zero, suc, ◌+◌, ◌<◌, ◌≤◌, Bool, List, [], ◌∷◌, length, reverse, Contains, Option, Some, None}
 use Rattle.std.specs.List.{filter_map}
 use Rattle.dw_bytes.specs.Operands.{Block}
+use Rattle.dw_frame.specs.Dialects.{debug_frame, in_dialect}
 use Rattle.dw_frame.specs.Instructions.{Instruction}
 use Rattle.dw_frame.specs.Records.{Cie, Fde}
 use Rattle.dw_frame.specs.Sections.{Header, cie_header}
@@ -35,7 +36,7 @@ as_fde e = record {
   cie_pointer_offset = e.cie_pointer_offset;
   initial_location = e.initial_location;
   address_range = e.address_range;
-  program = e.program;
+  program = in_dialect debug_frame e.program;
 }
 
 -- In the rules of `.eh_frame` an expression is named by the number of its instruction, and not by

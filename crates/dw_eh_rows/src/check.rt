@@ -2,7 +2,7 @@
 
 ghost use Rattle.std.specs.Prelude.{◌≡◌, ◌<◌, ◌^◌, IfOk, length};
 ghost use Rattle.dw_eh_frame.specs.Rewriting.{IsRewritten};
-ghost use Rattle.dw_rows.specs.Section.{IsChecked};
+ghost use Rattle.dw_rows.specs.Section.{IsChecked, frame_of};
 ghost use Rattle.dw_eh_rows.specs.Checked.{EhAnswers, HasEhRows};
 ghost use Rattle.dw_eh_rows.specs.Faults.{eh_section_fault};
 
@@ -32,6 +32,7 @@ pub fn check_eh_frame<'a>(
         (eh_section_fault is_aarch64 bases target section.now) result }
     ensures target { IfOk result (λ frame. frame.target ≡ target) }
     ensures checked { IfOk result IsChecked }
+    ensures whole { IfOk result (λ frame. frame ≡ frame_of frame.target frame.section) }
     ensures rows { IfOk result (HasEhRows is_aarch64 bases section.now) }
     ensures written { IfOk result
         (λ frame. IsRewritten is_aarch64 bases frame.target section.now frame.section) }

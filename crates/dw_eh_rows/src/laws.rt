@@ -7,7 +7,7 @@ ghost use Rattle.dw_bytes.specs.declared.fault.Fault.{Fault};
 ghost use Rattle.dw_bytes.specs.declared.target.Target.{Target};
 ghost use Rattle.dw_frame.specs.Records.{Fde, fde_record};
 ghost use Rattle.dw_rules.specs.Rules.{PlacedRow};
-ghost use Rattle.dw_rows.specs.Section.{FrameSection, IsChecked, row_of, section_fault};
+ghost use Rattle.dw_rows.specs.Section.{FrameSection, IsChecked, frame_of, row_of, section_fault};
 ghost use Rattle.dw_eh_frame.specs.declared.pointer.Bases.{Bases};
 ghost use Rattle.dw_eh_frame.specs.Copies.{distinct};
 ghost use Rattle.dw_eh_frame.specs.declared.places.RecordPlace.{RecordPlace};
@@ -76,11 +76,11 @@ pub fn signal_frames_are_exact()
 pub fn exact_eh_rows()
     ensures covered { (is_aarch64 : Bool) (bases : Bases) (section : List ℕ) (s : FrameSection)
         → (written : IsRewritten is_aarch64 bases s.target section s.section) → IsChecked s
-        → (e : EhFde) → Contains (eh_fdes written.records) e → (a : ℕ) → EhCovers e a
+        → s ≡ frame_of s.target s.section → (e : EhFde) → Contains (eh_fdes written.records) e → (a : ℕ) → EhCovers e a
         → HasOneEhRow is_aarch64 (distinct written.records) s a }
     ensures others { (is_aarch64 : Bool) (bases : Bases) (section : List ℕ) (s : FrameSection)
-        → (written : IsRewritten is_aarch64 bases s.target section s.section) → IsChecked s
-        → (a : ℕ) → ((e : EhFde) → Contains (eh_fdes written.records) e → ¬ EhCovers e a)
+        → (written : IsRewritten is_aarch64 bases s.target section s.section)
+        → s ≡ frame_of s.target s.section → (a : ℕ) → ((e : EhFde) → Contains (eh_fdes written.records) e → ¬ EhCovers e a)
         → row_of s a ≡ None }
 {
     dw_rows::laws::exact_rows();

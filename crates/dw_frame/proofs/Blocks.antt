@@ -1,15 +1,17 @@
 -- The block of an instruction ends where the instruction ends, and a record's program lies inside
 -- the record.
 use Rattle.std.proofs.Common.{◌≡◌, ℕ, ◌+◌, ◌<◌, Bool, true, false, cond, List, [], ◌∷◌, length, Option, Some, None, sym, ap, subst, arith}
-use Rattle.std.specs.Prelude.{◌==◌, nat_lt}
+use Rattle.std.specs.Prelude.{◌==◌, ◌||◌, nat_lt}
 use Rattle.std.proofs.lemmas.List.{length-append}
 use Rattle.dw_bytes.specs.declared.target.Target.{Target}
 use Rattle.dw_bytes.specs.Operands.{OperandKind, address, fixed, unsigned, signed, register_number, block}
 use Rattle.dw_bytes.specs.Operands.{Block, IsBlock, Operands, Line, line, one, AreOperands}
+use Rattle.dw_frame.specs.declared.dialect.Dialect.{Dialect}
+use Rattle.dw_frame.specs.Dialects.{has_args_size, is_aarch64, has_plain_addresses}
 use Rattle.dw_frame.specs.Instructions.{Instruction}
 use Rattle.dw_frame.specs.Records.{Record}
 use Rattle.dw_frame.specs.Sections.{IsRecord}
-use Rattle.dw_frame.specs.Codes.{extended_line, line_of, EncodesInstruction}
+use Rattle.dw_frame.specs.Codes.{extended_line, extended_line_of, line_of, EncodesInstruction}
 use Rattle.dw_frame.specs.Bounds.{EndsWith, EndsWithItsBlock, IsSoundRecord, offset_of}
 use Rattle.dw_frame.proofs.RecordBounds.{sound-record, record-offset}
 
@@ -96,21 +98,32 @@ extended-lines start target code =
     (block-second start target register_number (λ vs. Instruction.val_expression vs.0 vs.1.0) (λ vs end h. h))
     (unknown start target)))))))))))))))))))))))
 
-all-lines : (start : ℕ) (target : Target) (code : ℕ) → Holds start target (line_of code)
-all-lines start target code =
+dialect-lines : (start : ℕ) (target : Target) (d : Dialect) (code : ℕ) → Holds start target (extended_line_of d code)
+dialect-lines start target d code =
     let H = Holds start target in
-    which (nat_lt code 0x40) H _ _ (extended-lines start target code)
+    which (code == 0x01) H _ _ (which (has_plain_addresses d) H _ _ (extended-lines start target code) (unknown start target))
+    (which (code == 0x2e) H _ _
+    (which (has_args_size d) H _ _ (without start target (unsigned ∷ []) (λ vs. Instruction.nop) (λ vs end. tt)) (unknown start target))
+    (which (code == 0x2d || code == 0x2c) H _ _
+    (which (is_aarch64 d) H _ _ (without start target [] (λ vs. Instruction.nop) (λ vs end. tt)) (unknown start target))
+    (extended-lines start target code)))
+
+all-lines : (start : ℕ) (target : Target) (d : Dialect) (code : ℕ) → Holds start target (line_of d code)
+all-lines start target d code =
+    let H = Holds start target in
+    which (nat_lt code 0x40) H _ _ (dialect-lines start target d code)
     (which (nat_lt code 0x80) H _ _ (without start target [] (λ vs. Instruction.advance_loc _) (λ vs end. tt))
     (which (nat_lt code 0xc0) H _ _ (without start target (unsigned ∷ []) (λ vs. Instruction.offset _ vs.0) (λ vs end. tt))
     (without start target [] (λ vs. Instruction.restore _) (λ vs end. tt))))
 
 -- ---- laws
 
-pub ends-with-block : (target : Target) (at : ℕ) (bytes : List ℕ) (i : Instruction) → EncodesInstruction target at bytes i
+pub ends-with-block : (dialect : Dialect) (target : Target) (at : ℕ) (bytes : List ℕ) (i : Instruction)
+    → EncodesInstruction dialect target at bytes i
     → EndsWithItsBlock target at (at + length bytes) i
 unfolding Holds
-ends-with-block target at bytes i (code, front, operands, parts, first, second) =
-    let inside = all-lines at target code (at + length front) operands i (omega (arith, first.count)) second in
+ends-with-block dialect target at bytes i (code, front, operands, parts, first, second) =
+    let inside = all-lines at target dialect code (at + length front) operands i (omega (arith, first.count)) second in
     subst (λ n. EndsWithItsBlock target at n i) (omega (arith, ap length parts, length-append front operands)) inside
 
 pub sound-inside : (target : Target) (at : ℕ) (bytes : List ℕ) (x : Record) → IsRecord target at bytes x

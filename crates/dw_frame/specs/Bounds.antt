@@ -5,12 +5,13 @@ use Rattle.dw_bytes.specs.declared.target.Target.{Target}
 use Rattle.dw_bytes.specs.declared.fault.Fault.{Fault}
 use Rattle.dw_bytes.specs.Operands.{Block}
 use Rattle.dw_bytes.specs.Reading.{ReadPosition, section_from}
+use Rattle.dw_frame.specs.Dialects.{ProgramPosition}
 use Rattle.dw_frame.specs.Instructions.{Instruction}
 use Rattle.dw_frame.specs.Records.{is_version, Cie, Fde, Record, cie_record, fde_record}
 use Rattle.dw_frame.specs.Sections.{top_of}
 
 -- An instruction begins inside its program. A fault is reported inside the program or at its end.
-abbrev pub StandsIn : ReadPosition → Result (ℕ × Instruction) Fault → Type 0
+abbrev pub StandsIn : ProgramPosition → Result (ℕ × Instruction) Fault → Type 0
 StandsIn r (Ok item) = (r.position ≤ item.0) × (item.0 < r.position + length r.rest)
 StandsIn r (Err fault) = (r.position ≤ fault.at) × (fault.at ≤ r.position + length r.rest)
 
@@ -37,7 +38,7 @@ pub record IsAfter (target : Target) (section : List ℕ) (at : ℕ) (after : Re
 
 -- The program of a record lies after the record's offset, inside a section of this size, and has
 -- this target.
-pub record LiesIn (target : Target) (size offset : ℕ) (program : ReadPosition) : Type 0 where
+pub record LiesIn (target : Target) (size offset : ℕ) (program : ProgramPosition) : Type 0 where
   pub begins : offset < program.position
   pub ends : program.position + length program.rest ≤ size
   pub target_is : program.target ≡ target

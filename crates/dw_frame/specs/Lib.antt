@@ -3,6 +3,8 @@
 
 -- CIEs and FDEs (6.4.1)
 pub mod Records
+-- the dialects that programs are written in
+pub mod Dialects
 -- call frame instructions (6.4.2)
 pub mod Instructions
 -- which bytes encode which instruction (7.24), and how an instruction is read

@@ -2,7 +2,7 @@
 -- 6.4.1).
 use Rattle.std.specs.Prelude.{◌==◌, ◌||◌, ℕ, ℤ, Bool}
 use Rattle.dw_bytes.specs.declared.target.Format.{Format}
-use Rattle.dw_bytes.specs.Reading.{ReadPosition}
+use Rattle.dw_frame.specs.Dialects.{ProgramPosition}
 
 -- The version of a CIE (Appendix G): 1 in DWARF 2, 3 in DWARF 3, and 4 in DWARF 4 and 5.
 abbrev pub is_version : ℕ → Bool
@@ -17,7 +17,7 @@ pub record Cie : Type 0 where
   pub code_alignment_factor : ℕ
   pub data_alignment_factor : ℤ
   pub return_address_register : ℕ
-  pub program : ReadPosition
+  pub program : ProgramPosition
 
 -- An FDE: the offset of its record, its header, the offset of its CIE_pointer field, and its
 -- program, which is the rest of its body after the header.
@@ -28,7 +28,7 @@ pub record Fde : Type 0 where
   pub cie_pointer_offset : ℕ
   pub initial_location : ℕ
   pub address_range : ℕ
-  pub program : ReadPosition
+  pub program : ProgramPosition
 
 pub data Record : Type 0 where
   cie_record : Cie → Record

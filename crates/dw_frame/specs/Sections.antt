@@ -15,6 +15,7 @@ use Rattle.dw_bytes.specs.Operands.{address, fixed, unsigned, signed}
 use Rattle.dw_bytes.specs.Bodies.{framed_at}
 use Rattle.dw_bytes.specs.Fields.{Fields, made, field, any, unless, byte, Encodes, fields_at}
 use Rattle.dw_bytes.specs.Sequence.{Sequence, sequence_of}
+use Rattle.dw_frame.specs.Dialects.{debug_frame, in_dialect}
 use Rattle.dw_frame.specs.Records.{is_version, Cie, Record, cie_record, fde_record}
 
 -- ---- headers
@@ -113,7 +114,7 @@ header_at target format r = fields_at (header_fields target format) r
 
 -- ---- records
 
--- a record, made of its offset, its format, its body's offset, its header and its program
+-- a record, made of its offset, its format, its body's offset, its header and its program's bytes
 abbrev pub record_from : ℕ → Format → ℕ → Header → ReadPosition → Record
 record_from at format body (cie_header h) program =
     cie_record (record {
@@ -123,7 +124,7 @@ record_from at format body (cie_header h) program =
       code_alignment_factor = h.code_alignment_factor;
       data_alignment_factor = h.data_alignment_factor;
       return_address_register = h.return_address_register;
-      program = program;
+      program = in_dialect debug_frame program;
     })
 record_from at format body (fde_header h) program =
     fde_record (record {
@@ -133,7 +134,7 @@ record_from at format body (fde_header h) program =
       cie_pointer_offset = body;
       initial_location = h.initial_location;
       address_range = h.address_range;
-      program = program;
+      program = in_dialect debug_frame program;
     })
 
 -- A record is a length, and a body of that many bytes. The body is a header, and the rest of the

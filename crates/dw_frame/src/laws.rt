@@ -4,49 +4,59 @@ ghost use Rattle.std.specs.Prelude.{◌≡◌, ◌+◌, ◌<◌, ◌≤◌, ◌�
 ghost use Rattle.dw_bytes.specs.declared.target.Target.{Target};
 ghost use Rattle.dw_bytes.specs.declared.fault.Fault.{Fault};
 ghost use Rattle.dw_bytes.specs.Reading.{ReadPosition, IsExact, section_from};
+ghost use Rattle.dw_frame.specs.declared.dialect.Dialect.{Dialect};
+ghost use Rattle.dw_frame.specs.Dialects.{ProgramPosition, debug_frame, in_dialect};
 ghost use Rattle.dw_frame.specs.Instructions.{Instruction};
 ghost use Rattle.dw_frame.specs.Records.{Cie, Record, cie_record};
-ghost use Rattle.dw_frame.specs.Codes.{EncodesInstruction, AreInstructions, instruction_at, instructions_of};
+ghost use Rattle.dw_frame.specs.Codes.{line_of, dwarf_line_of, EncodesInstruction, AreInstructions, instruction_at, instructions_of};
 ghost use Rattle.dw_frame.specs.Sections.{IsRecord, AreRecords, record_at, records_from, records_of, cie_among};
 ghost use Rattle.dw_frame.specs.Bounds.{StandsIn, EndsWithItsBlock, IsAfter, offset_of, Ascends, IsSound, IsSoundRecord};
+
+/// The codes of `.debug_frame` are those of DWARF.
+pub fn debug_frame_is_dwarf()
+    ensures { (code : ℕ) → line_of debug_frame code ≡ dwarf_line_of code }
+{}
 
 /// No instruction's encoding is a proper prefix of another encoding, and the same bytes encode only
 /// one instruction.
 pub fn instructions_are_unambiguous()
-    ensures { (target : Target) (at : ℕ) (a b x y : List ℕ) (i j : Instruction)
-        → EncodesInstruction target at a i → EncodesInstruction target at b j → a ++ x ≡ b ++ y
+    ensures { (dialect : Dialect) (target : Target) (at : ℕ) (a b x y : List ℕ) (i j : Instruction)
+        → EncodesInstruction dialect target at a i → EncodesInstruction dialect target at b j
+        → a ++ x ≡ b ++ y
         → (a ≡ b) × (i ≡ j) }
 {}
 
 /// An instruction is read exactly if the next bytes encode it.
 pub fn instructions_are_exact()
-    ensures { (r : ReadPosition) → IsExact instruction_at
-        (EncodesInstruction r.target r.position) r }
+    ensures { (dialect : Dialect) (r : ReadPosition) → IsExact (instruction_at dialect)
+        (EncodesInstruction dialect r.target r.position) r }
 {}
 
 /// A program is read without a fault exactly if its bytes are the encodings of instructions, one
 /// after another. Reading then gives these instructions with their offsets.
 pub fn programs_are_instructions()
-    ensures { (r : ReadPosition) (items : List (ℕ × Instruction))
-        → (instructions_of r ≡ map Ok items) ↔ AreInstructions r.target r.position r.rest items }
+    ensures { (p : ProgramPosition) (items : List (ℕ × Instruction))
+        → (instructions_of p ≡ map Ok items)
+        ↔ AreInstructions p.dialect p.target p.position p.rest items }
 {}
 
 /// Reading all instructions gives the first instruction and then what is read after it. Reading
 /// stops at the program's end, or at the first fault, which is then the last item.
 pub fn instructions_come_in_order()
-    ensures instruction { (r : ReadPosition) (i : Instruction) (after : ReadPosition)
-        → instruction_at r ≡ Ok (i, after)
-        → instructions_of r ≡ Ok (r.position, i) ∷ instructions_of after }
-    ensures fault { (r : ReadPosition) (fault : Fault) → 0 < length r.rest
-        → instruction_at r ≡ Err fault → instructions_of r ≡ Err fault ∷ [] }
-    ensures nothing { (r : ReadPosition) → length r.rest ≡ 0 → instructions_of r ≡ [] }
+    ensures instruction { (d : Dialect) (r : ReadPosition) (i : Instruction) (after : ReadPosition)
+        → instruction_at d r ≡ Ok (i, after)
+        → instructions_of (in_dialect d r) ≡ Ok (r.position, i)
+        ∷ instructions_of (in_dialect d after) }
+    ensures fault { (d : Dialect) (r : ReadPosition) (fault : Fault) → 0 < length r.rest
+        → instruction_at d r ≡ Err fault → instructions_of (in_dialect d r) ≡ Err fault ∷ [] }
+    ensures nothing { (p : ProgramPosition) → length p.rest ≡ 0 → instructions_of p ≡ [] }
 {}
 
 /// If reading the instructions of a program gives an instruction, its first byte is inside the
 /// program. If reading gives a fault, the fault is reported inside the program or at its end.
 pub fn instructions_stand_in_their_program()
-    ensures { (r : ReadPosition) (item : Result (ℕ × Instruction) Fault)
-        → Contains (instructions_of r) item → StandsIn r item }
+    ensures { (p : ProgramPosition) (item : Result (ℕ × Instruction) Fault)
+        → Contains (instructions_of p) item → StandsIn p item }
 {}
 
 /// A record is read exactly if the next bytes encode it.
@@ -64,8 +74,8 @@ pub fn sections_are_records()
 /// If an instruction has an expression, the expression begins after the instruction's first byte,
 /// and ends where the instruction ends.
 pub fn instructions_end_with_their_expressions()
-    ensures { (target : Target) (at : ℕ) (bytes : List ℕ) (i : Instruction)
-        → EncodesInstruction target at bytes i
+    ensures { (dialect : Dialect) (target : Target) (at : ℕ) (bytes : List ℕ) (i : Instruction)
+        → EncodesInstruction dialect target at bytes i
         → EndsWithItsBlock target at (at + length bytes) i }
 {}
 
@@ -129,6 +139,6 @@ pub fn the_cie_at_an_offset()
 
 /// An instruction has at least one byte.
 pub fn no_instruction_is_empty()
-    ensures { (target : Target) (at : ℕ) (bytes : List ℕ) (i : Instruction)
-        → EncodesInstruction target at bytes i → 0 < length bytes }
+    ensures { (dialect : Dialect) (target : Target) (at : ℕ) (bytes : List ℕ) (i : Instruction)
+        → EncodesInstruction dialect target at bytes i → 0 < length bytes }
 {}

@@ -4,6 +4,7 @@
 
 mod call_frame_instruction;
 mod decode;
+mod dialect;
 mod entry;
 mod header;
 mod instructions;
@@ -14,6 +15,7 @@ mod sections;
 
 pub use call_frame_instruction::{CallFrameInstruction, UnwindExpression};
 pub use decode::instruction;
+pub use dialect::Dialect;
 pub use entry::{CommonInformationEntry, Entry, FrameDescriptionEntry};
 pub use instructions::Instructions;
 pub use program::Program;

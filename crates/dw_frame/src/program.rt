@@ -2,6 +2,7 @@
 
 ghost use Rattle.std.specs.Prelude.{◌≡◌, ◌≤◌, ◌<◌, ◌+◌, ◌^◌, length};
 
+use crate::dialect::Dialect;
 use crate::instructions::Instructions;
 use dw_bytes::{Cursor, Target};
 
@@ -13,6 +14,7 @@ pub struct Program<'a> {
     section: &'a [u8],
     start: u32,
     target: Target,
+    dialect: Dialect,
     pub ghost inside: { start ≤ length section.now },
     pub ghost short: { length section.now < 2 ^ 32 },
 }
@@ -20,21 +22,29 @@ pub struct Program<'a> {
 impl<'a> Program<'a> {
     ghost use Rattle.std.specs.Prelude.{take};
     ghost use Rattle.dw_frame.specs.Codes.{instructions_of};
-    ghost use Rattle.dw_frame.specs.Views.{start_of, end_of, target_of, reading_of, reading_from};
+    ghost use Rattle.dw_frame.specs.Views.{start_of, end_of, target_of, dialect_of, reading_of, reading_from, program_of, program_from};
 
     /// The program from offset `start` up to offset `end` of `section`.
-    pub(crate) fn new(section: &'a [u8], start: u32, end: u32, target: Target) -> Self
+    pub(crate) fn new(
+        section: &'a [u8],
+        start: u32,
+        end: u32,
+        target: Target,
+        dialect: Dialect,
+    ) -> Self
         requires ordered { start ≤ end }
         requires inside { end ≤ length section.now }
         requires short { length section.now < 2 ^ 32 }
         ensures section { result.section.now ≡ take end section.now }
         ensures start { start_of result ≡ start }
         ensures target { target_of result ≡ target }
+        ensures dialect { dialect_of result ≡ dialect }
     {
         Program {
             section: &section[..end as usize],
             start,
             target,
+            dialect,
         }
     }
 
@@ -62,9 +72,17 @@ impl<'a> Program<'a> {
         self.target
     }
 
+    /// The dialect that the program is written in.
+    #[inline(always)]
+    pub fn dialect(&self) -> Dialect
+        ensures { result ≡ dialect_of self.now }
+    {
+        self.dialect
+    }
+
     /// An iterator over the instructions of the program, in order.
     pub fn instructions(&self) -> Instructions<'a>
-        ensures { result ≡ instructions_of (reading_of self.now) }
+        ensures { result ≡ instructions_of (program_of self.now) }
     {
         Instructions::new(*self)
     }
@@ -72,12 +90,13 @@ impl<'a> Program<'a> {
     /// The rest of the program from offset `at` on.
     pub(crate) fn from_offset(&self, at: u32) -> Program<'a>
         requires { at ≤ end_of self.now }
-        ensures { reading_of result ≡ reading_from self.now at }
+        ensures { program_of result ≡ program_from self.now at }
     {
         Program {
             section: self.section,
             start: at,
             target: self.target,
+            dialect: self.dialect,
         }
     }
 
@@ -89,3 +108,5 @@ impl<'a> Program<'a> {
         Cursor::at(self.section, self.target, at)
     }
 }
+
+const _: () = prove!(size_of::<Program<'static>>() == 24);

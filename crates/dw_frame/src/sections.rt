@@ -6,8 +6,10 @@ ghost use Rattle.dw_bytes.specs.Reading.{section_from};
 ghost use Rattle.dw_bytes.specs.Bodies.{framed_at};
 ghost use Rattle.dw_frame.specs.Sections.{record_at, record_from, records_of, cie_among};
 ghost use Rattle.dw_frame.specs.Headers.{head_of};
-ghost use Rattle.dw_frame.specs.Views.{reading_of, reading_from, record_of, found_cie};
+ghost use Rattle.dw_frame.specs.Views.{reading_of, reading_from, dialect_of, record_of, found_cie};
+ghost use Rattle.dw_frame.specs.Dialects.{debug_frame};
 
+use crate::dialect::Dialect;
 use crate::entry::{CommonInformationEntry, Entry, FrameDescriptionEntry};
 use crate::header::Header;
 use crate::program::Program;
@@ -28,6 +30,7 @@ fn record_body<'a>(
         ((f.0, reading_of f.1), section_from target section.now (length f.1.section.now)))
         (λ fault. framed_at (section_from target section.now at) ≡ Err fault) }
     ensures target { IfOk result (λ f. f.1.target ≡ target) }
+    ensures dialect { IfOk result (λ f. f.1.dialect ≡ debug_frame) }
     ensures forward { IfOk result
         (λ f. at < f.1.start × length f.1.section.now ≤ length section.now) }
     ensures inside { IfErr result (λ fault. fault.at ≤ length section.now) }
@@ -35,7 +38,7 @@ fn record_body<'a>(
     let body = Body::read(section, target, at)?;
     Ok((
         body.format,
-        Program::new(section, body.start, body.end, target),
+        Program::new(section, body.start, body.end, target, Dialect::DebugFrame),
     ))
 }
 
@@ -48,6 +51,7 @@ fn entry_from<'a>(
     header: Header,
     program: Program<'a>,
 ) -> Entry<'a>
+    requires { dialect_of program ≡ debug_frame }
     ensures { record_of result ≡ record_from at format body (head_of header)
         (reading_of program.entry) }
 {

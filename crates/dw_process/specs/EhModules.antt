@@ -10,7 +10,7 @@ use Rattle.dw_eh_rows.specs.Faults.{eh_section_fault}
 use Rattle.dw_eh_rows.specs.Signals.{signal_frames}
 use Rattle.dw_eh_frame.specs.Records.{eh_records_of}
 use Rattle.dw_eh_frame.specs.Rewriting.{IsRewritten}
-use Rattle.dw_rows.specs.Section.{FrameSection, IsChecked}
+use Rattle.dw_rows.specs.Section.{FrameSection, IsChecked, frame_of}
 use Rattle.dw_process.specs.Processes.{IsAddedWith, ProcessState}
 use Rattle.dw_process.specs.Refusals.{IsRefusedWith}
 use Rattle.dw_process.specs.declared.address_range.AddressRange.{AddressRange}
@@ -25,12 +25,14 @@ first_fault_of s target = eh_section_fault s.is_aarch64 s.bases target s.bytes.n
 
 -- The rows that are looked up in `frame` are those of the section, which has no fault: each address
 -- that one of its FDEs covers has exactly one row, the one that the definitions give (`HasEhRows`).
--- `frame` is checked, and has the section's records and nothing else (`IsRewritten`).
+-- `frame` is checked, and is what is read of bytes that have the section's records and nothing else
+-- (`IsRewritten`).
 pub record IsFrameOf (s : EhSection) (target : Target) (frame : FrameSection) : Type 0 where
   pub accepted : first_fault_of s target ≡ None
   pub target_is : frame.target ≡ target
   pub rows : HasEhRows s.is_aarch64 s.bases s.bytes.now frame
   pub checked : IsChecked frame
+  pub whole : frame ≡ frame_of frame.target frame.section
   pub written : IsRewritten s.is_aarch64 s.bases frame.target s.bytes.now frame.section
 
 -- A module with the rows and the signal frames of the section is added.

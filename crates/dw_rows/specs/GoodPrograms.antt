@@ -109,7 +109,7 @@ AreGoodExpressions items = (e : LocatedExpression) → Contains (expressions_in 
 -- expressions are good.
 pub record IsGoodCieProgram (cie : Cie) : Type 0 where
   pub items : List (ℕ × Instruction)
-  pub encoded : AreInstructions cie.program.target cie.program.position cie.program.rest items
+  pub encoded : AreInstructions cie.program.dialect cie.program.target cie.program.position cie.program.rest items
   pub good : IsGoodCie (effects_by cie items)
   pub expressions : AreGoodExpressions items
 
@@ -119,6 +119,6 @@ pub record IsGoodCieProgram (cie : Cie) : Type 0 where
 pub record IsGoodFdeProgram (cie : Cie) (fde : Fde) : Type 0 where
   pub first : IsGoodCieProgram cie
   pub items : List (ℕ × Instruction)
-  pub encoded : AreInstructions fde.program.target fde.program.position fde.program.rest items
+  pub encoded : AreInstructions fde.program.dialect fde.program.target fde.program.position fde.program.rest items
   pub good : IsGood (start_after_cie (reverse (effects_by cie first.items)) fde) (effects_by cie items)
   pub expressions : AreGoodExpressions items

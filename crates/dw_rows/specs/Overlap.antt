@@ -5,6 +5,7 @@ use Rattle.dw_bytes.specs.declared.target.Order.TheVariants.{Little}
 use Rattle.dw_bytes.specs.declared.target.AddressSize.TheVariants.{Four}
 use Rattle.dw_rows.specs.declared.index.IndexEntry.{IndexEntry}
 use Rattle.std.specs.List.Sorted.{IsNonDecreasingBy}
+use Rattle.dw_frame.specs.Dialects.{debug_frame}
 use Rattle.dw_frame.specs.Records.{Cie, Fde}
 use Rattle.dw_rows.specs.Section.{FrameSection, SharesAddress, IsChecked, row_count}
 use Rattle.dw_rules.specs.RuleSet.{StoredRules}
@@ -79,7 +80,7 @@ no_fde = record {
   cie_pointer_offset = 0;
   initial_location = 0;
   address_range = 0;
-  program = record { target = record { order = Little; address_size = Four }; position = 0; rest = [] };
+  program = record { dialect = debug_frame; target = record { order = Little; address_size = Four }; position = 0; rest = [] };
 }
 
 -- the FDE that an index entry refers to

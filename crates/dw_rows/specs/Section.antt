@@ -10,6 +10,7 @@ use Rattle.dw_bytes.specs.declared.fault.FaultKind.TheVariants.{NoSuchCie, Overl
 use Rattle.dw_bytes.specs.Answers.{values_in, fault_in}
 use Rattle.dw_frame.specs.Records.{Cie, Fde, Record, cie_record, fde_record}
 use Rattle.dw_frame.specs.Sections.{records_of}
+use Rattle.dw_frame.specs.Bounds.{offset_of, IsSoundRecord}
 use Rattle.dw_rules.specs.Rules.{PlacedRow, Row}
 use Rattle.dw_stack.specs.Located.{LocatedExpression}
 use Rattle.dw_rules.specs.Expressions.{frame_expressions}
@@ -40,16 +41,28 @@ cies_among records = filter_map cie_in_record records
 abbrev pub fdes_among : List Record → List Fde
 fdes_among records = filter_map fde_in_record records
 
+-- a section of which these CIEs and FDEs are read
+abbrev pub frame_by : Target → List ℕ → List Cie → List Fde → FrameSection
+frame_by target section cies fdes = record {
+  target = target;
+  section = section;
+  cies = cies;
+  fdes = fdes;
+  expressions = frame_expressions cies fdes;
+}
+
+-- a section of which these records are read
+abbrev pub frame_with : Target → List ℕ → List Record → FrameSection
+frame_with target section records = frame_by target section (cies_among records) (fdes_among records)
+
 abbrev pub frame_of : Target → List ℕ → FrameSection
-frame_of target section =
-    let records = values_in (records_of target section) in
-    record {
-      target = target;
-      section = section;
-      cies = cies_among records;
-      fdes = fdes_among records;
-      expressions = frame_expressions (cies_among records) (fdes_among records);
-    }
+frame_of target section = frame_with target section (values_in (records_of target section))
+
+-- The records lie one after another, between the offsets `at` and `end`: each program is between its
+-- record's offset and where the next record may begin, and has this target.
+abbrev pub ArePlaced : Target → ℕ → ℕ → List Record → Type 0
+ArePlaced target at end [] = at ≤ end
+ArePlaced target at end (x ∷ xs) = (next : ℕ) × (at ≤ offset_of x) × IsSoundRecord target next x × ArePlaced target next end xs
 
 -- ---- the addresses that FDEs cover
 
@@ -118,11 +131,20 @@ unfoldable pub section_fault : Target → List ℕ → Option Fault
 section_fault target section = option_or (fault_in (records_of target section))
     (parts_fault (frame_of target section).cies (frame_of target section).fdes)
 
--- A section that is accepted: its CIEs, FDEs and expressions are what is read from its bytes, and
--- it has no fault.
+-- These are the CIEs and the FDEs of records that lie in a section of this size.
+pub record AreReadIn (target : Target) (size : ℕ) (cies : List Cie) (fdes : List Fde) : Type 0 where
+  pub records : List Record
+  pub placed : ArePlaced target 0 size records
+  pub cies_are : cies ≡ cies_among records
+  pub fdes_are : fdes ≡ fdes_among records
+
+-- A section that is accepted: its CIEs, FDEs and expressions are those of records that lie in it,
+-- one after another, and they have no fault.
 pub record IsChecked (s : FrameSection) : Type 0 where
-  pub whole : s ≡ frame_of s.target s.section
-  pub faultless : section_fault s.target s.section ≡ None
+  pub records : List Record
+  pub placed : ArePlaced s.target 0 (length s.section) records
+  pub whole : s ≡ frame_with s.target s.section records
+  pub faultless : parts_fault s.cies s.fdes ≡ None
 
 -- ---- rows
 

@@ -9,7 +9,7 @@ ghost use Rattle.dw_frame.specs.Views.{cie_of, fde_of};
 ghost use Rattle.dw_bytes.specs.Answers.{Checks, Answers, fault_in};
 ghost use Rattle.dw_rules.specs.ProgramFault.{cie_fault, fde_fault};
 ghost use Rattle.dw_rows.specs.Section.{IsCoverOf, first_fault, overlap_fault, programs_fault, parts_fault, section_fault, IsChecked};
-ghost use Rattle.dw_rows.specs.Section.{frame_of, cie_in, placed_rows, rows_in, row_count, row_of};
+ghost use Rattle.dw_rows.specs.Section.{AreReadIn, frame_by, frame_of, cie_in, placed_rows, rows_in, row_count, row_of};
 ghost use Rattle.std.specs.List.{flat_map};
 ghost use Rattle.dw_rows.specs.Overlap.{cie_offset, fde_offset, IsAddressIndex};
 ghost use Rattle.dw_frame.specs.Bounds.{Ascends};
@@ -221,6 +221,45 @@ fn check_parts<'a>(
     Ok((programs, index))
 }
 
+/// Checks the CIEs and FDEs of a section, each in the order of their offsets: the CIE_pointer of each
+/// FDE, the programs of the CIEs, the programs of the FDEs, and that no address is covered by two
+/// FDEs. It takes as long as the programs, and n log n for n FDEs.
+///
+/// The error is the first fault in that order: `NoSuchCie` (9) at a CIE_pointer; a fault of
+/// `check_cie` or `check_fde`; `Overlap` (23) at the first FDE of the section that shares an address
+/// with an earlier FDE. `Memory` (60) has offset 0.
+pub fn check_records<'a>(
+    alloc: Global,
+    section: &'a [u8],
+    target: Target,
+    cies: Vec<CommonInformationEntry<'a>>,
+    fdes: Vec<FrameDescriptionEntry<'a>>,
+) -> Result<CheckedFrame<'a>, Fault>
+    requires { AreReadIn target (length section.now) (map cie_of cies.items) (map fde_of fdes.items) }
+    ensures answer { Answers (parts_fault (map cie_of cies.entry.items) (map fde_of fdes.entry.items)) result }
+    ensures frame { IfOk result (λ frame. frame ≡ frame_by target section.now
+        (map cie_of cies.entry.items) (map fde_of fdes.entry.items)) }
+{
+    let (programs, index) = check_parts(alloc, &cies, &fdes)?;
+    let CheckedPrograms {
+        initial,
+        expressions,
+        in_cies,
+        rows,
+    } = programs;
+    Ok(CheckedFrame {
+        target,
+        section,
+        cies,
+        initial,
+        fdes,
+        index,
+        expressions,
+        in_cies,
+        rows,
+    })
+}
+
 /// Checks a section of fewer than 2^32 bytes: that its CIEs and FDEs can be read, then the
 /// CIE_pointer of each FDE, the programs of the CIEs, the programs of the FDEs, and that no address
 /// is covered by two FDEs.
@@ -240,24 +279,7 @@ pub fn check_frame<'a>(
     ensures frame { IfOk result (λ frame. frame ≡ frame_of target section.now) }
 {
     let (cies, fdes) = records_of(alloc, section, target)?;
-    let (programs, index) = check_parts(alloc, &cies, &fdes)?;
-    let CheckedPrograms {
-        initial,
-        expressions,
-        in_cies,
-        rows,
-    } = programs;
-    Ok(CheckedFrame {
-        target,
-        section,
-        cies,
-        initial,
-        fdes,
-        index,
-        expressions,
-        in_cies,
-        rows,
-    })
+    check_records(alloc, section, target, cies, fdes)
 }
 
 impl<'a> CheckedFrame<'a> {

@@ -24,7 +24,7 @@ ghost use Rattle.dw_stack.specs.Expressions.{IsGoodExpression};
 ghost use Rattle.dw_stack.specs.Located.{LocatedExpression};
 ghost use Rattle.dw_rows.specs.GoodRows.{HasGoodExpressions};
 ghost use Rattle.dw_rows.specs.ExactRows.{HasOneRow};
-ghost use Rattle.dw_rows.specs.Section.{FrameSection, Covers, CoversOnce, cie_in, rows_in, row_of, IsChecked, section_fault};
+ghost use Rattle.dw_rows.specs.Section.{FrameSection, Covers, CoversOnce, cie_in, rows_in, row_of, IsChecked, section_fault, frame_of};
 ghost use Rattle.dw_rows.specs.WellFormed.{IsWellFormed};
 ghost use Rattle.dw_rules.specs.declared.abi.TheConstants.{MAX_KEPT};
 ghost use Rattle.dw_rules.specs.declared.register_rules.TheConstants.{MAX_RULES};
@@ -119,11 +119,12 @@ pub fn fdes_of_checked_sections()
     ensures once { (s : FrameSection) → IsChecked s → CoversOnce s.fdes }
 {}
 
-/// An accepted section is well formed. Its CIEs and its FDEs are each in ascending order of offset,
+/// The CIEs and the FDEs of an accepted section are each in ascending order of offset,
 /// lie inside the section and have its target. Its expressions are good, lie inside the section and
 /// have its target. No two expressions begin at the same offset.
 pub fn checked_frame_sections()
-    ensures well_formed { (s : FrameSection) → IsChecked s → IsWellFormed s.target s.section }
+    ensures accepted { (target : Target) (section : List ℕ) → section_fault target section ≡ None
+        → IsChecked (frame_of target section) }
     ensures cies { (s : FrameSection) → IsChecked s → (c : Cie) → Contains s.cies c
         → IsSoundCie s.target (length s.section) c }
     ensures fdes { (s : FrameSection) → IsChecked s → (f : Fde) → Contains s.fdes f

@@ -14,7 +14,7 @@ mod record_checks;
 mod row_cursor;
 mod row_iter;
 
-pub use checked_frame::{CheckedFrame, check_frame};
+pub use checked_frame::{CheckedFrame, check_frame, check_records};
 pub use dw_rules::{
     Abi, CfaRule, MAX_KEPT, MAX_REMEMBERED, MAX_RULES, PlainRules, RegisterRule, RegisterRules,
     UnwindRow, UnwindTableRow,

@@ -3,7 +3,7 @@
 use Rattle.std.specs.Prelude.{ℕ, ◌==◌, List, [], ◌∷◌, ◌++◌, Option, Some, None, find}
 use Rattle.std.specs.List.{filter_map}
 use Rattle.dw_bytes.specs.Answers.{values_in}
-use Rattle.dw_bytes.specs.Reading.{ReadPosition}
+use Rattle.dw_frame.specs.Dialects.{ProgramPosition}
 use Rattle.dw_frame.specs.Instructions.{Instruction}
 use Rattle.dw_frame.specs.Records.{Cie, Fde}
 use Rattle.dw_frame.specs.Codes.{instructions_of}
@@ -29,7 +29,7 @@ list_of None = []
 list_of (Some e) = e ∷ []
 
 -- the expressions of a program's instructions, up to the first instruction that can't be read
-abbrev pub expressions_of : ReadPosition → List LocatedExpression
+abbrev pub expressions_of : ProgramPosition → List LocatedExpression
 expressions_of program = expressions_in (values_in (instructions_of program))
 
 -- the expressions of the programs of a list of CIEs, and of a list of FDEs, one program after

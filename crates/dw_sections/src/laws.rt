@@ -27,6 +27,7 @@ pub fn accepted_sections_are_sound()
 {
     dw_frame::laws::sections_are_records();
     dw_rows::laws::exact_rows();
+    dw_rows::laws::frame_sections_without_fault_are_well_formed();
     dw_rows::laws::checked_frame_sections();
     dw_loclists::laws::checked_list_sections();
     dw_stack::laws::each_has_a_depth();

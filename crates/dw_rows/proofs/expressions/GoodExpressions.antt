@@ -9,11 +9,11 @@ use Rattle.dw_frame.specs.Codes.{instructions_of}
 use Rattle.dw_stack.specs.Expressions.{IsGoodExpression}
 use Rattle.dw_stack.specs.Located.{LocatedExpression}
 use Rattle.dw_rules.specs.Expressions.{expressions_in, expressions_of, cie_expressions, fde_expressions, frame_expressions}
-use Rattle.dw_rows.specs.Section.{FrameSection, IsChecked, frame_of}
+use Rattle.dw_rows.specs.Section.{FrameSection, IsChecked, frame_with}
 use Rattle.dw_rows.proofs.expressions.ExpressionOrder.{expression-inside}
 use Rattle.dw_rows.proofs.sections.Parts.{pointed-in, good-past}
 use Rattle.dw_rows.proofs.programs.Programs.{good-from-cie, good-from-fde, good-read, good-read-fde}
-use Rattle.dw_rows.proofs.sections.CheckedSections.{checked-read, checked-parts, checked-cies-good, in-programs}
+use Rattle.dw_rows.proofs.sections.CheckedSections.{checked-parts, checked-cies-good, in-programs}
 
 abbrev IsGood : LocatedExpression → Type 0
 IsGood e = IsGoodExpression e.kind e.target e.bytes
@@ -59,10 +59,10 @@ of-fdes s k e among =
 pub checked-expressions : (s : FrameSection) → IsChecked s → (e : LocatedExpression) → Contains s.expressions e
     → IsGood e × (e.target ≡ s.target) × (e.offset + length e.bytes ≤ length s.section)
 checked-expressions s k e among =
-    let t = frame_of s.target s.section in
+    let t = frame_with s.target s.section k.records in
     let there : Contains (frame_expressions t.cies t.fdes) e = subst (λ (u : FrameSection). Contains u.expressions e) k.whole among in
     let here : Contains (frame_expressions s.cies s.fdes) e = in-programs s k e among in
-    let inside = expression-inside s.target s.section (checked-read s k) e there in
+    let inside = expression-inside s.target (length s.section) k.records k.placed e there in
     let good : IsGood e = elim (Contains-append_cases (cie_expressions s.cies) (fde_expressions s.fdes) e here) [
       | inl c ↦ of-cies s k e c
       | inr f ↦ of-fdes s k e f

@@ -21,14 +21,14 @@ use Rattle.dw_rules.specs.RuleSet.{LendsRules}
 use Rattle.dw_rules.specs.RowsWithExpressions.{LendsRule, LendsCfa, LendsEach}
 use Rattle.dw_rows.specs.GoodPrograms.{prefix, rule_after, IsGoodFdeProgram}
 use Rattle.dw_rows.specs.Clauses.{IsRowAt, start_in, program_in}
-use Rattle.dw_rows.specs.Section.{FrameSection, IsChecked, frame_of}
+use Rattle.dw_rows.specs.Section.{FrameSection, IsChecked, frame_with}
 use Rattle.dw_rows.specs.RowCursors.{RowCursor, StandsAfter, LendsTo, Lends}
 use Rattle.dw_rules.proofs.NamedExpressions.{rules-have, cfa-has, listed-have}
 use Rattle.dw_rows.proofs.expressions.ExpressionsAmong.{of-instruction, of-effect, of-frame-cie, of-frame-fde}
 use Rattle.dw_rows.proofs.expressions.ExpressionOrder.{expression-found, cie-expressions-ascend, fde-expressions-ascend}
 use Rattle.dw_rows.proofs.programs.Programs.{effects-good, good-read-fde, start-same}
 use Rattle.dw_rules.proofs.Tables.{rule_list-table, rule_list-same}
-use Rattle.dw_rows.proofs.sections.CheckedSections.{checked-read, in-programs}
+use Rattle.dw_rows.proofs.sections.CheckedSections.{in-programs}
 
 -- ---- the rules that a cursor has
 
@@ -149,10 +149,10 @@ read-lent es cie items found x among =
 found-in : (s : FrameSection) → IsChecked s → (e : LocatedExpression) → Contains (frame_expressions s.cies s.fdes) e
     → expression_at s.expressions e.offset ≡ Some e
 found-in s k e among =
-    let t = frame_of s.target s.section in
+    let t = frame_with s.target s.section k.records in
     let there : Contains (frame_expressions t.cies t.fdes) e =
     subst (λ (u : FrameSection). Contains (frame_expressions u.cies u.fdes) e) k.whole among in
-    let found : expression_at t.expressions e.offset ≡ Some e = expression-found s.target s.section (checked-read s k) e there in
+    let found : expression_at t.expressions e.offset ≡ Some e = expression-found s.target (length s.section) k.records k.placed e there in
     subst (λ (u : FrameSection). expression_at u.expressions e.offset ≡ Some e) (sym k.whole) found
 
 -- no two of a section's expressions begin at the same offset
@@ -182,16 +182,16 @@ lends-in s k c f c_in f_in =
 
 pub cies-in-order : (s : FrameSection) → IsChecked s → Ascends expression_offset (take (length (cie_expressions s.cies)) s.expressions)
 cies-in-order s k =
-    let t = frame_of s.target s.section in
-    let up : Ascends expression_offset (cie_expressions t.cies) = cie-expressions-ascend s.target s.section (checked-read s k) in
+    let t = frame_with s.target s.section k.records in
+    let up : Ascends expression_offset (cie_expressions t.cies) = cie-expressions-ascend s.target (length s.section) k.records k.placed in
     let there : Ascends expression_offset (take (length (cie_expressions t.cies)) t.expressions) =
     subst (Ascends expression_offset) (sym (take-append_seam (cie_expressions t.cies) (fde_expressions t.fdes))) up in
     subst (λ (u : FrameSection). Ascends expression_offset (take (length (cie_expressions u.cies)) u.expressions)) (sym k.whole) there
 
 pub fdes-in-order : (s : FrameSection) → IsChecked s → Ascends expression_offset (drop (length (cie_expressions s.cies)) s.expressions)
 fdes-in-order s k =
-    let t = frame_of s.target s.section in
-    let up : Ascends expression_offset (fde_expressions t.fdes) = fde-expressions-ascend s.target s.section (checked-read s k) in
+    let t = frame_with s.target s.section k.records in
+    let up : Ascends expression_offset (fde_expressions t.fdes) = fde-expressions-ascend s.target (length s.section) k.records k.placed in
     let there : Ascends expression_offset (drop (length (cie_expressions t.cies)) t.expressions) =
     subst (Ascends expression_offset) (sym (drop-append_seam (cie_expressions t.cies) (fde_expressions t.fdes))) up in
     subst (λ (u : FrameSection). Ascends expression_offset (drop (length (cie_expressions u.cies)) u.expressions)) (sym k.whole) there

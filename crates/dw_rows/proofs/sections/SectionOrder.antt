@@ -1,16 +1,17 @@
 -- The CIEs and FDEs that are read from a section are in order of offset, and the FDEs cover only
 -- addresses that the section's target has.
-use Rattle.std.proofs.Common.{◌≡◌, ℕ, suc, zero, ◌<◌, List, [], ◌∷◌, length, map, Some, None, Result, Ok, Err, Contains, refl, ap, arith}
+use Rattle.std.proofs.Common.{◌≡◌, ℕ, suc, zero, ◌+◌, ◌<◌, ◌≤◌, List, [], ◌∷◌, length, map, Some, None, Result, Ok, Err, Contains, refl, ap, subst, arith, length-append}
 use Rattle.std.specs.List.{AllByRecursion, filter_map}
 use Rattle.dw_bytes.specs.declared.target.Target.{Target}
 use Rattle.dw_bytes.specs.declared.fault.Fault.{Fault}
 use Rattle.dw_bytes.specs.Answers.{values_in, fault_in}
 use Rattle.dw_frame.specs.Records.{Cie, Fde, Record, cie_record, fde_record}
 use Rattle.dw_frame.specs.Sections.{records_of, AreRecords}
-use Rattle.dw_frame.specs.Bounds.{Ascends, offset_of, IsSoundCie, IsSoundFde}
+use Rattle.dw_frame.specs.Bounds.{Ascends, offset_of, IsSoundCie, IsSoundFde, IsSoundRecord}
 use Rattle.dw_frame.proofs.EachRecord.{sections-are-records}
 use Rattle.dw_frame.proofs.RecordBounds.{records-ascend, entries-sound}
-use Rattle.dw_rows.specs.Section.{frame_of, cie_in_record, fde_in_record}
+use Rattle.dw_frame.proofs.Blocks.{sound-inside}
+use Rattle.dw_rows.specs.Section.{frame_of, cie_in_record, fde_in_record, cies_among, fdes_among, ArePlaced}
 use Rattle.dw_rows.specs.Overlap.{cie_offset, fde_offset}
 
 -- if no item is a fault, the items are just the values that were read
@@ -93,3 +94,88 @@ cies-sound target section c among = entries-sound target section (Ok (cie_record
 pub fdes-sound : (target : Target) (section : List ℕ) (f : Fde) → Contains (frame_of target section).fdes f
     → IsSoundFde target (length section) f
 fdes-sound target section f among = entries-sound target section (Ok (fde_record f)) (fde-among (records_of target section) f among)
+
+-- ---- records that lie one after another
+
+pub placed-records : (target : Target) (at : ℕ) (bytes : List ℕ) (records : List Record) → AreRecords target at bytes records
+    → ArePlaced target at (at + length bytes) records
+placed-records target at bytes [] are = omega arith
+placed-records target at bytes (x ∷ records) (first, rest, parts, here, others) =
+    let own = sound-inside target at first x here in
+    let long : at + length first + length rest ≡ at + length bytes = omega (arith, ap length parts, length-append first rest) in (
+      at + length first,
+      omega (arith, own.0),
+      own.1,
+      subst (λ n. ArePlaced target (at + length first) n records) long (placed-records target (at + length first) rest records others),
+    )
+
+-- the records of a section that is read without a fault lie in it
+pub read-placed : (target : Target) (section : List ℕ) → fault_in (records_of target section) ≡ None
+    → ArePlaced target 0 (length section) (values_in (records_of target section))
+read-placed target section none =
+    let same : 0 + length section ≡ length section = omega arith in
+    subst (λ n. ArePlaced target 0 n (values_in (records_of target section))) same
+    (placed-records target 0 section (values_in (records_of target section)) (are-records target section none))
+
+before-next : (target : Target) (next : ℕ) (x : Record) → IsSoundRecord target next x → offset_of x < next
+before-next target next (cie_record c) own = omega (arith, own.program.begins, own.program.ends)
+before-next target next (fde_record f) own = omega (arith, own.program.begins, own.program.ends)
+
+pub placed-end : (target : Target) (at end : ℕ) (records : List Record) → ArePlaced target at end records → at ≤ end
+placed-end target at end [] placed = placed
+placed-end target at end (x ∷ records) (next, low, own, others) =
+    omega (arith, low, before-next target next x own, placed-end target next end records others)
+
+all-past : (target : Target) (n at end : ℕ) (records : List Record) → n < at → ArePlaced target at end records
+    → AllByRecursion (λ r. n < offset_of r) records
+all-past target n at end [] lt placed = tt
+all-past target n at end (x ∷ records) lt (next, low, own, others) =
+    (omega (arith, low), all-past target n next end records (omega (arith, low, before-next target next x own)) others)
+
+placed-ascend : (target : Target) (at end : ℕ) (records : List Record) → ArePlaced target at end records → Ascends offset_of records
+placed-ascend target at end [] placed = tt
+placed-ascend target at end (x ∷ records) (next, low, own, others) =
+    (all-past target (offset_of x) next end records (before-next target next x own) others, placed-ascend target next end records others)
+
+pub placed-cies-ascend : (target : Target) (at end : ℕ) (records : List Record) → ArePlaced target at end records
+    → Ascends cie_offset (cies_among records)
+placed-cies-ascend target at end records placed = ascending-cies records (placed-ascend target at end records placed)
+
+pub placed-fdes-ascend : (target : Target) (at end : ℕ) (records : List Record) → ArePlaced target at end records
+    → Ascends fde_offset (fdes_among records)
+placed-fdes-ascend target at end records placed = ascending-fdes records (placed-ascend target at end records placed)
+
+wider-cie : (target : Target) (next end : ℕ) (c : Cie) → next ≤ end → IsSoundCie target next c → IsSoundCie target end c
+wider-cie target next end c le own = record {
+  program = record { begins = own.program.begins; ends = omega (arith, own.program.ends); target_is = own.program.target_is };
+  version = own.version;
+  return_address_register = own.return_address_register;
+}
+
+wider-fde : (target : Target) (next end : ℕ) (f : Fde) → next ≤ end → IsSoundFde target next f → IsSoundFde target end f
+wider-fde target next end f le own = record {
+  program = record { begins = own.program.begins; ends = omega (arith, own.program.ends); target_is = own.program.target_is };
+  pointer_past = own.pointer_past;
+  pointer_before = own.pointer_before;
+  range = own.range;
+}
+
+pub placed-cies-sound : (target : Target) (at end : ℕ) (records : List Record) → ArePlaced target at end records → (c : Cie)
+    → Contains (cies_among records) c → IsSoundCie target end c
+placed-cies-sound target at end [] placed c (k, lt, is) = absurd (omega arith)
+placed-cies-sound target at end (cie_record d ∷ records) (next, low, own, others) c (zero, lt, is) =
+    subst (IsSoundCie target end) is (wider-cie target next end d (placed-end target next end records others) own)
+placed-cies-sound target at end (cie_record d ∷ records) (next, low, own, others) c (suc k, lt, is) =
+    placed-cies-sound target next end records others c (k, omega arith, is)
+placed-cies-sound target at end (fde_record f ∷ records) (next, low, own, others) c among =
+    placed-cies-sound target next end records others c among
+
+pub placed-fdes-sound : (target : Target) (at end : ℕ) (records : List Record) → ArePlaced target at end records → (f : Fde)
+    → Contains (fdes_among records) f → IsSoundFde target end f
+placed-fdes-sound target at end [] placed f (k, lt, is) = absurd (omega arith)
+placed-fdes-sound target at end (fde_record g ∷ records) (next, low, own, others) f (zero, lt, is) =
+    subst (IsSoundFde target end) is (wider-fde target next end g (placed-end target next end records others) own)
+placed-fdes-sound target at end (fde_record g ∷ records) (next, low, own, others) f (suc k, lt, is) =
+    placed-fdes-sound target next end records others f (k, omega arith, is)
+placed-fdes-sound target at end (cie_record c ∷ records) (next, low, own, others) f among =
+    placed-fdes-sound target next end records others f among

@@ -7,7 +7,7 @@ use Rattle.std.specs.Option.{option_or}
 use Rattle.dw_bytes.specs.declared.target.Target.{Target}
 use Rattle.dw_bytes.specs.declared.fault.Fault.{Fault}
 use Rattle.dw_bytes.specs.declared.fault.FaultKind.{FaultKind}
-use Rattle.dw_bytes.specs.Reading.{ReadPosition}
+use Rattle.dw_frame.specs.Dialects.{ProgramPosition}
 use Rattle.dw_bytes.specs.Answers.{memory, Answers, values_in, fault_in}
 use Rattle.dw_frame.specs.Instructions.{Instruction}
 use Rattle.dw_frame.specs.Records.{Cie, Fde}
@@ -50,7 +50,7 @@ stands-at at None fault e = let no : None ≡ Some fault = e in cc
 stands-at at (Some kind) fault e = let same : record { kind = kind; at = at } ≡ fault = cc in sym (ap (λ (f : Fault). f.at) same)
 
 -- the expression's bytes are inside the program
-record LiesBetween (r : ReadPosition) (e : LocatedExpression) : Type 0 where
+record LiesBetween (r : ProgramPosition) (e : LocatedExpression) : Type 0 where
   begins : r.position ≤ e.offset
   ends : e.offset + length e.bytes ≤ r.position + length r.rest
 
@@ -64,7 +64,7 @@ moved-at e (Some g) fault bound is =
     let low = bound g refl in
     (omega (arith, at, low), omega (arith, at, low))
 
-first-stands : (r : ReadPosition) (item : ℕ × Instruction) (items : List (ℕ × Instruction))
+first-stands : (r : ProgramPosition) (item : ℕ × Instruction) (items : List (ℕ × Instruction))
     → ((e : LocatedExpression) → Contains (expressions_in (item ∷ items)) e → LiesBetween r e) → (fault : Fault)
     → (o : Option LocatedExpression) → expression_in item.1 ≡ o → located_fault o ≡ Some fault → StandsIn r (Err fault)
 first-stands r item items inside fault None is checked = let no : None ≡ Some fault = checked in cc
@@ -79,10 +79,10 @@ later-among item items x None is among = rw is among
 later-among item items x (Some e) is (k, lt, same) = rw is (suc k, omega arith, same)
 
 -- the bytes of each expression of a program are inside the program
-program-lies : (r : ReadPosition) (e : LocatedExpression) → Contains (expressions_in (values_in (instructions_of r))) e → LiesBetween r e
+program-lies : (r : ProgramPosition) (e : LocatedExpression) → Contains (expressions_in (values_in (instructions_of r))) e → LiesBetween r e
 program-lies r e among = let h = program-inside r e among in record { begins = omega (arith, h.past); ends = h.ends }
 
-from-stands : (r : ReadPosition) (refusal : List Effect → Effect → Option FaultKind) (ending : List Effect → Option Fault) (cie : Cie)
+from-stands : (r : ProgramPosition) (refusal : List Effect → Effect → Option FaultKind) (ending : List Effect → Option Fault) (cie : Cie)
     (before : List Effect) (items : List (Result (ℕ × Instruction) Fault))
     → ((all : List Effect) (fault : Fault) → ending all ≡ Some fault → StandsIn r (Err fault))
     → ((item : Result (ℕ × Instruction) Fault) → Contains items item → StandsIn r item)

@@ -1,69 +1,23 @@
-use Rattle.std.proofs.Common.{rules, ◌≡◌, List, sym, subst, ap, ◌∙◌, map, length, None}
-use Rattle.dw_frame.specs.Views.{cie_of, fde_of}
-use Rattle.dw_frame.specs.declared.entry.CommonInformationEntry.{CommonInformationEntry}
-use Rattle.dw_frame.specs.declared.entry.FrameDescriptionEntry.{FrameDescriptionEntry}
-use Rattle.dw_stack.specs.Located.{all_located}
-use Rattle.dw_rules.specs.Expressions.{cie_expressions, frame_expressions}
-use Rattle.std.specs.List.{flat_map}
-use Rattle.dw_rows.specs.Section.{parts_fault, section_fault, frame_of, placed_rows}
-use Rattle.dw_rules.specs.Initial.{AreLeftBy}
-use Rattle.dw_rows.specs.Overlap.{cie_offset, fde_offset, IsAddressIndex}
-use Rattle.dw_frame.specs.Bounds.{Ascends}
+use Rattle.std.proofs.Common.{rules}
+use Rattle.dw_bytes.specs.Answers.{values_in}
+use Rattle.dw_frame.specs.Sections.{records_of}
+use Rattle.dw_rows.specs.Section.{section_fault}
 use Rattle.dw_rows.proofs.sections.Standing.{section-answered}
-use Rattle.dw_rows.proofs.sections.SectionOrder.{cies-ascend, fdes-ascend}
-use Rattle.dw_rows.proofs.sections.CheckedSections.{kept}
+use Rattle.dw_rows.proofs.sections.SectionOrder.{read-placed}
 use Rattle.dw_rows.proofs.checked_frame.check_frame.Goals as goal
 
-pub check_parts-requires-clause-cies : goal.check_parts-requires-clause-cies
-check_parts-requires-clause-cies c =
-    let cies : map cie_of c.deref.result.now ≡ (frame_of c.args.target c.args.section.now).cies =
-    ap (λ (l : List CommonInformationEntry). map cie_of l) c.deref.ensures.value ∙ c.in_ok-cies.ensures.cies in
-    subst (Ascends cie_offset) (sym cies) (cies-ascend c.args.target c.args.section.now c.in_ok-cies.ensures.read)
-
-pub check_parts-requires-clause-fdes : goal.check_parts-requires-clause-fdes
-check_parts-requires-clause-fdes c =
-    let fdes : map fde_of c.deref-2.result.now ≡ (frame_of c.args.target c.args.section.now).fdes =
-    ap (λ (l : List FrameDescriptionEntry). map fde_of l) c.deref-2.ensures.value ∙ c.in_ok-cies.ensures.fdes in
-    subst (Ascends fde_offset) (sym fdes) (fdes-ascend c.args.target c.args.section.now c.in_ok-cies.ensures.read)
-
-pub invariant_of-result : goal.invariant_of-result
-invariant_of-result c =
-    let cies = c.in_ok-cies.cies.items in
-    let fdes = c.in_ok-cies.fdes.items in
-    let left = c.in_ok-programs.programs.initial in
-    let index = c.in_ok-programs.index.items in
-    let answer : parts_fault (map cie_of cies) (map fde_of fdes) ≡ None =
-    subst (λ (l : List CommonInformationEntry). parts_fault (map cie_of l) (map fde_of fdes) ≡ None) c.deref.ensures.value
-    (subst (λ (l : List FrameDescriptionEntry). parts_fault (map cie_of c.deref.result.now) (map fde_of l)
-    ≡ None) c.deref-2.ensures.value c.in_ok-programs.ensures.answer) in
-    let left_by : AreLeftBy (map cie_of cies) left =
-    subst (λ (l : List CommonInformationEntry). AreLeftBy (map cie_of l) left) c.deref.ensures.value c.in_ok-programs.ensures.left in
-    let index_of : IsAddressIndex (map fde_of fdes) index =
-    subst (λ (l : List FrameDescriptionEntry). IsAddressIndex
-    (map fde_of l) index) c.deref-2.ensures.value c.in_ok-programs.ensures.index in
-    let expressions = c.in_ok-programs.programs.expressions.items in
-    let listed : all_located expressions ≡ frame_expressions (map cie_of cies) (map fde_of fdes) =
-    subst (λ (l : List CommonInformationEntry). all_located expressions ≡ frame_expressions (map cie_of l) (map fde_of fdes))
-    c.deref.ensures.value (subst (λ (l : List FrameDescriptionEntry). all_located expressions
-    ≡ frame_expressions (map cie_of c.deref.result.now) (map fde_of l)) c.deref-2.ensures.value c.in_ok-programs.ensures.expressions) in
-    let counted : c.in_ok-programs.programs.in_cies ≡ length (cie_expressions (map cie_of cies)) =
-    subst (λ (l : List CommonInformationEntry). c.in_ok-programs.programs.in_cies ≡ length (cie_expressions (map cie_of l)))
-    c.deref.ensures.value c.in_ok-programs.ensures.in_cies in
-    let rows : c.in_ok-programs.programs.rows ≡ length (flat_map (placed_rows (map cie_of cies)) (map fde_of fdes)) =
-    subst (λ (l : List CommonInformationEntry). c.in_ok-programs.programs.rows
-    ≡ length (flat_map (placed_rows (map cie_of l)) (map fde_of fdes))) c.deref.ensures.value
-    (subst (λ (l : List FrameDescriptionEntry). c.in_ok-programs.programs.rows
-    ≡ length (flat_map (placed_rows (map cie_of c.deref.result.now)) (map fde_of l))) c.deref-2.ensures.value c.in_ok-programs.ensures.rows) in
-    kept c.args.target c.args.section.now (map cie_of cies) left
-    (map fde_of fdes) index c.in_ok-cies.ensures.read c.in_ok-cies.ensures.cies c.in_ok-cies.ensures.fdes answer left_by index_of
-    (all_located expressions) listed c.in_ok-programs.programs.in_cies counted
-    c.in_ok-programs.programs.rows rows
+pub check_records-requires : goal.check_records-requires
+check_records-requires c = record {
+  records = values_in (records_of c.args.target c.args.section.now);
+  placed = read-placed c.args.target c.args.section.now c.in_ok-cies.ensures.read;
+  cies_are = c.in_ok-cies.ensures.cies;
+  fdes_are = c.in_ok-cies.ensures.fdes;
+}
 
 pub returns-in_err-cies-clause-inside : goal.returns-in_err-cies-clause-inside
 unfolding section_fault
 returns-in_err-cies-clause-inside c = section-answered c.args.target c.args.section.now c.from_residual.result (search rules)
 
-pub returns-in_err-programs-clause-inside : goal.returns-in_err-programs-clause-inside
+pub returns-clause-inside : goal.returns-clause-inside
 unfolding section_fault
-returns-in_err-programs-clause-inside c = section-answered c.args.target c.args.section.now c.from_residual-in_err-programs.result
-    (search rules)
+returns-clause-inside c = section-answered c.args.target c.args.section.now c.check_records.result (search rules)

@@ -1,12 +1,11 @@
-use Rattle.dw_rows.proofs.sections.WellFormedSections.{faultless-well-formed}
-use Rattle.dw_rows.proofs.sections.CheckedSections.{checked-cies-sound, checked-fdes-sound, checked-cies-ascend, checked-fdes-ascend}
+use Rattle.dw_rows.proofs.sections.CheckedSections.{accepted, checked-cies-sound, checked-fdes-sound, checked-cies-ascend, checked-fdes-ascend}
 use Rattle.dw_rows.proofs.expressions.GoodExpressions.{checked-expressions}
 use Rattle.dw_rows.proofs.expressions.Lending.{one-at-offset}
 use Rattle.dw_rows.proofs.laws.checked_frame_sections.Goals as goal
 
 pub returns : goal.returns
 returns c = record {
-  well_formed = λ s checked. (faultless-well-formed s.target s.section).0 checked.faultless;
+  accepted = accepted;
   cies = checked-cies-sound;
   fdes = checked-fdes-sound;
   cies_ascend = checked-cies-ascend;

@@ -10,8 +10,8 @@ use Rattle.dw_sections.proofs.laws.accepted_sections_are_sound.Goals as goal
 pub returns : goal.returns
 returns c = λ target frame lists none.
     let each = each_without_fault target frame lists none in
-    let checked : IsChecked (frame_of target frame) = record { whole = refl; faultless = each.0 } in
-    let formed = c.checked_frame_sections.ensures.well_formed (frame_of target frame) checked in
+    let checked : IsChecked (frame_of target frame) = c.checked_frame_sections.ensures.accepted target frame each.0 in
+    let formed = (c.frame_sections_without_fault_are_well_formed.ensures target frame).0 each.0 in
     let read = (c.sections_are_records.ensures target frame formed.records).1 formed.encoded in
     record {
       records = formed.records;

@@ -1,0 +1,56 @@
+//! `Dialect`: which instructions the codes of a program mean, besides by DWARF.
+
+ghost use Rattle.std.specs.Prelude.{◌≡◌};
+ghost use Rattle.dw_frame.specs.Dialects.{has_args_size, is_aarch64, has_plain_addresses};
+
+/// What decides which instructions the codes of a program mean. Instructions of vendors that say
+/// nothing about registers are read as nop. It is one byte, so that a `Program` takes no more room.
+#[derive(Clone, Copy, Debug)]
+pub enum Dialect {
+    /// `.debug_frame`: the codes of DWARF, and no other.
+    DebugFrame,
+    /// `.eh_frame`: the code 0x2e is DW_CFA_GNU_args_size.
+    EhFrame,
+    /// `.eh_frame` whose addresses are encoded: set_loc isn't known.
+    EhFrameEncoded,
+    /// `.eh_frame` for aarch64: the codes 0x2d and 0x2c are DW_CFA_AARCH64_negate_ra_state and
+    /// DW_CFA_AARCH64_negate_ra_state_with_pc.
+    EhFrameAarch64,
+    /// `.eh_frame` for aarch64 whose addresses are encoded.
+    EhFrameAarch64Encoded,
+}
+
+impl Dialect {
+    /// Whether the code 0x2e is DW_CFA_GNU_args_size.
+    #[inline(always)]
+    pub fn has_args_size(self) -> bool
+        ensures { result ≡ has_args_size self }
+    {
+        match self {
+            Dialect::DebugFrame => false,
+            _ => true,
+        }
+    }
+
+    /// Whether the codes 0x2d and 0x2c are known.
+    #[inline(always)]
+    pub fn is_aarch64(self) -> bool
+        ensures { result ≡ is_aarch64 self }
+    {
+        match self {
+            Dialect::EhFrameAarch64 | Dialect::EhFrameAarch64Encoded => true,
+            _ => false,
+        }
+    }
+
+    /// Whether the operand of set_loc is the bytes of an address.
+    #[inline(always)]
+    pub fn has_plain_addresses(self) -> bool
+        ensures { result ≡ has_plain_addresses self }
+    {
+        match self {
+            Dialect::EhFrameEncoded | Dialect::EhFrameAarch64Encoded => false,
+            _ => true,
+        }
+    }
+}
