@@ -124,7 +124,7 @@ def lanes():
 STAGES = [
     Stage("proofs", "every proof, the tests in Rattle", "nice -n 5 rt ci", counted_by_rt,
           progress=r"^rt: (\w+(?:: its tests are)? (?:NOT )?proved|\w+(?= is kept))", after=(), environment={"RT_JOBS": str(lanes())}),
-    Stage("bodies", "wrong bodies of functions, which the prover must refuse", "nice -n 10 tools/wrong_bodies.py --proved build/test/proved", counted_lines,
+    Stage("bodies", "wrong bodies of functions, which the prover must refuse", "nice -n 19 tools/wrong_bodies.py --proved build/test/proved", counted_lines,
           progress="^ok (.*?): ", after=()),
     Stage("lint", "clippy, rustfmt, the heads of files, the manual pages", "nice -n 10 rust/lint.sh; tools/files.py --check; tools/man.py --check",
           counted_lines, progress="^(ok .*)", after=(), environment=RUST),
