@@ -1,10 +1,11 @@
 -- What C gets of a record of a frame section: the record that the section's own definitions give.
-use Rattle.std.specs.Prelude.{◌≡◌, ℕ, ◌+◌, pos, Bool, true, false, if◌then◌else◌, List, ◌∷◌, drop, length, Result, Some, Ok, Err}
+use Rattle.std.specs.Prelude.{◌≡◌, ℕ, ◌+◌, pos, Bool, true, false, if◌then◌else◌, List, ◌∷◌, drop, Result, Some, Ok, Err}
 use Rattle.dw_bytes.specs.declared.fault.Fault.{Fault}
 use Rattle.dw_bytes.specs.declared.target.Target.{Target}
-use Rattle.dw_bytes.specs.Reading.{ReadPosition, section_from}
+use Rattle.dw_bytes.specs.Reading.{section_from}
 use Rattle.dw_frame.specs.Records.{Cie, Fde, Record, cie_record, fde_record}
 use Rattle.dw_frame.specs.Sections.{records_of}
+use Rattle.dw_rules.specs.ProgramFault.{end_of}
 use Rattle.dw_eh_frame.specs.Records.{EhRecord, eh_cie, eh_fde, eh_nothing, eh_record_at}
 use Rattle.dw_eh_rows.specs.Faults.{as_cie}
 use Rattle.dw_eh_rows.specs.Meaning.{as_fde}
@@ -67,10 +68,6 @@ fde_shown is_signal f program next = record {
   return_reg = 0;
   is_signal_frame = if is_signal then 1 else 0;
 }
-
--- the offset after a program
-abbrev pub end_of : ReadPosition → ℕ
-end_of program = program.position + length program.rest
 
 -- A record of `.debug_frame` that was read as if the section began at the offset `at`. It ends
 -- where its program ends, and no frame is a signal's.
