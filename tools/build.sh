@@ -28,7 +28,7 @@ stop() { # LOG: shows why a command failed
 
 # How many jobs the library's proof gets: one on each processor, with 3 GB of memory for each, but at
 # most four.
-jobs() {
+library_jobs() {
     local fit=$(($(sed -n 's/^MemTotal: *\([0-9]*\) kB/\1/p' /proc/meminfo) / 3000000))
     printf '%s\n' "$(nproc)" "$fit" 4 | sort -n | head -n 1 | sed 's/^0$/1/'
 }
@@ -141,7 +141,7 @@ build() {
     fi
     if ! { [ -f build/libdwcheck_c.a ] && is_of_now build/archive.sum "$(archive_sum)"; }; then
         echo "proving and building dwcheck_c"
-        archive "$(jobs)"
+        archive "$(library_jobs)"
     fi
     put "$work/crates/dwcheck/out/dwcheck" build/dwcheck
 }

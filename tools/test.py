@@ -6,9 +6,9 @@
 First it installs the Debian packages that are missing (tools/packages.sh), and says what the run
 will take. Then it runs the stages below, or only those that are named. What needs no proof begins at
 once, beside `proofs`; `archive` and `build` begin as soon as `proofs` has proved what they build
-from, while wrong bodies are still tried; and what runs the built programs begins after them. Each stage prints a line
-when it begins, a line now and then while it runs, and a line with its counts when it ends. Its whole
-output goes to build/test/STAGE.log. The last lines say what the run took, and `N passed, M failed`,
+from, while wrong bodies are still tried; and what runs the built programs begins after them. Each
+stage prints a line when it begins, a line now and then while it runs, and a line with its counts when
+it ends. Its whole output goes to build/test/STAGE.log. The last lines say what the run took, and `N passed, M failed`,
 the sum of all stages. A test that can't run is a failure, except where the machine forbids perf or
 ptrace: then a line that begins with `note:` says what ran instead.
 
@@ -52,7 +52,8 @@ class Counts:
 class Stage:
     """A part of the tests: a command, how to count in what it prints, which lines tell how far it is,
     and the events for which it waits: `below`, when `rt ci` has proved the crates that the library
-    uses; `proved`, when it has proved all that is built; or the end of a stage that Gate.events names."""
+    uses; `proved`, when it has proved all that is built; or the end of the stage `proofs`, `archive` or
+    `build`."""
 
     name: str
     what: str
