@@ -18,17 +18,21 @@ USE = re.compile(r"^use Rattle\.(dw_\w+)\.proofs\.(\S+?)\.\{(.*)\}$", re.MULTILI
 # type, any reader or any grammar of fields, which no clause can say, or they are plain logic.
 WITHOUT_LAW = {
     # any reader; equal parts make equal records; laws that are stated of `Cursor`, for any position
-    "dw_bytes.Readers": "ExactAt bind-ok leaves-suffix ok-is one-encoding same-reading length-exact take-exact",
+    "dw_bytes.Readers":
+        "ExactAt bind-ok leaves-suffix ok-is one-encoding same-reading take-exact fixed-exact uleb-exact sleb-exact "
+        "address-exact",
+    # any field that is taken from the front of bytes
+    "dw_bytes.Encoded": "Agrees guard_ok past_field_found past_field_only",
     # any reader of items, one after the other
     "dw_bytes.Sequences":
         "ReadsEach Forward forward goes-on stops ends all-read located-exact sequence-exact exactly-exact "
         "exactly-more exactly-stops",
-    # any table of codes
-    "dw_bytes.Codes": "coded-exact coded-some",
+    # any table of codes, and any kind of operand
+    "dw_bytes.Codes": "coded-exact coded-some operand-exact",
     # any table of codes
     "dw_bytes.CodeBounds": "coded-stays",
     # any reader; a name for a sum; where initial lengths and bytes end
-    "dw_bytes.Bounds": "Stays AlwaysStays each-along located-stays end-of length-stays take-stays",
+    "dw_bytes.Bounds": "Stays AlwaysStays each-along located-stays end-of",
     # any grammar of fields; a test that is no fault is true
     "dw_bytes.FieldsOf": "fields-exact fields-stay passed",
     # any result
@@ -67,24 +71,8 @@ WITHOUT_LAW = {
     "dw_eval.Windows": "window_in",
     # any list that is written to an array, as far as it fits
     "dw_c_types.Putting": "comes puts-length puts_next puts_no_more puts_shown",
-    # any list of effects: no instruction is refused exactly if the list is good
-    "dw_rows.programs.Goods": "Fine FineCie fine-iff fine-cie-iff",
-    # an expression without a fault is good
-    "dw_rows.programs.Programs": "located-good",
-    # no fault, no reason for one
-    "dw_rows.rows.RowCursors": "standing_at-none",
-    # any program of `.eh_frame`, read at another offset
-    "dw_eh_frame.Shifted": "shift item-by instruction-by eh-instruction-by eh-instructions-shifted",
-    # what is read of any program and of what is written for it; what `dw_eh_rows` says of faults is made of it
-    "dw_eh_frame.ReadTwice": "Items EhItems Silent ReadTwice read-alike eh-programs-are-instructions",
-    # what is written for a program has its length
-    "dw_eh_frame.PastInstructions": "silenced-long",
-    # what is read of any section from an offset on
-    "dw_eh_frame.Steps": "at-record at-end",
-    # where the records of any section begin; any result
-    "dw_eh_frame.RecordOrder": "records-rise kept-rise cie-starts fde-of ok-bind same-given",
-    # any list of records, without its exact copies
-    "dw_eh_frame.CopiesFound": "copy-of distinct-cies distinct-rise distinct-within first-more",
+    # any initial length: it has at least one byte
+    "dw_frame.EachRecord": "some-length",
 }
 
 

@@ -207,7 +207,7 @@ uint32_t dwcheck_module_at(const dwcheck_process *process, uint64_t address, dwc
 uint32_t dwcheck_module_check(const dwcheck_module *module, dwcheck_counts *counts, dwcheck_fault *fault);
 
 /* A record of a section: a CIE, an FDE, or in .eh_frame a record of length 0. Its program is the bytes from `program`
-   up to `next`, the offset after the record. An FDE has the offset of its CIE, and covers the addresses as linked from
+   up to `next`, the offset after the record; an empty record has none, and `program` is its own offset. An FDE has the offset of its CIE, and covers the addresses as linked from
    `start` up to, but not including, `end`. A CIE has its version, its factors, and the register of the return address.
    Fields that a record doesn't have are 0. */
 enum { DWCHECK_RECORD_CIE = 0, DWCHECK_RECORD_FDE = 1, DWCHECK_RECORD_EMPTY = 2 };
@@ -225,7 +225,7 @@ uint32_t dwcheck_record_at(const dwcheck_module *module, uint64_t offset, dwchec
 
 /* ---- the row of an address ----------------------------------------------------------------------------------------- */
 /* How to find the value of register `reg` in the caller. The values of `kind` are below. If `kind` is one of the last
-   two, the expression has `length` bytes, which dwcheck_rule_bytes gives. In a .debug_frame section they begin at
+   two, the expression has `length` bytes, which dwcheck_rule_bytes gives. In the module's section they begin at
    `offset`. */
 enum {
     DWCHECK_RULE_UNDEFINED = 1,     /* the value isn't available */

@@ -1,38 +1,48 @@
 -- Exact copies of FDEs. If several objects have the same function, a linker may keep one of the
--- functions and all its FDEs. These are one FDE here: the first.
-use Rattle.std.specs.Prelude.{ℕ, ◌==◌, ◌&&◌, nat_lt, Bool, false, if◌then◌else◌, List, [], ◌∷◌, ◌++◌, Option, Some, None}
+-- functions and all their FDEs. These are one FDE here: the first.
+use Rattle.std.specs.Prelude.{◌≡◌, ℕ, ◌==◌, ◌&&◌, nat_lt, Bool, false, if◌then◌else◌, List, [], ◌∷◌, ◌++◌, Option, Some, None, find}
 use Rattle.std.specs.Str.{bytes_eq}
-use Rattle.dw_eh_frame.specs.Records.{EhFde, EhRecord, eh_cie, eh_fde, eh_nothing}
+use Rattle.dw_bytes.specs.declared.target.Target.{Target}
+use Rattle.dw_bytes.specs.Answers.{values_in}
+use Rattle.dw_frame.specs.Records.{Fde, Record, cie_record, fde_record}
+use Rattle.dw_eh_frame.specs.declared.pointer.Bases.{Bases}
+use Rattle.dw_eh_frame.specs.Records.{all_in_dwarf, eh_records_of}
 
--- the FDE e is a copy of g: it has the same CIE, as many addresses, and a program of the same bytes
-abbrev pub repeats : EhFde → EhFde → Bool
-repeats g e = (g.address_range == e.address_range) && (g.cie.offset == e.cie.offset) && bytes_eq g.program.rest e.program.rest
+-- the FDE f is a copy of g: it has the same CIE, as many addresses, and a program of the same bytes
+abbrev pub repeats : Fde → Fde → Bool
+repeats g f = (g.address_range == f.address_range) && (g.cie_pointer == f.cie_pointer) && bytes_eq g.program.rest f.program.rest
 
--- the first FDE that begins at the address a and covers it
-abbrev pub first_at : List EhRecord → ℕ → Option EhFde
-first_at [] a = None
-first_at (eh_fde e ∷ records) a = if nat_lt 0 e.address_range && (e.initial_location == a) then Some e else first_at records a
-first_at (eh_cie c ∷ records) a = first_at records a
-first_at (eh_nothing at ∷ records) a = first_at records a
+-- whether the FDE covers addresses, and the address a is the first of them
+abbrev pub covers_from : ℕ → Fde → Bool
+covers_from a f = nat_lt 0 f.address_range && (f.initial_location == a)
 
-abbrev pub repeats_one : Option EhFde → EhFde → Bool
-repeats_one None e = false
-repeats_one (Some g) e = repeats g e
+abbrev pub repeats_one : Option Fde → Fde → Bool
+repeats_one None f = false
+repeats_one (Some g) f = repeats g f
 
--- The FDE e, which comes after the records `before`, is an exact copy of one of them: it covers
--- addresses, and it is a copy of the first FDE that begins at its first address and covers it.
-abbrev pub is_copy : List EhRecord → EhFde → Bool
-is_copy before e = nat_lt 0 e.address_range && repeats_one (first_at before e.initial_location) e
+-- The FDE f, which comes after the FDEs `before`, is an exact copy. It covers addresses. It is a copy
+-- of the first of those FDEs that begin at the same address and cover addresses.
+abbrev pub is_copy : List Fde → Fde → Bool
+is_copy before f = nat_lt 0 f.address_range && repeats_one (find (covers_from f.initial_location) before) f
 
--- the records that come after the records `before`, without exact copies
-abbrev pub distinct_after : List EhRecord → List EhRecord → List EhRecord
+-- records without exact copies, where the FDEs `before` are those that were kept before
+abbrev pub distinct_after : List Fde → List Record → List Record
 distinct_after before [] = []
-distinct_after before (eh_fde e ∷ records) =
-    if is_copy before e then distinct_after (before ++ eh_fde e ∷ []) records
-    else eh_fde e ∷ distinct_after (before ++ eh_fde e ∷ []) records
-distinct_after before (eh_cie c ∷ records) = eh_cie c ∷ distinct_after (before ++ eh_cie c ∷ []) records
-distinct_after before (eh_nothing at ∷ records) = eh_nothing at ∷ distinct_after (before ++ eh_nothing at ∷ []) records
+distinct_after before (cie_record c ∷ records) = cie_record c ∷ distinct_after before records
+distinct_after before (fde_record f ∷ records) =
+    if is_copy before f then distinct_after before records else fde_record f ∷ distinct_after (before ++ f ∷ []) records
 
--- the records of a section without exact copies
-abbrev pub distinct : List EhRecord → List EhRecord
+abbrev pub distinct : List Record → List Record
 distinct records = distinct_after [] records
+
+-- the records that are read of a section, as DWARF has them, without exact copies
+abbrev pub eh_frame_records : Bool → Bases → Target → List ℕ → List Record
+eh_frame_records is_aarch64 bases target section = distinct (all_in_dwarf (values_in (eh_records_of is_aarch64 bases target section)))
+
+-- The FDE g says what f says: it covers the same addresses, and has the same CIE and a program of the
+-- same bytes.
+pub record SaysTheSame (g f : Fde) : Type 0 where
+  pub initial_location : g.initial_location ≡ f.initial_location
+  pub address_range : g.address_range ≡ f.address_range
+  pub cie_pointer : g.cie_pointer ≡ f.cie_pointer
+  pub bytes : g.program.rest ≡ f.program.rest

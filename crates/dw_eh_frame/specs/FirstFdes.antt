@@ -9,10 +9,10 @@ use Rattle.dw_eh_frame.specs.declared.first_fdes.FdePlace.{FdePlace}
 abbrev pub place_address : FdePlace → ℕ
 place_address p = p.address
 
--- the offset in the first place with the address a
+-- the index in the first place with the address a
 abbrev pub listed : List FdePlace → ℕ → Option ℕ
 listed [] a = None
-listed (p ∷ places) a = if p.address == a then Some p.offset else listed places a
+listed (p ∷ places) a = if p.address == a then Some p.index else listed places a
 
 pub record Firsts : Type 0 where
   pub places : List FdePlace
@@ -23,5 +23,5 @@ first_in firsts a = option_or (listed firsts.places a) (lookup (is_at (nat_cmp a
 
 -- the first FDE at the address a, where one more FDE begins at an address
 abbrev pub added : Option ℕ → ℕ → ℕ → ℕ → Option ℕ
-added (Some at) address offset a = Some at
-added None address offset a = if address == a then Some offset else None
+added (Some i) address index a = Some i
+added None address index a = if address == a then Some index else None

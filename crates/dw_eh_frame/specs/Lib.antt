@@ -1,28 +1,18 @@
--- ---- Trusted: what the LSB says of `.eh_frame` (LSB Core, sections 10.5 and 10.6).
+-- ---- Trusted: what the LSB says of `.eh_frame` (LSB Core, sections 10.5 and 10.6), and what GNU as,
+-- ld and GCC do besides. docs/PROFILE.md marks what is a choice of this reader.
 
 -- pointer encodings (10.5.1), and the addresses that encoded pointers stand for
 pub mod Pointers
 -- augmentations of CIEs (10.6.1.1.1)
 pub mod Augmentations
+-- the dialects of programs (10.5.2)
+pub mod Dialects
 -- the records of a section, and how they are read (10.6.1)
 pub mod Records
--- the call frame instructions (10.5.2)
-pub mod Instructions
+-- which bytes encode which records
+pub mod Encoding
 -- exact copies of FDEs
 pub mod Copies
--- ---- What is written for a section, and why it may be refused. Which rows a section gives doesn't
--- depend on this.
-
--- programs with nops in place of some instructions
-pub mod Silencing
--- programs with the same instructions, except for nops
-pub mod SameInstructions
--- when a `.debug_frame` section says what an `.eh_frame` section says
-pub mod Rewriting
--- where records were written, and where faults are
-pub mod Places
--- why a section isn't rewritten
-pub mod Refused
 -- ---- How the code's types correspond to these definitions.
 
 pub mod Views
@@ -31,7 +21,5 @@ pub mod Views
 -- how copies are found
 pub mod CopySearch
 pub mod FirstFdes
--- the state of a rewriting
+-- what is kept of the records that were read so far
 pub mod Progress
--- the bytes that are written for a record of `.debug_frame`
-pub mod Written

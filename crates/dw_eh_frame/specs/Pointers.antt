@@ -101,7 +101,8 @@ pointer_at bases encoding r = do
   number ← number_at encoding.format place.1
   Ok (wrapped r.target (base + number.0), number.1)
 
--- A number of addresses isn't negative, and leads at most to the highest address.
+-- A number of addresses is below 2^63, so that none is negative, and leads at most to the highest
+-- address. The limit for unsigned numbers too is this reader's own.
 abbrev pub is_range : Target → ℕ → ℕ → Bool
 is_range target initial range = ends_by (top_of target) initial range && nat_lt range (2 ^ 63)
 

@@ -1,67 +1,57 @@
 //! FDEs that are exact copies of earlier ones.
 
-ghost use Rattle.std.specs.Prelude.{◌≡◌, ◌<◌, ◌≤◌, ◌^◌, ℕ, Some, OnOk, length};
-ghost use Rattle.dw_bytes.specs.Reading.{section_from};
-ghost use Rattle.dw_eh_frame.specs.Records.{eh_record_at};
-ghost use Rattle.dw_eh_frame.specs.CopySearch.{copied_by, remembered, repeats_read};
-ghost use Rattle.dw_eh_frame.specs.FirstFdes.{first_in};
-ghost use Rattle.dw_eh_frame.specs.Views.{eh_fde_of};
+ghost use Rattle.std.specs.Prelude.{◌≡◌, ◌∷◌, [], ◌++◌, ◌<◌, ◌^◌, OnOk, length, map};
+ghost use Rattle.dw_eh_frame.specs.Copies.{is_copy, repeats};
+ghost use Rattle.dw_eh_frame.specs.CopySearch.{AreFirsts};
+ghost use Rattle.dw_frame.specs.Views.{fde_of};
 
 use crate::first_fdes::FirstFdes;
-use crate::pointer::Bases;
-use crate::record::{EhFde, EhRecord, eh_record};
-use dw_bytes::Target;
+use dw_frame::FrameDescriptionEntry;
 use std::alloc::AllocError;
 
-/// Whether the FDE is a copy of the one that begins at the offset `first`.
-fn is_copy_of(section: &[u8], target: Target, bases: Bases, first: u32, fde: &EhFde<'_>) -> bool
-    requires inside { first ≤ length section.now }
-    requires short { length section.now < 2 ^ 32 }
-    ensures { result ≡ repeats_read
-        (eh_record_at bases section.now (section_from target section.now first)) (eh_fde_of fde.now) }
+/// Whether an FDE is a copy of `first`, if both begin at the same address.
+fn is_copy_of(first: &FrameDescriptionEntry<'_>, fde: &FrameDescriptionEntry<'_>) -> bool
+    ensures { result ≡ repeats (fde_of first.now) (fde_of fde.now) }
 {
-    match eh_record(section, target, bases, first) {
-        Ok((EhRecord::Fde(other), _)) => {
-            other.address_range == fde.address_range
-                && other.cie.offset == fde.cie.offset
-                && other.program.bytes == fde.program.bytes
-        }
-        _ => false,
-    }
+    first.address_range == fde.address_range
+        && first.cie_pointer == fde.cie_pointer
+        && first.program.bytes() == fde.program.bytes()
 }
 
-/// Whether the FDE is an exact copy of an earlier one. `firsts` has, for each address at which an
-/// FDE before it begins that covers addresses, the offset of the first of these FDEs.
+/// Whether an FDE is an exact copy of one of the FDEs before it. `firsts` says which of them begin
+/// where.
+#[inline(always)]
 pub(crate) fn is_exact_copy(
-    section: &[u8],
-    target: Target,
-    bases: Bases,
+    before: &[FrameDescriptionEntry<'_>],
     firsts: &FirstFdes,
-    fde: &EhFde<'_>,
+    fde: &FrameDescriptionEntry<'_>,
 ) -> bool
-    requires inside { (a at : ℕ) → first_in firsts.now a ≡ Some at → at ≤ length section.now }
-    requires short { length section.now < 2 ^ 32 }
-    ensures { result ≡ copied_by
-        (λ at. eh_record_at bases section.now (section_from target section.now at))
-        (first_in firsts.now) (eh_fde_of fde.now) }
+    requires { AreFirsts firsts.now (map fde_of before.now) }
+    ensures { result ≡ is_copy (map fde_of before.now) (fde_of fde.now) }
 {
     if fde.address_range == 0 {
         return false;
     }
     match firsts.get(fde.initial_location) {
-        Some(first) => is_copy_of(section, target, bases, first, fde),
+        Some(first) => is_copy_of(&before[first as usize], fde),
         None => false,
     }
 }
 
-/// Remembers where an FDE is, unless it covers no address or `firsts` has one that begins at the
-/// same address.
-pub(crate) fn remember(firsts: &mut FirstFdes, fde: &EhFde<'_>) -> Result<(), AllocError>
-    ensures { OnOk result ((a : ℕ) → first_in firsts.new a
-        ≡ remembered (first_in firsts.old a) (eh_fde_of fde.now) a) }
+/// Remembers an FDE that comes after `before`, unless it covers no address or one of those begins at
+/// the same address.
+#[inline(always)]
+pub(crate) fn remember(
+    firsts: &mut FirstFdes,
+    before: &[FrameDescriptionEntry<'_>],
+    fde: &FrameDescriptionEntry<'_>,
+) -> Result<(), AllocError>
+    requires firsts { AreFirsts firsts.old (map fde_of before.now) }
+    requires few { length before.now < 2 ^ 32 }
+    ensures { OnOk result (AreFirsts firsts.new (map fde_of before.now ++ fde_of fde.now ∷ [])) }
 {
     if fde.address_range == 0 {
         return Ok(());
     }
-    firsts.add(fde.initial_location, fde.offset)
+    firsts.add(fde.initial_location, before.len() as u32)
 }

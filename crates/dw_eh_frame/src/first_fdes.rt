@@ -1,4 +1,4 @@
-//! Where the first FDE is that begins at each address.
+//! Which FDE is the first that covers addresses from an address on.
 
 ghost use Rattle.std.specs.Prelude.{◌≡◌, ℕ, None, OnOk};
 ghost use Rattle.std.specs.BTreeMap.{is_at};
@@ -11,14 +11,14 @@ use std::alloc::{AllocError, Global};
 use std::collections::BTreeMap;
 use std::marker::Model;
 
-/// The first address of an FDE, and the offset of its record.
+/// The first address of an FDE, and the FDE's index in a list.
 #[derive(Clone, Copy)]
 pub struct FdePlace {
     pub address: u64,
-    pub offset: u32,
+    pub index: u32,
 }
 
-/// For each address at which an FDE begins, the offset of the first FDE that does. Linkers write
+/// For each address at which an FDE begins, the index of the first FDE that does. Linkers write
 /// most FDEs in order of address. Those that begin above all earlier ones are in a list, where they
 /// take no search. The others are in a tree.
 #[derive(Drop)]
@@ -48,13 +48,13 @@ impl Model for FirstFdes {
         × ((a n : ℕ) → get nat_cmp f.others a ≡ Some n → a ≤ f.greatest_other) };
 }
 
-/// The offset in the place with this address. The places must be in order of address.
-fn offset_at(places: &[FdePlace], address: u64) -> Option<u32>
+/// The index in the place with this address. The places must be in order of address.
+fn index_at(places: &[FdePlace], address: u64) -> Option<u32>
     requires { Ascends place_address places.now }
     ensures { result ≡ listed places.now address }
 {
     match places.binary_search_by_key(&address, |place| place.address) {
-        Ok(index) => Some(places[index].offset),
+        Ok(index) => Some(places[index].index),
         Err(_) => None,
     }
 }
@@ -76,7 +76,7 @@ impl FirstFdes {
         ensures { result ≡ listed self.now.places address }
     {
         if address <= self.greatest {
-            offset_at(&self.ascending, address)
+            index_at(&self.ascending, address)
         } else {
             None
         }
@@ -92,31 +92,30 @@ impl FirstFdes {
         }
     }
 
-    /// The offset of the first FDE that begins at `address`.
+    /// The index of the first FDE that begins at `address`.
     pub(crate) fn get(&self, address: u64) -> Option<u32>
         ensures { result ≡ first_in self.now address }
     {
         match self.listed(address) {
-            Some(offset) => Some(offset),
+            Some(index) => Some(index),
             None => self.other(address),
         }
     }
 
-    /// Adds an FDE that begins at `address` and whose record is at `offset`, unless an earlier one
-    /// begins there.
-    pub(crate) fn add(&mut self, address: u64, offset: u32) -> Result<(), AllocError>
+    /// Adds an FDE that begins at `address` and has this index, unless an earlier one begins there.
+    pub(crate) fn add(&mut self, address: u64, index: u32) -> Result<(), AllocError>
         ensures { OnOk result ((a : ℕ) → first_in self.new a
-            ≡ added (first_in self.old a) address offset a) }
+            ≡ added (first_in self.old a) address index a) }
     {
         if self.get(address).is_some() {
             return Ok(());
         }
         if address > self.greatest {
-            self.ascending.push(FdePlace { address, offset })?;
+            self.ascending.push(FdePlace { address, index })?;
             self.greatest = address;
         } else {
             self.greatest_other = self.greatest_other.max(address);
-            self.others.insert(address, offset)?;
+            self.others.insert(address, index)?;
         }
         Ok(())
     }

@@ -1,6 +1,6 @@
 //! Reading what a CIE says before its program.
 
-ghost use Rattle.std.specs.Prelude.{◌≡◌, ◌+◌, ◌<◌, ◌≤◌, IfOk, length, true};
+ghost use Rattle.std.specs.Prelude.{◌≡◌, ◌+◌, IfOk, length, true};
 ghost use Rattle.dw_bytes.specs.declared.fault.FaultKind.TheVariants.{Version};
 ghost use Rattle.dw_bytes.specs.Operands.{fixed};
 ghost use Rattle.dw_bytes.specs.Reading.{MovesForward};
@@ -11,12 +11,11 @@ ghost use Rattle.dw_eh_frame.specs.Augmentations.{string_at};
 ghost use Rattle.dw_frame.specs.Records.{is_version};
 ghost use Rattle.dw_eh_frame.specs.Records.{eh_cie_head_at};
 ghost use Rattle.dw_eh_frame.specs.Views.{factors_of, head_of};
-ghost use Rattle.dw_eh_frame.specs.Written.{EncodesNumbers};
 
 use crate::augmentation::{Augmentation, letter_count, read_augmentation, skip_eh_data};
 use dw_bytes::{Cursor, Fault, FaultKind, Target};
 
-/// The alignment factors and the return address register of a CIE.
+/// The version of a CIE, its alignment factors and its return address register.
 #[derive(Clone, Copy, Debug)]
 pub struct Factors {
     pub version: u8,
@@ -27,10 +26,8 @@ pub struct Factors {
 
 /// What a CIE says before its program.
 #[derive(Clone, Copy, Debug)]
-pub struct EhCieHead<'a> {
+pub struct EhCieHead {
     pub factors: Factors,
-    /// The bytes between the augmentation's string and its data.
-    pub numbers: &'a [u8],
     pub augmentation: Augmentation,
 }
 
@@ -81,7 +78,7 @@ fn read_letters<'a>(cursor: &mut Cursor<'a>, end: u32) -> Result<&'a [u8], Fault
 /// Reads the alignment factors and the return address register, which is one byte in version 1 and
 /// LEB128 in versions 3 and 4.
 fn read_factors(cursor: &mut Cursor<'_>, version: u8) -> Result<Factors, Fault>
-    ensures exact { ParsesBy factors_of (fields_at (factors version)) cursor.old result cursor.new }
+    ensures exact { ParsesBy factors_of (fields_at (factors (λ header. header) version)) cursor.old result cursor.new }
     ensures version { IfOk result (λ found. found.version ≡ version) }
     ensures within { IsRefusedWithin cursor.old result }
     ensures goes_on { MovesForward cursor.old cursor.new }
@@ -111,7 +108,8 @@ fn read_factors(cursor: &mut Cursor<'_>, version: u8) -> Result<Factors, Fault>
 /// Reads what follows the augmentation's string: in version 4 the sizes of an address and of a
 /// segment selector, and then the alignment factors and the return address register.
 fn read_numbers(cursor: &mut Cursor<'_>, target: Target, version: u8) -> Result<Factors, Fault>
-    ensures exact { ParsesBy factors_of (fields_at (past_augmentation target version)) cursor.old result cursor.new }
+    ensures exact { ParsesBy factors_of
+        (fields_at (past_augmentation (λ header. header) target version)) cursor.old result cursor.new }
     ensures version { IfOk result (λ found. found.version ≡ version) }
     ensures within { IsRefusedWithin cursor.old result }
     ensures goes_on { MovesForward cursor.old cursor.new }
@@ -125,13 +123,10 @@ fn read_numbers(cursor: &mut Cursor<'_>, target: Target, version: u8) -> Result<
 
 /// Reads what a CIE says, from its version on. `end` is the offset after the last byte of the CIE.
 #[tactic(auto, unfolding(crate::specs::Records::eh_cie_head_at))]
-pub(crate) fn read_head<'a>(cursor: &mut Cursor<'a>, end: u32) -> Result<EhCieHead<'a>, Fault>
+pub(crate) fn read_head(cursor: &mut Cursor<'_>, end: u32) -> Result<EhCieHead, Fault>
     requires { cursor.old.position + length cursor.old.rest ≡ end }
     ensures exact { ParsesBy head_of eh_cie_head_at cursor.old result cursor.new }
     ensures known { IfOk result (λ head. is_version head.factors.version ≡ true) }
-    ensures numbers { IfOk result (λ head. EncodesNumbers cursor.old.target head.factors.version
-        head.numbers.now (factors_of head.factors)) }
-    ensures room { IfOk result (λ head. length head.numbers.now + length cursor.new.rest ≤ length cursor.old.rest) }
     ensures within { IsRefusedWithin cursor.old result }
     ensures goes_on { MovesForward cursor.old cursor.new }
 {
@@ -140,17 +135,10 @@ pub(crate) fn read_head<'a>(cursor: &mut Cursor<'a>, end: u32) -> Result<EhCieHe
     let at = cursor.position();
     let letters = read_letters(cursor, end)?;
     skip_eh_data(cursor, letters)?;
-    let mut ahead = cursor.copy();
-    let factors = read_numbers(&mut ahead, target, version)?;
-    let size = ahead.position() - cursor.position();
-    let Ok(numbers) = cursor.take(u64::from(size)) else {
-        unreachable!()
-    };
-    let augmentation = read_augmentation(&mut ahead, at, letters)?;
-    *cursor = ahead;
+    let factors = read_numbers(cursor, target, version)?;
+    let augmentation = read_augmentation(cursor, at, letters)?;
     Ok(EhCieHead {
         factors,
-        numbers,
         augmentation,
     })
 }

@@ -1,65 +1,94 @@
-//! Laws about the records of `.eh_frame` and about rewritten sections. The functions do nothing:
-//! the contract of each is a law.
+//! Laws about the records of `.eh_frame`. The functions do nothing: the contract of each is a law.
 
-ghost use Rattle.std.specs.Prelude.{◌≡◌, ℕ, ◌+◌, ◌-◌, Bool, true, false, List, map, Contains, Ok};
-ghost use Rattle.dw_bytes.specs.declared.fault.Fault.{Fault};
-ghost use Rattle.dw_frame.specs.Bounds.{offset_of};
-ghost use Rattle.dw_eh_frame.specs.declared.places.RecordPlace.{RecordPlace};
-ghost use Rattle.dw_eh_frame.specs.Places.{ArePlaces, IsOn, is_overlap, original_of, source_program_start, source_start, written_program};
+ghost use Rattle.std.specs.Prelude.{◌≡◌, ◌<◌, ◌≤◌, ◌↔◌, ℕ, Bool, List, [], ◌∷◌, length, map, Contains, Ok, Err, None};
 ghost use Rattle.dw_bytes.specs.declared.target.Target.{Target};
-ghost use Rattle.dw_bytes.specs.Reading.{ReadPosition};
-ghost use Rattle.dw_frame.specs.Dialects.{ProgramPosition};
-ghost use Rattle.dw_frame.specs.Instructions.{Instruction};
-ghost use Rattle.dw_frame.specs.Codes.{AreInstructions};
-ghost use Rattle.dw_frame.specs.Sections.{AreRecords, records_of};
-ghost use Rattle.dw_eh_frame.specs.Instructions.{EhInstruction, AreEhInstructions};
-ghost use Rattle.dw_eh_frame.specs.declared.dialect.Dialect.{Dialect};
-ghost use Rattle.dw_eh_frame.specs.Records.{EhRecord};
-ghost use Rattle.dw_eh_frame.specs.Rewriting.{IsRewriting, IsSameProgram, Pair};
-ghost use Rattle.dw_eh_frame.specs.SameInstructions.{SayTheSame};
+ghost use Rattle.dw_bytes.specs.declared.fault.Fault.{Fault};
+ghost use Rattle.dw_bytes.specs.Answers.{values_in};
+ghost use Rattle.dw_bytes.specs.Reading.{ReadPosition, IsExact, section_from};
+ghost use Rattle.dw_frame.specs.Bounds.{ArePlaced};
+ghost use Rattle.dw_frame.specs.Records.{Cie, Fde, Record, cie_record, fde_record};
+ghost use Rattle.dw_eh_frame.specs.declared.pointer.Bases.{Bases};
+ghost use Rattle.dw_eh_frame.specs.declared.pointer.PointerEncoding.{PointerEncoding};
+ghost use Rattle.dw_eh_frame.specs.declared.pointer.PointerFormat.{PointerFormat};
+ghost use Rattle.dw_eh_frame.specs.Pointers.{pointer_at, range_at};
+ghost use Rattle.dw_eh_frame.specs.Records.{EhFde, EhRecord, eh_fde, all_in_dwarf, eh_cie_at, eh_cie_head_at, eh_record_at, eh_records_from, eh_records_of, eh_reading_fault};
+ghost use Rattle.dw_eh_frame.specs.Copies.{SaysTheSame, distinct, eh_frame_records};
+ghost use Rattle.dw_eh_frame.specs.Encoding.{IsEhCieHead, IsPointer, IsRange, AreEhRecords};
 
-/// The bytes of a program encode one list of instructions only.
-pub fn programs_are_unambiguous()
-    ensures { (dialect : Dialect) (target : Target) (at : ℕ) (bytes : List ℕ) (items others : List (ℕ × EhInstruction))
-        → AreEhInstructions dialect target at bytes items → AreEhInstructions dialect target at bytes others
-        → items ≡ others }
+/// What a CIE says before its program is read exactly if the next bytes encode it.
+pub fn cie_heads_are_exact()
+    ensures { (r : ReadPosition) → IsExact eh_cie_head_at (IsEhCieHead r.target r.position) r }
 {}
 
-/// If the bytes of a program of `.eh_frame` encode instructions, the bytes of the program that was
-/// written for it encode the same ones, with nops in place of those of vendors. If the written
-/// program can be read, so can the program that it was written for.
-pub fn programs_say_the_same()
-    ensures said { (dialect : Dialect) (old : ReadPosition) (new : ProgramPosition) (items : List (ℕ × EhInstruction))
-        → IsSameProgram dialect old new → AreEhInstructions dialect old.target old.position old.rest items
-        → (again : List (ℕ × Instruction)) × AreInstructions new.dialect new.target new.position new.rest again
-        × SayTheSame items again }
-    ensures back { (dialect : Dialect) (old : ReadPosition) (new : ProgramPosition) (again : List (ℕ × Instruction))
-        → IsSameProgram dialect old new → AreInstructions new.dialect new.target new.position new.rest again
-        → (items : List (ℕ × EhInstruction)) × AreEhInstructions dialect old.target old.position old.rest items
-        × SayTheSame items again }
+/// An FDE's first address, and its number of addresses, are read exactly if the next bytes encode
+/// them.
+pub fn addresses_are_exact()
+    ensures initial { (bases : Bases) (encoding : PointerEncoding) (r : ReadPosition)
+        → IsExact (pointer_at bases encoding) (IsPointer bases encoding r.target r.position) r }
+    ensures range { (format : PointerFormat) (initial : ℕ) (r : ReadPosition)
+        → IsExact (range_at format initial) (IsRange r.target format initial) r }
 {}
 
-/// Reading a rewritten section gives the records that were written, and no fault.
-pub fn rewritten_sections_are_read()
-    ensures { (is_aarch64 : Bool) (target : Target) (records : List EhRecord) (made : List ℕ)
-        → (rewriting : IsRewriting is_aarch64 target records made)
-        → records_of target made ≡ map Ok (map (λ (p : Pair). p.1) rewriting.pairs) }
+/// The bytes of a section are the encodings of records, one after another, exactly if the section is
+/// read as these records and without a fault.
+pub fn sections_are_records()
+    ensures { (is_aarch64 : Bool) (bases : Bases) (target : Target) (section : List ℕ) (records : List EhRecord)
+        → AreEhRecords is_aarch64 bases target [] 0 section records
+        ↔ ((eh_records_of is_aarch64 bases target section ≡ map Ok records)
+        × (eh_reading_fault is_aarch64 bases target section ≡ None)) }
 {}
 
-/// A fault that is in the program of a written record, or at its end, is at the same place of the
-/// program that it was written for. An Overlap that is at a written record is at the record that it
-/// was written for.
-pub fn faults_keep_their_places()
-    ensures program { (target : Target) (made : List ℕ) (pairs : List Pair) (places : List RecordPlace)
-        (fault : Fault) (p : Pair) → AreRecords target 0 made (map (λ (p : Pair). p.1) pairs)
-        → ArePlaces pairs places → Contains pairs p → is_overlap fault.kind ≡ false
-        → IsOn (written_program p.1) fault.at → original_of places fault ≡ record {
-          kind = fault.kind;
-          at = source_program_start p.0 + (fault.at - (written_program p.1).position);
-        } }
-    ensures overlap { (target : Target) (made : List ℕ) (pairs : List Pair) (places : List RecordPlace)
-        (fault : Fault) (p : Pair) → AreRecords target 0 made (map (λ (p : Pair). p.1) pairs)
-        → ArePlaces pairs places → Contains pairs p → is_overlap fault.kind ≡ true
-        → fault.at ≡ offset_of p.1
-        → original_of places fault ≡ record { kind = fault.kind; at = source_start p.0 } }
+/// The same bytes encode only one list of records.
+pub fn records_are_unambiguous()
+    ensures { (is_aarch64 : Bool) (bases : Bases) (target : Target) (section : List ℕ) (a b : List EhRecord)
+        → AreEhRecords is_aarch64 bases target [] 0 section a
+        → AreEhRecords is_aarch64 bases target [] 0 section b → a ≡ b }
+{}
+
+/// As DWARF has them, and without exact copies, the records of a section lie one after another in it:
+/// each is sound, and its program ends where the next record may begin.
+pub fn records_lie_one_after_another()
+    ensures { (is_aarch64 : Bool) (bases : Bases) (target : Target) (section : List ℕ) (records : List EhRecord)
+        → AreEhRecords is_aarch64 bases target [] 0 section records
+        → ArePlaced target 0 (length section) (distinct (all_in_dwarf records)) }
+{}
+
+/// The CIE of an FDE is what is read at the FDE's CIE_pointer. So FDEs with the same CIE_pointer have
+/// the same CIE.
+pub fn cies_are_read_at_their_pointers()
+    ensures { (is_aarch64 : Bool) (bases : Bases) (target : Target) (section : List ℕ) (records : List EhRecord)
+        → AreEhRecords is_aarch64 bases target [] 0 section records → (e : EhFde) → Contains records (eh_fde e)
+        → eh_cie_at is_aarch64 target section e.fde.cie_pointer ≡ Ok e.cie }
+{}
+
+/// Reading a section from an offset on gives the record there and then what is read after it.
+/// Reading stops at the section's end, or at the first fault, which is then the last item.
+pub fn records_come_in_order()
+    ensures entry { (is_aarch64 : Bool) (bases : Bases) (target : Target) (section : List ℕ) (at next : ℕ) (x : EhRecord)
+        → eh_record_at is_aarch64 bases section (section_from target section at)
+        ≡ Ok (x, section_from target section next)
+        → eh_records_from is_aarch64 bases target section at
+        ≡ Ok x ∷ eh_records_from is_aarch64 bases target section next }
+    ensures fault { (is_aarch64 : Bool) (bases : Bases) (target : Target) (section : List ℕ) (at : ℕ) (fault : Fault)
+        → at < length section
+        → eh_record_at is_aarch64 bases section (section_from target section at) ≡ Err fault
+        → eh_records_from is_aarch64 bases target section at ≡ Err fault ∷ [] }
+    ensures nothing { (is_aarch64 : Bool) (bases : Bases) (target : Target) (section : List ℕ) (at : ℕ)
+        → length section ≤ at → eh_records_from is_aarch64 bases target section at ≡ [] }
+{}
+
+/// No CIE of a section is left out. If an FDE is left out, another one is kept that covers the same
+/// addresses and has the same CIE and a program of the same bytes. All records that are kept were
+/// read.
+pub fn only_copies_are_left_out()
+    ensures cies { (is_aarch64 : Bool) (bases : Bases) (target : Target) (section : List ℕ) (c : Cie)
+        → Contains (all_in_dwarf (values_in (eh_records_of is_aarch64 bases target section))) (cie_record c)
+        → Contains (eh_frame_records is_aarch64 bases target section) (cie_record c) }
+    ensures fdes { (is_aarch64 : Bool) (bases : Bases) (target : Target) (section : List ℕ) (f : Fde)
+        → Contains (all_in_dwarf (values_in (eh_records_of is_aarch64 bases target section))) (fde_record f)
+        → (g : Fde) × Contains (eh_frame_records is_aarch64 bases target section) (fde_record g)
+        × SaysTheSame g f }
+    ensures only { (is_aarch64 : Bool) (bases : Bases) (target : Target) (section : List ℕ) (x : Record)
+        → Contains (eh_frame_records is_aarch64 bases target section) x
+        → Contains (all_in_dwarf (values_in (eh_records_of is_aarch64 bases target section))) x }
 {}

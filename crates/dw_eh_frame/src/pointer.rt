@@ -11,14 +11,23 @@ use dw_bytes::{AddressSize, Cursor, Fault, FaultKind, Target};
 /// How the number of an encoded pointer is written.
 #[derive(Clone, Copy, Debug, PartialEq, Eq)]
 pub enum PointerFormat {
+    /// As an address of the target.
     Address,
+    /// As unsigned LEB128.
     Uleb,
+    /// Unsigned, in two bytes.
     U16,
+    /// Unsigned, in four bytes.
     U32,
+    /// Unsigned, in eight bytes.
     U64,
+    /// As signed LEB128.
     Sleb,
+    /// Signed, in two bytes.
     I16,
+    /// Signed, in four bytes.
     I32,
+    /// Signed, in eight bytes.
     I64,
 }
 
@@ -37,7 +46,7 @@ pub enum PointerBase {
     Aligned,
 }
 
-/// The addresses that encoded pointers may be relative to.
+/// The addresses, as linked, that encoded pointers may be relative to.
 #[derive(Clone, Copy)]
 pub struct Bases {
     /// The address of the `.eh_frame` section.
@@ -64,7 +73,9 @@ impl Bases {
 /// An encoding of pointers.
 #[derive(Clone, Copy, Debug, PartialEq, Eq)]
 pub struct PointerEncoding {
+    /// How the number is written.
     pub format: PointerFormat,
+    /// What it is relative to.
     pub base: PointerBase,
 }
 
@@ -113,6 +124,7 @@ pub(crate) fn encoding_by(code: u8) -> Option<PointerEncoding>
 }
 
 /// What a pointer at an offset of the section is relative to, if it is known.
+#[inline(always)]
 fn base_of(bases: Bases, base: PointerBase, at: u32) -> Option<u64>
     ensures value { result ≡ base_at bases base at }
 {
@@ -125,6 +137,7 @@ fn base_of(bases: Bases, base: PointerBase, at: u32) -> Option<u64>
 }
 
 /// The number of bytes between an offset of the section and the number of a pointer there.
+#[inline(always)]
 fn padding(bases: Bases, target: Target, base: PointerBase, at: u32) -> u64
     ensures { result ≡ padding_at bases target base at }
 {
@@ -138,6 +151,7 @@ fn padding(bases: Bases, target: Target, base: PointerBase, at: u32) -> u64
     }
 }
 
+#[inline(always)]
 fn extended_u16(number: u16) -> u64
     ensures { result ≡ sign_extended 2 number }
 {
@@ -148,6 +162,7 @@ fn extended_u16(number: u16) -> u64
     }
 }
 
+#[inline(always)]
 fn extended_u32(number: u32) -> u64
     ensures { result ≡ sign_extended 4 number }
 {
@@ -159,6 +174,7 @@ fn extended_u32(number: u32) -> u64
 }
 
 /// The number that a pointer holds, as a number of 64 bits.
+#[inline(always)]
 fn read_number(cursor: &mut Cursor<'_>, format: PointerFormat) -> Result<u64, Fault>
     ensures exact { ParsesBy (λ number. number) (number_at format) cursor.old result cursor.new }
     ensures within { IsRefusedWithin cursor.old result }
@@ -178,6 +194,7 @@ fn read_number(cursor: &mut Cursor<'_>, format: PointerFormat) -> Result<u64, Fa
 }
 
 /// A sum of two numbers of 64 bits, as an address.
+#[inline(always)]
 fn wrapped_sum(target: Target, base: u64, number: u64) -> u64
     ensures value { result ≡ wrapped target (base + number) }
     ensures small { result ≤ max_address target.address_size }
@@ -190,6 +207,7 @@ fn wrapped_sum(target: Target, base: u64, number: u64) -> u64
 }
 
 /// An encoded address.
+#[inline(always)]
 #[tactic(auto, unfolding(crate::specs::Pointers::pointer_at))]
 pub(crate) fn read_pointer(
     cursor: &mut Cursor<'_>,
@@ -215,6 +233,7 @@ pub(crate) fn read_pointer(
 }
 
 /// The number of addresses of an FDE whose first address is `initial`.
+#[inline(always)]
 #[tactic(auto, unfolding(crate::specs::Pointers::range_at))]
 pub(crate) fn read_range(
     cursor: &mut Cursor<'_>,

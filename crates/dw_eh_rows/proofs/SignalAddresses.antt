@@ -1,19 +1,18 @@
 -- An address of an FDE is one of a signal frame exactly if that FDE is one.
-use Rattle.std.proofs.Common.{◌≡◌, ℕ, zero, suc, Bool, true, false, cond, List, [], ◌∷◌, map, Contains, None, Ok, refl, sym, ap, subst, ◌∙◌, arith, inl, inr}
+use Rattle.std.proofs.Common.{◌≡◌, ℕ, zero, suc, Bool, true, false, cond, List, [], ◌∷◌, map, Contains, Result, Ok, refl, sym, ap, subst, ◌∙◌, arith}
 use Rattle.std.specs.Prelude.{◌||◌, filter}
 use Rattle.std.proofs.lemmas.Bool.Decides.{nat_tests}
+use Rattle.dw_bytes.specs.declared.fault.Fault.{Fault}
 use Rattle.dw_bytes.specs.declared.target.Target.{Target}
-use Rattle.dw_bytes.specs.Answers.{values_in}
+use Rattle.dw_frame.specs.Records.{Fde, fde_record}
+use Rattle.dw_rows.specs.Section.{Covers}
 use Rattle.dw_eh_frame.specs.declared.pointer.Bases.{Bases}
-use Rattle.dw_eh_frame.specs.Copies.{distinct}
-use Rattle.dw_eh_frame.specs.Records.{EhCie, EhFde, EhRecord, eh_records_of}
-use Rattle.dw_eh_rows.specs.Faults.{eh_section_fault}
-use Rattle.dw_eh_rows.specs.Meaning.{EhCovers, eh_fdes}
-use Rattle.dw_eh_rows.specs.Signals.{is_signal_frame, addresses_of, signal_frames, has_address, is_signal_at}
+use Rattle.dw_eh_frame.specs.Copies.{SaysTheSame, eh_frame_records}
+use Rattle.dw_eh_frame.specs.Records.{EhCie, EhFde, eh_fde, all_in_dwarf, eh_cie_at}
+use Rattle.dw_eh_rows.specs.Signals.{eh_fdes, is_signal_frame, addresses_of, signal_frames, has_address, is_signal_at}
 use Rattle.dw_eh_rows.specs.declared.signals.AddressRange.{AddressRange}
-use Rattle.dw_eh_rows.proofs.CopyRows.{each-kept}
-use Rattle.dw_eh_rows.proofs.SignalsRead.{values-read}
-use Rattle.dw_eh_rows.proofs.WellFormedSections.{faultless-well-formed}
+use Rattle.dw_eh_rows.proofs.Among.{record-fde, eh-record, dwarf-record}
+use Rattle.dw_eh_rows.proofs.WholeSections.{IsFaultless, read-of}
 
 -- ---- the ranges of a list of FDEs
 
@@ -24,7 +23,7 @@ ranges-of fdes = map addresses_of (filter is_signal_frame fdes)
 record HasSignal (a : ℕ) (fdes : List EhFde) : Type 0 where
   fde : EhFde
   among : Contains fdes fde
-  covers : EhCovers fde a
+  covers : Covers fde.fde a
   is : is_signal_frame fde ≡ true
 
 wider : (a : ℕ) (e : EhFde) (fdes : List EhFde) → HasSignal a fdes → HasSignal a (e ∷ fdes)
@@ -35,10 +34,10 @@ wider a e fdes some = record {
   is = some.is;
 }
 
-covers-as : (a : ℕ) (e : EhFde) → has_address a (addresses_of e) ≡ true → EhCovers e a
+covers-as : (a : ℕ) (e : EhFde) → has_address a (addresses_of e) ≡ true → Covers e.fde a
 covers-as a e has = (grind (arith, nat_tests), grind (arith, nat_tests))
 
-has-as : (a : ℕ) (e : EhFde) → EhCovers e a → has_address a (addresses_of e) ≡ true
+has-as : (a : ℕ) (e : EhFde) → Covers e.fde a → has_address a (addresses_of e) ≡ true
 has-as a e covers = let low = covers.0 in let high = covers.1 in grind (arith, nat_tests)
 
 found : (a : ℕ) (fdes : List EhFde) → is_signal_at (ranges-of fdes) a ≡ true → HasSignal a fdes
@@ -67,12 +66,12 @@ kept-true a e fdes has = go (is_signal_frame e)
     go true = ap (λ b. has_address a (addresses_of e) || b) has ∙ or-true (has_address a (addresses_of e))
     go false = has
 
-holds : (a : ℕ) (fdes : List EhFde) (e : EhFde) → Contains fdes e → is_signal_frame e ≡ true → EhCovers e a → is_signal_at (ranges-of fdes) a ≡ true
+holds : (a : ℕ) (fdes : List EhFde) (e : EhFde) → Contains fdes e → is_signal_frame e ≡ true → Covers e.fde a → is_signal_at (ranges-of fdes) a ≡ true
 holds a [] e (k, less, at) is covers = absurd (omega arith)
 holds a (g ∷ fdes) e (zero, less, at) is covers =
-    go (is_signal_frame g) (ap is_signal_frame at ∙ is) (subst (λ (h : EhFde). EhCovers h a) (sym at) covers)
+    go (is_signal_frame g) (ap is_signal_frame at ∙ is) (subst (λ (h : EhFde). Covers h.fde a) (sym at) covers)
   where
-    go : (b : Bool) → b ≡ true → EhCovers g a
+    go : (b : Bool) → b ≡ true → Covers g.fde a
         → is_signal_at (map addresses_of (cond b (g ∷ filter is_signal_frame fdes) (filter is_signal_frame fdes))) a ≡ true
     go true same own = ap (λ b. b || is_signal_at (ranges-of fdes) a) (has-as a g own)
     go false same own = absurd cc
@@ -80,58 +79,58 @@ holds a (g ∷ fdes) e (suc k, less, at) is covers = kept-true a g fdes (holds a
 
 -- ---- the FDEs of a section without fault
 
--- the FDE that is kept for an FDE
-record Keeps (records : List EhRecord) (e : EhFde) (a : ℕ) : Type 0 where
-  fde : EhFde
-  among : Contains (eh_fdes (distinct records)) fde
-  covers : EhCovers fde a
-  is : is_signal_frame fde ≡ is_signal_frame e
+-- the laws of dw_eh_frame that are used here, for one section
+pub record CopyLaws (is_aarch64 : Bool) (bases : Bases) (target : Target) (section : List ℕ) : Type 0 where
+  pub kept : (f : Fde) → Contains (all_in_dwarf (read-of is_aarch64 bases target section)) (fde_record f)
+      → (g : Fde) × Contains (eh_frame_records is_aarch64 bases target section) (fde_record g) × SaysTheSame g f
+  pub cie : (e : EhFde) → Contains (read-of is_aarch64 bases target section) (eh_fde e)
+      → eh_cie_at is_aarch64 target section e.fde.cie_pointer ≡ Ok e.cie
 
-keeps : (is_aarch64 : Bool) (bases : Bases) (target : Target) (section : List ℕ) (records : List EhRecord)
-    → eh_records_of bases target section ≡ map Ok records → (e : EhFde) → Contains (eh_fdes records) e → (a : ℕ) → EhCovers e a
-    → Keeps records e a
-keeps is_aarch64 bases target section records are e among a covers =
-    elim (each-kept is_aarch64 bases target section records are e among) [
-      | inl kept ↦ record { fde = e; among = kept; covers = covers; is = refl }
-      | inr copy ↦ record {
-        fde = copy.original;
-        among = copy.kept;
-        covers = (omega (arith, copy.initial_location, covers.0), omega (arith, copy.initial_location, copy.address_range, covers.1));
-        is = ap (λ (c : EhCie). c.head.augmentation.is_signal) copy.cie;
-      }
-    ]
+-- an FDE that says the same covers the same addresses
+pub covers-too : (g f : Fde) (a : ℕ) → SaysTheSame g f → Covers f a → Covers g a
+covers-too g f a same covers =
+    let low = covers.0 in
+    let high = covers.1 in
+    (omega (arith, same.initial_location), omega (arith, same.initial_location, same.address_range))
+
+same-cie : (c d : EhCie) → ◌≡◌ {A = Result EhCie Fault} (Ok c) (Ok d) → c ≡ d
+same-cie c d is = cc
+
+-- two FDEs that cover one address have the same CIE
+one-cie : (is_aarch64 : Bool) (bases : Bases) (target : Target) (section : List ℕ) → CopyLaws is_aarch64 bases target section
+    → IsFaultless is_aarch64 bases target section → (e o : EhFde) → Contains (eh_fdes (read-of is_aarch64 bases target section)) e
+    → Contains (eh_fdes (read-of is_aarch64 bases target section)) o → (a : ℕ) → Covers e.fde a → Covers o.fde a → e.cie ≡ o.cie
+one-cie is_aarch64 bases target section laws good e o e_in o_in a e_covers o_covers =
+    let records = read-of is_aarch64 bases target section in
+    let kept = eh_frame_records is_aarch64 bases target section in
+    let (g, g_in, g_same) = laws.kept e.fde (dwarf-record records e e_in) in
+    let (h, h_in, h_same) = laws.kept o.fde (dwarf-record records o o_in) in
+    let one : g ≡ h = good.good.once a g h (record-fde kept g g_in) (record-fde kept h h_in) (covers-too g e.fde a g_same e_covers)
+    (covers-too h o.fde a h_same o_covers) in
+    let pointer : e.fde.cie_pointer ≡ o.fde.cie_pointer =
+    sym g_same.cie_pointer ∙ (ap (λ (f : Fde). f.cie_pointer) one ∙ h_same.cie_pointer) in
+    same-cie e.cie o.cie (sym (laws.cie e (eh-record records e e_in))
+    ∙ (ap (λ n. eh_cie_at is_aarch64 target section n) pointer ∙ laws.cie o (eh-record records o o_in)))
 
 decide : (b c : Bool) → (b ≡ true → c ≡ true) → (c ≡ true → b ≡ true) → c ≡ b
 decide true c onward back = onward refl
 decide false true onward back = absurd (let no = back refl in cc)
 decide false false onward back = refl
 
-among-records : (is_aarch64 : Bool) (bases : Bases) (target : Target) (section : List ℕ) (records : List EhRecord)
-    → eh_records_of bases target section ≡ map Ok records
-    → ((a : ℕ) (e g : EhFde) → Contains (eh_fdes (distinct records)) e → Contains (eh_fdes (distinct records)) g → EhCovers e a → EhCovers g a → e ≡ g)
-    → (e : EhFde) → Contains (eh_fdes records) e → (a : ℕ) → EhCovers e a → is_signal_at (signal_frames records) a ≡ is_signal_frame e
-among-records is_aarch64 bases target section records are once e among a covers =
-    decide (is_signal_frame e) (is_signal_at (signal_frames records) a)
-    (λ is. holds a (eh_fdes records) e among is covers)
+pub signal-addresses : (is_aarch64 : Bool) (bases : Bases) (target : Target) (section : List ℕ) → CopyLaws is_aarch64 bases target section
+    → IsFaultless is_aarch64 bases target section → (e : EhFde) → Contains (eh_fdes (read-of is_aarch64 bases target section)) e
+    → (a : ℕ) → Covers e.fde a → is_signal_at (signal_frames (read-of is_aarch64 bases target section)) a ≡ is_signal_frame e
+signal-addresses is_aarch64 bases target section laws good e among a covers =
+    let fdes = eh_fdes (read-of is_aarch64 bases target section) in
+    decide (is_signal_frame e) (is_signal_at (ranges-of fdes) a)
+    (λ is. holds a fdes e among is covers)
     (λ has.
-    let other = found a (eh_fdes records) has in
-    let own = keeps is_aarch64 bases target section records are e among a covers in
-    let there = keeps is_aarch64 bases target section records are other.fde other.among a other.covers in
-    sym own.is ∙ (ap is_signal_frame (once a own.fde there.fde own.among there.among own.covers there.covers) ∙ (there.is ∙ other.is)))
+    let other = found a fdes has in
+    ap (λ (c : EhCie). c.augmentation.is_signal)
+    (one-cie is_aarch64 bases target section laws good e other.fde among other.among a covers other.covers)
+    ∙ other.is)
 
-pub signal-addresses : (is_aarch64 : Bool) (bases : Bases) (target : Target) (section : List ℕ)
-    → eh_section_fault is_aarch64 bases target section ≡ None
-    → (e : EhFde) → Contains (eh_fdes (values_in (eh_records_of bases target section))) e → (a : ℕ) → EhCovers e a
-    → is_signal_at (signal_frames (values_in (eh_records_of bases target section))) a ≡ is_signal_frame e
-signal-addresses is_aarch64 bases target section none =
-    let well = (faultless-well-formed is_aarch64 bases target section).0 none in
-    let values : well.records ≡ values_in (eh_records_of bases target section) =
-    sym (ap (λ items. values_in {X = EhRecord} items) well.are ∙ values-read well.records) in
-    subst (λ (records : List EhRecord). (e : EhFde) → Contains (eh_fdes records) e → (a : ℕ) → EhCovers e a
-    → is_signal_at (signal_frames records) a ≡ is_signal_frame e) values
-    (among-records is_aarch64 bases target section well.records well.are well.once)
-
-pub no-signal : (fdes : List EhFde) (a : ℕ) → ((e : EhFde) → Contains fdes e → ¬ EhCovers e a) → is_signal_at (ranges-of fdes) a ≡ false
+pub no-signal : (fdes : List EhFde) (a : ℕ) → ((e : EhFde) → Contains fdes e → ¬ Covers e.fde a) → is_signal_at (ranges-of fdes) a ≡ false
 no-signal fdes a none =
     decide false (is_signal_at (ranges-of fdes) a) (λ never. absurd cc)
     (λ has. let some = found a fdes has in absurd (none some.fde some.among some.covers))

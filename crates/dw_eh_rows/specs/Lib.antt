@@ -1,19 +1,7 @@
--- ---- Trusted: which rows an `.eh_frame` section gives, and when it is accepted.
-pub mod Meaning
--- when a section is well formed
-pub mod WellFormed
--- what the check of a section answers, and what an accepted section promises
-pub mod Checked
--- each address that an FDE covers has one row, and a look-up finds it
-pub mod OneRow
+-- ---- Trusted: what an `.eh_frame` section says. To check the main promise (docs/HEADLINE.md)
+-- against the LSB, read these files.
+
+-- what is read of a section, its first fault, and when it is well formed
+pub mod Section
 -- which addresses are those of signal frames
 pub mod Signals
--- rows with their expressions
-pub mod RowsWithoutPlaces
--- ---- The first fault, computed from the records and their instructions. A law ties it to when a
--- section is well formed.
-pub mod Faults
--- ---- About the section that is written for another.
-
--- a rewritten section keeps the rows of each FDE
-pub mod RewrittenRows

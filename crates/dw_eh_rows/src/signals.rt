@@ -1,7 +1,7 @@
 //! Which addresses are those of signal frames.
 
-ghost use Rattle.std.specs.Prelude.{◌≡◌, ◌<◌, ◌^◌, ◌++◌, ◌⊎◌, [], ◌∷◌, IfOk, IfErr, OnOk, Some, length};
-ghost use Rattle.dw_bytes.specs.Answers.{fault_in, memory, values_in};
+ghost use Rattle.std.specs.Prelude.{◌≡◌, ◌<◌, ◌^◌, ◌++◌, [], ◌∷◌, IfOk, IfErr, OnOk, length};
+ghost use Rattle.dw_bytes.specs.Answers.{Answers, fault_in, memory, values_in};
 ghost use Rattle.dw_eh_frame.specs.Records.{eh_records_of};
 ghost use Rattle.dw_eh_frame.specs.Views.{eh_record_of};
 ghost use Rattle.dw_eh_rows.specs.Signals.{is_signal_at, signal_frames as frames_of};
@@ -23,41 +23,45 @@ fn push_signal_frame(ranges: &mut Vec<AddressRange>, record: &EhRecord<'_>) -> R
     ensures lack { IfErr result (λ fault. fault ≡ memory) }
 {
     if let EhRecord::Fde(fde) = record
-        && fde.cie.head.augmentation.is_signal
+        && fde.cie.augmentation.is_signal
     {
         ranges.push(AddressRange {
-            start: fde.initial_location,
-            count: fde.address_range,
+            start: fde.fde.initial_location,
+            count: fde.fde.address_range,
         })?;
     }
     Ok(())
 }
 
 /// The addresses of each FDE of a section of fewer than 2^32 bytes that is a signal frame, in the
-/// order of the section. O(records).
+/// order of the section. It takes as long as reading the records, and memory for
+/// what it returns. `is_aarch64` changes nothing here.
+///
+/// The error is the first fault of `eh_record`. `Memory` (60) has offset 0.
 pub fn signal_frames(
     alloc: Global,
     section: &[u8],
     target: Target,
     bases: Bases,
+    is_aarch64: bool,
 ) -> Result<Vec<AddressRange>, Fault>
     requires { length section.now < 2 ^ 32 }
-    ensures refused { IfErr result (λ fault. (fault ≡ memory)
-        ⊎ (fault_in (eh_records_of bases target section.now) ≡ Some fault)) }
+    ensures answer { Answers (fault_in (eh_records_of is_aarch64 bases target section.now)) result }
     ensures frames { IfOk result (λ ranges. ranges.items
-        ≡ frames_of (values_in (eh_records_of bases target section.now))) }
+        ≡ frames_of (values_in (eh_records_of is_aarch64 bases target section.now))) }
 {
+    dw_eh_frame::laws::records_come_in_order();
     let mut ranges = Vec::new(alloc);
     let mut at = 0u32;
     while (at as usize) < section.len() {
-        let (record, next) = eh_record(section, target, bases, at)?;
+        let (record, next) = eh_record(section, target, bases, is_aarch64, at)?;
         push_signal_frame(&mut ranges, &record)?;
         at = next;
     }
     Ok(ranges)
 }
 
-/// Whether an address is in one of the ranges.
+/// Whether an address is in one of the ranges. It goes through all of them.
 pub fn is_signal_address(ranges: &[AddressRange], address: u64) -> bool
     ensures { result ≡ is_signal_at ranges.now address }
 {

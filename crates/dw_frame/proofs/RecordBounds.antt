@@ -75,7 +75,7 @@ column-range target at true make bytes h s = (s.0, leb-true s.0 65535 (passed (i
 column-range target at false make bytes h s = (s.0, leb-true s.0 65535 (passed (is_register s.0) RegisterNumber s.5), s.6.1)
 
 factors-range : (target : Target) (version at : ℕ) (bytes : List ℕ) (h : Header) → is_version version ≡ true
-    → Encodes target (factors version) at bytes h → InRange target h
+    → Encodes target (factors cie_header version) at bytes h → InRange target h
 factors-range target version at bytes h known s =
     let make : ℕ → Header = λ n. cie_header
     (record { version = version; code_alignment_factor = s.0; data_alignment_factor = s.6.0; return_address_register = n }) in
@@ -84,7 +84,7 @@ factors-range target version at bytes h known s =
 
 past-range : (target : Target) (version at : ℕ) (has_sizes : Bool) (bytes : List ℕ) (h : Header) → is_version version ≡ true
     → Encodes target (cond has_sizes
-    (byte AddressSize (bytes_of_address target.address_size) (byte SegmentSize 0 (factors version))) (factors version)) at bytes h
+    (byte AddressSize (bytes_of_address target.address_size) (byte SegmentSize 0 (factors cie_header version))) (factors cie_header version)) at bytes h
     → InRange target h
 past-range target version at true bytes h known s = factors-range target version _ s.6.2 h known s.6.6
 past-range target version at false bytes h known s = factors-range target version at bytes h known s

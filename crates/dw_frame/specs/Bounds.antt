@@ -68,6 +68,12 @@ abbrev pub offset_of : Record → ℕ
 offset_of (cie_record c) = c.offset
 offset_of (fde_record f) = f.offset
 
+-- The records lie one after another, between the offsets `at` and `end`: each program is between its
+-- record's offset and where the next record may begin, and has this target.
+abbrev pub ArePlaced : Target → ℕ → ℕ → List Record → Type 0
+ArePlaced target at end [] = at ≤ end
+ArePlaced target at end (x ∷ xs) = (next : ℕ) × (at ≤ offset_of x) × IsSoundRecord target next x × ArePlaced target next end xs
+
 -- The items ascend: the number of each item is below the numbers of all items after it.
 abbrev pub Ascends : {X : Type 0} → (X → ℕ) → List X → Type 0
 Ascends at [] = Unit {0}

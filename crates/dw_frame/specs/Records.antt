@@ -1,6 +1,7 @@
 -- The records of a `.debug_frame` section, CIEs and FDEs, with their fields (DWARF 5, section
 -- 6.4.1).
-use Rattle.std.specs.Prelude.{◌==◌, ◌||◌, ℕ, ℤ, Bool}
+use Rattle.std.specs.Prelude.{◌==◌, ◌||◌, ℕ, ℤ, Bool, List, Option, Some, None}
+use Rattle.std.specs.List.{filter_map}
 use Rattle.dw_bytes.specs.declared.target.Format.{Format}
 use Rattle.dw_frame.specs.Dialects.{ProgramPosition}
 
@@ -33,3 +34,18 @@ pub record Fde : Type 0 where
 pub data Record : Type 0 where
   cie_record : Cie → Record
   fde_record : Fde → Record
+
+-- the CIEs among records, and the FDEs
+abbrev pub cie_in_record : Record → Option Cie
+cie_in_record (cie_record c) = Some c
+cie_in_record (fde_record f) = None
+
+abbrev pub fde_in_record : Record → Option Fde
+fde_in_record (cie_record c) = None
+fde_in_record (fde_record f) = Some f
+
+abbrev pub cies_among : List Record → List Cie
+cies_among records = filter_map cie_in_record records
+
+abbrev pub fdes_among : List Record → List Fde
+fdes_among records = filter_map fde_in_record records

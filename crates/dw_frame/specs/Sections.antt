@@ -57,18 +57,18 @@ abbrev pub column_fault : ℕ → Option FaultKind
 column_fault number = unless (is_register number) RegisterNumber
 
 -- The return address register is one byte in version 1, and LEB128 since version 3.
-abbrev pub return_column : ℕ → (ℕ → Fields Header) → Fields Header
+abbrev pub return_column : {X : Type 0} → ℕ → (ℕ → Fields X) → Fields X
 return_column version next =
     if version == 1 then field (fixed 1) column_fault next else field unsigned column_fault next
 
 -- In every version the header of a CIE ends with both alignment factors and the return address
--- register.
-abbrev pub factors : ℕ → Fields Header
-factors version =
+-- register. `make` says what is made of the header.
+abbrev pub factors : {X : Type 0} → (CieHeader → X) → ℕ → Fields X
+factors make version =
     any unsigned (λ code_alignment_factor.
     any signed (λ data_alignment_factor.
     return_column version (λ return_address_register.
-    made (cie_header (record {
+    made (make (record {
       version = version;
       code_alignment_factor = code_alignment_factor;
       data_alignment_factor = data_alignment_factor;
@@ -78,18 +78,18 @@ factors version =
 -- The fields of a CIE after the augmentation. In version 4 alone, two sizes come first: the address
 -- size, which must be the target's, and the segment selector size, which must be 0. Then, in every
 -- version, come the alignment factors and the return address register.
-abbrev pub past_augmentation : Target → ℕ → Fields Header
-past_augmentation target version =
+abbrev pub past_augmentation : {X : Type 0} → (CieHeader → X) → Target → ℕ → Fields X
+past_augmentation make target version =
     if version == 4
-    then byte AddressSize (bytes_of_address target.address_size) (byte SegmentSize 0 (factors version))
-    else factors version
+    then byte AddressSize (bytes_of_address target.address_size) (byte SegmentSize 0 (factors make version))
+    else factors make version
 
 -- The fields of a CIE after the CIE_id: first the version, which decides what fields follow (6.4.1,
 -- Appendix G), and the augmentation, which must be empty.
 abbrev pub cie_fields : Target → Fields Header
 cie_fields target =
     field (fixed 1) (λ number. unless (is_version number) Version) (λ version.
-    byte Augmentation 0 (past_augmentation target version))
+    byte Augmentation 0 (past_augmentation cie_header target version))
 
 -- The fields of an FDE after the CIE_pointer: its first address, and the number of its addresses.
 -- Their sum must be at most the highest address.

@@ -13,7 +13,8 @@ pub struct CommonInformationEntry<'a> {
     pub offset: u32,
     /// Whether the record is in the 32-bit or the 64-bit DWARF format.
     pub format: Format,
-    pub(crate) version: u8,
+    /// The version of the CIE's encoding: 1, 3 or 4.
+    pub version: u8,
     /// The factor that the delta of an advance_loc instruction is multiplied by.
     pub code_alignment_factor: u64,
     /// The factor that a factored offset is multiplied by.

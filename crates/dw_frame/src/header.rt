@@ -58,7 +58,7 @@ fn read_version(cursor: &mut Cursor<'_>) -> Result<u8, Fault>
 }
 
 impl CieHeader {
-    ghost use Rattle.dw_frame.specs.Sections.{cie_fields, factors};
+    ghost use Rattle.dw_frame.specs.Sections.{cie_fields, cie_header, factors};
     ghost use Rattle.dw_frame.specs.Headers.{cie_head};
 
     /// Reads the fields after the CIE_id.
@@ -82,7 +82,7 @@ impl CieHeader {
     fn read_factors(cursor: &mut Cursor<'_>, version: u8) -> Result<Self, Fault>
         requires { is_version version ≡ true }
         ensures exact { ParsesBy cie_head
-            (fields_at (factors version)) cursor.old result cursor.new }
+            (fields_at (factors cie_header version)) cursor.old result cursor.new }
         ensures within { IsRefusedWithin cursor.old result }
         ensures goes_on { MovesForward cursor.old cursor.new }
     {

@@ -21,17 +21,13 @@ pub struct Program<'a> {
 
 impl<'a> Program<'a> {
     ghost use Rattle.std.specs.Prelude.{take};
+    ghost use Rattle.dw_bytes.specs.Bodies.{window};
     ghost use Rattle.dw_frame.specs.Codes.{instructions_of};
+    ghost use Rattle.dw_frame.specs.Dialects.{in_dialect};
     ghost use Rattle.dw_frame.specs.Views.{start_of, end_of, target_of, dialect_of, reading_of, reading_from, program_of, program_from};
 
     /// The program from offset `start` up to offset `end` of `section`.
-    pub(crate) fn new(
-        section: &'a [u8],
-        start: u32,
-        end: u32,
-        target: Target,
-        dialect: Dialect,
-    ) -> Self
+    pub fn new(section: &'a [u8], start: u32, end: u32, target: Target, dialect: Dialect) -> Self
         requires ordered { start ≤ end }
         requires inside { end ≤ length section.now }
         requires short { length section.now < 2 ^ 32 }
@@ -39,6 +35,7 @@ impl<'a> Program<'a> {
         ensures start { start_of result ≡ start }
         ensures target { target_of result ≡ target }
         ensures dialect { dialect_of result ≡ dialect }
+        ensures is { program_of result ≡ in_dialect dialect (window target section.now start end) }
     {
         Program {
             section: &section[..end as usize],
@@ -63,6 +60,14 @@ impl<'a> Program<'a> {
             (reading_of self.now).rest }
     {
         self.section.len() as u32
+    }
+
+    /// The program's bytes.
+    #[inline(always)]
+    pub fn bytes(&self) -> &'a [u8]
+        ensures { result.now ≡ (reading_of self.now).rest }
+    {
+        &self.section[self.start as usize..]
     }
 
     /// The byte order and address size that the program is read with.

@@ -1,16 +1,14 @@
 -- A module whose rows come from an `.eh_frame` section: what adding it makes of a process, and why
 -- it isn't added.
-use Rattle.std.specs.Prelude.{◌≡◌, ◌⊎◌, ◌<◌, ◌^◌, ℕ, List, length, Option, Some, None}
+use Rattle.std.specs.Prelude.{◌≡◌, ◌⊎◌, ℕ, List, Option, Some, None}
 use Rattle.dw_bytes.specs.Answers.{memory, values_in}
 use Rattle.dw_bytes.specs.declared.fault.Fault.{Fault}
 use Rattle.dw_bytes.specs.declared.target.Target.{Target}
-use Rattle.dw_eh_frame.specs.Refused.{too_long}
-use Rattle.dw_eh_rows.specs.Checked.{HasEhRows}
-use Rattle.dw_eh_rows.specs.Faults.{eh_section_fault}
+use Rattle.dw_eh_rows.specs.Section.{eh_frame_of, eh_section_fault}
 use Rattle.dw_eh_rows.specs.Signals.{signal_frames}
+use Rattle.dw_eh_rows.specs.declared.signals.AddressRange.{AddressRange as SignalRange}
 use Rattle.dw_eh_frame.specs.Records.{eh_records_of}
-use Rattle.dw_eh_frame.specs.Rewriting.{IsRewritten}
-use Rattle.dw_rows.specs.Section.{FrameSection, IsChecked, frame_of}
+use Rattle.dw_rows.specs.Section.{FrameSection, IsChecked}
 use Rattle.dw_process.specs.Processes.{IsAddedWith, ProcessState}
 use Rattle.dw_process.specs.Refusals.{IsRefusedWith}
 use Rattle.dw_process.specs.declared.address_range.AddressRange.{AddressRange}
@@ -23,29 +21,27 @@ use Rattle.dw_process.specs.declared.refusal.Refusal.TheVariants.{Section, Room,
 abbrev pub first_fault_of : EhSection → Target → Option Fault
 first_fault_of s target = eh_section_fault s.is_aarch64 s.bases target s.bytes.now
 
--- The rows that are looked up in `frame` are those of the section, which has no fault: each address
--- that one of its FDEs covers has exactly one row, the one that the definitions give (`HasEhRows`).
--- `frame` is checked, and is what is read of bytes that have the section's records and nothing else
--- (`IsRewritten`).
+-- `frame` is the section, with its CIEs and FDEs as they are read where they lie. It has no fault, so
+-- it is checked: each address that one of its FDEs covers has exactly one row (law `exact_eh_rows`).
 pub record IsFrameOf (s : EhSection) (target : Target) (frame : FrameSection) : Type 0 where
   pub accepted : first_fault_of s target ≡ None
-  pub target_is : frame.target ≡ target
-  pub rows : HasEhRows s.is_aarch64 s.bases s.bytes.now frame
+  pub is : frame ≡ eh_frame_of s.is_aarch64 s.bases target s.bytes.now
   pub checked : IsChecked frame
-  pub whole : frame ≡ frame_of frame.target frame.section
-  pub written : IsRewritten s.is_aarch64 s.bases frame.target s.bytes.now frame.section
+
+-- the addresses of the section's signal frames
+abbrev pub signals_of : EhSection → Target → List SignalRange
+signals_of s target = signal_frames (values_in (eh_records_of s.is_aarch64 s.bases target s.bytes.now))
 
 -- A module with the rows and the signal frames of the section is added.
 pub record IsEhAdded (s : EhSection) (load_address : ℕ) (given : Option AddressRange) (cookie room : ℕ) (old : ProcessState) (id : ℕ)
     (new : ProcessState) : Type 0 where
   pub frame : FrameSection
   pub is : IsFrameOf s old.target frame
-  pub rows : IsAddedWith frame (signal_frames (values_in (eh_records_of s.bases old.target s.bytes.now))) load_address given cookie room old id new
+  pub rows : IsAddedWith frame (signals_of s old.target) load_address given cookie room old id new
 
--- The fault is the first one of the section. The section may also be too long: it has more than
--- 2^29 bytes, and what is made of it in memory would have 2^32.
+-- the fault is the first one of the section
 abbrev pub IsEhFault : EhSection → Target → Fault → Type 0
-IsEhFault s target fault = (first_fault_of s target ≡ Some fault) ⊎ ((fault ≡ too_long) × (2 ^ 29 < length s.bytes.now))
+IsEhFault s target fault = first_fault_of s target ≡ Some fault
 
 -- the section has no fault, and `IsRefusedWith` says why its rows aren't added
 pub record AreRowsRefused (s : EhSection) (target : Target) (load_address : ℕ) (given : Option AddressRange) (room : ℕ) (modules : List LoadedModule)

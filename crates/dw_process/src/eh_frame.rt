@@ -17,8 +17,8 @@ pub struct EhSection<'a> {
     pub bytes: &'a [u8],
     /// The addresses, as linked, that the section's pointers are relative to.
     pub bases: Bases,
-    /// Whether the section is for aarch64, where the instruction 0x2d is
-    /// DW_CFA_AARCH64_negate_ra_state.
+    /// Whether the section is for aarch64, where the instructions 0x2d and 0x2c are
+    /// DW_CFA_AARCH64_negate_ra_state and DW_CFA_AARCH64_negate_ra_state_with_pc.
     pub is_aarch64: bool,
 }
 
@@ -27,9 +27,8 @@ impl Process {
     /// module, as `add` does with a `.debug_frame` section. The section's addresses are as linked.
     /// The rows are those of the section's own programs; instructions of vendors change no rule.
     ///
-    /// A fault has the offset that it has in this section. The call makes a `.debug_frame` section
-    /// in memory, of less than five times the section's length, and frees it. After an error the
-    /// process is unchanged.
+    /// A fault is the first one of `dw_eh_rows::check_eh_frame`. What the check takes is freed before
+    /// the call returns. After an error the process is unchanged.
     pub fn add_eh_frame(
         &mut self,
         alloc: Global,
@@ -46,17 +45,14 @@ impl Process {
             (IsEhRefused section.entry self.old.target load_address range room self.old.modules) }
         ensures same { IfErr result (λ _. self.new ≡ self.old) }
     {
-        let mut made = Vec::new(alloc);
-        let frame = check_eh_frame(
-            alloc,
-            section.bytes,
-            self.target(),
-            section.bases,
-            section.is_aarch64,
-            &mut made,
-        )?;
+        let EhSection {
+            bytes,
+            bases,
+            is_aarch64,
+        } = section;
+        let frame = check_eh_frame(alloc, bytes, self.target(), bases, is_aarch64)?;
         // The section can be read, so only memory may lack.
-        let Ok(signals) = signal_frames(alloc, section.bytes, self.target(), section.bases) else {
+        let Ok(signals) = signal_frames(alloc, bytes, self.target(), bases, is_aarch64) else {
             return Err(Refusal::Section(OUT_OF_MEMORY));
         };
         match self.add_checked(alloc, &frame, signals, load_address, range, cookie, room) {

@@ -91,15 +91,15 @@ pub record IsGood (s : Start) (program : List Effect) : Type 0 where
   -- each covered address has a row with a CFA rule
   pub covered : (a k : ℕ) → s.location ≤ a → a < s.end → IsLast s program a k → cfa_after s program k ≢ None
 
--- the conditions on a CIE's instructions
-pub record IsGoodCie (program : List Effect) : Type 0 where
+-- the conditions on the instructions of the CIE `cie`
+pub record IsGoodCie (cie : Cie) (program : List Effect) : Type 0 where
   -- A CIE's program may contain the instruction. The other three conditions are the conditions with
   -- these names in `IsGood`.
   pub allowed : (k : ℕ) (x : Effect) → slice_get program k ≡ Some x → is_barred x ≡ false
   pub kind : (k : ℕ) (x : Effect) → slice_get program k ≡ Some x → needs_register_cfa x ≡ true
-      → not_register_cfa (cfa_after cie_start program k) ≡ false
+      → not_register_cfa (cfa_after (cie_start cie) program k) ≡ false
   pub narrow : (k : ℕ) (x : Effect) → slice_get program k ≡ Some x → overflows x ≡ false
-  pub few : (k : ℕ) → k < length program → rule_count (rule_after cie_start program (k + 1)) ≤ MAX_RULES
+  pub few : (k : ℕ) → k < length program → rule_count (rule_after (cie_start cie) program (k + 1)) ≤ MAX_RULES
 
 -- each expression of the instructions is good (`IsGoodExpression`), as an expression of its kind
 abbrev pub AreGoodExpressions : List (ℕ × Instruction) → Type 0
@@ -110,7 +110,7 @@ AreGoodExpressions items = (e : LocatedExpression) → Contains (expressions_in 
 pub record IsGoodCieProgram (cie : Cie) : Type 0 where
   pub items : List (ℕ × Instruction)
   pub encoded : AreInstructions cie.program.dialect cie.program.target cie.program.position cie.program.rest items
-  pub good : IsGoodCie (effects_by cie items)
+  pub good : IsGoodCie cie (effects_by cie items)
   pub expressions : AreGoodExpressions items
 
 -- An FDE's program is good: its CIE's program is good, its bytes encode instructions that meet
@@ -120,5 +120,5 @@ pub record IsGoodFdeProgram (cie : Cie) (fde : Fde) : Type 0 where
   pub first : IsGoodCieProgram cie
   pub items : List (ℕ × Instruction)
   pub encoded : AreInstructions fde.program.dialect fde.program.target fde.program.position fde.program.rest items
-  pub good : IsGood (start_after_cie (reverse (effects_by cie first.items)) fde) (effects_by cie items)
+  pub good : IsGood (start_after_cie cie (reverse (effects_by cie first.items)) fde) (effects_by cie items)
   pub expressions : AreGoodExpressions items

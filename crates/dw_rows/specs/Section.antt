@@ -3,14 +3,14 @@
 use Rattle.std.specs.Prelude.{◌≡◌, ℕ, ◌+◌, ◌<◌, ◌≤◌, ◌==◌, ◌&&◌, nat_lt, nat_le, Bool, if◌then◌else◌, Option, Some, None, is_some, List}
 use Rattle.std.specs.Prelude.{[], ◌∷◌, Contains, find, length, map, option_and_then}
 use Rattle.std.specs.Option.{option_or}
-use Rattle.std.specs.List.{filter_map, flat_map, list_any}
+use Rattle.std.specs.List.{flat_map, list_any}
 use Rattle.dw_bytes.specs.declared.target.Target.{Target}
 use Rattle.dw_bytes.specs.declared.fault.Fault.{Fault}
 use Rattle.dw_bytes.specs.declared.fault.FaultKind.TheVariants.{NoSuchCie, Overlap}
 use Rattle.dw_bytes.specs.Answers.{values_in, fault_in}
-use Rattle.dw_frame.specs.Records.{Cie, Fde, Record, cie_record, fde_record}
+use Rattle.dw_frame.specs.Records.{Cie, Fde, Record, cies_among, fdes_among}
 use Rattle.dw_frame.specs.Sections.{records_of}
-use Rattle.dw_frame.specs.Bounds.{offset_of, IsSoundRecord}
+use Rattle.dw_frame.specs.Bounds.{ArePlaced}
 use Rattle.dw_rules.specs.Rules.{PlacedRow, Row}
 use Rattle.dw_stack.specs.Located.{LocatedExpression}
 use Rattle.dw_rules.specs.Expressions.{frame_expressions}
@@ -26,20 +26,6 @@ pub record FrameSection : Type 0 where
   pub cies : List Cie
   pub fdes : List Fde
   pub expressions : List LocatedExpression
-
-abbrev pub cie_in_record : Record → Option Cie
-cie_in_record (cie_record c) = Some c
-cie_in_record (fde_record f) = None
-
-abbrev pub fde_in_record : Record → Option Fde
-fde_in_record (cie_record c) = None
-fde_in_record (fde_record f) = Some f
-
-abbrev pub cies_among : List Record → List Cie
-cies_among records = filter_map cie_in_record records
-
-abbrev pub fdes_among : List Record → List Fde
-fdes_among records = filter_map fde_in_record records
 
 -- a section of which these CIEs and FDEs are read
 abbrev pub frame_by : Target → List ℕ → List Cie → List Fde → FrameSection
@@ -57,12 +43,6 @@ frame_with target section records = frame_by target section (cies_among records)
 
 abbrev pub frame_of : Target → List ℕ → FrameSection
 frame_of target section = frame_with target section (values_in (records_of target section))
-
--- The records lie one after another, between the offsets `at` and `end`: each program is between its
--- record's offset and where the next record may begin, and has this target.
-abbrev pub ArePlaced : Target → ℕ → ℕ → List Record → Type 0
-ArePlaced target at end [] = at ≤ end
-ArePlaced target at end (x ∷ xs) = (next : ℕ) × (at ≤ offset_of x) × IsSoundRecord target next x × ArePlaced target next end xs
 
 -- ---- the addresses that FDEs cover
 

@@ -237,6 +237,7 @@ pub fn check_records<'a>(
 ) -> Result<CheckedFrame<'a>, Fault>
     requires { AreReadIn target (length section.now) (map cie_of cies.items) (map fde_of fdes.items) }
     ensures answer { Answers (parts_fault (map cie_of cies.entry.items) (map fde_of fdes.entry.items)) result }
+    ensures inside { IfErr result (λ fault. fault.at ≤ length section.now) }
     ensures frame { IfOk result (λ frame. frame ≡ frame_by target section.now
         (map cie_of cies.entry.items) (map fde_of fdes.entry.items)) }
 {

@@ -5,27 +5,28 @@ ghost use Rattle.std.specs.Prelude.{◌≡◌, ◌⊎◌, false, ℕ, ◌+◌, �
 ghost use Rattle.std.specs.Prelude.{Err, Contains, map};
 ghost use Rattle.dw_rules.specs.RowsWithExpressions.{row_with_expressions};
 ghost use Rattle.dw_rows.specs.RowLookups.{IsRowUnder};
-ghost use Rattle.dw_frame.specs.Records.{Cie, Fde};
+ghost use Rattle.dw_frame.specs.Records.{Cie, Fde, Record, cies_among, fdes_among};
 ghost use Rattle.dw_rules.specs.Abi.{abi_fault};
 ghost use Rattle.dw_rules.specs.Rules.{PlacedRule, PlacedCfa, PlacedRow, Row};
 ghost use Rattle.dw_bytes.specs.declared.fault.FaultKind.{FaultKind};
+ghost use Rattle.dw_frame.specs.Dialects.{debug_frame};
 ghost use Rattle.dw_frame.specs.Instructions.{Instruction};
 ghost use Rattle.dw_rules.specs.Effects.{Effect, restores_state, effect_of, is_barred};
 ghost use Rattle.dw_rules.specs.Expressions.{expression_in};
-ghost use Rattle.dw_rules.specs.InForce.{Start, location_of};
+ghost use Rattle.dw_rules.specs.InForce.{Start, cie_start, location_of};
 ghost use Rattle.dw_rules.specs.ProgramFault.{cie_fault, fde_fault, refusal_at};
 ghost use Rattle.dw_rows.specs.UnwindRows.{rows_of, has_address, Cover};
 ghost use Rattle.dw_rows.specs.GoodPrograms.{rule_after, cfa_after, Match, IsGoodCieProgram, IsGoodFdeProgram};
 ghost use Rattle.dw_rows.specs.Clauses.{AreRules, AreRowsOf};
 ghost use Rattle.dw_bytes.specs.declared.target.Target.{Target};
 ghost use Rattle.dw_bytes.specs.declared.fault.Fault.{Fault};
-ghost use Rattle.dw_frame.specs.Bounds.{StandsIn, IsSoundCie, IsSoundFde, Ascends};
+ghost use Rattle.dw_frame.specs.Bounds.{ArePlaced, StandsIn, IsSoundCie, IsSoundFde, Ascends};
 ghost use Rattle.dw_stack.specs.Expressions.{IsGoodExpression};
 ghost use Rattle.dw_stack.specs.Located.{LocatedExpression};
 ghost use Rattle.dw_rows.specs.GoodRows.{HasGoodExpressions};
 ghost use Rattle.dw_rows.specs.ExactRows.{HasOneRow};
-ghost use Rattle.dw_rows.specs.Section.{FrameSection, Covers, CoversOnce, cie_in, rows_in, row_of, IsChecked, section_fault, frame_of};
-ghost use Rattle.dw_rows.specs.WellFormed.{IsWellFormed};
+ghost use Rattle.dw_rows.specs.Section.{FrameSection, Covers, CoversOnce, cie_in, rows_in, row_of, AreReadIn, IsChecked, parts_fault, section_fault, frame_of, frame_with};
+ghost use Rattle.dw_rows.specs.WellFormed.{AreGood, IsWellFormed};
 ghost use Rattle.dw_rules.specs.declared.abi.TheConstants.{MAX_KEPT};
 ghost use Rattle.dw_rules.specs.declared.register_rules.TheConstants.{MAX_RULES};
 ghost use Rattle.dw_rules.specs.declared.remember_stack.TheConstants.{MAX_REMEMBERED};
@@ -100,6 +101,14 @@ pub fn frame_sections_without_fault_are_well_formed()
         → (section_fault target section ≡ None) ↔ IsWellFormed target section }
 {}
 
+/// The CIEs and FDEs of records that lie one after another, however they were read, have no fault if
+/// and only if they are good: each CIE_pointer is the offset of a CIE, all programs are good, and no
+/// address is covered by two FDEs.
+pub fn records_without_fault_are_good()
+    ensures { (target : Target) (at end : ℕ) (records : List Record) → ArePlaced target at end records
+        → (parts_fault (cies_among records) (fdes_among records) ≡ None) ↔ AreGood records }
+{}
+
 /// In an accepted section, each address that an FDE covers has exactly one row, and it is the one
 /// that the standard gives (`HasOneRow`, ExactRows.antt). Exactly one FDE covers the address,
 /// exactly one of that FDE's rows covers it, and a look-up returns that row. An address that no FDE
@@ -109,6 +118,14 @@ pub fn exact_rows()
         → Covers f a → HasOneRow s a }
     ensures others { (s : FrameSection) (a : ℕ) → ((f : Fde) → Contains s.fdes f → ¬ Covers f a)
         → row_of s a ≡ None }
+{}
+
+/// Records that lie one after another in a section, and have no fault, make an accepted section.
+pub fn records_are_accepted()
+    ensures { (target : Target) (section : List ℕ) (records : List Record)
+        → ArePlaced target 0 (length section) records
+        → parts_fault (cies_among records) (fdes_among records) ≡ None
+        → IsChecked (frame_with target section records) }
 {}
 
 /// In an accepted section, each FDE has a CIE, and neither program has a fault. No address is
@@ -152,6 +169,11 @@ pub fn rows_have_good_expressions()
         → row_of s a ≡ Some row → IsRowUnder s.target row }
 {}
 
+/// The program of a CIE of `.debug_frame` begins with no rules.
+pub fn debug_frame_begins_with_no_rules()
+    ensures { (cie : Cie) → cie.program.dialect ≡ debug_frame → (cie_start cie).cfa ≡ None }
+{}
+
 /// Each remember_state has at most one matching restore_state, and each restore_state has at most
 /// one matching remember_state.
 pub fn matches_are_unique()
@@ -178,6 +200,8 @@ pub fn frame_faults_stand_inside()
         → StandsIn cie.program (Err fault) }
     ensures fde { (cie : Cie) (fde : Fde) (fault : Fault) → fde_fault cie fde ≡ Some fault
         → StandsIn fde.program (Err fault) }
+    ensures parts { (target : Target) (size : ℕ) (cies : List Cie) (fdes : List Fde) (fault : Fault)
+        → AreReadIn target size cies fdes → parts_fault cies fdes ≡ Some fault → fault.at ≤ size }
     ensures section { (target : Target) (section : List ℕ) (fault : Fault)
         → section_fault target section ≡ Some fault → fault.at ≤ length section }
     ensures abi { (kept : List ℕ) (pointer : Option ℕ) (fault : Fault)

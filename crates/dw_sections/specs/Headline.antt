@@ -2,9 +2,9 @@
 use Rattle.std.specs.Prelude.{◌≡◌, ℕ, ◌≤◌, List, length, Some, None, Contains}
 use Rattle.dw_bytes.specs.declared.target.Target.{Target}
 use Rattle.dw_bytes.specs.Operands.{Block}
-use Rattle.dw_frame.specs.Records.{Fde, Record}
+use Rattle.dw_frame.specs.Records.{Fde, Record, cies_among, fdes_among}
 use Rattle.dw_frame.specs.Sections.{AreRecords}
-use Rattle.dw_rows.specs.Section.{Covers, cies_among, fdes_among, frame_of, row_of}
+use Rattle.dw_rows.specs.Section.{Covers, frame_of, row_of}
 use Rattle.dw_rows.specs.ExactRows.{HasOneRow}
 use Rattle.dw_stack.specs.declared.state.Kind.{Kind}
 use Rattle.dw_stack.specs.Located.{LocatedExpression}

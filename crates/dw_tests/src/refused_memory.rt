@@ -330,12 +330,11 @@ fn of_eh_frame(alloc: Global, call: Call, section: &[u8]) -> Result<Numbers, Fau
 {
     match call {
         Call::CheckEhFrame => {
-            let mut room = Vec::new(alloc);
-            let frame = check_eh_frame(alloc, section, LITTLE, BASES, false, &mut room)?;
+            let frame = check_eh_frame(alloc, section, LITTLE, BASES, false)?;
             Ok(counts_of(&frame))
         }
         Call::SignalFrames => {
-            let ranges = signal_frames(alloc, section, LITTLE, BASES)?;
+            let ranges = signal_frames(alloc, section, LITTLE, BASES, false)?;
             Ok((
                 ranges.len(),
                 usize::from(is_signal_address(&ranges, 0x1008)),

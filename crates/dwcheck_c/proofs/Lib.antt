@@ -5,7 +5,6 @@ mod FirstEntries
 mod ContentAt
 mod NameLengths
 mod PartFields
-mod Tops
 mod Uncovered
 mod RightFields
 mod Shown

@@ -51,7 +51,7 @@ IsRefusedBy DebugFrame m target modules why = IsRefused target m.frame.now m.loa
 IsRefusedBy EhFrame m target modules why = IsEhRefused (eh_section_in false m) target m.load_address (range_in m) m.room modules why
 IsRefusedBy EhFrameAarch64 m target modules why = IsEhRefused (eh_section_in true m) target m.load_address (range_in m) m.room modules why
 
--- the fault of the section, which for `.debug_frame` is the first one
+-- the first fault of the section
 abbrev pub IsFaultBy : SectionKind → CModule → Target → Fault → Type 0
 IsFaultBy DebugFrame m target fault = section_fault target m.frame.now ≡ Some fault
 IsFaultBy EhFrame m target fault = IsEhFault (eh_section_in false m) target fault

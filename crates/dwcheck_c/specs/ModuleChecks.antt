@@ -18,7 +18,7 @@ pub record IsAccepted (m : CModule) (target : Target) (counts : CCounts) : Type 
   pub counted : counts ≡ frame_counts (frame_of target m.frame.now)
 
 -- An `.eh_frame` section has no fault, and these are the numbers of what it contains without exact
--- copies of FDEs: of the records of `frame`, which has the rows of the section (`IsFrameOf`).
+-- copies of FDEs (`IsFrameOf`).
 pub record IsEhAccepted (s : EhSection) (target : Target) (counts : CCounts) : Type 0 where
   pub frame : FrameSection
   pub is : IsFrameOf s target frame

@@ -7,8 +7,6 @@ use Rattle.dw_frame.specs.Records.{Cie, Fde, Record, cie_record, fde_record}
 use Rattle.dw_frame.specs.Sections.{records_of}
 use Rattle.dw_rules.specs.ProgramFault.{end_of}
 use Rattle.dw_eh_frame.specs.Records.{EhRecord, eh_cie, eh_fde, eh_nothing, eh_record_at}
-use Rattle.dw_eh_rows.specs.Faults.{as_cie}
-use Rattle.dw_eh_rows.specs.Meaning.{as_fde}
 use Rattle.dw_process.specs.declared.eh_frame.EhSection.{EhSection}
 use Rattle.dw_c_types.specs.Targets.{target_by}
 use Rattle.dwcheck_c.specs.LoadedModules.{eh_section_in, kind_by}
@@ -77,8 +75,8 @@ record_shown at (fde_record f) = fde_shown false f (at + f.program.position) (at
 
 -- a record of `.eh_frame` that ends at the offset `next`
 abbrev pub eh_record_shown : EhRecord → ℕ → CRecord
-eh_record_shown (eh_cie e) next = cie_shown e.head.augmentation.is_signal (as_cie e) e.program_offset next
-eh_record_shown (eh_fde e) next = fde_shown e.cie.head.augmentation.is_signal (as_fde e) e.program.position next
+eh_record_shown (eh_cie e) next = cie_shown e.augmentation.is_signal e.cie e.cie.program.position next
+eh_record_shown (eh_fde e) next = fde_shown e.cie.augmentation.is_signal e.fde e.fde.program.position next
 eh_record_shown (eh_nothing at) next = begun RECORD_EMPTY at false next
 
 -- ---- the record at an offset
@@ -102,12 +100,12 @@ pub record IsNoRecord (section : List ℕ) (target : Target) (at : ℕ) (fault :
 pub record IsEhRecord (s : EhSection) (target : Target) (at : ℕ) (out : CRecord) : Type 0 where
   pub found : EhRecord
   pub next : ℕ
-  pub read : eh_record_at s.bases s.bytes.now (section_from target s.bytes.now at) ≡ Ok (found, section_from target s.bytes.now next)
+  pub read : eh_record_at s.is_aarch64 s.bases s.bytes.now (section_from target s.bytes.now at) ≡ Ok (found, section_from target s.bytes.now next)
   pub shown : out ≡ eh_record_shown found next
 
 -- why none can be read there
 abbrev pub IsNoEhRecord : EhSection → Target → ℕ → Fault → Type 0
-IsNoEhRecord s target at fault = eh_record_at s.bases s.bytes.now (section_from target s.bytes.now at) ≡ Err fault
+IsNoEhRecord s target at fault = eh_record_at s.is_aarch64 s.bases s.bytes.now (section_from target s.bytes.now at) ≡ Err fault
 
 -- the same by the kind of a module's section
 abbrev pub IsReadBy : SectionKind → CModule → Target → ℕ → CRecord → Type 0

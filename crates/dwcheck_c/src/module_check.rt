@@ -26,13 +26,12 @@ fn eh_frame_counts(alloc: Global, section: EhSection<'_>, target: Target) -> Res
     ensures accepted { IfOk result (IsEhAccepted section.entry target) }
     ensures refused { IfErr result (λ fault. (fault ≡ memory) ⊎ IsEhFault section.entry target fault) }
 {
-    let mut made = Vec::new(alloc);
     let EhSection {
         bytes,
         bases,
         is_aarch64,
     } = section;
-    let frame = check_eh_frame(alloc, bytes, target, bases, is_aarch64, &mut made)?;
+    let frame = check_eh_frame(alloc, bytes, target, bases, is_aarch64)?;
     Ok(frame_counted(&frame))
 }
 

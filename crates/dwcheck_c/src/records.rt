@@ -1,7 +1,6 @@
 //! The C call that reads a record of a frame section.
 
 ghost use Rattle.std.specs.Prelude.{◌≡◌, ◌≢◌, ◌≤◌, ◌<◌, ◌+◌, ◌^◌, ◌⊎◌, IsSome, MatchResult, None, length};
-ghost use Rattle.dw_bytes.specs.Encoding.{max_address};
 ghost use Rattle.dw_bytes.specs.declared.fault.Fault.{Fault};
 ghost use Rattle.dw_eh_frame.specs.Records.{eh_cie, eh_fde};
 ghost use Rattle.dw_eh_frame.specs.Views.{eh_cie_of, eh_fde_of};
@@ -107,31 +106,30 @@ fn c_fde_of(fde: &FrameDescriptionEntry<'_>, at: u32) -> CRecord
 }
 
 /// Converts a CIE of `.eh_frame` to C's struct. Its record ends at the offset `next`.
-fn c_eh_cie_of(cie: &EhCie<'_>, next: u32) -> CRecord
-    ensures { result ≡ eh_record_shown (eh_cie (eh_cie_of cie.now)) next }
+fn c_eh_cie_of(found: &EhCie<'_>, next: u32) -> CRecord
+    ensures { result ≡ eh_record_shown (eh_cie (eh_cie_of found.now)) next }
 {
-    let factors = cie.head.factors;
-    let (program, is_signal) = (cie.program.start, cie.head.augmentation.is_signal);
+    let cie = &found.cie;
+    let (program, is_signal) = (cie.program.start(), found.augmentation.is_signal);
     CRecord {
-        code_alignment_factor: factors.code_alignment_factor,
-        data_alignment_factor: factors.data_alignment_factor,
-        version: u32::from(factors.version),
-        return_reg: u32::from(factors.return_address_register),
+        code_alignment_factor: cie.code_alignment_factor,
+        data_alignment_factor: cie.data_alignment_factor,
+        version: u32::from(cie.version),
+        return_reg: u32::from(cie.return_address_register),
         ..record_of_kind(RECORD_CIE, u64::from(program), is_signal, u64::from(next))
     }
 }
 
 /// Converts an FDE of `.eh_frame` to C's struct. Its record ends at the offset `next`.
-#[tactic(auto, using(crate::proofs::Tops::below_all))]
-fn c_eh_fde_of(fde: &EhFde<'_>, target: Target, next: u32) -> CRecord
-    requires { fde.now.initial_location + fde.now.address_range ≤ max_address target.address_size }
-    ensures { result ≡ eh_record_shown (eh_fde (eh_fde_of fde.now)) next }
+fn c_eh_fde_of(found: &EhFde<'_>, next: u32) -> CRecord
+    ensures { result ≡ eh_record_shown (eh_fde (eh_fde_of found.now)) next }
 {
-    let (program, is_signal) = (fde.program.start, fde.cie.head.augmentation.is_signal);
+    let fde = &found.fde;
+    let (program, is_signal) = (fde.program.start(), found.cie.augmentation.is_signal);
     CRecord {
-        cie: u64::from(fde.cie.offset),
+        cie: fde.cie_pointer,
         start: fde.initial_location,
-        end: fde.initial_location + fde.address_range,
+        end: fde.end_address(),
         ..record_of_kind(RECORD_FDE, u64::from(program), is_signal, u64::from(next))
     }
 }
@@ -165,10 +163,15 @@ fn eh_frame_record(section: EhSection<'_>, target: Target, at: u32) -> Result<CR
     ensures exact { MatchResult result (IsEhRecord section.entry target at)
         (IsNoEhRecord section.entry target at) }
 {
-    let (found, next) = eh_record(section.bytes, target, section.bases, at)?;
+    let EhSection {
+        bytes,
+        bases,
+        is_aarch64,
+    } = section;
+    let (found, next) = eh_record(bytes, target, bases, is_aarch64, at)?;
     match found {
         EhRecord::Cie(cie) => Ok(c_eh_cie_of(&cie, next)),
-        EhRecord::Fde(fde) => Ok(c_eh_fde_of(&fde, target, next)),
+        EhRecord::Fde(fde) => Ok(c_eh_fde_of(&fde, next)),
         EhRecord::Nothing(at) => Ok(record_of_kind(
             RECORD_EMPTY,
             u64::from(at),

@@ -14,15 +14,14 @@ use Rattle.dw_bytes.proofs.Bounds.{end-of}
 use Rattle.dw_frame.specs.declared.dialect.Dialect.{Dialect}
 use Rattle.dw_frame.specs.Dialects.{ProgramPosition, bytes_at, in_dialect}
 use Rattle.dw_frame.specs.Instructions.{Instruction}
-use Rattle.dw_frame.specs.Records.{Record, cie_record, fde_record}
+use Rattle.dw_frame.specs.Records.{Record, cie_record, fde_record, cies_among, fdes_among}
 use Rattle.dw_frame.specs.Codes.{instruction_at, instructions_of}
-use Rattle.dw_frame.specs.Bounds.{Ascends, EndsWithItsBlock, LiesIn}
+use Rattle.dw_frame.specs.Bounds.{ArePlaced, Ascends, EndsWithItsBlock, LiesIn}
 use Rattle.dw_frame.proofs.Exact.{some-bytes}
 use Rattle.dw_frame.proofs.EachInstruction.{exact-instruction, next-instruction, next-fault, no-instruction}
 use Rattle.dw_frame.proofs.Blocks.{ends-with-block}
 use Rattle.dw_stack.specs.Located.{LocatedExpression}
 use Rattle.dw_rules.specs.Expressions.{expressions_in, expressions_of, cie_expressions, fde_expressions, frame_expressions, expression_at}
-use Rattle.dw_rows.specs.Section.{ArePlaced, cies_among, fdes_among}
 use Rattle.dw_rules.proofs.ExpressionsByOffset.{at-offset, no-expression, found-in-parts}
 
 -- Expressions with the same target that follow each other: the first begins after `low`, each

@@ -1,22 +1,24 @@
 -- The expressions that the rules of a checked section name are among the section's expressions.
 use Rattle.std.proofs.Common.{◌≡◌, ℕ, zero, suc, List, [], ◌∷◌, length, reverse, take, drop, Some, Contains, refl, sym, ap, subst, ◌∙◌}
-use Rattle.std.proofs.Common.{arith, inl, inr}
-use Rattle.std.specs.Prelude.{IfSome}
+use Rattle.std.proofs.Common.{arith, inl, inr, Bool, true, false, cond, None, pos}
+use Rattle.std.specs.Prelude.{IfSome, ◌==◌}
 use Rattle.std.proofs.Math.Seq.{take-append_seam, drop-append_seam}
 use Rattle.std.proofs.lemmas.List.Elements.{Contains-append_cases}
 use Rattle.std.proofs.lemmas.List.{reverse-append}
 use Rattle.dw_bytes.specs.Answers.{values_in}
 use Rattle.dw_frame.specs.Instructions.{Instruction}
+use Rattle.dw_frame.specs.declared.dialect.Dialect.{Dialect}
+use Rattle.dw_frame.specs.declared.dialect.Dialect.TheVariants.{DebugFrame}
 use Rattle.dw_frame.specs.Records.{Cie, Fde}
 use Rattle.dw_frame.specs.Codes.{instructions_of}
 use Rattle.dw_frame.specs.Bounds.{Ascends}
 use Rattle.dw_stack.specs.declared.state.Kind.TheVariants.{FrameCfa, FrameRegister}
 use Rattle.dw_stack.specs.Located.{LocatedExpression, located_as}
-use Rattle.dw_rules.specs.Rules.{PlacedRule, PlacedCfa, PlacedRow, rule_in, rule_list}
+use Rattle.dw_rules.specs.Rules.{PlacedRule, PlacedCfa, PlacedRow, register_and_offset, rule_in, rule_list}
 use Rattle.dw_rules.specs.Effects.{Effect, sets, defines_cfa, effect_of, effects_by, effects_of}
 use Rattle.dw_rules.specs.Expressions.{expression_in, cie_expressions, fde_expressions, expression_at, frame_expressions}
 use Rattle.dw_rules.specs.ExpressionOrder.{expression_offset}
-use Rattle.dw_rules.specs.InForce.{Start, rule_at, cie_start, effects_of_cie, fde_start}
+use Rattle.dw_rules.specs.InForce.{Start, rule_at, cie_start, effects_of_cie, fde_start, implied_by, implied_cfa}
 use Rattle.dw_rules.specs.RuleSet.{LendsRules}
 use Rattle.dw_rules.specs.RowsWithExpressions.{LendsRule, LendsCfa, LendsEach}
 use Rattle.dw_rows.specs.GoodPrograms.{prefix, rule_after, IsGoodFdeProgram}
@@ -34,10 +36,23 @@ use Rattle.dw_rows.proofs.sections.CheckedSections.{in-programs}
 
 start-rules : (es : List LocatedExpression) (c : Cie) (f : Fde) → LendsTo es (effects_of_cie c) → (r : ℕ)
     → LendsRule es ((fde_start c f).rules r)
-start-rules es c f to r = rules-have (LendsRule es) cie_start (λ q. tt) (effects_of_cie c) to.rules 0 r
+start-rules es c f to r = rules-have (LendsRule es) (cie_start c) (λ q. tt) (effects_of_cie c) to.rules 0 r
+
+-- the CFA's rule that a program implies names no expression
+implied-by-lent : (es : List LocatedExpression) (bytes : List ℕ) → IfSome (implied_by bytes) (LendsCfa es)
+implied-by-lent es [] = tt
+implied-by-lent es (code ∷ bytes) = go (code == 0x0d)
+  where
+    go : (b : Bool) → IfSome (cond b (Some (register_and_offset 0 (pos 0))) None) (LendsCfa es)
+    go true = tt
+    go false = tt
+
+implied-lent : (es : List LocatedExpression) (dialect : Dialect) (bytes : List ℕ) → IfSome (implied_cfa dialect bytes) (LendsCfa es)
+implied-lent es DebugFrame bytes = tt
+implied-lent es _ bytes = implied-by-lent es bytes
 
 start-cfa : (es : List LocatedExpression) (c : Cie) (f : Fde) → LendsTo es (effects_of_cie c) → IfSome (fde_start c f).cfa (LendsCfa es)
-start-cfa es c f to = cfa-has (LendsCfa es) (λ r n. tt) cie_start tt (effects_of_cie c) to.cfas 0
+start-cfa es c f to = cfa-has (LendsCfa es) (λ r n. tt) (cie_start c) (implied-lent es c.program.dialect c.program.rest) (effects_of_cie c) to.cfas 0
 
 -- if the programs of the CIE and the FDE name only expressions among `es` (`Lends`), so do the
 -- rules in force at a cursor

@@ -10,6 +10,7 @@ use Rattle.std.proofs.lemmas.Bool.Decides.{nat_tests}
 use Rattle.std.specs.Prelude.{slice_get, ◌&&◌}
 use Rattle.dw_bytes.specs.declared.fault.FaultKind.{FaultKind}
 use Rattle.dw_bytes.specs.declared.fault.FaultKind.TheVariants.{NotInCie}
+use Rattle.dw_frame.specs.Records.{Cie}
 use Rattle.dw_rules.specs.declared.register_rules.TheConstants.{MAX_RULES}
 use Rattle.dw_rules.specs.declared.remember_stack.TheConstants.{MAX_REMEMBERED}
 use Rattle.dw_rules.specs.Rules.{PlacedCfa, rule_count}
@@ -445,22 +446,22 @@ cond-none : (b : Bool) (f : Option FaultKind) → cond b (Some NotInCie) f ≡ N
 cond-none true f h = cc
 cond-none false f h = (refl, h)
 
-cie-kind : (p : List Effect) → IsGoodCie p → (k : ℕ) (x : Effect) → slice_get p k ≡ Some x
-    → (needs_register_cfa x && not_register_cfa (cfa_after cie_start p k)) ≡ false
-cie-kind p g k x at = when (needs_register_cfa x) _ (g.kind k x at)
+cie-kind : (c : Cie) (p : List Effect) → IsGoodCie c p → (k : ℕ) (x : Effect) → slice_get p k ≡ Some x
+    → (needs_register_cfa x && not_register_cfa (cfa_after (cie_start c) p k)) ≡ false
+cie-kind c p g k x at = when (needs_register_cfa x) _ (g.kind k x at)
 
 -- an instruction that may be in a CIE doesn't move the location
-cie-still : (b : List Effect) (x : Effect) → is_barred x ≡ false → location_of cie_start b ≡ 0 → location_of cie_start (x ∷ b) ≡ 0
-cie-still b (advances_loc d) n h = cc
-cie-still b (sets_loc a) n h = cc
-cie-still b _ n h = h
+cie-still : (c : Cie) (b : List Effect) (x : Effect) → is_barred x ≡ false → location_of (cie_start c) b ≡ 0 → location_of (cie_start c) (x ∷ b) ≡ 0
+cie-still c b (advances_loc d) n h = cc
+cie-still c b (sets_loc a) n h = cc
+cie-still c b _ n h = h
 
-cie-upto : (p : List Effect) → IsGoodCie p → (k : ℕ) → k ≤ length p → location_of cie_start (prefix p k) ≡ 0
-cie-upto p g zero l = refl
-cie-upto p g (suc k) l =
+cie-upto : (c : Cie) (p : List Effect) → IsGoodCie c p → (k : ℕ) → k ≤ length p → location_of (cie_start c) (prefix p k) ≡ 0
+cie-upto c p g zero l = refl
+cie-upto c p g (suc k) l =
     let lt : k < length p = omega arith in
     let e : prefix p (suc k) ≡ get_or p k stays ∷ prefix p k = sym (ap (prefix p) (add-one k)) ∙ prefix-next p k lt in
-    rw e (cie-still (prefix p k) (get_or p k stays) (g.allowed k _ (slice_get-get_or p k stays lt)) (cie-upto p g k (omega arith)))
+    rw e (cie-still c (prefix p k) (get_or p k stays) (g.allowed k _ (slice_get-get_or p k stays lt)) (cie-upto c p g k (omega arith)))
 
 barred-back : (l : ℕ) (x : Effect) → is_barred x ≡ false → goes_back l x ≡ false
 barred-back l (sets_loc a) n = cc
@@ -477,41 +478,41 @@ barred-remembers_state _ b n = refl
 both-zero : (a b : ℕ) (c : Bool) → a ≡ 0 → b ≡ 0 → (ltb a b && c) ≡ false
 both-zero a b c e f = rw (e, f) refl
 
-cie-passes : (p : List Effect) → IsGoodCie p → (k : ℕ) (x : Effect) → slice_get p k ≡ Some x → cie_refusal_at (prefix p k) x ≡ None
-cie-passes p g k x at =
+cie-passes : (c : Cie) (p : List Effect) → IsGoodCie c p → (k : ℕ) (x : Effect) → slice_get p k ≡ Some x → cie_refusal_at c (prefix p k) x ≡ None
+cie-passes c p g k x at =
     let n : is_barred x ≡ false = g.allowed k x at in
     let lt : k < length p = slice_get_within p k x at in
-    let here : location_of cie_start (prefix p k) ≡ 0 = cie-upto p g k (omega arith) in
-    let there : location_of cie_start (x ∷ prefix p k) ≡ 0 = cie-still (prefix p k) x n here in
+    let here : location_of (cie_start c) (prefix p k) ≡ 0 = cie-upto c p g k (omega arith) in
+    let there : location_of (cie_start c) (x ∷ prefix p k) ≡ 0 = cie-still c (prefix p k) x n here in
     let next : prefix p (k + 1) ≡ x ∷ prefix p k = prefix-at p k x at in
-    let f : refusal_at cie_start (prefix p k) x ≡ None = from-passed cie_start (prefix p k) x (record {
+    let f : refusal_at (cie_start c) (prefix p k) x ≡ None = from-passed (cie_start c) (prefix p k) x (record {
       back = barred-back _ x n;
-      past = le-ltb 0 (location_of cie_start (x ∷ prefix p k)) (omega arith);
-      no_cfa = both-zero (location_of cie_start (prefix p k)) (location_of cie_start (x ∷ prefix p k)) _ here there;
+      past = le-ltb 0 (location_of (cie_start c) (x ∷ prefix p k)) (omega arith);
+      no_cfa = both-zero (location_of (cie_start c) (prefix p k)) (location_of (cie_start c) (x ∷ prefix p k)) _ here there;
       unmatched = barred-restores_state x _ n;
       deep = barred-remembers_state x _ n;
-      kind = cie-kind p g k x at;
+      kind = cie-kind c p g k x at;
       wide = g.narrow k x at;
-      many = subst (λ b. ltb MAX_RULES (rule_count (rule_at cie_start b 0)) ≡ false) next (not-below MAX_RULES _ (g.few k lt));
+      many = subst (λ b. ltb MAX_RULES (rule_count (rule_at (cie_start c) b 0)) ≡ false) next (not-below MAX_RULES _ (g.few k lt));
     }) in
     rw (n, f) refl
 
 -- no instruction of a CIE is refused
-abbrev pub FineCie : List Effect → Type 0
-FineCie p = (k : ℕ) (x : Effect) → slice_get p k ≡ Some x → cie_refusal_at (prefix p k) x ≡ None
+abbrev pub FineCie : Cie → List Effect → Type 0
+FineCie c p = (k : ℕ) (x : Effect) → slice_get p k ≡ Some x → cie_refusal_at c (prefix p k) x ≡ None
 
-pub fine-cie-iff : (p : List Effect) → FineCie p ↔ IsGoodCie p
-fine-cie-iff p = (from, (λ g. cie-passes p g))
+pub fine-cie-iff : (c : Cie) (p : List Effect) → FineCie c p ↔ IsGoodCie c p
+fine-cie-iff c p = (from, (λ g. cie-passes c p g))
   where
-    from : FineCie p → IsGoodCie p
+    from : FineCie c p → IsGoodCie c p
     from h = record {
       allowed = λ k x at. (cond-none (is_barred x) _ (h k x at)).0;
       kind = λ k x at changes. and-false (needs_register_cfa x) _ changes
-          (passed-from cie_start (prefix p k) x (cond-none (is_barred x) _ (h k x at)).1).kind;
-      narrow = λ k x at. (passed-from cie_start (prefix p k) x (cond-none (is_barred x) _ (h k x at)).1).wide;
+          (passed-from (cie_start c) (prefix p k) x (cond-none (is_barred x) _ (h k x at)).1).kind;
+      narrow = λ k x at. (passed-from (cie_start c) (prefix p k) x (cond-none (is_barred x) _ (h k x at)).1).wide;
       few = λ k lt.
           let at = slice_get-get_or p k stays lt in
           let f = (cond-none (is_barred (get_or p k stays)) _ (h k (get_or p k stays) at)).1 in
-          subst (λ b. rule_count (rule_at cie_start b 0) ≤ MAX_RULES) (sym (prefix-next p k lt))
-          (not-above MAX_RULES _ (passed-from cie_start (prefix p k) (get_or p k stays) f).many);
+          subst (λ b. rule_count (rule_at (cie_start c) b 0) ≤ MAX_RULES) (sym (prefix-next p k lt))
+          (not-above MAX_RULES _ (passed-from (cie_start c) (prefix p k) (get_or p k stays) f).many);
     }

@@ -138,14 +138,14 @@ pass-all refusal ending c before (item ∷ items) each good ends =
 pub good-from-cie : (c : Cie) → cie_fault c ≡ None → IsGoodCieProgram c
 unfolding cie_fault
 good-from-cie c h =
-    let k = all-pass cie_refusal_at (λ _. None) c [] (instructions_of c.program) h in
-    let fine : FineCie (effects_by c k.items) =
-    λ n x at. (let f = k.each n x at in subst (λ l. cie_refusal_at l x ≡ None)
+    let k = all-pass (cie_refusal_at c) (λ _. None) c [] (instructions_of c.program) h in
+    let fine : FineCie c (effects_by c k.items) =
+    λ n x at. (let f = k.each n x at in subst (λ l. cie_refusal_at c l x ≡ None)
     (append-nil (reverse (take n (effects_by c k.items)))) f) in
     record {
       items = k.items;
       encoded = (programs-are-instructions c.program k.items).0 k.read;
-      good = (fine-cie-iff (effects_by c k.items)).0 fine;
+      good = (fine-cie-iff c (effects_by c k.items)).0 fine;
       expressions = k.good;
     }
 
@@ -155,10 +155,10 @@ good-read c g = (programs-are-instructions c.program g.items).1 g.encoded
 pub cie-from-good : (c : Cie) → IsGoodCieProgram c → cie_fault c ≡ None
 unfolding cie_fault
 cie-from-good c g =
-    let fine = (fine-cie-iff (effects_by c g.items)).1 g.good in
-    let k : fault_from cie_refusal_at (λ _. None) c [] (map Ok g.items) ≡ None =
-    pass-all cie_refusal_at (λ _. None) c [] g.items
-    (λ n x at. subst (λ l. cie_refusal_at l x ≡ None) (sym (append-nil (reverse (take n (effects_by c g.items)))))
+    let fine = (fine-cie-iff c (effects_by c g.items)).1 g.good in
+    let k : fault_from (cie_refusal_at c) (λ _. None) c [] (map Ok g.items) ≡ None =
+    pass-all (cie_refusal_at c) (λ _. None) c [] g.items
+    (λ n x at. subst (λ l. cie_refusal_at c l x ≡ None) (sym (append-nil (reverse (take n (effects_by c g.items)))))
     (fine n x at)) g.expressions refl in
     rw (good-read c g) k
 
@@ -173,10 +173,10 @@ pub effects-good : (c : Cie) (items : List (ℕ × Instruction)) (its : List (Re
 effects-good c items its e = ap (effects_of c) e ∙ ap (effects_by c) (values-read items)
 
 -- an FDE's program starts with the rules that its good CIE's instructions leave
-pub start-same : (c : Cie) (f : Fde) (g : IsGoodCieProgram c) → fde_start c f ≡ start_after_cie (reverse (effects_by c g.items)) f
+pub start-same : (c : Cie) (f : Fde) (g : IsGoodCieProgram c) → fde_start c f ≡ start_after_cie c (reverse (effects_by c g.items)) f
 start-same c f g =
     let left : effects_of_cie c ≡ reverse (effects_by c g.items) = ap reverse (effects-good c g.items _ (good-read c g)) in
-    ap (λ l. start_after_cie l f) left
+    ap (λ l. start_after_cie c l f) left
 
 pub good-from-fde : (c : Cie) (f : Fde) → IsGoodCieProgram c → fde_fault c f ≡ None → IsGoodFdeProgram c f
 unfolding fde_fault

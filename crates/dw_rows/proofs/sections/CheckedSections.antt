@@ -4,13 +4,13 @@ use Rattle.std.proofs.lemmas.List.{length-map}
 use Rattle.std.specs.List.{flat_map}
 use Rattle.dw_bytes.specs.declared.target.Target.{Target}
 use Rattle.dw_bytes.specs.Answers.{values_in, fault_in}
-use Rattle.dw_frame.specs.Records.{Cie, Fde, Record}
+use Rattle.dw_frame.specs.Records.{Cie, Fde, Record, cies_among, fdes_among}
 use Rattle.dw_frame.specs.Sections.{records_of, top_of}
-use Rattle.dw_frame.specs.Bounds.{Ascends, IsSoundCie, IsSoundFde}
+use Rattle.dw_frame.specs.Bounds.{ArePlaced, Ascends, IsSoundCie, IsSoundFde}
 use Rattle.dw_stack.specs.Located.{LocatedExpression}
 use Rattle.dw_rules.specs.Expressions.{cie_expressions, frame_expressions}
 use Rattle.dw_rules.specs.ProgramFault.{cie_fault}
-use Rattle.dw_rows.specs.Section.{FrameSection, CoversOnce, IsChecked, section_fault, frame_of, ArePlaced, frame_with, cies_among, fdes_among, parts_fault, placed_rows, rows_in}
+use Rattle.dw_rows.specs.Section.{FrameSection, CoversOnce, IsChecked, section_fault, frame_of, frame_with, parts_fault, placed_rows, rows_in}
 use Rattle.dw_rules.specs.RowsWithExpressions.{row_with_expressions}
 use Rattle.dw_rules.specs.RuleSet.{StoredRules}
 use Rattle.dw_rules.specs.Initial.{AreLeftBy}
@@ -20,18 +20,18 @@ use Rattle.dw_rows.proofs.Faults.{option_or-none, none-each}
 use Rattle.dw_rows.proofs.sections.Parts.{parts-pass, covers-once-in}
 use Rattle.dw_rows.proofs.sections.SectionOrder.{placed-cies-ascend, placed-fdes-ascend, placed-cies-sound, placed-fdes-sound, read-placed}
 
+-- records that lie in a section, and have no fault, make an accepted section
+pub records-accepted : (target : Target) (section : List ℕ) (records : List Record) → ArePlaced target 0 (length section) records
+    → parts_fault (cies_among records) (fdes_among records) ≡ None → IsChecked (frame_with target section records)
+records-accepted target section records placed none = record { records = records; placed = placed; whole = refl; faultless = none }
+
 -- a section that is read without a fault, and has none in its CIEs and FDEs, is accepted
 pub accepted : (target : Target) (section : List ℕ) → section_fault target section ≡ None → IsChecked (frame_of target section)
 unfolding section_fault
 accepted target section none =
     let split = option_or-none (fault_in (records_of target section))
     (parts_fault (frame_of target section).cies (frame_of target section).fdes) none in
-    record {
-      records = values_in (records_of target section);
-      placed = read-placed target section split.0;
-      whole = refl;
-      faultless = split.1;
-    }
+    records-accepted target section (values_in (records_of target section)) (read-placed target section split.0) split.1
 
 -- checking the CIEs and FDEs of a section that passed the check found no fault in them
 pub checked-parts : (s : FrameSection) → IsChecked s → parts_fault s.cies s.fdes ≡ None

@@ -5,13 +5,13 @@ use Rattle.std.specs.List.{AllByRecursion, filter_map}
 use Rattle.dw_bytes.specs.declared.target.Target.{Target}
 use Rattle.dw_bytes.specs.declared.fault.Fault.{Fault}
 use Rattle.dw_bytes.specs.Answers.{values_in, fault_in}
-use Rattle.dw_frame.specs.Records.{Cie, Fde, Record, cie_record, fde_record}
+use Rattle.dw_frame.specs.Records.{Cie, Fde, Record, cie_record, fde_record, cie_in_record, fde_in_record, cies_among, fdes_among}
 use Rattle.dw_frame.specs.Sections.{records_of, AreRecords}
-use Rattle.dw_frame.specs.Bounds.{Ascends, offset_of, IsSoundCie, IsSoundFde, IsSoundRecord}
+use Rattle.dw_frame.specs.Bounds.{ArePlaced, Ascends, offset_of, IsSoundCie, IsSoundFde, IsSoundRecord}
 use Rattle.dw_frame.proofs.EachRecord.{sections-are-records}
 use Rattle.dw_frame.proofs.RecordBounds.{records-ascend, entries-sound}
 use Rattle.dw_frame.proofs.Blocks.{sound-inside}
-use Rattle.dw_rows.specs.Section.{frame_of, cie_in_record, fde_in_record, cies_among, fdes_among, ArePlaced}
+use Rattle.dw_rows.specs.Section.{frame_of}
 use Rattle.dw_rows.specs.Overlap.{cie_offset, fde_offset}
 
 -- if no item is a fault, the items are just the values that were read

@@ -13,7 +13,7 @@ use Rattle.dw_frame.specs.Instructions.{Instruction}
 use Rattle.dw_frame.specs.Records.{Cie, Fde}
 use Rattle.dw_frame.specs.Codes.{instructions_of}
 use Rattle.dw_frame.specs.Sections.{records_of}
-use Rattle.dw_frame.specs.Bounds.{StandsIn}
+use Rattle.dw_frame.specs.Bounds.{StandsIn, IsSoundCie, IsSoundFde}
 use Rattle.dw_frame.proofs.InstructionBounds.{items-stand}
 use Rattle.dw_frame.proofs.RecordBounds.{entries-sound}
 use Rattle.dw_rules.specs.Effects.{Effect, effect_of}
@@ -23,11 +23,11 @@ use Rattle.dw_rules.specs.ProgramFault.{standing_at, item_fault, fault_from, cie
 use Rattle.dw_rules.specs.ProgramFault.{cie_fault, fde_fault}
 use Rattle.dw_stack.specs.Located.{moved_by, located_fault, LocatedExpression}
 use Rattle.dw_rows.specs.Section.{first_fault, cie_at, pointer_fault, program_fault, fault_by_cie, overlap_fault, programs_fault}
-use Rattle.dw_rows.specs.Section.{parts_fault, section_fault, frame_of}
+use Rattle.dw_rows.specs.Section.{AreReadIn, parts_fault, section_fault, frame_of}
 use Rattle.dw_stack.specs.FirstFault.{expression_fault}
 use Rattle.dw_stack.proofs.FaultsInside.{fault-inside}
 use Rattle.dw_rows.proofs.expressions.ExpressionOrder.{program-inside}
-use Rattle.dw_rows.proofs.sections.SectionOrder.{fdes-sound, cies-sound}
+use Rattle.dw_rows.proofs.sections.SectionOrder.{fdes-sound, cies-sound, placed-cies-sound, placed-fdes-sound}
 
 -- ---- the first of two faults is one of them
 
@@ -110,7 +110,7 @@ from-stands r refusal ending cie before (Ok item ∷ items) at_end each inside f
 pub cie-stands : (c : Cie) (fault : Fault) → cie_fault c ≡ Some fault → StandsIn c.program (Err fault)
 unfolding cie_fault
 cie-stands c fault e =
-    from-stands c.program cie_refusal_at (λ _. None) c [] (instructions_of c.program)
+    from-stands c.program (cie_refusal_at c) (λ _. None) c [] (instructions_of c.program)
     (λ all f no. let nothing : Option Fault = None in let clash : nothing ≡ Some f = no in cc)
     (items-stand c.program) (program-lies c.program) fault e
 
@@ -163,40 +163,64 @@ past-some : (o : Option Cie) (f : Fde) (fault : Fault) → fault_by_cie o f ≡ 
 past-some None f fault e = let no : None ≡ Some fault = e in cc
 past-some (Some c) f fault e = fde-stands c f fault e
 
+-- a fault of CIEs and FDEs that lie in a section of this size is in it or at its end
+parts-stand : (target : Target) (size : ℕ) (cies : List Cie) (fdes : List Fde)
+    → ((c : Cie) → Contains cies c → IsSoundCie target size c) → ((f : Fde) → Contains fdes f → IsSoundFde target size f)
+    → (fault : Fault) → parts_fault cies fdes ≡ Some fault → fault.at ≤ size
+unfolding parts_fault
+parts-stand target size cies fdes sound_cie sound_fde fault checked =
+    elim (one-of (programs_fault cies fdes) (first_fault (overlap_fault fdes) fdes) fault checked) [
+      | inr shared ↦
+          let w = first-of (overlap_fault fdes) fdes fault shared in
+          let sound = sound_fde w.0 w.1 in
+          let at : fault.at ≡ (w.0).offset = tested-not _ _ fault w.2 in
+          omega (arith, at, sound.program.begins, sound.program.ends)
+      | inl programs ↦ elim (one-of (first_fault (pointer_fault cies) fdes)
+          (option_or (first_fault cie_fault cies) (first_fault (program_fault cies) fdes)) fault programs) [
+            | inl pointer ↦
+                let w = first-of (pointer_fault cies) fdes fault pointer in
+                let sound = sound_fde w.0 w.1 in
+                let at : fault.at ≡ (w.0).cie_pointer_offset = tested-at _ _ fault w.2 in
+                omega (arith, at, sound.pointer_before, sound.program.ends)
+            | inr later ↦ elim (one-of (first_fault cie_fault cies) (first_fault (program_fault cies) fdes) fault later) [
+              | inl first ↦
+                  let w = first-of cie_fault cies fault first in
+                  let sound = sound_cie w.0 w.1 in
+                  let at = cie-stands w.0 fault w.2 in
+                  omega (arith, at.1, sound.program.ends)
+              | inr second ↦
+                  let w = first-of (program_fault cies) fdes fault second in
+                  let sound = sound_fde w.0 w.1 in
+                  let at = past-some (cie_at cies (w.0).cie_pointer) w.0 fault w.2 in
+                  omega (arith, at.1, sound.program.ends)
+            ]
+          ]
+    ]
+
+pub read-stand : (target : Target) (size : ℕ) (cies : List Cie) (fdes : List Fde) (fault : Fault) → AreReadIn target size cies fdes
+    → parts_fault cies fdes ≡ Some fault → fault.at ≤ size
+read-stand target size cies fdes fault read = parts-stand target size cies fdes
+    (λ c among. placed-cies-sound target 0 size read.records read.placed c (subst (λ (l : List Cie). Contains l c) read.cies_are among))
+    (λ f among. placed-fdes-sound target 0 size read.records read.placed f (subst (λ (l : List Fde). Contains l f) read.fdes_are among))
+    fault
+
+pub parts-answered : {X : Type 0} (target : Target) (size : ℕ) (cies : List Cie) (fdes : List Fde) (r : Result X Fault)
+    → AreReadIn target size cies fdes → Answers (parts_fault cies fdes) r → IfErr r (λ fault. fault.at ≤ size)
+parts-answered target size cies fdes (Ok x) read h = tt
+parts-answered target size cies fdes (Err fault) read h = elim h [
+  | inl lack ↦ let at : fault.at ≡ 0 = ap (λ (f : Fault). f.at) lack in
+      omega arith
+  | inr checked ↦ read-stand target size cies fdes fault read checked
+]
+
 pub section-stands : (target : Target) (section : List ℕ) (fault : Fault) → section_fault target section ≡ Some fault
     → fault.at ≤ length section
-unfolding section_fault parts_fault
+unfolding section_fault
 section-stands target section fault e =
     let s = frame_of target section in
     elim (one-of (fault_in (records_of target section)) (parts_fault s.cies s.fdes) fault e) [
       | inl read ↦ entries-sound target section (Err fault) (refused-among (records_of target section) fault read)
-      | inr checked ↦ elim (one-of (programs_fault s.cies s.fdes) (first_fault (overlap_fault s.fdes) s.fdes) fault checked) [
-        | inr shared ↦
-            let w = first-of (overlap_fault s.fdes) s.fdes fault shared in
-            let sound = fdes-sound target section w.0 w.1 in
-            let at : fault.at ≡ (w.0).offset = tested-not _ _ fault w.2 in
-            omega (arith, at, sound.program.begins, sound.program.ends)
-        | inl programs ↦ elim (one-of (first_fault (pointer_fault s.cies) s.fdes)
-            (option_or (first_fault cie_fault s.cies) (first_fault (program_fault s.cies) s.fdes)) fault programs) [
-              | inl pointer ↦
-                  let w = first-of (pointer_fault s.cies) s.fdes fault pointer in
-                  let sound = fdes-sound target section w.0 w.1 in
-                  let at : fault.at ≡ (w.0).cie_pointer_offset = tested-at _ _ fault w.2 in
-                  omega (arith, at, sound.pointer_before, sound.program.ends)
-              | inr later ↦ elim (one-of (first_fault cie_fault s.cies) (first_fault (program_fault s.cies) s.fdes) fault later) [
-                | inl first ↦
-                    let w = first-of cie_fault s.cies fault first in
-                    let sound = cies-sound target section w.0 w.1 in
-                    let at = cie-stands w.0 fault w.2 in
-                    omega (arith, at.1, sound.program.ends)
-                | inr second ↦
-                    let w = first-of (program_fault s.cies) s.fdes fault second in
-                    let sound = fdes-sound target section w.0 w.1 in
-                    let at = past-some (cie_at s.cies (w.0).cie_pointer) w.0 fault w.2 in
-                    omega (arith, at.1, sound.program.ends)
-              ]
-            ]
-      ]
+      | inr checked ↦ parts-stand target (length section) s.cies s.fdes (cies-sound target section) (fdes-sound target section) fault checked
     ]
 
 pub section-answered : {X : Type 0} (target : Target) (section : List ℕ) (r : Result X Fault) → Answers (section_fault target section) r

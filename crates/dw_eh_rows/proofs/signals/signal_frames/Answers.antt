@@ -1,21 +1,32 @@
 use Rattle.std.proofs.Common.{inr}
 use Rattle.std.proofs.lemmas.Result.{err_from_is_err_and}
-use Rattle.dw_eh_rows.proofs.SignalsRead.{signals-more, signals-end, signals-refused}
+use Rattle.dw_eh_rows.proofs.SignalsRead.{signals-more, signals-end, signals-refused, signals-whole}
 use Rattle.dw_eh_frame.specs.Views.{eh_record_of}
 use Rattle.dw_eh_rows.proofs.signals.signal_frames.Goals as goal
 
-pub returns-in_err-record-clause-refused : goal.returns-in_err-record-clause-refused
-returns-in_err-record-clause-refused c =
+pub returns-in_err-record-clause-answer : goal.returns-in_err-record-clause-answer
+returns-in_err-record-clause-answer c =
     let p = err_from_is_err_and c.from_residual.result c.from_residual.ensures.1 in rw (p.1, p.2)
-    (inr (signals-refused c.args.bases c.args.target c.args.section.now c.loop-at.at c.loop-at.ranges.items _ c.loop-at.invariant
-    c.loop-at-test.true c.in_err-record.ensures.exact))
+    (inr (signals-refused c.args.is_aarch64 c.args.bases c.args.target c.args.section.now c.loop-at.at c.loop-at.ranges.items _
+    c.loop-at.invariant
+    (c.records_come_in_order.ensures.fault c.args.is_aarch64 c.args.bases c.args.target c.args.section.now c.loop-at.at _
+    c.loop-at-test.true c.in_err-record.ensures.exact)))
 
 pub loop-at-preserved : goal.loop-at-preserved
 loop-at-preserved c =
-    signals-more c.args.bases c.args.target c.args.section.now c.loop-at.at c.in_ok-record.next (eh_record_of c.in_ok-record.record)
-    c.loop-at.ranges.items c.push_signal_frame.new.ranges.items c.loop-at.invariant c.in_ok-record.ensures.exact
+    signals-more c.args.is_aarch64 c.args.bases c.args.target c.args.section.now c.loop-at.at c.in_ok-record.next
+    (eh_record_of c.in_ok-record.record) c.loop-at.ranges.items c.push_signal_frame.new.ranges.items c.loop-at.invariant
+    (c.records_come_in_order.ensures.entry c.args.is_aarch64 c.args.bases c.args.target c.args.section.now c.loop-at.at c.in_ok-record.next
+    (eh_record_of c.in_ok-record.record) c.in_ok-record.ensures.exact)
     c.in_ok-record.ensures.forward.1 c.in_ok-push_signal_frame.ensures.pushed
 
-pub returns-clause-frames : goal.returns-clause-frames
-returns-clause-frames c =
-    signals-end c.args.bases c.args.target c.args.section.now c.loop-at.at c.loop-at.ranges.items c.loop-at.invariant c.loop-at-test.false
+pub returns : goal.returns
+returns c =
+    let end = c.records_come_in_order.ensures.nothing c.args.is_aarch64 c.args.bases c.args.target c.args.section.now c.loop-at.at
+    c.loop-at-test.false in
+    record {
+      answer = signals-whole c.args.is_aarch64 c.args.bases c.args.target c.args.section.now c.loop-at.at c.loop-at.ranges.items
+          c.loop-at.invariant end;
+      frames = signals-end c.args.is_aarch64 c.args.bases c.args.target c.args.section.now c.loop-at.at c.loop-at.ranges.items
+          c.loop-at.invariant end;
+    }

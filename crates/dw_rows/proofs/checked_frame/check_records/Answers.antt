@@ -1,16 +1,18 @@
-use Rattle.std.proofs.Common.{◌≡◌, List, sym, subst, ap, ◌∙◌, map, length, None}
+use Rattle.std.proofs.Common.{◌≡◌, List, sym, subst, ap, ◌∙◌, map, length, None, rules}
+use Rattle.dw_frame.specs.Records.{cies_among, fdes_among}
 use Rattle.dw_frame.specs.Views.{cie_of, fde_of}
 use Rattle.dw_frame.specs.declared.entry.CommonInformationEntry.{CommonInformationEntry}
 use Rattle.dw_frame.specs.declared.entry.FrameDescriptionEntry.{FrameDescriptionEntry}
 use Rattle.dw_stack.specs.Located.{all_located}
 use Rattle.dw_rules.specs.Expressions.{cie_expressions, frame_expressions}
 use Rattle.std.specs.List.{flat_map}
-use Rattle.dw_rows.specs.Section.{parts_fault, cies_among, fdes_among, placed_rows}
+use Rattle.dw_rows.specs.Section.{parts_fault, placed_rows}
 use Rattle.dw_rules.specs.Initial.{AreLeftBy}
 use Rattle.dw_rows.specs.Overlap.{cie_offset, fde_offset, IsAddressIndex}
 use Rattle.dw_frame.specs.Bounds.{Ascends}
 use Rattle.dw_rows.proofs.sections.SectionOrder.{placed-cies-ascend, placed-fdes-ascend}
 use Rattle.dw_rows.proofs.sections.CheckedSections.{kept}
+use Rattle.dw_rows.proofs.sections.Standing.{parts-answered}
 use Rattle.dw_rows.proofs.checked_frame.check_records.Goals as goal
 
 pub check_parts-requires-clause-cies : goal.check_parts-requires-clause-cies
@@ -59,3 +61,7 @@ invariant_of-result c =
     (map fde_of fdes) index c.requires.records c.requires.placed c.requires.cies_are c.requires.fdes_are answer left_by index_of
     (all_located expressions) listed c.in_ok-programs.programs.in_cies counted
     c.in_ok-programs.programs.rows rows
+
+pub returns-in_err-programs-clause-inside : goal.returns-in_err-programs-clause-inside
+returns-in_err-programs-clause-inside c = parts-answered c.args.target (length c.args.section.now) (map cie_of c.args.cies.items)
+    (map fde_of c.args.fdes.items) c.from_residual.result c.requires (search rules)

@@ -1,9 +1,9 @@
 use Rattle.std.proofs.Common.{◌≡◌, ◌++◌, map}
 use Rattle.std.specs.List.{filter_map}
+use Rattle.dw_frame.specs.Records.{cie_in_record, fde_in_record}
 use Rattle.dw_bytes.specs.Answers.{fault_in, values_in}
 use Rattle.dw_frame.specs.Sections.{records_of}
 use Rattle.dw_frame.specs.Views.{cie_of, fde_of}
-use Rattle.dw_rows.specs.Section.{cie_in_record, fde_in_record}
 use Rattle.dw_rows.proofs.checked_frame.records_of.Given as goal
 
 abbrev pub invariant-loop-entry : goal.invariant-loop-entry

@@ -1,6 +1,7 @@
 use Rattle.std.proofs.Common.{refl}
+use Rattle.dw_frame.specs.Records.{cies_among, fdes_among}
 use Rattle.dw_frame.specs.Sections.{records_of}
-use Rattle.dw_rows.specs.Section.{IsChecked, frame_of, cies_among, fdes_among}
+use Rattle.dw_rows.specs.Section.{IsChecked, frame_of}
 use Rattle.dw_loclists.specs.Reading.{ListSection}
 use Rattle.dw_sections.specs.Headline.{list_section}
 use Rattle.dw_sections.proofs.WholeCheck.{each_without_fault}

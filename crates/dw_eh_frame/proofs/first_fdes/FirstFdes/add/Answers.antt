@@ -19,7 +19,7 @@ invariant_of-self c =
 pub invariant_of-self-then-address-self : goal.invariant_of-self-then-address-self
 invariant_of-self-then-address-self c =
     let places = c.self.inside.ascending.items in
-    let p : FdePlace = record { address = c.args.address; offset = c.args.offset } in
+    let p : FdePlace = record { address = c.args.address; index = c.args.index } in
     let items : c.push.new.self.items ≡ places ++ p ∷ [] = c.in_ok-push.ensures.items in (
       subst (λ (l : List FdePlace). Ascends place_address l) (sym items)
           (ascends-more place_address places p c.self.invariant.0 (λ q among. omega (arith, c.self.invariant.1 q among, c.if-address-self.true))),
@@ -41,5 +41,5 @@ returns-in_ok-push c = λ a.
     let here : f ≡ c.args.self.now = c.self.view_is in
     let none : first_in f c.args.address ≡ None =
     ap (λ (g : Firsts). first_in g c.args.address) here ∙ (sym c.get.ensures ∙ absent c.get.result c.if-is_some.ensures) in
-    first-more f c.args.address c.args.offset a c.push.new.self.items c.in_ok-push.ensures.items none
-    ∙ ap (λ (g : Firsts). added (first_in g a) c.args.address c.args.offset a) here
+    first-more f c.args.address c.args.index a c.push.new.self.items c.in_ok-push.ensures.items none
+    ∙ ap (λ (g : Firsts). added (first_in g a) c.args.address c.args.index a) here
