@@ -7,7 +7,8 @@
 # what it has proved on this machine, so only what has changed is proved again, here and in
 # `make test`. If `make test` has just proved these very files, which the checksum in build/proved
 # says, its results are taken. The library is proved while it is built: `rt ci` builds no static
-# libraries. Its code gets unwind rows by tools/clang_with_rows.sh.
+# libraries. It is kept too, in ~/.cache/dwcheck/libraries. Its code gets unwind rows by
+# tools/clang_with_rows.sh.
 set -eu
 top=$(dirname "$(dirname "$(realpath "$0")")")
 cd "$top"
@@ -117,12 +118,27 @@ begin() {
     trap 'rm -rf "$work"' EXIT
 }
 
-archive() { # JOBS: builds the library over the crates in $work
+# Where libraries are kept on this machine, as `rt ci` keeps proofs: by a checksum of all that one is made from.
+kept=${XDG_CACHE_HOME:-$HOME/.cache}/dwcheck/libraries
+
+keep() { # FILE CHECKSUM: keeps a library, and the two that were used last besides
+    mkdir -p "$kept" && cp "$1" "$kept/new-$$" && mv "$kept/new-$$" "$kept/$2" || true
+    ls -t "$kept" | tail -n +4 | (cd "$kept" && xargs -r rm -f)
+}
+
+archive() { # JOBS: builds the library over the crates in $work, unless that was done on this machine before
     local now
     now=$(archive_sum)
     rm -f build/archive.sum
-    build_library "$work" "$1"
-    put "$work/libdwcheck_c.a" build/libdwcheck_c.a
+    if [ -f "$kept/$now" ]; then
+        echo "the library was proved and built on this machine before"
+        touch "$kept/$now"
+        put "$kept/$now" build/libdwcheck_c.a
+    else
+        build_library "$work" "$1"
+        put "$work/libdwcheck_c.a" build/libdwcheck_c.a
+        keep build/libdwcheck_c.a "$now"
+    fi
     echo "$now" > build/archive.sum
 }
 
