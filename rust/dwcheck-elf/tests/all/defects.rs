@@ -1,0 +1,252 @@
+//! Sections with defects: what is changed in place so that the library accepts the rest, and what is left out.
+
+use crate::common::{place_of, Folder};
+use dwcheck::FaultKind;
+use dwcheck_elf::alone::{accepted_part, every_fault};
+use dwcheck_elf::frames::{Format, FrameSection, Frames, Kind, Name, Record, Standing};
+use dwcheck_elf::program::{Program, Section};
+use dwcheck_elf::target::{AddressSize, Order, Target};
+use dwcheck_elf::validate::{validate_rows, What};
+
+const TARGET: Target = Target { order: Order::Little, address_size: AddressSize::Eight };
+
+/// A section at address 0x1000.
+fn section(name: Name, bytes: &[u8]) -> FrameSection<'_> {
+    let format = Format { name, target: TARGET, machine: 62, address: 0x1000, text: None, data: None };
+    FrameSection { format, source: Section { bytes: bytes.into(), address: 0x1000, unresolved: Vec::new() } }
+}
+
+fn eh_frame(bytes: &[u8]) -> Frames<'_> {
+    Frames::of(section(Name::EhFrame, bytes)).unwrap()
+}
+
+fn debug_frame(bytes: &[u8]) -> Frames<'_> {
+    Frames::of(section(Name::DebugFrame, bytes)).unwrap()
+}
+
+/// A CIE of `.eh_frame` of version 1 with this augmentation string, which includes its NUL. `instructions` may
+/// begin with augmentation data.
+fn cie(augmentation: &[u8], instructions: &[u8]) -> Vec<u8> {
+    let body = [&[0, 0, 0, 0, 1], augmentation, &[1, 0x78, 16], instructions].concat();
+    [&(body.len() as u32).to_le_bytes(), body.as_slice()].concat()
+}
+
+/// An FDE of `.eh_frame` at offset `at`, whose CIE is at offset 0. `rest` follows the CIE pointer.
+fn fde(at: usize, rest: &[u8]) -> Vec<u8> {
+    let length = rest.len() as u32 + 4;
+    [&length.to_le_bytes(), &(at as u32 + 4).to_le_bytes(), rest].concat()
+}
+
+/// An FDE of `.debug_frame`, whose CIE is at offset 0, for the eight addresses from `begin` on.
+fn debug_fde(begin: u64, program: &[u8]) -> Vec<u8> {
+    let body = [&[0; 4][..], &begin.to_le_bytes(), &8u64.to_le_bytes(), program].concat();
+    [&(body.len() as u32).to_le_bytes(), body.as_slice()].concat()
+}
+
+/// A CIE of `.debug_frame`. Its CFA is register 7 plus 8.
+const DEBUG_CIE: [u8; 16] = [12, 0, 0, 0, 0xff, 0xff, 0xff, 0xff, 1, 0, 1, 0x78, 16, 0x0c, 7, 8];
+
+fn range(begin: u64, size: u64) -> Vec<u8> {
+    [begin.to_le_bytes(), size.to_le_bytes()].concat()
+}
+
+/// The CFA's offset in the row of an address, in the section without what is refused, and the number of records
+/// that are left out.
+fn rest(frames: &Frames<'_>, address: u64) -> (Option<i64>, usize) {
+    let first = frames.process(0).unwrap_err().fault().unwrap();
+    let rest = accepted_part(frames, &every_fault(frames, first));
+    let process = rest.process(0).unwrap();
+    validate_rows(&rest, &process).unwrap();
+    let offset = process.row(address).map(|row| match row.cfa {
+        dwcheck::CfaRule::RegisterAndOffset { offset, .. } => offset,
+        other => panic!("{:?}", other),
+    });
+    (offset, rest.count(Standing::LeftOut))
+}
+
+/// For some machines GNU as begins CIEs with def_cfa_register, where the CFA has no rule yet. It may be all of
+/// the CIE's program.
+#[test]
+fn def_cfa_register_without_a_rule() {
+    for first in [&[0x0d, 7][..], &[0x0d, 7, 0, 0]] {
+        let cie = cie(b"\0", first);
+        let program = [&range(0x2000, 8)[..], &[0x41, 0x0e, 16, 0x0d, 6, 0x41, 0x0d, 7]].concat();
+        let frames = [cie.clone(), fde(cie.len(), &program)].concat();
+        let frames = eh_frame(&frames);
+        assert_eq!(frames.changes().mended, [(cie.len() - first.len()) as u64]);
+        assert!(!frames.is_changed());
+        let process = frames.process(0).unwrap();
+        let first = process.row(0x2000).unwrap().cfa;
+        assert!(matches!(first, dwcheck::CfaRule::RegisterAndOffset { register: 7, offset: 0 }), "{:?}", first);
+        assert_eq!(validate_rows(&frames, &process).unwrap().rows, 3);
+    }
+}
+
+/// Records of length 0 in the middle of a section, and records in the 64-bit format.
+#[test]
+fn end_marks_and_long_records() {
+    let cie = cie(b"\0", &[0x0c, 7, 8]);
+    let length = cie.len() as u64 - 4;
+    let long = [&[0xff; 4][..], &length.to_le_bytes(), &cie[4..]].concat();
+    let program = [&range(0x2000, 8)[..], &[0x41, 0x0e, 16]].concat();
+    let at = long.len() + 8;
+    let pointer = at as u32 + 12;
+    let body = [&pointer.to_le_bytes(), program.as_slice()].concat();
+    let long_fde = [&[0xff; 4][..], &(body.len() as u64).to_le_bytes(), &body].concat();
+    let bytes = [long.as_slice(), &[0; 8], &long_fde, &[0; 4]].concat();
+    let frames = eh_frame(&bytes);
+    assert_eq!(frames.records().iter().filter(|record| record.kind == Kind::Empty).count(), 3);
+    let agreement = validate_rows(&frames, &frames.process(0).unwrap()).unwrap();
+    assert_eq!((agreement.cies, agreement.fdes, agreement.rows), (1, 1, 2));
+    assert_eq!(frames.record(at as u64).and_then(Record::addresses), Some(0x2000..0x2008));
+    assert!(!frames.is_changed());
+}
+
+/// Each of these records can't be read. It is left out, and the FDE before it and the one after it are used.
+#[test]
+fn records_that_cannot_be_read() {
+    let good = cie(b"\0", &[0x0c, 7, 8]);
+    let first = fde(good.len(), &range(0x2000, 8));
+    let at = good.len() + first.len();
+    let mut version = cie(b"\0", &[0x0c, 7, 8]);
+    version[8] = 2;
+    let cases = [
+        (FaultKind::NoSuchCie, 4, fde(at + 4, &range(0x3000, 8))),
+        (FaultKind::Truncated, 8, fde(at, &[0; 7])),
+        (FaultKind::Truncated, 16, fde(at, &[0; 15])),
+        (FaultKind::RangePastTop, 16, fde(at, &range(u64::MAX, 8))),
+        (FaultKind::Version, 8, version),
+        (FaultKind::Augmentation, 9, cie(b"zX\0", &[1, 0])),
+        (FaultKind::Truncated, 4, vec![1, 0, 0, 0, 9]),
+    ];
+    for (kind, place, record) in cases {
+        let last = fde(at + record.len(), &range(0x4000, 8));
+        let bytes = [good.clone(), first.clone(), record.clone(), last].concat();
+        let frames = eh_frame(&bytes);
+        let fault = frames.process(0).unwrap_err().fault().unwrap();
+        assert_eq!((fault.kind, fault.offset as usize), (kind, at + place), "{:x?}", record);
+        assert_eq!(frames.record_of(&fault).map(|record| record.offset), Some(at as u64));
+        // Five bytes are neither a CIE nor records of length 0, so the section ends before them.
+        let (offset, left_out) = if record.len() == 5 { (None, 2) } else { (Some(8), 1) };
+        assert_eq!(rest(&frames, 0x4000), (offset, left_out), "{:x?}", record);
+        assert_eq!(rest(&frames, 0x2000).0, Some(8), "{:x?}", record);
+    }
+}
+
+/// What isn't a record ends a section.
+#[test]
+fn bytes_that_are_no_record() {
+    let good = cie(b"\0", &[0x0c, 7, 8]);
+    let first = fde(good.len(), &range(0x2000, 8));
+    let at = good.len() + first.len();
+    for (kind, place, tail) in [
+        (FaultKind::Truncated, 0, vec![0; 3]),
+        (FaultKind::ReservedLength, 0, vec![0xf0, 0xff, 0xff, 0xff, 0, 0, 0, 0]),
+        (FaultKind::Truncated, 4, [&[40, 0, 0, 0][..], &[0x99; 30]].concat()),
+    ] {
+        let bytes = [good.clone(), first.clone(), tail].concat();
+        let frames = eh_frame(&bytes);
+        let fault = frames.process(0).unwrap_err().fault().unwrap();
+        assert_eq!((fault.kind, fault.offset as usize), (kind, at + place));
+        assert_eq!(frames.record_of(&fault).map(|record| record.offset), Some(at as u64));
+        assert_eq!(rest(&frames, 0x2000), (Some(8), 1));
+    }
+}
+
+/// An FDE whose CIE can't be read has no fault of its own, and is left out too.
+#[test]
+fn a_lost_cie_takes_its_fdes_with_it() {
+    let lost = cie(b"zX\0", &[1, 0]);
+    let good = cie(b"\0", &[0x0c, 7, 8]);
+    let of_lost = fde(lost.len(), &range(0x2000, 8));
+    let at = lost.len() + of_lost.len();
+    let mut of_good = fde(good.len(), &range(0x3000, 8));
+    of_good[4] = good.len() as u8 + 4;
+    let bytes = [lost, of_lost, good, of_good].concat();
+    let frames = eh_frame(&bytes);
+    let first = frames.process(0).unwrap_err().fault().unwrap();
+    let faults = every_fault(&frames, first);
+    assert_eq!(faults.iter().map(|found| found.record).collect::<Vec<_>>(), [0]);
+    assert_eq!(rest(&frames, 0x3000), (Some(8), 2));
+    assert!(at > 0);
+}
+
+/// A record of `.debug_frame` that is too short for a CIE becomes a part of the record before it.
+#[test]
+fn short_records_of_debug_frame() {
+    let (first, last) = (debug_fde(0x2000, &[0x0e, 16]), debug_fde(0x3000, &[0x0e, 24]));
+    for short in [vec![0; 4], vec![0; 8], vec![0xff, 0xff, 0xff, 0xff, 0, 0, 0, 0, 0, 0, 0, 0]] {
+        let bytes = [&DEBUG_CIE[..], &first, &short, &last].concat();
+        let frames = debug_frame(&bytes);
+        let process = frames.process(0).unwrap();
+        assert_eq!(validate_rows(&frames, &process).unwrap().fdes, 2, "{:x?}", short);
+        assert_eq!(frames.bytes().len(), bytes.len());
+    }
+    // One that can't be read: it has no room for a CIE pointer.
+    let bytes = [&DEBUG_CIE[..], &first, &[2, 0, 0, 0, 7, 7], &last].concat();
+    assert_eq!(rest(&debug_frame(&bytes), 0x3000), (Some(24), 1));
+}
+
+/// An instruction whose operand is cut off doesn't get it from a record of length 0 that follows.
+#[test]
+fn an_operand_is_not_taken_from_the_next_record() {
+    let (first, last) = (debug_fde(0x2000, &[0x0e]), debug_fde(0x3000, &[0x0e, 24]));
+    let bytes = [&DEBUG_CIE[..], &first, &[0; 4], &last].concat();
+    let frames = debug_frame(&bytes);
+    let fault = frames.process(0).unwrap_err().fault().unwrap();
+    assert_eq!((fault.kind, fault.offset as usize), (FaultKind::Truncated, DEBUG_CIE.len() + first.len()));
+    assert_eq!(frames.record_of(&fault).map(|record| record.offset), Some(DEBUG_CIE.len() as u64));
+    assert_eq!(rest(&frames, 0x3000), (Some(24), 1));
+    assert_eq!(rest(&frames, 0x2000).0, None);
+}
+
+/// A fault at the end of an FDE has the offset at which the FDE ends in the file.
+#[test]
+fn a_fault_at_the_end_of_an_fde_before_a_record_of_length_0() {
+    let folder = Folder::new("end-of-fde");
+    let fde = ".long 22\n .long 0\n .quad _start\n .quad 4\n .byte 0x0a, 0\n";
+    let cie = ".long 12\n .long -1\n .byte 1, 0, 1, 0x78, 16, 0x0c, 7, 8\n";
+    folder.write("a.s", format!(".globl _start\n_start: .skip 4\n.section .debug_frame\n{}{}.long 0\n", cie, fde));
+    folder.run("as a.s -o a.o && ld a.o -o linked");
+    let ran = crate::common::run::dwcheck_elf(&folder, "check linked");
+    assert!(ran.lines()[0].starts_with("linked: .debug_frame+0x10: Unrestored: the end of the program, FDE "));
+    assert!(ran.lines()[1].starts_with("    at 0x2a: "), "{}", ran.out);
+}
+
+/// Links a function with these directives between its instructions.
+fn function(folder: &Folder, directives: &str) {
+    let text = format!(
+        ".globl _start\n_start: .cfi_startproc\n nop\n{}\n nop\n .cfi_endproc\n\
+         after: .cfi_startproc\n nop\n .cfi_endproc\n",
+        directives
+    );
+    folder.write("a.s", text);
+    folder.run("as a.s -o a.o && ld a.o -o linked");
+}
+
+/// If the process was made from other bytes than those of the section, its rows differ from gimli's. The
+/// difference shows both rows.
+#[test]
+fn a_wrong_row_of_the_library_is_a_difference() {
+    let folder = Folder::new("difference");
+    function(&folder, ".cfi_def_cfa_offset 16");
+    let bytes = folder.bytes("linked");
+    let program = Program::read(&bytes).unwrap();
+    let frames = Frames::all(&program).next().unwrap().unwrap();
+    let agreement = validate_rows(&frames, &frames.process(0).unwrap()).unwrap();
+    assert_eq!((agreement.fdes, agreement.rows), (2, 3));
+    let mut changed = frames.bytes().to_vec();
+    let place = place_of(&changed, &[0x0e, 16]);
+    changed[place + 1] = 24;
+    let mut process = dwcheck::Process::new(frames.target().into());
+    process.add(&changed, frames.format().module(&changed, 0)).unwrap();
+    let difference = validate_rows(&frames, &process).unwrap_err();
+    match &difference.what {
+        What::Row { number: 1, gimli, library } => {
+            assert!(gimli.contains("cfa=r7+16") && library.contains("cfa=r7+24"), "{}", difference)
+        }
+        other => panic!("{:?}", other),
+    }
+    process.clear();
+    assert!(matches!(validate_rows(&frames, &process).unwrap_err().what, What::Row { number: 0, .. }));
+}

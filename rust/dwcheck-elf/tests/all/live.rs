@@ -1,0 +1,232 @@
+//! Stacks of processes that run, beside those of eu-stack.
+
+use crate::common::run::{dwcheck_elf, Ran};
+use crate::common::{has, may_trace, Folder};
+use std::io::Read;
+use std::process::{Child, Command, Stdio};
+
+const WAITS: &str = "
+#define _GNU_SOURCE
+#include <pthread.h>
+#include <stdio.h>
+#include <stdlib.h>
+#include <unistd.h>
+static pthread_barrier_t ready;
+static int order(const void *x, const void *y) { pthread_barrier_wait(&ready); for (;;) pause(); return x < y; }
+static void *sorts(void *unused) {
+    int values[] = {3, 1, 2};
+    pthread_setname_np(pthread_self(), \"sorter\");
+    qsort(values, 3, sizeof *values, order);
+    return unused;
+}
+int main(void) {
+    pthread_t thread;
+    pthread_barrier_init(&ready, NULL, 4);
+    for (int i = 0; i < 3; i++) if (pthread_create(&thread, NULL, sorts, NULL) != 0) return 1;
+    pthread_barrier_wait(&ready);
+    usleep(100000);
+    puts(\"ready\");
+    fflush(stdout);
+    for (;;) pause();
+}
+";
+
+/// A process that waits, which ends with the test.
+struct Waiting(Child);
+
+impl Waiting {
+    fn start(folder: &Folder) -> Waiting {
+        let mut child = Command::new(folder.file("waits")).stdout(Stdio::piped()).spawn().unwrap();
+        let mut said = [0; 6];
+        child.stdout.as_mut().unwrap().read_exact(&mut said).unwrap();
+        Waiting(child)
+    }
+
+    /// The letter that says what the process does, such as S if it sleeps.
+    fn state(&self) -> char {
+        let status = std::fs::read_to_string(format!("/proc/{}/status", self.0.id())).unwrap();
+        let state = status.lines().find_map(|line| line.strip_prefix("State:")).unwrap();
+        state.trim().chars().next().unwrap()
+    }
+}
+
+impl Drop for Waiting {
+    fn drop(&mut self) {
+        let _ = self.0.kill();
+        let _ = self.0.wait();
+    }
+}
+
+fn addresses(out: &str) -> Vec<String> {
+    let words = out.lines().filter(|line| line.starts_with('#') || line.to_lowercase().starts_with('t'));
+    words.map(|line| line.split_whitespace().nth(1).unwrap().trim_matches(':').to_string()).collect()
+}
+
+const HANDLES: &str = "
+#include <pthread.h>
+#include <signal.h>
+#include <stdio.h>
+#include <unistd.h>
+static char other[1 << 16];
+static void handler(int number) { if (number) puts(\"ready\"); fflush(stdout); for (;;) pause(); }
+__attribute__((noinline)) static int faulty(volatile int *address) { return *address + 1; }
+__attribute__((noinline)) static void *run(void *unused) {
+    stack_t stack = {.ss_sp = other, .ss_size = sizeof other};
+    sigaltstack(&stack, NULL);
+    struct sigaction action = {.sa_handler = handler, .sa_flags = SA_ONSTACK};
+    sigaction(SIGSEGV, &action, NULL);
+    return (void *)(faulty((volatile int *)16) + 1L);
+}
+int main(void) {
+    pthread_t thread;
+    if (IN_THREAD && pthread_create(&thread, NULL, run, NULL) == 0) for (;;) pause();
+    return run(NULL) == NULL;
+}
+";
+
+/// The first thread or another one, in a signal handler on another stack.
+#[test]
+fn a_handler_on_another_stack() {
+    let folder = Folder::new("live-handler");
+    if !may_trace() || !has("eu-stack") {
+        return;
+    }
+    folder.write("waits.c", HANDLES);
+    for in_thread in 0..2 {
+        folder.run(&format!("gcc -O1 -DIN_THREAD={} waits.c -o waits -pthread", in_thread));
+        let process = Waiting::start(&folder);
+        let pid = process.0.id();
+        let ran = dwcheck_elf(&folder, &format!("stack --no-inline --no-source --pid {}", pid));
+        let theirs = folder.run(&format!("eu-stack -p {} 2> /dev/null || true", pid));
+        assert_eq!(addresses(&ran.out), addresses(&theirs), "{}{}", ran.out, theirs);
+        for name in [" handler+", " faulty", " run+", " main+"] {
+            assert!(ran.out.contains(name), "{}", ran.out);
+        }
+    }
+}
+
+/// The stacks of a process are those of eu-stack, also after its file was removed. The process goes
+/// on. A process that another program traces is left alone.
+#[test]
+fn a_process_that_waits() {
+    let folder = Folder::new("live");
+    if !may_trace() || !has("eu-stack") {
+        return;
+    }
+    folder.write("waits.c", WAITS);
+    folder.run("gcc -O1 -pthread waits.c -o waits");
+    let process = Waiting::start(&folder);
+    let pid = process.0.id();
+    let ran = dwcheck_elf(&folder, &format!("stack --no-inline --no-source --pid {}", pid));
+    assert_eq!((ran.status, ran.error.as_str(), process.state()), (0, "", 'S'), "{}", ran.out);
+    let theirs = folder.run(&format!("eu-stack -p {} 2> /dev/null || true", pid));
+    assert_eq!(addresses(&ran.out), addresses(&theirs), "{}{}", ran.out, theirs);
+    assert!(
+        ran.out.contains(" sorts+") && ran.out.contains(" main+") && ran.out.matches("\"sorter\"").count() == 3,
+        "{}",
+        ran.out
+    );
+    let group = dwcheck_elf(&folder, &format!("stack --no-inline --no-source --group --pid {}", pid));
+    assert_eq!(group.out.matches("\nthreads ").count() + group.out.matches("thread ").count(), 2, "{}", group.out);
+    let one = dwcheck_elf(&folder, &format!("stack --no-inline --no-source --pid {0} --tid {0}", pid));
+    assert_eq!(one.out, ran.out[..ran.out.find("stop: return undefined\n").unwrap() + 23]);
+    std::fs::remove_file(folder.file("waits")).unwrap();
+    let removed = dwcheck_elf(&folder, &format!("stack --no-inline --no-source --pid {}", pid));
+    assert_eq!(removed.out.replace(" (deleted)", ""), ran.out, "{}", removed.error);
+    let mut gdb = Command::new("gdb");
+    let mut gdb = gdb
+        .args(["-q", "--batch", "-p", &pid.to_string(), "-ex", "shell sleep 5"])
+        .stdout(Stdio::null())
+        .stderr(Stdio::null())
+        .stdin(Stdio::null())
+        .spawn()
+        .unwrap();
+    while process.state() != 't' {
+        std::thread::sleep(std::time::Duration::from_millis(10));
+    }
+    let traced = dwcheck_elf(&folder, &format!("stack --pid {}", pid));
+    assert_eq!(
+        (traced.status, traced.error),
+        (3, format!("dwcheck-elf: process {}: the process {} traces it already\n", pid, gdb.id()))
+    );
+    gdb.kill().unwrap();
+    gdb.wait().unwrap();
+    drop(process);
+    let ended = dwcheck_elf(&folder, &format!("stack --pid {}", pid));
+    assert_eq!(
+        (ended.status, ended.error),
+        (3, format!("dwcheck-elf: process {}: there is no such process, or it ended\n", pid))
+    );
+}
+
+/// A program in which a thread, a file's data and the heap have other values than at the start. The dynamic linker
+/// has made the memory of `names` read-only once it had stored addresses there.
+const CHANGES: &str = "
+#include <pthread.h>
+#include <stdio.h>
+#include <stdlib.h>
+#include <string.h>
+#include <unistd.h>
+static char text[] = \"before\";
+__attribute__((noinline)) static void work(int n) {
+    static int initial = 5, zero;
+    static __thread int own = 40;
+    static const char *const names[2] = {\"a name\", \"another\"};
+    const char *shown = text, *copied = strdup(\"in the heap\");
+    initial += n, zero -= n, own += n;
+    memcpy(text, \"after!\", 6);
+    if (n == 2) { puts(\"ready\"); fflush(stdout); }
+    if (n > 2) puts(names[n]);
+    for (;;) pause();
+}
+static void *other(void *unused) { work(2); return unused; }
+int main(void) { pthread_t thread; if (pthread_create(&thread, NULL, other, NULL) == 0) work(1); }
+";
+
+/// Checks the variables of `work` in the thread that called it with `n`.
+fn has_values_of(n: i32, ran: &Ran) {
+    let values: Vec<_> = ran.lines().iter().map(|line| line.trim().split(" (").next().unwrap().to_string()).collect();
+    let expected = [
+        format!("param n: int = {}", n),
+        format!("var own: int = {}", 40 + n),
+        "var initial: int = 8".to_string(),
+        "var zero: int = -3".to_string(),
+    ];
+    for wanted in &expected {
+        assert!(values.contains(wanted), "{}: {:?}", wanted, ran);
+    }
+    for wanted in [" \"after!\"", " \"in the heap\"", " \"another\"}"] {
+        assert!(values.iter().any(|value| value.ends_with(wanted)), "{}: {:?}", wanted, ran);
+    }
+}
+
+/// The variables of a process are those that it has now. It goes on.
+#[test]
+fn variables_of_a_process() {
+    let folder = Folder::new("live-vars");
+    if !may_trace() {
+        return;
+    }
+    folder.write("waits.c", CHANGES);
+    folder.run("gcc -O0 -g waits.c -o waits -pthread");
+    let process = Waiting::start(&folder);
+    let pid = process.0.id();
+    let frame = |ran: &Ran| {
+        let line = ran.lines().into_iter().find(|line| line.contains(" work+")).unwrap_or_else(|| panic!("{:?}", ran));
+        line[1..line.find(' ').unwrap()].to_string()
+    };
+    let stack = dwcheck_elf(&folder, &format!("stack --no-source --pid {}", pid));
+    let first = dwcheck_elf(&folder, &format!("vars --pid {} --frame {}", pid, frame(&stack)));
+    assert_eq!((first.status, first.error.as_str(), process.state()), (0, "", 'S'), "{}", first.out);
+    has_values_of(1, &first);
+    let tasks = std::fs::read_dir(format!("/proc/{}/task", pid)).unwrap();
+    let tids = tasks.map(|task| task.unwrap().file_name().into_string().unwrap());
+    let tid = tids.filter(|tid| *tid != pid.to_string()).max().unwrap();
+    let stack = dwcheck_elf(&folder, &format!("stack --no-source --pid {} --tid {}", pid, tid));
+    let second = dwcheck_elf(&folder, &format!("vars --pid {} --thread {} --frame {}", pid, tid, frame(&stack)));
+    has_values_of(2, &second);
+    let both = dwcheck_elf(&folder, &format!("stack --vars --no-source --pid {}", pid));
+    assert_eq!(both.out.matches("    var initial: int = 8 ").count(), 2, "{}", both.out);
+    let none = dwcheck_elf(&folder, &format!("vars --pid {} --thread 1", pid));
+    assert_eq!((none.status, none.out.as_str()), (3, ""), "{}", none.error);
+}

@@ -1,0 +1,45 @@
+//! All tests of this crate that use its library and its program, as one program: to compile and link one
+//! takes a small part of the time of one for each file. `cargo test NAME` runs those of one file, or one
+//! test.
+//!
+//! The tests run as threads of one process. So none changes what a process has once, such as its
+//! environment, its current folder or how it handles signals: what needs that is done by a child.
+
+mod common;
+
+mod commands;
+mod core_file;
+mod crash_files;
+mod crashes;
+mod damage;
+mod defects;
+mod edges;
+mod eh_frame;
+mod harmless;
+mod inputs;
+mod lint;
+mod lists;
+mod live;
+mod modules;
+mod names;
+mod objects;
+mod places;
+mod profile;
+mod profile_formats;
+mod profile_made;
+mod profile_page;
+mod program;
+mod refusals;
+mod report;
+mod stacks;
+mod surveys;
+#[cfg(all(target_os = "linux", target_arch = "x86_64"))]
+mod trace_finds;
+#[cfg(all(target_os = "linux", target_arch = "x86_64"))]
+mod trace_quiet;
+#[cfg(all(target_os = "linux", target_arch = "x86_64"))]
+mod trace_runs;
+mod values;
+mod variables;
+mod variables_of_languages;
+mod walk;
