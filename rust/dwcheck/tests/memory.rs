@@ -1,11 +1,12 @@
 //! Tests that a call returns `Error::NoMemory`, or succeeds nonetheless, whichever of its
 //! allocations fails. This file uses `unsafe`, because it replaces `malloc` and `realloc` of the C
-//! library.
+//! library, and is a program of its own, because the other tests keep theirs.
 #![cfg(all(target_os = "linux", target_env = "gnu"))]
 #![deny(unsafe_op_in_unsafe_fn)]
 // Clippy 1.63 takes the `const` block of a `thread_local!` for a constant.
 #![allow(clippy::declare_interior_mutable_const)]
 
+#[path = "all/common/mod.rs"]
 mod common;
 
 use common::*;

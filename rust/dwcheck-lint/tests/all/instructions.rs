@@ -1,8 +1,6 @@
 //! Instructions that few compilers write: what they do to the frame is followed.
 
-mod common;
-
-use common::assembly::X86_64;
+use crate::common::assembly::X86_64;
 
 #[test]
 fn enter_begins_a_frame() {

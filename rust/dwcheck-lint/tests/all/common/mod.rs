@@ -1,5 +1,4 @@
 //! What the tests share: programs that are assembled or compiled, and what is found in them.
-#![allow(dead_code)]
 
 pub mod assembly;
 pub mod gimli_rows;
@@ -10,13 +9,19 @@ use dwcheck_lint::lint::{lint, Report};
 use gimli_rows::module;
 use std::path::PathBuf;
 use std::process::Command;
+use std::sync::atomic::{AtomicUsize, Ordering};
+
+/// How many folders were made.
+static FOLDERS: AtomicUsize = AtomicUsize::new(0);
 
 /// A temporary folder for one test, which is removed when the test ends.
 pub struct Folder(PathBuf);
 
 impl Folder {
     pub fn new(name: &str) -> Self {
-        let folder = std::env::temp_dir().join(format!("dwcheck-lint-{}-{}", name, std::process::id()));
+        // The tests are threads of one process, and two may give their folders the same name.
+        let number = FOLDERS.fetch_add(1, Ordering::Relaxed);
+        let folder = std::env::temp_dir().join(format!("dwcheck-lint-{}-{}-{}", name, std::process::id(), number));
         std::fs::create_dir_all(&folder).unwrap();
         Folder(folder)
     }

@@ -1,11 +1,9 @@
 //! The rules that prevent false alarms, each with a program whose rows are right, and in which something
 //! would be found without the rule.
 
-mod common;
-
-use common::assembly::{function, X86_64};
-use common::gimli_rows::module;
-use common::{kinds, Folder};
+use crate::common::assembly::{function, X86_64};
+use crate::common::gimli_rows::module;
+use crate::common::{kinds, Folder};
 use dwcheck_lint::lint::lint;
 use dwcheck_lint::module::Convention;
 

@@ -1,8 +1,6 @@
 //! Tests of `evaluate`. The expressions and their results are from docs/WORKED.md.
 
-mod common;
-
-use common::hex;
+use crate::common::hex;
 use dwcheck::{
     evaluate, Abi, Block, Context, Error, Evaluation, ExpressionKind, Location, Outcome, Piece,
     PieceSize, Registers, Section, State, Target,

@@ -1,8 +1,6 @@
 //! Tests of `Process::row`. Most sections and their rows are from docs/WORKED.md.
 
-mod common;
-
-use common::*;
+use crate::common::*;
 use dwcheck::{CfaRule, Module, Process, Row, Rule, Span, Target};
 
 fn cfa(register: u16, offset: i64) -> CfaRule {

@@ -1,9 +1,7 @@
 //! Tests of processes that many threads read at once, that move from thread to thread, and that share
 //! their tables.
 
-mod common;
-
-use common::*;
+use crate::common::*;
 use dwcheck::{
     check, Abi, Block, DebugFrame, DebugLoclists, Process, Registers, Row, State, Stop, Target,
 };

@@ -1,8 +1,6 @@
 //! Tests of steps that ask for memory.
 
-mod common;
-
-use common::*;
+use crate::common::*;
 use dwcheck::{Abi, Block, Cursor, EhFrame, Module, Process, Registers, State, Stop, Target};
 use std::panic::{catch_unwind, AssertUnwindSafe};
 

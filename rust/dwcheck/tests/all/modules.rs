@@ -1,8 +1,6 @@
 //! Tests of adding modules to a process, finding them, and removing them.
 
-mod common;
-
-use common::*;
+use crate::common::*;
 use dwcheck::{CfaRule, EhFrame, Error, FaultKind, Module, ModuleId, Process, Rule, Target};
 use std::ops::RangeInclusive;
 

@@ -1,10 +1,8 @@
 //! What is found where the code was taken up from a row: the finding says so, and advises nothing.
 
-mod common;
-
-use common::assembly::function;
-use common::gimli_rows::module;
-use common::{has, Folder};
+use crate::common::assembly::function;
+use crate::common::gimli_rows::module;
+use crate::common::{has, Folder};
 use dwcheck_lint::lint::lint;
 use dwcheck_lint::report::{Json, Text};
 

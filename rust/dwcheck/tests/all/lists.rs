@@ -1,8 +1,6 @@
 //! Tests of `locations`. The location lists and the results are from docs/WORKED.md.
 
-mod common;
-
-use common::*;
+use crate::common::*;
 use dwcheck::{
     evaluate, locations, Abi, Context, Error, ExpressionKind, Location, Lookup, Outcome, Registers,
     Section, State, Target,

@@ -1,10 +1,8 @@
 //! Instructions that the decoder doesn't know: judgement ends there, and nothing is found inside of them.
 
-mod common;
-
-use common::assembly::{function, X86_64};
-use common::gimli_rows::module;
-use common::{has, Folder};
+use crate::common::assembly::{function, X86_64};
+use crate::common::gimli_rows::module;
+use crate::common::{has, Folder};
 use dwcheck_lint::lint::lint;
 use dwcheck_lint::machine::Machine;
 

@@ -1,10 +1,8 @@
 //! Programs in C and C++ by gcc and clang, at several levels, with options that change frames. Nothing is
 //! found in them, and nearly all of their code is judged.
 
-mod common;
-
-use common::programs::{C, CXX, LEVELS};
-use common::{found, has, Folder, Found};
+use crate::common::programs::{C, CXX, LEVELS};
+use crate::common::{found, has, Folder, Found};
 
 /// Nothing is found in a program, and all of it is judged but its first instructions.
 fn quiet(folder: &Folder, line: &str) {

@@ -1,5 +1,5 @@
-//! For all test files: the example sections of docs/WORKED.md, and helper functions. Not every test
-//! file uses all of them, so unused code is allowed.
+//! For all test files: the example sections of docs/WORKED.md, and helper functions. memory.rs doesn't
+//! use all of them, so unused code is allowed.
 #![allow(dead_code)]
 
 use dwcheck::{Error, Module, ModuleId, Process, Target};

@@ -1,9 +1,7 @@
 //! Tests that every call returns, and that calls agree, on random input and damaged sections. They
 //! are meant to run under valgrind, too.
 
-mod common;
-
-use common::*;
+use crate::common::*;
 use dwcheck::{
     evaluate, Abi, Block, Context, ExpressionKind, Frame, Module, Process, Registers, State, Target,
 };

@@ -1,10 +1,8 @@
 //! Registers whose values are kept in vector registers meanwhile, which aren't followed.
 
-mod common;
-
-use common::assembly::function;
-use common::gimli_rows::module;
-use common::{has, Folder};
+use crate::common::assembly::function;
+use crate::common::gimli_rows::module;
+use crate::common::{has, Folder};
 use dwcheck_lint::lint::lint;
 use dwcheck_lint::report::Text;
 

@@ -1,11 +1,9 @@
 //! Code for aarch64: planted defects, rules that only this machine needs, and programs by gcc and clang.
 
-mod common;
-
-use common::assembly::AARCH64;
-use common::gimli_rows::readable;
-use common::programs::{C, LEVELS};
-use common::{found, has, Folder, Found};
+use crate::common::assembly::AARCH64;
+use crate::common::gimli_rows::readable;
+use crate::common::programs::{C, LEVELS};
+use crate::common::{found, has, Folder, Found};
 use dwcheck_lint::coverage::Reason;
 use dwcheck_lint::machine::Machine;
 

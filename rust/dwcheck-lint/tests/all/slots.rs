@@ -1,9 +1,7 @@
 //! Slots along the flow: what a row says of a slot before a register is saved there, and after something else is
 //! stored there.
 
-mod common;
-
-use common::assembly::X86_64;
+use crate::common::assembly::X86_64;
 
 #[test]
 fn a_rule_before_the_save() {

@@ -1,10 +1,8 @@
 //! Functions in assembly with one planted defect of each kind, and the same functions with right rows.
 
-mod common;
-
-use common::assembly::{function, X86_64};
-use common::gimli_rows::module;
-use common::{has, kinds, Folder};
+use crate::common::assembly::{function, X86_64};
+use crate::common::gimli_rows::module;
+use crate::common::{has, kinds, Folder};
 use dwcheck_lint::lint::lint;
 
 #[test]

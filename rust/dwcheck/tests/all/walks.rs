@@ -1,9 +1,7 @@
 //! Tests of `unwind`, `backtrace` and `steps`. Most sections and their results are from
 //! docs/WORKED.md.
 
-mod common;
-
-use common::*;
+use crate::common::*;
 use dwcheck::{
     Abi, Answer, Backtrace, Block, Cache, Cursor, Error, Frame, Process, Registers, Section, State,
     Step, Stop, Target,

@@ -1,8 +1,6 @@
 //! Tests of `check`, `report` and `FrameSection`. Most sections and what they contain are from docs/WORKED.md.
 
-mod common;
-
-use common::*;
+use crate::common::*;
 use dwcheck::{
     check, report, DebugFrame, DebugLoclists, EhFrame, Error, ExpressionKind, FaultKind,
     FrameSection, RecordKind, Section, Target,

@@ -1,0 +1,15 @@
+//! All tests of this crate that use its public items, as one program: to compile and link one takes a
+//! small part of the time of one for each file. They run as threads of one process, so none changes what
+//! a process has once.
+
+mod common;
+
+mod aarch64;
+mod assumptions;
+mod compiled;
+mod instructions;
+mod planted;
+mod quiet;
+mod slots;
+mod undecoded;
+mod vectors;

@@ -1,0 +1,17 @@
+//! The tests of this crate that use its public items, but for those of memory.rs, as one program: to
+//! compile and link one takes a small part of the time of one for each file. They run as threads of one
+//! process, so none changes what a process has once.
+
+mod common;
+
+mod expressions;
+mod hostile;
+mod lists;
+mod modules;
+mod names;
+mod reading;
+mod registers;
+mod rows;
+mod sections;
+mod threads;
+mod walks;
