@@ -79,7 +79,7 @@ licenses() {
             [ ! -f "$file" ] || install -D -m 644 "$file" "$to/kit/$name/$(basename "$file")"
         done
     done
-    { sed -n 's/^name = "\(.*\)"/librust-\1-dev/p' rust/dwcheck-elf/Cargo.lock | tr _ -
+    { sed -n 's/^name = "\(.*\)"/librust-\1-dev/p' rust/Cargo.lock | tr _ -
       for library in $(libraries_of dwcheck-elf); do dpkg -S "$library" 2> /dev/null || dpkg -S "/usr$library"; done | sed 's/:.*//'
     } | LC_ALL=C sort -u | while read -r name; do
         [ ! -f "/usr/share/doc/$name/copyright" ] || install -D -m 644 "/usr/share/doc/$name/copyright" "$to/debian/$name"

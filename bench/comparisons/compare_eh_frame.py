@@ -3,7 +3,7 @@
 bench/models/eh_frame_model.py gives: whether a section is accepted, or its first fault; what it
 contains; all rows, and the row of an address; and which FDEs are signal frames.
 
-    cd rust/dwcheck && cargo build --release --offline --example eh_frame_answers
+    cd rust/dwcheck && ../cargo.sh build --release --example eh_frame_answers
     bench/comparisons/compare_eh_frame.py ANSWERS COUNT SEED [--jobs N] [--pieces N] [FILE ..]
 
 ANSWERS is the program that is built by the first line, target/release/examples/eh_frame_answers. COUNT

@@ -15,7 +15,7 @@ export LD_LIBRARY_PATH=$libraries${LD_LIBRARY_PATH:+:$LD_LIBRARY_PATH}
 gcc -O1 -g "$here/crash.c" -o "$work/crash" -pthread
 cd "$work"
 "$here/../../tools/make_core.sh" ./crash
-"${CARGO_TARGET_DIR:-$here/target}/debug/stack" core | tee ours
+"${CARGO_TARGET_DIR:-$here/../../rust/target}/debug/stack" core | tee ours
 
 addresses() { # FILE: prints a line for each thread, and one for the address of each of its frames
     awk 'tolower($1) ~ /^(thread|tid)$/ { print "thread", $2 + 0 } /^#/ && $4 != "inlined" { print $2 }' "$1"

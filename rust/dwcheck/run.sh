@@ -7,10 +7,10 @@ here=$(dirname "$(realpath "$0")")
 DWCHECK_LIB_DIR=${DWCHECK_LIB_DIR:-$(dirname "$(dirname "$here")")/build}
 export DWCHECK_LIB_DIR
 cd "$here/../dwcheck-sys"
-cargo test --offline
+../cargo.sh test
 cd "$here"
-cargo test --offline
+../cargo.sh test
 host=$(rustc -vV | sed -n 's/^host: //p' | tr 'a-z-' 'A-Z_')
 leaks=definite,indirect
 export "CARGO_TARGET_${host}_RUNNER=valgrind -q --error-exitcode=1 --leak-check=full --show-leak-kinds=$leaks --errors-for-leak-kinds=$leaks"
-DWCHECK_ROUNDS=50 cargo test --offline --tests
+DWCHECK_ROUNDS=50 ../cargo.sh test --tests
