@@ -1,67 +1,115 @@
-//! Goes through the instructions of a CIE or an FDE.
-//!
-//! The library checks the instructions. This only finds where each begins, so that the library's answers can be
-//! shown.
+//! Call frame instructions: their codes, operands and names.
 
-use super::{name_of, operands, skip};
-use crate::bytes::Cursor;
-use crate::target::Target;
-use std::iter::FusedIterator;
-use std::ops::Range;
+mod each;
 
-/// A call frame instruction.
+pub(crate) use each::{instructions, Instruction};
+
+use crate::elf::bytes::{Cursor, ReadError};
+use crate::elf::target::Target;
+use gimli::constants as dw;
+use object::elf::EM_AARCH64;
+use std::borrow::Cow;
+
+/// The operands of an instruction, as far as is needed to find where they end.
 #[derive(Clone, Copy, Debug, PartialEq, Eq)]
-pub(crate) struct Instruction {
-    /// The offset of its first byte in the section.
-    pub offset: usize,
-    /// Its first byte, which has the opcode.
-    pub code: u8,
-    /// The offset after its last byte. `None` if its code isn't known or its operands can't be read. Then no
-    /// instruction follows.
-    pub end: Option<usize>,
-    /// The offset in the section and the length of its last operand, if that is an expression.
-    pub expression: Option<(usize, usize)>,
+pub(crate) enum Operands {
+    None,
+    Bytes(u64),
+    Leb,
+    TwoLebs,
+    Block,
+    LebAndBlock,
+    Address,
 }
 
-impl Instruction {
-    /// The instruction's name, such as `def_cfa_register`, or a text such as `instruction 0x3f` if
-    /// its code has no name. Vendors use some codes for different instructions; `machine`
-    /// (`e_machine`) then decides which one is meant.
-    pub fn name(&self, machine: u16) -> String {
-        name_of(self.code, machine).map_or_else(|| format!("instruction {:#04x}", self.code), str::to_string)
+pub(crate) const NOP: u8 = dw::DW_CFA_nop.0;
+pub(crate) const ADVANCE_LOC1: u8 = dw::DW_CFA_advance_loc1.0;
+pub(crate) const ADVANCE_LOC2: u8 = dw::DW_CFA_advance_loc2.0;
+pub(crate) const ADVANCE_LOC4: u8 = dw::DW_CFA_advance_loc4.0;
+pub(crate) const SET_LOC: u8 = dw::DW_CFA_set_loc.0;
+pub(crate) const REMEMBER_STATE: u8 = dw::DW_CFA_remember_state.0;
+pub(crate) const RESTORE_STATE: u8 = dw::DW_CFA_restore_state.0;
+pub(crate) const DEF_CFA_REGISTER: u8 = dw::DW_CFA_def_cfa_register.0;
+pub(crate) const DEF_CFA_EXPRESSION: u8 = dw::DW_CFA_def_cfa_expression.0;
+/// `DW_CFA_AARCH64_negate_ra_state`. Other machines use the code for another instruction.
+pub(crate) const NEGATE_RA_STATE: u8 = dw::DW_CFA_GNU_window_save.0;
+/// `DW_CFA_AARCH64_negate_ra_state_with_pc`, which gimli doesn't name.
+pub(crate) const NEGATE_RA_STATE_WITH_PC: u8 = 0x2c;
+pub(crate) const GNU_ARGS_SIZE: u8 = dw::DW_CFA_GNU_args_size.0;
+
+/// The operands of the instruction with this code. `None` if the code isn't known.
+pub(crate) fn operands(code: u8) -> Option<Operands> {
+    Some(match dw::DwCfa(primary(code)) {
+        dw::DW_CFA_advance_loc | dw::DW_CFA_restore => Operands::None,
+        dw::DW_CFA_offset => Operands::Leb,
+        dw::DW_CFA_nop | dw::DW_CFA_remember_state | dw::DW_CFA_restore_state => Operands::None,
+        dw::DW_CFA_set_loc => Operands::Address,
+        dw::DW_CFA_advance_loc1 => Operands::Bytes(1),
+        dw::DW_CFA_advance_loc2 => Operands::Bytes(2),
+        dw::DW_CFA_advance_loc4 => Operands::Bytes(4),
+        dw::DW_CFA_MIPS_advance_loc8 => Operands::Bytes(8),
+        dw::DW_CFA_restore_extended | dw::DW_CFA_undefined | dw::DW_CFA_same_value => Operands::Leb,
+        dw::DW_CFA_def_cfa_register | dw::DW_CFA_def_cfa_offset | dw::DW_CFA_def_cfa_offset_sf => Operands::Leb,
+        dw::DW_CFA_def_cfa | dw::DW_CFA_def_cfa_sf | dw::DW_CFA_register => Operands::TwoLebs,
+        dw::DW_CFA_offset_extended | dw::DW_CFA_offset_extended_sf => Operands::TwoLebs,
+        dw::DW_CFA_val_offset | dw::DW_CFA_val_offset_sf => Operands::TwoLebs,
+        dw::DW_CFA_def_cfa_expression => Operands::Block,
+        dw::DW_CFA_expression | dw::DW_CFA_val_expression => Operands::LebAndBlock,
+        dw::DwCfa(NEGATE_RA_STATE | NEGATE_RA_STATE_WITH_PC) => Operands::None,
+        dw::DW_CFA_GNU_args_size => Operands::Leb,
+        dw::DW_CFA_GNU_negative_offset_extended => Operands::TwoLebs,
+        _ => return None,
+    })
+}
+
+/// The code without the operand that instructions with one of the two highest bits have in the others.
+fn primary(code: u8) -> u8 {
+    if code & 0xc0 == 0 {
+        code
+    } else {
+        code & 0xc0
     }
 }
 
-/// The instructions between two offsets of a section, in order.
-#[derive(Clone, Debug)]
-pub(crate) struct Instructions<'a> {
-    /// What is left of them. `None` after an instruction that can't be read.
-    rest: Option<Cursor<'a>>,
+/// Moves past the operands of an instruction. Returns the length of the block that they end with,
+/// or `None` if they have no block. An address has the target's address size, as in `.debug_frame`.
+pub(crate) fn skip(cursor: &mut Cursor<'_>, operands: Operands, target: Target) -> Result<Option<usize>, ReadError> {
+    match operands {
+        Operands::None => {}
+        Operands::Address => cursor.take(u64::from(target.address_size.bytes())).map(|_| ())?,
+        Operands::Bytes(count) => cursor.take(count).map(|_| ())?,
+        Operands::Leb => cursor.skip_leb()?,
+        Operands::TwoLebs => cursor.skip_leb().and_then(|()| cursor.skip_leb())?,
+        Operands::Block => return block(cursor).map(Some),
+        Operands::LebAndBlock => return cursor.skip_leb().and_then(|()| block(cursor)).map(Some),
+    }
+    Ok(None)
 }
 
-/// The instructions between two offsets of a section. If an instruction can't be read, it is the
-/// last one. The operand of `DW_CFA_set_loc` has the target's address size.
-pub(crate) fn instructions(section: &[u8], program: Range<usize>, target: Target) -> Instructions<'_> {
-    let mut cursor = Cursor::new(section.get(..program.end).unwrap_or(section), target);
-    let begins = cursor.take(program.start as u64).is_ok();
-    Instructions { rest: Some(cursor).filter(|_| begins) }
+fn block(cursor: &mut Cursor<'_>) -> Result<usize, ReadError> {
+    let length = cursor.uleb()?;
+    cursor.take(length).map(<[u8]>::len)
 }
 
-impl Iterator for Instructions<'_> {
-    type Item = Instruction;
+/// The name of the instruction with this code, without `DW_CFA_`. It is the name in DWARF 5,
+/// section 7.24, or a vendor's. Vendors use some codes for different instructions; `machine`
+/// (`e_machine`) then decides which one is meant. `None` if the code has no name.
+pub(crate) fn name_of(code: u8, machine: u16) -> Option<&'static str> {
+    let code = primary(code);
+    match dw::DwCfa(code) {
+        dw::DW_CFA_lo_user | dw::DW_CFA_hi_user => None,
+        _ if code == NEGATE_RA_STATE && machine == EM_AARCH64 => Some("AARCH64_negate_ra_state"),
+        named => named.static_string()?.strip_prefix("DW_CFA_"),
+    }
+}
 
-    fn next(&mut self) -> Option<Instruction> {
-        let cursor = self.rest.as_mut()?;
-        let offset = cursor.at();
-        let code = cursor.byte().ok()?;
-        let target = cursor.target();
-        let read = operands(code).and_then(|operands| skip(cursor, operands, target).ok());
-        let (end, at) = (read.map(|_| cursor.at()), cursor.at());
-        if read.is_none() {
-            self.rest = None;
+/// A section in which the bytes at these offsets, which are those of whole instructions, are `DW_CFA_nop`.
+pub(crate) fn with_nops<'a>(section: &'a [u8], places: &[usize]) -> Cow<'a, [u8]> {
+    let mut bytes = Cow::Borrowed(section);
+    for place in places {
+        if let Some(byte) = bytes.to_mut().get_mut(*place) {
+            *byte = NOP;
         }
-        Some(Instruction { offset, code, end, expression: read.flatten().map(|length| (at - length, length)) })
     }
+    bytes
 }
-
-impl FusedIterator for Instructions<'_> {}

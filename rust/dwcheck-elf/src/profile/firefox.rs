@@ -6,7 +6,7 @@ use super::names::Names;
 use super::recording::BuildId;
 use super::tree::Tree;
 use super::{Profile, Sample};
-use crate::page::separated;
+use crate::check::page::separated;
 use rustc_hash::FxHashMap;
 use serde_json::{json, Value};
 use std::collections::{BTreeMap, HashMap};

@@ -4,7 +4,7 @@
 use super::calls::{Calls, Code};
 use super::names::Names;
 use super::{Profile, Sample};
-use crate::page::{self, separated};
+use crate::check::page::{self, separated};
 use std::collections::HashMap;
 use std::io::{self, Write};
 

@@ -4,11 +4,11 @@
 use super::jitdump::is_dump;
 use super::recording::{BuildId, Features, Mapped};
 use super::tables::Tables;
-use crate::abi::{abi, Abi};
-use crate::mapped::Bytes;
-use crate::program::{Program, Segment};
-use crate::stack::SectionTable;
-use crate::target::Target;
+use crate::cfi::section_table::SectionTable;
+use crate::elf::abi::{abi, Abi};
+use crate::elf::mapped::Bytes;
+use crate::elf::program::{Program, Segment};
+use crate::elf::target::Target;
 use once_cell::sync::OnceCell;
 use std::collections::HashMap;
 use std::ffi::OsStr;
@@ -340,7 +340,7 @@ fn content(path: &Path) -> Result<Bytes, String> {
 /// The vDSO of this program.
 fn own_vdso() -> Option<Bytes> {
     use std::os::unix::fs::FileExt;
-    let maps = crate::live::Process::read(std::process::id()).ok()?.maps;
+    let maps = crate::process::maps::Process::read(std::process::id()).ok()?.maps;
     let map = maps.into_iter().find(|map| map.path == VDSO)?;
     let mut bytes = vec![0; usize::try_from(map.end.checked_sub(map.begin)?).ok()?];
     File::open("/proc/self/mem").ok()?.read_exact_at(&mut bytes, map.begin).ok()?;

@@ -23,9 +23,9 @@ pub use features::{BuildId, Features};
 pub use record::{Comm, Fork, Mapped, Record};
 pub use sample::{Mode, Sample, TaskRegisters};
 
-use crate::bytes::{Cursor, ReadError};
-use crate::mapped::Bytes;
-use crate::target::{AddressSize, Order, Target};
+use crate::elf::bytes::{Cursor, ReadError};
+use crate::elf::mapped::Bytes;
+use crate::elf::target::{AddressSize, Order, Target};
 use event::Events;
 use folder::Part;
 use header::Header;

@@ -2,7 +2,7 @@
 
 use super::names::{Function, Names};
 use super::{Frame, Profile, Sample};
-use crate::text::Plain;
+use crate::cfi::text::Plain;
 use rayon::prelude::*;
 use std::fmt::Write as _;
 use std::io::{self, Write};

@@ -4,7 +4,7 @@
 use super::calls::Calls;
 use super::names::Names;
 use super::{Profile, Sample};
-use crate::page::separated;
+use crate::check::page::separated;
 use serde_json::json;
 use std::collections::BTreeMap;
 use std::io::{self, Write};

@@ -3,8 +3,8 @@
 //! There is one table for each FDE, at the addresses as linked, wherever and however often processes mapped the
 //! file. An FDE is checked and compiled when a frame first needs it, by whichever thread walks there first.
 
-use crate::stack::{add_fde, SectionTable};
-use crate::target::Target;
+use crate::cfi::section_table::{add as add_fde, SectionTable};
+use crate::elf::target::Target;
 use dwcheck::Process;
 use once_cell::sync::OnceCell;
 

@@ -1,8 +1,8 @@
 //! The registers of a task, by their DWARF numbers.
 
 use super::recording::{Features, Sample, TaskRegisters};
-use crate::abi::{abi, Abi};
-use crate::target::{AddressSize, Order, Target};
+use crate::elf::abi::{abi, Abi};
+use crate::elf::target::{AddressSize, Order, Target};
 use dwcheck::Registers;
 use object::elf::{EM_386, EM_AARCH64, EM_X86_64};
 

@@ -3,7 +3,7 @@
 use super::calls::Calls;
 use super::names::Names;
 use super::Profile;
-use crate::text::Plain;
+use crate::cfi::text::Plain;
 use std::cmp::Reverse;
 use std::io::{self, Write};
 

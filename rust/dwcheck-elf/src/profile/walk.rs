@@ -10,7 +10,7 @@ use super::recording::{Features, Mode, Sample};
 use super::space::{Mapping, Space};
 use super::tables::TableId;
 use super::task::Task;
-use crate::target::Order;
+use crate::elf::target::Order;
 use dwcheck::{Answer, Block, Cursor, Frame as Stepped, Process, Registers, State, Stop};
 
 /// The marks in chains of addresses, which are the highest numbers (`PERF_CONTEXT_`).

@@ -2,8 +2,8 @@
 
 use super::site::Site;
 use super::tracer::Tracer;
-use crate::functions::Functions;
-use crate::names::Spot;
+use crate::elf::functions::Functions;
+use crate::elf::spot::Spot;
 use dwcheck_lint::finding::{Finding, Severity};
 use dwcheck_lint::judging::Way;
 use dwcheck_lint::lint::Lint;

@@ -5,7 +5,7 @@ use super::registers::{KEPT, KEPT_NUMBERS};
 use super::rules::RuleCounts;
 use super::site::{Places, Site, Wrong};
 use super::tracer::Tracer;
-use crate::text::Plain;
+use crate::cfi::text::Plain;
 use dwcheck_lint::finding::{findings, grouped, Finding, Severity};
 use dwcheck_lint::judge::{Facts, Verdict};
 use dwcheck_lint::judging::{Mark, Way};

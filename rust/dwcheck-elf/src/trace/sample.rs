@@ -10,7 +10,7 @@ use super::space::Space;
 use super::thread::{Mode, Thread};
 use super::tracer::{refusal, Tracer};
 use super::{End, TraceError};
-use crate::live::{LiveError, Process};
+use crate::process::maps::{LiveError, Process};
 use dwcheck_lint::instruction::Effect;
 use nix::errno::Errno;
 use nix::sys::ptrace::Options;

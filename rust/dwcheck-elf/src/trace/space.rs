@@ -4,7 +4,7 @@ use super::breakpoints::Breakpoints;
 use super::files::{Files, VDSO};
 use super::ptrace::Tid;
 use super::site::{Site, Sites};
-use crate::live::{Map, Process};
+use crate::process::maps::{Map, Process};
 use dwcheck_lint::x86_64::X86_64;
 use std::fs::{File, OpenOptions};
 use std::io;

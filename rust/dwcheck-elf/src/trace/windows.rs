@@ -10,7 +10,7 @@ use super::site::Site;
 use super::space::Space;
 use super::thread::{Here, Mode, Thread};
 use super::tracer::Tracer;
-use crate::stack::ends_with_call;
+use crate::process::stack::ends_with_call;
 use dwcheck_lint::instruction::{Effect, Target};
 use dwcheck_lint::register::Register;
 use std::rc::Rc;

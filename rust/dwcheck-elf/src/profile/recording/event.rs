@@ -1,8 +1,8 @@
 //! The events that were recorded, and what each of their samples has.
 
 use super::Damage;
-use crate::bytes::{Cursor, ReadError};
-use crate::target::Order;
+use crate::elf::bytes::{Cursor, ReadError};
+use crate::elf::target::Order;
 
 /// The parts that a sample may have (`PERF_SAMPLE_`), as far as they are read.
 pub(super) mod part {

@@ -2,8 +2,8 @@
 
 use super::event::Events;
 use super::{Damage, Event, RecordHead};
-use crate::bytes::Cursor;
-use crate::target::Target;
+use crate::elf::bytes::Cursor;
+use crate::elf::target::Target;
 use std::collections::HashMap;
 
 /// The numbers of features (`HEADER_`).

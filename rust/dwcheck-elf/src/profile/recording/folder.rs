@@ -3,7 +3,7 @@
 
 use super::source::Source;
 use super::{Damage, Recording};
-use crate::mapped::Bytes;
+use crate::elf::mapped::Bytes;
 use std::ffi::OsStr;
 use std::fs::{self, File};
 use std::io;

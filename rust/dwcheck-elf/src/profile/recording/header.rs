@@ -1,8 +1,8 @@
 //! The header of a recording, and what the file has beside its records.
 
 use super::{Damage, Event};
-use crate::bytes::Cursor;
-use crate::target::{AddressSize, Order, Target};
+use crate::elf::bytes::Cursor;
+use crate::elf::target::{AddressSize, Order, Target};
 use std::io::{Read, Seek, SeekFrom};
 
 /// The first bytes where the byte order is little. Where it is big, they are reversed.

@@ -4,8 +4,8 @@ use super::event::{part, Events};
 use super::features::{until_zero, BuildId};
 use super::sample::Sample;
 use super::RecordHead;
-use crate::bytes::{Cursor, ReadError};
-use crate::target::Target;
+use crate::elf::bytes::{Cursor, ReadError};
+use crate::elf::target::Target;
 
 /// The numbers of records (`PERF_RECORD_`).
 mod kind {

@@ -2,8 +2,8 @@
 
 use super::event::{branch, part, Event, Events};
 use super::RecordHead;
-use crate::bytes::{Cursor, ReadError};
-use crate::target::Target;
+use crate::elf::bytes::{Cursor, ReadError};
+use crate::elf::target::Target;
 
 /// The bits of `read_format`.
 mod format {

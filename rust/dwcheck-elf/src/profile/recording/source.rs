@@ -2,8 +2,8 @@
 
 use super::header::PIPE_SIZE;
 use super::{kind, Damage, RecordHead, HEAD};
-use crate::mapped::Bytes;
-use crate::target::Target;
+use crate::elf::mapped::Bytes;
+use crate::elf::target::Target;
 use std::fmt;
 use std::io::{self, BufRead, BufReader, Read};
 use zstd::stream::raw::{Decoder, InBuffer, Operation, OutBuffer};

@@ -1,0 +1,299 @@
+//! The frame sections of a program, in the form that the library takes.
+//!
+//! The library gets the bytes of the file, at their offsets. Only what it would refuse and is harmless, or
+//! is left out, is changed in place; `edits` has the list.
+
+mod copies;
+mod edits;
+mod expressions;
+mod notes;
+mod records;
+mod signing;
+
+pub use edits::Changes;
+pub use expressions::{Expression, Measured};
+pub use notes::Notes;
+pub use records::{Kind, Record, Standing};
+
+pub(crate) use records::{body, find};
+pub(crate) use signing::signed;
+
+pub use crate::elf::format::{Format, Name};
+
+use crate::elf::program::{Program, ProgramError, Section};
+use crate::elf::target::Target;
+use copies::mark_copies;
+use dwcheck::{Error, Fault, FaultKind, Process};
+use edits::{edited, Edited};
+use std::borrow::Cow;
+use std::collections::HashSet;
+use std::fmt;
+use std::ops::Range;
+
+/// A frame section of a program: its bytes in the file, its records, and the bytes that the library takes.
+/// All offsets are in the file's section.
+///
+/// ```no_run
+/// use dwcheck_elf::frames::Frames;
+/// use dwcheck_elf::program::Program;
+///
+/// let data = std::fs::read("/bin/bash")?;
+/// let program = Program::read(&data)?;
+/// for frames in Frames::all(&program) {
+///     let frames = frames?;
+///     let process = frames.process(0)?; // checked, and all rows compiled
+///     println!("{}: {:?}", frames.name(), process.row(0x30000));
+/// }
+/// # Ok::<(), Box<dyn std::error::Error>>(())
+/// ```
+#[derive(Clone, Debug)]
+pub struct Frames<'data> {
+    section: FrameSection<'data>,
+    records: Vec<Record>,
+    /// The bytes with all changes, if there are changes.
+    changed: Option<Vec<u8>>,
+    /// How many of the bytes the library takes.
+    length: usize,
+    changes: Changes,
+    /// The offsets of the FDEs whose address isn't known.
+    unresolved: Vec<u64>,
+}
+
+/// A frame section as it is in the file.
+#[derive(Clone, Debug)]
+pub struct FrameSection<'data> {
+    /// What has to be known to read it.
+    pub format: Format,
+    /// The bytes, decompressed and with relocations applied.
+    pub source: Section<'data>,
+}
+
+impl<'data> FrameSection<'data> {
+    /// Reads one section of a program. `None` if the program doesn't have it, or if it is empty.
+    pub fn read(program: &Program<'data>, name: Name) -> Result<Option<Self>, ProgramError> {
+        let read = if name == Name::EhFrame { program.eh_frame() } else { program.debug_frame() };
+        Ok(read?.map(|source| FrameSection { format: program.format(name, &source), source }))
+    }
+
+    /// The same section with its own copy of the bytes.
+    pub fn into_owned(self) -> FrameSection<'static> {
+        let source = Section { bytes: Cow::Owned(self.source.bytes.into_owned()), ..self.source };
+        FrameSection { source, ..self }
+    }
+
+    /// All records of the section, in order. It has to have less than 2^32 bytes.
+    pub(crate) fn records(&self) -> Vec<Record> {
+        records::records(&self.format, &self.source.bytes)
+    }
+}
+
+/// Changes what is harmless in these records of a section, or of a part of it.
+pub(crate) fn harmless<'a>(format: &Format, bytes: &'a [u8], records: &[Record]) -> Cow<'a, [u8]> {
+    edited(format, bytes, records).bytes
+}
+
+/// Why a frame section can't be passed to the library.
+#[derive(Clone, Debug, PartialEq, Eq)]
+pub enum FramesError {
+    /// The section can't be read from the file.
+    Program(Name, ProgramError),
+    /// The section has 2^32 bytes or more.
+    TooLong(Name),
+}
+
+impl<'data> Frames<'data> {
+    /// The frame sections of a program that have bytes, `.debug_frame` first. Each is read when the
+    /// iterator reaches it.
+    pub fn all<'a>(program: &'a Program<'data>) -> impl Iterator<Item = Result<Frames<'data>, FramesError>> + 'a {
+        let read = move |name| match FrameSection::read(program, name) {
+            Ok(section) => section.map(Frames::of),
+            Err(error) => Some(Err(FramesError::Program(name, error))),
+        };
+        [Name::DebugFrame, Name::EhFrame].into_iter().filter_map(read)
+    }
+
+    /// Reads the records of a section. This takes time in proportion to its length.
+    pub fn of(section: FrameSection<'data>) -> Result<Self, FramesError> {
+        let (format, source) = (section.format, &section.source);
+        u32::try_from(source.bytes.len()).map_err(|_| FramesError::TooLong(format.name))?;
+        let mut records = section.records();
+        let unresolved = mark_unresolved(&mut records, &format, source);
+        mark_copies(&mut records, &source.bytes, format.is_eh_frame());
+        let (changed, length, changes) = (None, 0, Changes::default());
+        Ok(Frames { section, records, changed, length, changes, unresolved }.edited())
+    }
+
+    /// Makes the bytes that the library takes.
+    fn edited(mut self) -> Self {
+        let Edited { bytes, length, changes } = edited(&self.section.format, &self.section.source.bytes, &self.records);
+        self.length = length;
+        self.changes = changes;
+        self.changed = match bytes {
+            Cow::Owned(bytes) => Some(bytes),
+            Cow::Borrowed(_) => None,
+        };
+        self
+    }
+
+    /// The name of the section.
+    pub fn name(&self) -> Name {
+        self.section.format.name
+    }
+
+    /// The byte order and the address size.
+    pub fn target(&self) -> Target {
+        self.section.format.target
+    }
+
+    /// What has to be known of the section, besides its bytes, to read it.
+    pub fn format(&self) -> &Format {
+        &self.section.format
+    }
+
+    /// The section's bytes in the file, decompressed and with relocations applied.
+    pub fn source(&self) -> &Section<'data> {
+        &self.section.source
+    }
+
+    /// The bytes that the library takes. They may be fewer than the section's.
+    pub fn bytes(&self) -> &[u8] {
+        self.whole().get(..self.length).unwrap_or(&[])
+    }
+
+    /// All bytes of the section, with the changes.
+    pub(crate) fn whole(&self) -> &[u8] {
+        self.changed.as_deref().unwrap_or(&self.section.source.bytes)
+    }
+
+    /// All records of the section, in order.
+    pub fn records(&self) -> &[Record] {
+        &self.records
+    }
+
+    /// The records that are used, in order.
+    pub fn used(&self) -> impl Iterator<Item = &Record> + Clone {
+        self.records.iter().filter(|record| record.is_used())
+    }
+
+    /// The record that begins at an offset.
+    pub fn record(&self, offset: u64) -> Option<&Record> {
+        find(&self.records, offset)
+    }
+
+    /// Whether FDEs are used.
+    pub fn has_fdes(&self) -> bool {
+        self.used().any(|record| record.addresses().is_some())
+    }
+
+    /// How many records have this standing.
+    pub fn count(&self, standing: Standing) -> usize {
+        self.records.iter().filter(|record| record.standing == standing).count()
+    }
+
+    /// The instructions that were changed.
+    pub fn changes(&self) -> &Changes {
+        &self.changes
+    }
+
+    /// The offsets of the FDEs that are left out because the relocation of their first address names a symbol
+    /// that the object doesn't define.
+    pub fn unresolved(&self) -> &[u64] {
+        &self.unresolved
+    }
+
+    /// Whether the bytes that the library takes differ from the file's.
+    pub fn is_changed(&self) -> bool {
+        self.changed.is_some() || self.length < self.section.source.bytes.len()
+    }
+
+    /// The ranges of addresses at which the return address is signed (aarch64), in the order of the FDEs.
+    /// This takes time in proportion to the section's length.
+    pub fn signed(&self) -> Vec<Range<u64>> {
+        match self.section.format.is_aarch64() {
+            true => signed(&self.section.source.bytes, &self.records, self.target()),
+            false => Vec::new(),
+        }
+    }
+
+    /// The record that a fault of the library is in. An offset can be both the end of one record and the
+    /// beginning of the next: only an overlap is reported where its FDE begins.
+    pub fn record_of(&self, fault: &Fault) -> Option<&Record> {
+        let offset = u64::from(fault.offset);
+        let after = self.records.partition_point(|record| record.offset <= offset);
+        let upto = self.records.get(..after).unwrap_or(&[]);
+        let begins_there = upto.last().filter(|record| record.offset == offset);
+        let is_meant = |record: &&Record| fault.kind == FaultKind::Overlap || record.kind == Kind::Unread(*fault);
+        match begins_there {
+            Some(record) if is_meant(&record) => Some(record),
+            // In `.debug_frame` a record of length 0 became a part of the record before it. One without a record
+            // before it is cut off, since it has no CIE id.
+            _ => upto.iter().rfind(|record| {
+                record.offset < offset && (record.kind != Kind::Empty || fault.kind == FaultKind::Truncated)
+            }),
+        }
+    }
+
+    /// The section without the records at these offsets, and without the FDEs of such CIEs. If a record can't
+    /// be left out alone, those after it are left out, too.
+    pub fn without(&self, refused: &HashSet<u64>) -> Self {
+        let mut rest = self.clone();
+        for record in &mut rest.records {
+            let is_refused = refused.contains(&record.offset)
+                || matches!(record.kind, Kind::Fde { cie, .. } if refused.contains(&cie));
+            if is_refused {
+                record.standing = Standing::LeftOut;
+            }
+        }
+        let mut rest = rest.edited();
+        let end = rest.length as u64;
+        rest.records
+            .iter_mut()
+            .filter(|record| record.next > end)
+            .for_each(|record| record.standing = Standing::LeftOut);
+        rest
+    }
+
+    /// Makes a process with this section as its only module, which is loaded at `load` and answers
+    /// for all addresses. This checks the section, and compiles all its rows.
+    ///
+    /// # Errors
+    ///
+    /// [`Error::Refused`] with the first fault; [`Error::NoMemory`]; or [`Error::NoRoom`] if the
+    /// rows may take more than 64 times the section's bytes and more than 64 MiB.
+    pub fn process(&self, load: u64) -> Result<Process, Error> {
+        let mut process = Process::new(self.target().into());
+        let module = self.section.format.module(self.bytes(), load);
+        process.add(self.bytes(), module.range(0..=self.target().address_size.highest()))?;
+        Ok(process)
+    }
+}
+
+/// Leaves out the FDEs of `.eh_frame` whose first address isn't known, and returns their offsets. That address
+/// follows the four bytes of the CIE pointer.
+fn mark_unresolved(records: &mut [Record], format: &Format, source: &Section<'_>) -> Vec<u64> {
+    let mut marked = Vec::new();
+    if source.unresolved.is_empty() || !format.is_eh_frame() {
+        return marked;
+    }
+    // With a wrong address the library may not be able to read an FDE.
+    let may_be_fde = |record: &&mut Record| matches!(record.kind, Kind::Fde { .. } | Kind::Unread(_));
+    for record in records.iter_mut().filter(may_be_fde) {
+        let place = body(&source.bytes, record.offset, format.target).map(|body| body.start as u64 + 4);
+        if place.map_or(false, |place| source.unresolved.binary_search(&place).is_ok()) {
+            record.standing = Standing::LeftOut;
+            marked.push(record.offset);
+        }
+    }
+    marked
+}
+
+impl fmt::Display for FramesError {
+    fn fmt(&self, f: &mut fmt::Formatter<'_>) -> fmt::Result {
+        match self {
+            FramesError::Program(_, error) => error.fmt(f),
+            FramesError::TooLong(name) => write!(f, "{} has 2^32 bytes or more", name),
+        }
+    }
+}
+
+impl std::error::Error for FramesError {}

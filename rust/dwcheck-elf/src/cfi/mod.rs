@@ -1,0 +1,14 @@
+//! Call frame information: the records and instructions of frame sections, their rows, and FDEs that are used alone.
+//!
+//! It uses `elf`.
+
+pub mod alone;
+pub mod defect;
+pub mod eh_frame_hdr;
+pub mod frames;
+pub mod instructions;
+pub mod pieces;
+pub mod row;
+pub mod section_table;
+pub mod text;
+pub mod validate;

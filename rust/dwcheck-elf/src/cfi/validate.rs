@@ -1,0 +1,168 @@
+//! Compares the library's rows of a frame section with gimli's rows of the file's section.
+//!
+//! gimli's CIEs and FDEs are found by their lengths alone, and so every record that was lost by mistake is
+//! noticed.
+
+mod comparable;
+mod dwcheck_rows;
+mod gimli_rows;
+
+use crate::cfi::frames::Name;
+use crate::cfi::row::Row;
+use crate::elf::bytes::Cursor;
+use std::fmt;
+
+pub(crate) use comparable::comparable;
+pub use dwcheck_rows::{validate_rows, DwcheckRows};
+pub use gimli_rows::GimliRows;
+
+/// How much was compared and found to be equal.
+#[derive(Clone, Copy, Debug, Default, PartialEq, Eq)]
+pub struct Agreement {
+    /// Common information entries.
+    pub cies: usize,
+    /// Frame description entries.
+    pub fdes: usize,
+    /// Rows that are equal. Rows that cover no address aren't counted.
+    pub rows: usize,
+}
+
+/// The first difference between what gimli reads and what the library reads.
+#[derive(Clone, Debug, PartialEq, Eq)]
+pub struct Difference {
+    /// The name of the section.
+    pub section: Name,
+    /// The offset in the section of the CIE or FDE that differs.
+    pub record: u64,
+    /// What differs.
+    pub what: What,
+}
+
+/// What differs between a CIE or FDE as gimli reads it, and as the library does.
+#[derive(Clone, Debug, PartialEq, Eq)]
+pub enum What {
+    /// gimli can't read the CIE or FDE.
+    Unreadable(String),
+    /// The library has no CIE or FDE there.
+    Missing,
+    /// For one of the two it is a CIE, and for the other one an FDE.
+    Kind,
+    /// The return address registers differ.
+    Numbers,
+    /// The FDEs cover different addresses.
+    Range {
+        /// The first address and the address after the last one, as gimli reads them.
+        gimli: (u64, u64),
+        /// The same, as the library reads them.
+        library: (u64, u64),
+    },
+    /// A row of the FDE differs.
+    Row {
+        /// The row's number in the FDE, counted from 0.
+        number: usize,
+        /// gimli's row, or that there are no more rows, or an error.
+        gimli: String,
+        /// The library's row, or that there are no more rows, or an error.
+        library: String,
+    },
+}
+
+/// Gives the rows of an FDE one by one.
+///
+/// A source that is compared with [`GimliRows`] has to leave out what is missing there: each
+/// [`crate::cfi::row::Rule::Undefined`], because gimli doesn't distinguish an undefined register from a
+/// register without a rule; and each row that covers no address.
+pub trait RowSource<'a> {
+    /// Writes the next row to `row`. Returns false after the last row, or an error if no more rows
+    /// can be read.
+    fn next_row(&mut self, row: &mut Row<'a>) -> Result<bool, String>;
+}
+
+/// Compares the rows of two sources one by one. Returns the number of equal rows. If rows differ, or one of the
+/// sources can't be read, the error has the first such pair. `rows` is a buffer for one row of each source.
+pub fn compare_rows<'a, 'b>(
+    gimli: &mut impl RowSource<'a>,
+    library: &mut impl RowSource<'b>,
+    rows: &mut (Row<'a>, Row<'b>),
+) -> Result<usize, What> {
+    let (left, right) = rows;
+    let mut number = 0;
+    loop {
+        let (one, other) = (gimli.next_row(left), library.next_row(right));
+        match (&one, &other) {
+            (Ok(true), Ok(true)) if same(left, right) => number += 1,
+            (Ok(false), Ok(false)) => return Ok(number),
+            _ => return Err(What::Row { number, gimli: shown(&one, left), library: shown(&other, right) }),
+        }
+    }
+}
+
+fn same<'r>(one: &Row<'r>, other: &Row<'r>) -> bool {
+    one == other
+}
+
+fn shown(outcome: &Result<bool, String>, row: &Row<'_>) -> String {
+    match outcome {
+        Ok(true) => row.to_string(),
+        Ok(false) => "no more rows".to_string(),
+        Err(error) => error.clone(),
+    }
+}
+
+/// Moves past the next CIE or FDE, which is a record whose length isn't 0, and returns its offset.
+/// `None` if there is no further one, or if a length can't be read.
+fn next_record(cursor: &mut Cursor<'_>) -> Option<usize> {
+    while !cursor.is_at_end() {
+        let record = cursor.at();
+        let length = cursor.initial_length()?;
+        cursor.take(length).ok()?;
+        if length != 0 {
+            return Some(record);
+        }
+    }
+    None
+}
+
+impl What {
+    /// What gimli's error for a record that should be a CIE means.
+    fn of_cie(error: gimli::Error) -> Self {
+        match error {
+            gimli::Error::NotCieId => What::Kind,
+            error => What::Unreadable(error.to_string()),
+        }
+    }
+}
+
+impl fmt::Display for What {
+    fn fmt(&self, f: &mut fmt::Formatter<'_>) -> fmt::Result {
+        match self {
+            What::Unreadable(error) => write!(f, "not compared, because gimli can't read it: {}", error),
+            What::Missing => f.write_str("the record was lost"),
+            What::Kind => f.write_str("one record is a CIE, the other an FDE"),
+            What::Numbers => f.write_str("the return address registers differ"),
+            What::Range { gimli, library } => write!(
+                f,
+                "the ranges differ: gimli {:#x}..{:#x}, library {:#x}..{:#x}",
+                gimli.0, gimli.1, library.0, library.1
+            ),
+            What::Row { number, gimli, library } => {
+                write!(f, "row {} differs: gimli {}, library {}", number, gimli, library)
+            }
+        }
+    }
+}
+
+impl Difference {
+    /// Whether nothing is known to differ, but gimli can't read one of the records.
+    pub fn is_unread(&self) -> bool {
+        matches!(self.what, What::Unreadable(_))
+    }
+}
+
+impl fmt::Display for Difference {
+    fn fmt(&self, f: &mut fmt::Formatter<'_>) -> fmt::Result {
+        write!(f, "{} record {:#x}: {}", self.section, self.record, self.what)
+    }
+}
+
+impl std::error::Error for Difference {}

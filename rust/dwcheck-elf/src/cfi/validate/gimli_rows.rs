@@ -1,0 +1,67 @@
+//! gimli's rows of a section.
+
+use super::RowSource;
+use crate::cfi::row::{Cfa, Row, Rule};
+use crate::elf::target::Target;
+use gimli::{
+    CfaRule, EndianSlice, Reader, Register, RegisterRule, RunTimeEndian, UnwindContextStorage, UnwindTable,
+    UnwindTableRow,
+};
+
+pub(super) type Bytes<'a> = EndianSlice<'a, RunTimeEndian>;
+
+/// gimli's storage for rules and remembered rows. It has room for 192 rules and 32 remembered rows,
+/// more than `dwcheck` accepts. It is used because gimli's default storage has no bound on the
+/// number of remembered rows.
+pub(super) struct Bounded;
+
+impl<R: Reader> UnwindContextStorage<R> for Bounded {
+    type Rules = [(Register, RegisterRule<R>); 192];
+    type Stack = [UnwindTableRow<R, Self>; 32];
+}
+
+/// gimli's rows of one FDE, except those that cover no address.
+pub struct GimliRows<'data, 'a, 'ctx> {
+    pub(super) table: UnwindTable<'a, 'ctx, Bytes<'data>, Bounded>,
+    pub(super) target: Target,
+}
+
+impl<'data> RowSource<'data> for GimliRows<'data, '_, '_> {
+    fn next_row(&mut self, row: &mut Row<'data>) -> Result<bool, String> {
+        while let Some(read) = self.table.next_row().map_err(|error| error.to_string())? {
+            row.begin = self.target.wrap(read.start_address());
+            row.end = self.target.wrap(read.end_address());
+            if row.begin != row.end {
+                fill(row, read);
+                return Ok(true);
+            }
+        }
+        Ok(false)
+    }
+}
+
+/// Copies the rules of a row that gimli has read to `row`.
+fn fill<'a>(row: &mut Row<'a>, read: &UnwindTableRow<Bytes<'a>, Bounded>) {
+    row.cfa = match read.cfa() {
+        CfaRule::RegisterAndOffset { register, offset } => {
+            Cfa::RegisterOffset { register: register.0, offset: *offset }
+        }
+        CfaRule::Expression(expression) => Cfa::Expression(expression.0.slice().into()),
+    };
+    row.rules.clear();
+    row.rules.extend(read.registers().map(|(register, rule)| (register.0, rule_of(rule))));
+    row.rules.sort_unstable_by_key(|(register, _)| *register);
+}
+
+fn rule_of<'a>(rule: &RegisterRule<Bytes<'a>>) -> Rule<'a> {
+    match rule {
+        RegisterRule::Undefined => Rule::Undefined,
+        RegisterRule::SameValue => Rule::SameValue,
+        RegisterRule::Offset(offset) => Rule::Offset(*offset),
+        RegisterRule::ValOffset(offset) => Rule::ValOffset(*offset),
+        RegisterRule::Register(register) => Rule::Register(register.0),
+        RegisterRule::Expression(expression) => Rule::Expression(expression.0.slice().into()),
+        RegisterRule::ValExpression(expression) => Rule::ValExpression(expression.0.slice().into()),
+        RegisterRule::Architectural => Rule::Architectural,
+    }
+}

@@ -1,0 +1,12 @@
+//! Whole programs checked: their frame sections and location lists, what is wrong with them in words, and what is given
+//! to the crate `dwcheck-lint`.
+//!
+//! It uses `elf`, `cfi` and `debug`.
+
+pub mod fault;
+pub mod inspect;
+pub mod lint;
+pub mod lists;
+pub mod page;
+pub mod report;
+pub mod verdict;

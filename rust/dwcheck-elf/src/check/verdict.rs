@@ -1,0 +1,123 @@
+//! What a check of sections is asked for, and what it finds.
+
+use crate::cfi::defect::Defect;
+use crate::cfi::frames::Frames;
+use crate::cfi::validate::{Agreement, Difference};
+use crate::debug::lists;
+use crate::elf::format::Name;
+use crate::elf::plain::Plain;
+use crate::elf::program::ProgramError;
+use dwcheck::{Error, Report};
+use std::fmt;
+use std::path::PathBuf;
+
+/// How to check a program.
+///
+/// ```
+/// use dwcheck_elf::inspect::Check;
+///
+/// let check = Check { all: true, ..Check::default() };
+/// assert_ne!(check, Check::default());
+/// ```
+#[derive(Clone, Copy, Debug, Default, PartialEq, Eq)]
+pub struct Check {
+    /// Whether to report every fault of a frame section, not only the first. See
+    /// [`crate::cfi::alone::every_fault`].
+    pub all: bool,
+    /// Whether to list the entries of location lists that are most likely mistakes
+    /// ([`lists::Contents::doubtful`]).
+    pub doubtful: bool,
+}
+
+/// The result of checking a section.
+#[derive(Debug)]
+pub struct Inspected<'data> {
+    /// The name of the section.
+    pub name: Name,
+    /// The file of a single unit that has the section (`-gsplit-dwarf`). `None` if it is in the program or
+    /// in its separate file.
+    pub file: Option<PathBuf>,
+    /// The number of bytes of the section in the file, decompressed. 0 if it couldn't be read.
+    pub bytes: usize,
+    /// The frame section. `None` for location lists, and for a frame section that couldn't be read.
+    pub frames: Option<Frames<'data>>,
+    /// What location lists have that were found by `.debug_info`. `None` for any other section.
+    pub lists: Option<lists::Contents>,
+    /// Whether the section was accepted.
+    pub verdict: Verdict,
+}
+
+/// Whether a section was accepted.
+#[derive(Debug)]
+pub enum Verdict {
+    /// A well-formed frame section. If it is `.eh_frame`, or had to be changed, the library's rows are equal to
+    /// the rows that gimli finds in the file's section.
+    Frames(Agreement),
+    /// Well-formed location lists of a file without `.debug_info`, in which the whole section is checked.
+    Lists(Report),
+    /// Well-formed location lists, but for what [`lists::Contents::not_checked`] says.
+    FoundLists,
+    /// The section is refused. These are its first fault, or all faults if [`Check::all`] is set.
+    /// Never empty. [`Inspected::rest`] has what isn't refused.
+    Refused(Vec<Defect>),
+    /// The section can't be read or checked. The file's other sections can be, even so.
+    Unread(InspectError),
+}
+
+/// Why a section can't be checked.
+#[derive(Clone, Debug, PartialEq, Eq)]
+pub enum InspectError {
+    /// The section can't be read from the file.
+    Program(ProgramError),
+    /// A row differs from the one that gimli finds, or gimli can't read a CIE or FDE.
+    Difference(Difference),
+    /// `dwcheck` neither accepted nor refused the section, for example because memory ran out.
+    Dwcheck(Name, Error),
+    /// `.debug_info` can't be read: the offset of the unit, if it is known, and why.
+    DebugInfo(Option<u64>, String),
+    /// A location list differs from what gimli reads.
+    List(Name, lists::Difference),
+    /// No unit refers to location lists, though the file has some.
+    NoReferences(Name),
+    /// This many units have their debug information in files of their own that aren't there or can't be used,
+    /// one of which has this name.
+    Split(usize, Option<String>),
+}
+
+impl Inspected<'_> {
+    /// A section that can't be read or checked.
+    pub(crate) fn unread(name: Name, error: InspectError) -> Self {
+        Inspected { name, file: None, bytes: 0, frames: None, lists: None, verdict: Verdict::Unread(error) }
+    }
+}
+
+impl fmt::Display for InspectError {
+    fn fmt(&self, f: &mut fmt::Formatter<'_>) -> fmt::Result {
+        match self {
+            InspectError::Program(error) => error.fmt(f),
+            InspectError::Difference(difference) if difference.is_unread() => difference.fmt(f),
+            InspectError::Difference(difference) => write!(f, "the rows differ: {}", difference),
+            InspectError::Dwcheck(name, error) => write!(f, "{}: {}", name, error),
+            InspectError::DebugInfo(None, error) => write!(f, ".debug_info: {}", error),
+            InspectError::DebugInfo(Some(unit), error) => write!(f, ".debug_info: unit {:#x}: {}", unit, error),
+            InspectError::List(name, difference) => write!(f, "{}: the lists differ: {}", name, difference),
+            InspectError::NoReferences(name) => write!(f, "{}: .debug_info refers to none of its lists", name),
+            InspectError::Split(count, name) => {
+                let name = name.as_deref().unwrap_or("without a name");
+                match count {
+                    1 => {
+                        write!(f, "1 unit has its location lists in another file, {}, which can't be used", Plain(name))
+                    }
+                    _ => write!(
+                        f,
+                        "{} units have their location lists in other files, such as {}, which can't be used",
+                        count,
+                        Plain(name)
+                    ),
+                }
+            }
+        }
+    }
+}
+
+impl std::error::Error for InspectError {}

@@ -1,0 +1,103 @@
+//! Opens the files that have the rest of a unit's debug information (`-gsplit-dwarf`), named `.dwo`, or the package of
+//! such files that has it.
+
+use super::package::{Package, Parts};
+use super::units::{Die, Units};
+use super::{named, Slice};
+use crate::elf::debug_files::DebugFiles;
+use crate::elf::program::{Program, ProgramError};
+use crate::elf::target::Target;
+use gimli::{DebugAddr, DebugLineStr, DebugRanges, Dwarf, DwarfFileType, EndianSlice, RangeLists, SectionId, Unit};
+use std::path::{Path, PathBuf};
+use std::rc::Rc;
+
+/// A file that has the rest of a unit.
+pub(crate) struct SplitFile<'a> {
+    /// Its path.
+    pub path: PathBuf,
+    /// What the program has of the unit.
+    pub skeleton: Rc<Unit<Slice<'a>>>,
+    source: Source<'a>,
+    files: &'a DebugFiles,
+    /// Sections of the program to which the file refers.
+    addresses: DebugAddr<Slice<'a>>,
+    lines: DebugLineStr<Slice<'a>>,
+    ranges: DebugRanges<Slice<'a>>,
+}
+
+/// Where the sections are.
+enum Source<'a> {
+    /// In a file that is the unit's.
+    Own(Box<Program<'a>>),
+    /// In parts of the sections of a package.
+    Package(Rc<Package<'a>>, Parts),
+}
+
+impl<'a> SplitFile<'a> {
+    /// Opens the file that the first entry of a unit names, or else the first of these packages that has the unit.
+    /// `None` if the entry names no file, or if neither is there or has the unit.
+    pub fn open(root: &Die<'_, 'a>, files: &'a DebugFiles, packages: &[Rc<Package<'a>>]) -> Option<Self> {
+        let folder = root.attribute(gimli::DW_AT_comp_dir).and_then(|folder| root.string(folder));
+        let path = Path::new(&folder.unwrap_or_default()).join(root.split_file()?);
+        let own = files.at(&path).and_then(|bytes| Program::read(bytes).ok());
+        let own = own.and_then(|program| SplitFile::of(root, path, Source::Own(Box::new(program)), files));
+        own.or_else(|| {
+            let id = root.unit.dwo_id?;
+            packages.iter().find_map(|package| {
+                let source = Source::Package(Rc::clone(package), package.parts(id)?);
+                SplitFile::of(root, package.path.clone(), source, files)
+            })
+        })
+    }
+
+    /// A file, if it has the rest of the unit.
+    fn of(root: &Die<'_, 'a>, path: PathBuf, source: Source<'a>, files: &'a DebugFiles) -> Option<Self> {
+        let parent = &root.units.dwarf;
+        let (addresses, lines, ranges) = (parent.debug_addr, parent.debug_line_str, *parent.ranges.debug_ranges());
+        let skeleton = Rc::clone(&root.unit);
+        let split = SplitFile { path, skeleton, source, files, addresses, lines, ranges };
+        let units = split.units(&[SectionId::DebugAbbrev, SectionId::DebugInfo])?;
+        let is_same = units.unit(0).ok()?.dwo_id == split.skeleton.dwo_id;
+        Some(split).filter(|_| is_same)
+    }
+
+    /// The byte order and the address size.
+    pub fn target(&self) -> Target {
+        match &self.source {
+            Source::Own(program) => program.target(),
+            Source::Package(package, _) => package.target(),
+        }
+    }
+
+    /// Its units, with the sections that are `needed`. `None` if they can't be read.
+    pub fn units(&self, needed: &[SectionId]) -> Option<Units<'a>> {
+        Units::read_split(self.dwarf(needed).ok()?, Rc::clone(&self.skeleton)).ok()
+    }
+
+    /// Its sections of debug information that are `needed`, and those of the program to which they refer.
+    pub fn dwarf(&self, needed: &[SectionId]) -> Result<Dwarf<Slice<'a>>, ProgramError> {
+        let empty = EndianSlice::new(&[][..], self.target().gimli_order());
+        let dwarf = Dwarf::load(|id| if needed.contains(&id) { self.section(id) } else { Ok(empty) })?;
+        Ok(Dwarf {
+            debug_addr: self.addresses,
+            debug_line_str: self.lines,
+            ranges: RangeLists::new(self.ranges, *dwarf.ranges.debug_rnglists()),
+            file_type: DwarfFileType::Dwo,
+            ..dwarf
+        })
+    }
+
+    /// A section. Empty if such files don't have it.
+    fn section(&self, id: SectionId) -> Result<Slice<'a>, ProgramError> {
+        match (&self.source, id.dwo_name()) {
+            (_, None) => Ok(EndianSlice::new(&[], self.target().gimli_order())),
+            (Source::Own(program), Some(name)) => named(program, name, self.files.unpacked()),
+            (Source::Package(package, parts), Some(_)) => package.part(id, parts, self.files.unpacked()),
+        }
+    }
+
+    /// Its location lists of DWARF 5.
+    pub fn loclists(&self) -> Result<&'a [u8], ProgramError> {
+        Ok(self.section(SectionId::DebugLocLists)?.slice())
+    }
+}

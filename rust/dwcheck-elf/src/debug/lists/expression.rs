@@ -1,0 +1,287 @@
+//! Rewrites an expression so that `dwcheck` can check and evaluate it.
+
+use super::hole::{Hole, Spot, DEREF, UNREADABLE};
+use crate::debug::expression::{skip, BRA, SKIP};
+use crate::elf::bytes::{Cursor, ReadError};
+use crate::elf::target::Target;
+use std::borrow::Cow;
+
+/// What the meaning of an expression depends on, besides its bytes.
+pub(crate) struct Scope<'a> {
+    /// The byte order and the address size.
+    pub target: Target,
+    /// The version of the unit.
+    pub version: u16,
+    /// The size of offsets in the unit, in bytes.
+    pub offset_size: u8,
+    /// The address with an index in `.debug_addr`. `None` if there is none.
+    pub address: &'a dyn Fn(u64) -> Option<u64>,
+    /// What is added to addresses of the file to get those in the process.
+    pub load: u64,
+    /// The value of an operation that becomes a hole without it, by its operands; for `form_tls_address` what
+    /// is added to the entry that it takes. `None` if it isn't known.
+    pub known: &'a dyn Fn(Hole, &[u8]) -> Option<u64>,
+}
+
+/// An expression as `dwcheck` takes it.
+#[derive(Clone, Debug, PartialEq, Eq)]
+pub(crate) struct Rewritten<'a> {
+    /// The bytes. Those of the original, if nothing had to be changed.
+    pub bytes: Cow<'a, [u8]>,
+    /// The holes, in order.
+    pub holes: Vec<Spot>,
+    /// The offset of each operation in the rewritten and in the original expression, ascending, then
+    /// the lengths of both. Empty if nothing was changed.
+    places: Vec<(usize, usize)>,
+    /// The offset in the original of the first operation whose index isn't in `.debug_addr`.
+    pub without_address: Option<usize>,
+}
+
+/// What becomes of an operation.
+#[derive(Clone, Copy, Debug)]
+enum Act {
+    Copy,
+    /// A branch, by the distance from its end to its target.
+    Branch(i64),
+    Address(u64),
+    Constant(u64),
+    /// What is added to the topmost entry.
+    Plus(u64),
+    Drop,
+    NoAddress,
+    /// A hole that takes this many entries from the stack and pushes one.
+    Hole(Hole, usize),
+    /// A hole that is a value by itself.
+    Value(Hole),
+    /// A hole in the place of the whole expression.
+    Whole(Hole),
+}
+
+struct Operation {
+    begin: usize,
+    end: usize,
+    act: Act,
+}
+
+impl Rewritten<'_> {
+    /// The offset in the original expression of what is at an offset of the rewritten one.
+    pub fn original(&self, offset: usize) -> usize {
+        match self.places.binary_search_by_key(&offset, |place| place.0) {
+            Ok(index) => self.places[index].1,
+            Err(0) => offset,
+            Err(index) => self.places[index - 1].1,
+        }
+    }
+
+    /// The hole whose operation without a result is at an offset of the rewritten expression.
+    pub fn hole_at(&self, offset: usize) -> Option<&Spot> {
+        self.holes.iter().find(|spot| spot.rewritten == offset)
+    }
+}
+
+/// Rewrites an expression.
+pub(crate) fn rewrite<'a>(expression: &'a [u8], scope: &Scope<'_>) -> Rewritten<'a> {
+    let operations = read(expression, scope);
+    if let Some(Operation { begin, act: Act::Whole(hole), .. }) = operations.last() {
+        return whole(*hole, *begin);
+    }
+    if operations.iter().all(|operation| matches!(operation.act, Act::Copy | Act::Branch(_))) {
+        let bytes = Cow::Borrowed(expression);
+        return Rewritten { bytes, holes: Vec::new(), places: Vec::new(), without_address: None };
+    }
+    write(expression, &operations, scope)
+}
+
+/// An expression that is one hole.
+fn whole(hole: Hole, original: usize) -> Rewritten<'static> {
+    let spot = Spot { hole, original, rewritten: DEREF };
+    let bytes = Cow::Borrowed(&UNREADABLE[..]);
+    Rewritten { bytes, holes: vec![spot], places: vec![(0, original)], without_address: None }
+}
+
+/// The operations, up to the first for which a hole replaces the whole expression. From one that can't
+/// be read, the bytes are copied, and `dwcheck` refuses them.
+fn read(expression: &[u8], scope: &Scope<'_>) -> Vec<Operation> {
+    let mut cursor = Cursor::new(expression, scope.target);
+    let mut operations = Vec::new();
+    while !cursor.is_at_end() {
+        let begin = cursor.at();
+        let act = act(&mut cursor, scope);
+        let end = if act.is_ok() { cursor.at() } else { expression.len() };
+        let is_last = matches!(act, Err(_) | Ok(Act::Whole(_)));
+        operations.push(Operation { begin, end, act: act.unwrap_or(Act::Copy) });
+        if is_last {
+            break;
+        }
+    }
+    operations
+}
+
+fn act(cursor: &mut Cursor<'_>, scope: &Scope<'_>) -> Result<Act, ReadError> {
+    let code = cursor.byte()?;
+    let operands = cursor.at();
+    let loaded = |address: u64| Act::Address(scope.target.wrap(address.wrapping_add(scope.load)));
+    Ok(match code {
+        ADDR if scope.load != 0 => loaded(cursor.number(scope.target.address_size.bytes())?),
+        BRA | SKIP => Act::Branch(cursor.signed(2)? as i64),
+        0x98..=0x9a => Act::Whole(Hole::Call),
+        0xa1 | 0xfb => (scope.address)(cursor.uleb()?).map_or(Act::NoAddress, loaded),
+        0xa2 | 0xfc => (scope.address)(cursor.uleb()?).map_or(Act::NoAddress, Act::Constant),
+        0xa0 | 0xf2 => {
+            let address = scope.target.address_size.bytes();
+            cursor.take(u64::from(if scope.version == 2 { address } else { scope.offset_size }))?;
+            cursor.skip_leb()?;
+            Act::Value(Hole::ImplicitPointer)
+        }
+        // DW_OP_GNU_uninit says that the variable may not be initialized. It changes nothing else.
+        0xf0 => Act::Drop,
+        _ => match hole(cursor, code, scope)? {
+            Some((hole, takes)) => match (scope.known)(hole, cursor.since(operands)) {
+                Some(value) if hole == Hole::FormTlsAddress => Act::Plus(value),
+                Some(value) => Act::Constant(value),
+                None => Act::Hole(hole, takes),
+            },
+            None if code >= 0xe0 => Act::Whole(Hole::Vendor(code)),
+            None => skip(cursor, code).map(|_| Act::Copy)?,
+        },
+    })
+}
+
+/// Reads an operation that becomes a hole. Returns how many entries it takes from the stack. `None`
+/// for any other operation, of which nothing is read.
+fn hole(cursor: &mut Cursor<'_>, code: u8, scope: &Scope<'_>) -> Result<Option<(Hole, usize)>, ReadError> {
+    Ok(Some(match code {
+        0x18 => (Hole::Xderef, 2),
+        0x95 => cursor.byte().map(|_| (Hole::Xderef, 2))?,
+        0x9b | 0xe0 => (Hole::FormTlsAddress, 1),
+        0xa3 | 0xf3 => {
+            let length = cursor.uleb()?;
+            cursor.take(length).map(|_| (Hole::EntryValue, 0))?
+        }
+        0xa4 | 0xf4 => {
+            cursor.skip_leb()?;
+            let length = cursor.byte()?;
+            cursor.take(u64::from(length)).map(|_| (Hole::ConstType, 0))?
+        }
+        0xa5 | 0xf5 => {
+            cursor.skip_leb()?;
+            cursor.skip_leb().map(|()| (Hole::RegvalType, 0))?
+        }
+        0xa6 | 0xa7 | 0xf6 => {
+            cursor.byte()?;
+            cursor.skip_leb()?;
+            if code == 0xa7 {
+                (Hole::Xderef, 2)
+            } else {
+                (Hole::DerefType, 1)
+            }
+        }
+        0xa8 | 0xf7 => cursor.skip_leb().map(|()| (Hole::Convert, 1))?,
+        0xa9 | 0xf9 => cursor.skip_leb().map(|()| (Hole::Reinterpret, 1))?,
+        0xfa => cursor.take(4).map(|_| (Hole::ParameterRef, 0))?,
+        0xfd => cursor.take(u64::from(scope.offset_size)).map(|_| (Hole::VariableValue, 0))?,
+        _ => return Ok(None),
+    }))
+}
+
+const ADDR: u8 = 0x03;
+const CONST4U: u8 = 0x0c;
+const CONST8U: u8 = 0x0e;
+const DROP: u8 = 0x13;
+const PLUS: u8 = 0x22;
+const STACK_VALUE: u8 = 0x9f;
+
+/// How many bytes an operation has once it is rewritten.
+fn length(operation: &Operation, target: Target) -> usize {
+    match operation.act {
+        Act::Copy | Act::Branch(_) => operation.end - operation.begin,
+        Act::Address(_) | Act::Constant(_) | Act::NoAddress => 1 + usize::from(target.address_size.bytes()),
+        Act::Plus(_) => 2 + usize::from(target.address_size.bytes()),
+        Act::Drop => 0,
+        Act::Hole(_, takes) => takes + UNREADABLE.len(),
+        Act::Value(_) => UNREADABLE.len() + 1,
+        Act::Whole(_) => UNREADABLE.len(),
+    }
+}
+
+/// The offset of each operation once it is rewritten, and in the original; then both lengths.
+fn places(expression: &[u8], operations: &[Operation], target: Target) -> Vec<(usize, usize)> {
+    let mut places = Vec::with_capacity(operations.len() + 1);
+    let mut at = 0;
+    for operation in operations {
+        places.push((at, operation.begin));
+        at += length(operation, target);
+    }
+    places.push((at, expression.len()));
+    places
+}
+
+fn write<'a>(expression: &'a [u8], operations: &[Operation], scope: &Scope<'_>) -> Rewritten<'a> {
+    let target = scope.target;
+    let places = places(expression, operations, target);
+    let mut bytes = Vec::new();
+    let mut holes = Vec::new();
+    for operation in operations {
+        let begin = bytes.len();
+        match operation.act {
+            Act::Copy | Act::Whole(_) => bytes.extend_from_slice(&expression[operation.begin..operation.end]),
+            Act::Branch(distance) => match moved(&places, operation.end, distance, begin + 3) {
+                Some(distance) => {
+                    bytes.push(expression[operation.begin]);
+                    target.push(&mut bytes, distance as u64, 2);
+                }
+                None => return whole(Hole::LongBranch, operation.begin),
+            },
+            Act::Address(number) => push_word(&mut bytes, ADDR, number, target),
+            Act::Constant(number) => push_word(&mut bytes, constant(target), number, target),
+            Act::Plus(number) => {
+                push_word(&mut bytes, constant(target), number, target);
+                bytes.push(PLUS);
+            }
+            Act::NoAddress => push_word(&mut bytes, ADDR, 0, target),
+            Act::Drop => {}
+            Act::Hole(hole, takes) => {
+                bytes.extend(std::iter::repeat(DROP).take(takes));
+                holes.push(Spot { hole, original: operation.begin, rewritten: bytes.len() + DEREF });
+                bytes.extend_from_slice(&UNREADABLE);
+            }
+            Act::Value(hole) => {
+                holes.push(Spot { hole, original: operation.begin, rewritten: begin + DEREF });
+                bytes.extend_from_slice(&UNREADABLE);
+                bytes.push(STACK_VALUE);
+            }
+        }
+    }
+    let without_address = operations.iter().find(|operation| matches!(operation.act, Act::NoAddress));
+    let without_address = without_address.map(|operation| operation.begin);
+    Rewritten { bytes: Cow::Owned(bytes), holes, places, without_address }
+}
+
+fn constant(target: Target) -> u8 {
+    if target.address_size.bytes() == 8 {
+        CONST8U
+    } else {
+        CONST4U
+    }
+}
+
+fn push_word(bytes: &mut Vec<u8>, code: u8, number: u64, target: Target) {
+    bytes.push(code);
+    target.push(bytes, number, target.address_size.bytes());
+}
+
+/// The distance of a branch that ends at `end` in the original, and at `new_end` once it is rewritten. A
+/// target where no operation begins becomes one where none begins either. `None` if the distance
+/// doesn't fit.
+fn moved(places: &[(usize, usize)], end: usize, distance: i64, new_end: usize) -> Option<i64> {
+    let target = end as i64 + distance;
+    let found =
+        usize::try_from(target).ok().and_then(|target| places.binary_search_by_key(&target, |place| place.1).ok());
+    let moved = match found {
+        Some(index) => places[index].0 as i64 - new_end as i64,
+        // Backward, or past the end.
+        None if distance < 0 => -1,
+        None => i64::from(i16::MAX),
+    };
+    Some(moved).filter(|moved| i16::try_from(*moved).is_ok())
+}

@@ -1,0 +1,226 @@
+//! Compares the operations of an expression with those of the rewritten one, as gimli reads both.
+
+use super::hole::UNREADABLE;
+use crate::debug::debug_info::Slice;
+use gimli::{Dwarf, Encoding, EndianSlice, Expression, Operation, Reader, RunTimeEndian, Unit, UnitOffset};
+
+const NOP: u8 = 0x96;
+const UNINIT: u8 = 0xf0;
+
+/// How many `DW_OP_GNU_uninit` of an expression are replaced.
+const MAX_UNINIT: usize = 64;
+
+/// The operations of an expression, each with its offset, and the offset of its end.
+struct Operations<'a> {
+    all: Vec<Place<'a>>,
+    end: usize,
+}
+
+/// What has to be in the place of an operation.
+enum Expected<'a> {
+    /// This operation.
+    Same(Operation<Slice<'a>>),
+    /// A branch by this distance. The first field says whether it depends on a value.
+    Branch(bool, i16),
+    /// A hole that takes this many entries.
+    Hole(usize),
+    /// A hole that is a value by itself.
+    Value,
+}
+
+/// Compares two expressions. False if gimli can't read the original. An error says what differs.
+pub(crate) fn same_operations<'a>(
+    dwarf: &Dwarf<Slice<'a>>,
+    unit: &Unit<Slice<'a>>,
+    original: Expression<Slice<'a>>,
+    rewritten: Expression<Slice<'_>>,
+) -> Result<bool, String> {
+    let (encoding, order) = (unit.encoding(), original.0.endian());
+    let mut bytes = original.0.slice().to_vec();
+    let left_out = without_uninit(&mut bytes, order, encoding);
+    let originals = operations(Expression(EndianSlice::new(&bytes, order)), encoding);
+    if rewritten.0.slice() == UNREADABLE {
+        let is_whole = originals.as_ref().map_or(true, |originals| originals.all.iter().any(|(_, one)| is_whole(one)));
+        if is_whole {
+            return Ok(originals.is_ok());
+        }
+    }
+    let originals = match originals {
+        Ok(originals) => originals,
+        Err(_) => return Ok(false),
+    };
+    let encoding = Encoding { version: 5, format: gimli::Format::Dwarf32, ..encoding };
+    let rewritten = operations(rewritten, encoding).map_err(|error| format!("the rewritten expression: {}", error))?;
+    compare((dwarf, unit), &originals, &left_out, &rewritten).map(|()| true)
+}
+
+/// Whether a hole replaces the whole expression that has this operation.
+fn is_whole(operation: &Operation<Slice<'_>>) -> bool {
+    use Operation::{Bra, Call, Skip, WasmGlobal, WasmLocal, WasmStack};
+    matches!(
+        operation,
+        Call { .. } | Bra { .. } | Skip { .. } | WasmGlobal { .. } | WasmLocal { .. } | WasmStack { .. }
+    )
+}
+
+fn operations(expression: Expression<Slice<'_>>, encoding: Encoding) -> Result<Operations<'_>, gimli::Error> {
+    let mut left = expression.operations(encoding);
+    let mut all = Vec::new();
+    loop {
+        let at = left.offset_from(&expression);
+        match left.next()? {
+            Some(operation) => all.push((at, operation)),
+            None => return Ok(Operations { all, end: at }),
+        }
+    }
+}
+
+/// Replaces each `DW_OP_GNU_uninit`, which gcc writes and gimli doesn't know, by `DW_OP_nop`. Returns the
+/// offsets where it did. Gives up after [`MAX_UNINIT`] of them.
+fn without_uninit(bytes: &mut [u8], order: RunTimeEndian, encoding: Encoding) -> Vec<usize> {
+    let mut replaced = Vec::new();
+    while replaced.len() < MAX_UNINIT {
+        let expression = Expression(EndianSlice::new(bytes, order));
+        let mut left = expression.operations(encoding);
+        let unread = loop {
+            let at = left.offset_from(&expression);
+            match left.next() {
+                Ok(Some(_)) => {}
+                Ok(None) => return replaced,
+                Err(_) => break at,
+            }
+        };
+        match bytes.get_mut(unread) {
+            Some(byte) if *byte == UNINIT => *byte = NOP,
+            _ => return replaced,
+        }
+        replaced.push(unread);
+    }
+    replaced
+}
+
+/// Compares the operations of both. Those of the original whose offsets are in `left_out` aren't in the other.
+fn compare<'a, 'o>(
+    (dwarf, unit): (&Dwarf<Slice<'a>>, &Unit<Slice<'a>>),
+    originals: &Operations<'o>,
+    left_out: &[usize],
+    rewritten: &Operations<'_>,
+) -> Result<(), String> {
+    let mut left = rewritten.all.as_slice();
+    let mut places = Vec::with_capacity(originals.all.len() + 1);
+    let mut branches = Vec::new();
+    for (offset, operation) in &originals.all {
+        places.push((*offset, left.first().map_or(rewritten.end, |first| first.0)));
+        if left_out.binary_search(offset).is_ok() {
+            continue;
+        }
+        let count = match expected(dwarf, unit, operation)? {
+            Expected::Same(same) => match (left.first(), without_type(&same)) {
+                (Some((_, first)), _) if *first == same => 1,
+                (_, Some(takes)) if hole(left, takes).is_some() => takes + 2,
+                (first, _) => return Err(format!("{:x?} became {:x?}", same, first)),
+            },
+            Expected::Branch(is_conditional, distance) => {
+                let (at, new_distance) = branch(left, is_conditional).ok_or("a branch is lost")?;
+                branches.push(Branches { end: offset + 3, distance, new_end: at + 3, new_distance });
+                1
+            }
+            Expected::Hole(takes) => hole(left, takes).ok_or_else(|| format!("no hole for {:x?}", operation))?,
+            Expected::Value => value(left).ok_or_else(|| format!("no hole for {:x?}", operation))?,
+        };
+        left = &left[count..];
+    }
+    places.push((originals.end, rewritten.end));
+    if !left.is_empty() {
+        return Err("operations are added".to_string());
+    }
+    branches.iter().try_for_each(|branch| branch.check(&places))
+}
+
+/// A branch of the original, and that of the rewritten expression: where each ends, and its distance.
+struct Branches {
+    end: usize,
+    distance: i16,
+    new_end: usize,
+    new_distance: i16,
+}
+
+impl Branches {
+    /// Checks that both lead to the same operation, or both to none. `places` has the offset of each operation
+    /// in the original and in the rewritten expression.
+    fn check(&self, places: &[(usize, usize)]) -> Result<(), String> {
+        let target = |end: usize, distance: i16| usize::try_from(end as i64 + i64::from(distance)).ok();
+        let place = target(self.end, self.distance);
+        let place = place.and_then(|target| places.binary_search_by_key(&target, |place| place.0).ok());
+        let new_target = target(self.new_end, self.new_distance);
+        match place {
+            Some(place) if Some(places[place].1) != new_target => Err("a branch has another target".to_string()),
+            None if places.iter().any(|place| Some(place.1) == new_target) => Err("a branch has a target".to_string()),
+            _ => Ok(()),
+        }
+    }
+}
+
+fn expected<'a, 'o>(
+    dwarf: &Dwarf<Slice<'a>>,
+    unit: &Unit<Slice<'a>>,
+    operation: &Operation<Slice<'o>>,
+) -> Result<Expected<'o>, String> {
+    let address = |index| dwarf.address(unit, index).map_err(|error| error.to_string());
+    let generic = UnitOffset(0);
+    Ok(match operation {
+        Operation::EntryValue { .. } | Operation::TypedLiteral { .. } | Operation::ParameterRef { .. } => {
+            Expected::Hole(0)
+        }
+        Operation::RegisterOffset { base_type, .. } if *base_type != generic => Expected::Hole(0),
+        Operation::Deref { space: true, .. } => Expected::Hole(2),
+        Operation::Deref { base_type, .. } if *base_type != generic => Expected::Hole(1),
+        Operation::Convert { .. } | Operation::Reinterpret { .. } | Operation::TLS => Expected::Hole(1),
+        Operation::ImplicitPointer { .. } => Expected::Value,
+        Operation::AddressIndex { index } => Expected::Same(Operation::Address { address: address(*index)? }),
+        Operation::ConstantIndex { index } => Expected::Same(Operation::UnsignedConstant { value: address(*index)? }),
+        Operation::Bra { target } => Expected::Branch(true, *target),
+        Operation::Skip { target } => Expected::Branch(false, *target),
+        same => Expected::Same(*same),
+    })
+}
+
+/// How many entries an operation takes that gimli doesn't tell from one with a type, whose operand for the
+/// type is 0. `None` for any other operation.
+fn without_type(operation: &Operation<Slice<'_>>) -> Option<usize> {
+    match operation {
+        Operation::RegisterOffset { offset: 0, .. } => Some(0),
+        Operation::Deref { space: false, .. } => Some(1),
+        _ => None,
+    }
+}
+
+type Place<'a> = (usize, Operation<Slice<'a>>);
+
+/// The first operation, if it is a branch of this kind: its offset and its distance.
+fn branch(operations: &[Place<'_>], is_conditional: bool) -> Option<(usize, i16)> {
+    match operations.first()? {
+        (at, Operation::Bra { target }) if is_conditional => Some((*at, *target)),
+        (at, Operation::Skip { target }) if !is_conditional => Some((*at, *target)),
+        _ => None,
+    }
+}
+
+/// How many operations a hole has that takes this many entries. `None` if they aren't those of one.
+fn hole(operations: &[Place<'_>], takes: usize) -> Option<usize> {
+    let (drops, rest) = (operations.get(..takes)?, &operations[takes..]);
+    let has_drops = drops.iter().all(|(_, operation)| matches!(operation, Operation::Drop));
+    let is_unreadable = match rest {
+        [(_, Operation::SignedConstant { value: -1 }), (_, Operation::Deref { base_type, space: false, .. }), ..] => {
+            *base_type == UnitOffset(0)
+        }
+        _ => false,
+    };
+    Some(takes + 2).filter(|_| has_drops && is_unreadable)
+}
+
+/// The same for a hole that is a value by itself.
+fn value(operations: &[Place<'_>]) -> Option<usize> {
+    let count = hole(operations, 0)?;
+    matches!(operations.get(count)?.1, Operation::StackValue).then(|| count + 1)
+}

@@ -1,0 +1,322 @@
+//! Finds where a variable is, by its expression or its location list.
+
+use super::place::{Machine, Missing, Place, Pointee};
+use super::{Frame, Variables};
+use crate::debug::debug_info::{Die, Slice};
+use crate::debug::expression::{operations, BRA, SKIP};
+use crate::debug::lists::{expression_at, rewrite, Hole, Rewritten, Scope, Source};
+use crate::elf::bytes::Cursor;
+use crate::elf::format::Name;
+use crate::elf::target::Target;
+use dwcheck::{evaluate, Abi, Context, ExpressionKind, Location, Outcome, PieceSize, State};
+use gimli::{AttributeValue, DebugAddrIndex, DebugInfoOffset, LocationListsOffset};
+use std::cell::Cell;
+use std::rc::Rc;
+
+/// How deep evaluations may be nested: entry values of entry values, implicit pointers of such.
+const MAX_DEPTH: usize = 8;
+
+/// How many such operations, and lengths of arrays, are looked up for a frame. In a hostile file, each may need several others.
+const MAX_KNOWN: usize = 1 << 14;
+
+/// Looks up where the variables of a frame are.
+pub(super) struct Locator<'v, 'a> {
+    pub variables: &'v Variables<'a>,
+    /// The function of the frame, not inlined.
+    pub function: Die<'v, 'a>,
+    pub frame: Frame<'v>,
+    /// The registers and the memory of the frame.
+    pub machine: Machine<'v>,
+    /// The frame base, if it is known.
+    frame_base: Cell<Option<u64>>,
+    /// Where the thread's variables of the file are, if that is known. `None` if it wasn't looked for.
+    thread_block: Cell<Option<Option<u64>>>,
+    depth: usize,
+    /// How many more of these operations are looked up.
+    left: Rc<Cell<usize>>,
+}
+
+impl<'v, 'a> Locator<'v, 'a> {
+    pub fn new(variables: &'v Variables<'a>, function: Die<'v, 'a>, frame: Frame<'v>, machine: Machine<'v>) -> Self {
+        Locator::with(variables, function, frame, machine, Rc::new(Cell::new(MAX_KNOWN)))
+    }
+
+    fn with(
+        variables: &'v Variables<'a>,
+        function: Die<'v, 'a>,
+        frame: Frame<'v>,
+        machine: Machine<'v>,
+        left: Rc<Cell<usize>>,
+    ) -> Self {
+        let (frame_base, thread_block) = (Cell::new(None), Cell::new(None));
+        let locator = Locator { variables, function, frame, machine, frame_base, thread_block, depth: 0, left };
+        locator.frame_base.set(locator.read_frame_base());
+        locator
+    }
+
+    /// The same for the caller of the frame, in which a call site is evaluated.
+    pub fn of_caller(&self, function: Die<'v, 'a>, caller: Frame<'v>) -> Option<Self> {
+        let left = Rc::clone(&self.left);
+        let locator = Locator::with(self.variables, function, caller, caller.machine()?, left);
+        Some(Locator { depth: self.depth + 1, ..locator })
+    }
+
+    /// Where a variable is. `is_abstract` says that nothing but its declaration is known of it.
+    pub fn place(&self, die: &Die<'v, 'a>, is_abstract: bool) -> Result<Place, Missing> {
+        if let Some((holder, value)) = die.inherited(gimli::DW_AT_location) {
+            return self.by_attribute(&holder, value);
+        }
+        if let Some((_, value)) = die.inherited(gimli::DW_AT_const_value) {
+            return constant(value, self.machine.target).ok_or(Missing::Unsupported("a constant of this form"));
+        }
+        let is_elsewhere = !is_abstract && die.inherited(gimli::DW_AT_declaration).is_some();
+        Err(if is_elsewhere { Missing::Unsupported("declared elsewhere") } else { Missing::OptimizedOut })
+    }
+
+    fn by_attribute(&self, die: &Die<'v, 'a>, value: AttributeValue<Slice<'a>>) -> Result<Place, Missing> {
+        match value {
+            AttributeValue::Exprloc(expression) => self.evaluated(die, expression.0.slice()),
+            AttributeValue::Block(block) => self.evaluated(die, block.slice()),
+            AttributeValue::LocationListsRef(list) => self.by_list(die, list),
+            AttributeValue::DebugLocListsIndex(index) => {
+                let list = self.variables.units.dwarf.locations_offset(&die.unit, index);
+                self.by_list(die, list.map_err(|_| Missing::Refused("NoSuchList"))?)
+            }
+            _ => Err(Missing::Unsupported("a location of this form")),
+        }
+    }
+
+    fn by_list(&self, die: &Die<'v, 'a>, list: LocationListsOffset<usize>) -> Result<Place, Missing> {
+        let is_old = die.unit.encoding().version < 5;
+        if is_old && die.units.are_split() {
+            return Err(Missing::Unsupported("a list of GNU's split DWARF 4"));
+        }
+        let (section, bytes) = match is_old {
+            true => (Name::DebugLoc, self.variables.loc),
+            false => (Name::DebugLoclists, self.variables.loclists),
+        };
+        let found = self.with_scope(die, 0, &|_, _| None, |scope| {
+            let source = Source { bytes, section, scope, base: die.unit.low_pc };
+            expression_at(&source, list.0 as u64, self.frame.looked_up())
+        });
+        match found {
+            Ok(Some(expression)) => self.evaluated(die, bytes.get(expression).unwrap_or(&[])),
+            Ok(None) => Err(Missing::OptimizedOut),
+            Err(fault) => Err(Missing::Refused(fault)),
+        }
+    }
+
+    /// Calls `take` with what expressions of an entry's unit depend on.
+    fn with_scope<T>(
+        &self,
+        die: &Die<'v, 'a>,
+        load: u64,
+        known: &dyn Fn(Hole, &[u8]) -> Option<u64>,
+        take: impl FnOnce(Scope<'_>) -> T,
+    ) -> T {
+        let dwarf = &self.variables.units.dwarf;
+        let address = |index: u64| dwarf.address(&die.unit, DebugAddrIndex(usize::try_from(index).ok()?)).ok();
+        let (target, encoding) = (self.variables.target, die.unit.encoding());
+        let (version, offset_size) = (encoding.version, encoding.format.word_size());
+        take(Scope { target, version, offset_size, address: &address, load, known })
+    }
+
+    /// The value of an operation that `dwcheck` doesn't know, if the caller's call site or the thread's data have
+    /// it.
+    fn known(&self, die: &Die<'v, 'a>, hole: Hole, operands: &[u8]) -> Option<u64> {
+        if self.depth >= MAX_DEPTH {
+            return None;
+        }
+        self.take_look_up()?;
+        let mut cursor = Cursor::new(operands, self.variables.target);
+        match hole {
+            Hole::EntryValue => {
+                let length = cursor.uleb().ok()?;
+                self.entry_value(cursor.take(length).ok()?)
+            }
+            Hole::ParameterRef => {
+                let offset = usize::try_from(cursor.number(4).ok()?).ok()?;
+                self.parameter(&Die { offset: gimli::UnitOffset(offset), ..die.clone() })
+            }
+            Hole::FormTlsAddress => self.thread_block(),
+            _ => None,
+        }
+    }
+
+    /// Counts an operation or a length that is looked up. `None` if there are too many for the frame.
+    pub fn take_look_up(&self) -> Option<()> {
+        self.left.set(self.left.get().checked_sub(1)?);
+        Some(())
+    }
+
+    fn thread_block(&self) -> Option<u64> {
+        let block = self.thread_block.get().unwrap_or_else(|| self.frame.thread_block());
+        self.thread_block.set(Some(block));
+        block
+    }
+
+    /// Evaluates an expression of an entry's unit.
+    pub fn evaluated(&self, die: &Die<'v, 'a>, expression: &[u8]) -> Result<Place, Missing> {
+        let known = |hole: Hole, operands: &[u8]| self.known(die, hole, operands);
+        self.with_scope(die, self.frame.load, &known, |scope| {
+            let rewritten = rewrite(expression, &scope);
+            if rewritten.without_address.is_some() {
+                return Err(Missing::Refused("NoSuchAddress"));
+            }
+            match self.run(&rewritten.bytes)? {
+                Outcome::Unreadable { .. } if has_pieces(&rewritten.bytes, scope.target) => self.pieces(&rewritten),
+                outcome => self.result(die, expression, &rewritten, outcome),
+            }
+        })
+    }
+
+    /// The state of the frame, and what is known of it besides.
+    fn run(&self, expression: &[u8]) -> Result<Outcome, Missing> {
+        let Machine { registers, memory, target } = self.machine;
+        let state = State { registers, memory, abi: Abi::NONE };
+        let context = Context { cfa: self.frame.cfa(), frame_base: self.frame_base.get(), object: None };
+        let evaluation = evaluate(expression, ExpressionKind::Location, target.into(), &context, &state);
+        evaluation.map(|evaluation| evaluation.outcome).map_err(|error| match error {
+            dwcheck::Error::Refused(fault) => Missing::Refused(fault.name()),
+            _ => Missing::Unsupported("not enough memory"),
+        })
+    }
+
+    fn result(
+        &self,
+        die: &Die<'v, 'a>,
+        expression: &[u8],
+        rewritten: &Rewritten<'_>,
+        outcome: Outcome,
+    ) -> Result<Place, Missing> {
+        match outcome {
+            Outcome::Location(location) => place_of(location),
+            Outcome::Value(value) => Ok(Place::Value(value)),
+            Outcome::Pieces(pieces) => {
+                let piece = |piece: dwcheck::Piece| Some((place_of(piece.location), bytes_of(piece.size)?));
+                let pieces: Option<Vec<_>> = pieces.into_iter().map(piece).collect();
+                pieces.map(Place::Pieces).ok_or(Missing::Unsupported("pieces of bits"))
+            }
+            Outcome::DivisionByZero { .. } => Err(Missing::DivisionByZero),
+            Outcome::Unreadable { at } => match rewritten.hole_at(at as usize) {
+                Some(spot) if spot.hole == Hole::ImplicitPointer => {
+                    let pointer = self.implicit_pointer(die, expression.get(spot.original..).unwrap_or(&[]));
+                    pointer.ok_or(Missing::NotEvaluated(Hole::ImplicitPointer))
+                }
+                Some(spot) => Err(Missing::by_hole(spot.hole)),
+                None => Err(unreadable(&rewritten.bytes, at as usize, self.variables.target)),
+            },
+            _ => Err(Missing::Unsupported("a result of this kind")),
+        }
+    }
+
+    /// The pieces of an expression without branches, each evaluated by itself, so that those that are known
+    /// have a place.
+    fn pieces(&self, rewritten: &Rewritten<'_>) -> Result<Place, Missing> {
+        let (bytes, target) = (&rewritten.bytes, self.variables.target);
+        let mut pieces = Vec::new();
+        let mut begin = 0;
+        let all = operations(bytes, target);
+        let ends = all.iter().skip(1).map(|operation| operation.offset).chain([bytes.len()]);
+        for (operation, end) in all.iter().zip(ends).filter(|(operation, _)| operation.code == PIECE) {
+            let size = Cursor::new(&bytes[operation.offset + 1..end], target).uleb().unwrap_or(0);
+            let part = bytes.get(begin..end).unwrap_or(&[]);
+            let place = match self.run(part)? {
+                Outcome::Pieces(found) => {
+                    found.into_iter().next().map_or(Err(Missing::OptimizedOut), |piece| place_of(piece.location))
+                }
+                Outcome::Unreadable { at } => Err(match rewritten.hole_at(begin + at as usize) {
+                    Some(spot) => Missing::by_hole(spot.hole),
+                    None => unreadable(part, at as usize, target),
+                }),
+                Outcome::DivisionByZero { .. } => Err(Missing::DivisionByZero),
+                _ => Err(Missing::Unsupported("a result of this kind")),
+            };
+            pieces.push((place, usize::try_from(size).unwrap_or(usize::MAX)));
+            begin = end;
+        }
+        Ok(Place::Pieces(pieces))
+    }
+
+    /// The variable to which an implicit pointer leads, by the bytes of the operation.
+    fn implicit_pointer(&self, die: &Die<'v, 'a>, operation: &[u8]) -> Option<Place> {
+        let encoding = die.unit.encoding();
+        let mut cursor = Cursor::new(operation, self.variables.target);
+        cursor.byte().ok()?;
+        let size = if encoding.version == 2 { encoding.address_size } else { encoding.format.word_size() };
+        let offset = DebugInfoOffset(usize::try_from(cursor.number(size).ok()?).ok()?);
+        let past = cursor.sleb().ok()? as i64;
+        let name = self.variables.units.die(offset)?.name();
+        Some(Place::ImplicitPointer(Pointee { name, past, entry: offset.0 }))
+    }
+
+    /// The frame base of the function, by its expression or list.
+    fn read_frame_base(&self) -> Option<u64> {
+        let (die, value) = self.function.inherited(gimli::DW_AT_frame_base)?;
+        match self.by_attribute(&die, value).ok()? {
+            Place::Register(number) => self.machine.registers.get(number),
+            Place::Memory(address) | Place::Value(address) => Some(address),
+            _ => None,
+        }
+    }
+}
+
+const PIECE: u8 = 0x93;
+
+/// Whether an expression is pieces that can be evaluated one by one.
+fn has_pieces(bytes: &[u8], target: Target) -> bool {
+    let all = operations(bytes, target);
+    let is = |code: u8| all.iter().any(|operation| operation.code == code);
+    is(PIECE) && !is(BRA) && !is(SKIP)
+}
+
+fn place_of(location: Location) -> Result<Place, Missing> {
+    match location {
+        Location::Nowhere => Err(Missing::OptimizedOut),
+        Location::Address(address) => Ok(Place::Memory(address)),
+        Location::Register(number) => Ok(Place::Register(number)),
+        Location::Value(value) => Ok(Place::Value(value)),
+        Location::Bytes(bytes) => Ok(Place::Bytes(bytes)),
+        _ => Err(Missing::Unsupported("a location of this kind")),
+    }
+}
+
+/// The number of bytes of a piece. `None` if it isn't whole bytes.
+fn bytes_of(size: PieceSize) -> Option<usize> {
+    match size {
+        PieceSize::Bytes(size) => usize::try_from(size).ok(),
+        PieceSize::Bits { size, offset } if size % 8 == 0 && offset == 0 => usize::try_from(size / 8).ok(),
+        PieceSize::Bits { .. } => None,
+    }
+}
+
+/// What an operation without a result needs.
+fn unreadable(bytes: &[u8], at: usize, target: Target) -> Missing {
+    let mut cursor = Cursor::new(bytes.get(at..).unwrap_or(&[]), target);
+    let what = match cursor.byte() {
+        Ok(code @ 0x70..=0x8f) => format!("r{}", code - 0x70),
+        Ok(0x92) => cursor.uleb().map_or_else(|_| "a register".to_string(), |number| format!("r{}", number)),
+        Ok(0x91) => "frame base".to_string(),
+        Ok(0x9c) => "CFA".to_string(),
+        Ok(0x97) => "object address".to_string(),
+        _ => "memory".to_string(),
+    };
+    Missing::Unreadable(what)
+}
+
+/// The bytes of a `DW_AT_const_value`.
+fn constant(value: AttributeValue<Slice<'_>>, target: Target) -> Option<Place> {
+    match value {
+        AttributeValue::Block(block) => Some(Place::Bytes(block.slice().to_vec())),
+        // gcc writes numbers that aren't negative in these forms, and others as DW_FORM_sdata.
+        AttributeValue::Data1(number) => Some(Place::Value(number.into())),
+        AttributeValue::Data2(number) => Some(Place::Value(number.into())),
+        AttributeValue::Data4(number) => Some(Place::Value(number.into())),
+        AttributeValue::Data8(number) => Some(Place::Value(number)),
+        AttributeValue::Sdata(number) => Some(Place::Value(number as u64)),
+        AttributeValue::Udata(number) => Some(Place::Value(number)),
+        AttributeValue::Addr(address) => Some(Place::Value(target.wrap(address))),
+        AttributeValue::String(text) => Some(Place::Bytes([text.slice(), &[0]].concat())),
+        _ => None,
+    }
+}

@@ -1,0 +1,91 @@
+//! Writes variables as text: a line for each function, and one for each variable.
+
+use super::{Function, Missing, Value, Variable};
+use crate::elf::plain::Plain;
+use std::fmt;
+
+/// What stands in the place of a name that isn't there.
+const NO_NAME: &str = "?";
+
+impl fmt::Display for Function {
+    fn fmt(&self, f: &mut fmt::Formatter<'_>) -> fmt::Result {
+        let word = if self.is_inlined { "inlined" } else { "function" };
+        write!(f, "{} {}", word, Plain(self.name.as_deref().unwrap_or(NO_NAME)))?;
+        self.source.as_ref().map_or(Ok(()), |source| write!(f, " ({})", Plain(source)))?;
+        writeln!(f)?;
+        self.lines().fmt(f)
+    }
+}
+
+/// The lines of a function's variables.
+#[derive(Clone, Copy, Debug)]
+pub struct Lines<'f>(&'f [Variable]);
+
+impl Function {
+    /// The text without the line of the function.
+    pub fn lines(&self) -> Lines<'_> {
+        Lines(&self.variables)
+    }
+}
+
+impl fmt::Display for Lines<'_> {
+    fn fmt(&self, f: &mut fmt::Formatter<'_>) -> fmt::Result {
+        self.0.iter().try_for_each(|variable| writeln!(f, "    {}", variable))
+    }
+}
+
+impl fmt::Display for Variable {
+    fn fmt(&self, f: &mut fmt::Formatter<'_>) -> fmt::Result {
+        let word = if self.is_parameter { "param" } else { "var" };
+        let name = self.name.as_deref().unwrap_or(NO_NAME);
+        write!(f, "{} {}: {}", word, Plain(name), Plain(&self.type_name))?;
+        match (&self.value, &self.place) {
+            (Ok(value), Ok(place)) => write!(f, " = {} ({})", value, Plain(&place.to_string())),
+            (Err(missing), Ok(place)) => write!(f, ": {} ({})", missing, Plain(&place.to_string())),
+            (_, Err(missing)) => write!(f, ": {}", missing),
+        }
+    }
+}
+
+impl fmt::Display for Value {
+    fn fmt(&self, f: &mut fmt::Formatter<'_>) -> fmt::Result {
+        match self {
+            Value::Plain(text) => write!(f, "{}", Plain(text)),
+            Value::Text { address, prefix, text } => write!(f, "{} {}\"{}\"", address, prefix, text),
+            Value::Pointer(Some(name), value) => write!(f, "&{}, {}", Plain(name), value),
+            Value::Pointer(None, value) => write!(f, "&{}", value),
+            Value::Reference(address, value) => {
+                write!(f, "@{}: ", address)?;
+                write_part(f, value)
+            }
+            Value::Members(members) => {
+                f.write_str("{")?;
+                for (index, (name, value)) in members.iter().enumerate() {
+                    let comma = if index > 0 { ", " } else { "" };
+                    write!(f, "{}{}{}", comma, Plain(name), if name.is_empty() { "" } else { " = " })?;
+                    write_part(f, value)?;
+                }
+                f.write_str("}")
+            }
+            Value::Elements(elements, more) => {
+                f.write_str("{")?;
+                for (index, value) in elements.iter().enumerate() {
+                    f.write_str(if index > 0 { ", " } else { "" })?;
+                    write_part(f, value)?;
+                }
+                if *more > 0 {
+                    write!(f, ", {} more", more)?;
+                }
+                f.write_str("}")
+            }
+            Value::Deeper => f.write_str("{..}"),
+        }
+    }
+}
+
+fn write_part(f: &mut fmt::Formatter<'_>, part: &Result<Value, Missing>) -> fmt::Result {
+    match part {
+        Ok(value) => write!(f, "{}", value),
+        Err(missing) => write!(f, "<{}>", missing),
+    }
+}

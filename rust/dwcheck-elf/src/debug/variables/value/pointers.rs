@@ -1,0 +1,70 @@
+//! Reads pointers and references.
+
+use super::characters::Characters;
+use super::numbers::unsigned;
+use super::{Part, Shape, Value};
+use crate::debug::debug_info::Die;
+use crate::debug::variables::location::Locator;
+use crate::debug::variables::place::{Missing, Place, Pointee};
+use crate::debug::variables::types::{is_function, plain, type_of};
+use gimli::DebugInfoOffset;
+
+impl<'v, 'a> Locator<'v, 'a> {
+    /// A pointer, with the text if it leads to one.
+    pub(super) fn pointer(&self, kind: &Die<'v, 'a>, part: Part<'_>, shape: Shape) -> Result<Value, Missing> {
+        let at = self.address(kind, part)?;
+        let address = format!("{:#x}", at);
+        let characters = type_of(kind).and_then(|target| Characters::of(&target));
+        let text = characters.and_then(|characters| Some((characters, self.text(at, characters, shape.length)?)));
+        Ok(match text {
+            Some((Characters { prefix, .. }, text)) => Value::Text { address, prefix, text },
+            None => Value::Plain(address),
+        })
+    }
+
+    /// A reference, with the value to which it refers.
+    pub(super) fn reference(
+        &self,
+        kind: &Die<'v, 'a>,
+        part: Part<'_>,
+        shape: Shape,
+        left: &mut usize,
+    ) -> Result<Value, Missing> {
+        let at = self.address(kind, part)?;
+        let address = format!("{:#x}", at);
+        let target = match type_of(kind) {
+            Some(target) if !plain(&target).map_or(false, |target| is_function(&target)) => target,
+            _ => return Ok(Value::Plain(address)),
+        };
+        let value = match shape.pointers.checked_sub(1) {
+            Some(pointers) => self.size(&target).and_then(|size| {
+                let part = Part { place: &Place::Memory(at), size, offset: 0 };
+                self.part(&target, part, Shape { pointers, ..shape }, left)
+            }),
+            None => Ok(Value::Deeper),
+        };
+        Ok(Value::Reference(address, Box::new(value)))
+    }
+
+    fn address(&self, kind: &Die<'v, 'a>, part: Part<'_>) -> Result<u64, Missing> {
+        Ok(unsigned(&self.in_order(self.bytes(kind, part)?)) as u64)
+    }
+
+    /// A pointer with the variable to which it leads. `None` if the value of that isn't known, or if the pointer
+    /// leads into it.
+    pub(super) fn followed(&self, pointer: &Die<'v, 'a>, pointee: &Pointee, shape: Shape) -> Option<Value> {
+        let pointers = shape.pointers.checked_sub(1).filter(|_| pointee.past == 0)?;
+        let target = self.variables.units.die(DebugInfoOffset(pointee.entry))?;
+        let place = self.place(&target, false).ok()?;
+        let pointed = type_of(&plain(pointer)?);
+        let characters = pointed.as_ref().and_then(Characters::of);
+        let value = match (&place, &pointee.name, characters) {
+            // The compiler has an entry without a name and a type for the text.
+            (Place::Bytes(bytes), None, Some(characters)) => {
+                Value::Plain(characters.quoted(bytes, self.machine.target))
+            }
+            _ => self.value(type_of(&target).or(pointed).as_ref(), &place, Shape { pointers, ..shape }).ok()?,
+        };
+        Some(Value::Pointer(pointee.name.clone(), Box::new(value)))
+    }
+}

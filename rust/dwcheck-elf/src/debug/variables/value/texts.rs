@@ -1,0 +1,76 @@
+//! Reads texts.
+
+use super::characters::{utf8, Characters};
+use super::numbers::unsigned;
+use super::{Part, Shape, Value};
+use crate::debug::debug_info::Die;
+use crate::debug::variables::location::Locator;
+use crate::debug::variables::place::Missing;
+use crate::debug::variables::types::{is_pointer, number, size_of, type_of};
+
+/// The types of texts of Rust and Go, which are an address and a number of bytes.
+const COUNTED: [&str; 3] = ["&str", "&mut str", "string"];
+
+impl<'v, 'a> Locator<'v, 'a> {
+    /// The text at an address, up to its 0 or to `length` characters. `None` if none of them can be read.
+    pub(super) fn text(&self, address: u64, characters: Characters, length: usize) -> Option<String> {
+        let mut units = Vec::new();
+        while units.len() < length {
+            let at = address.checked_add((units.len() * characters.width) as u64)?;
+            let unit = self.machine.memory(at, characters.width).ok();
+            match unit.map(|bytes| self.machine.target.number(&bytes) as u32) {
+                Some(0) => return Some(characters.escaped(&units)),
+                Some(unit) => units.push(unit),
+                None if units.is_empty() => return None,
+                None => break,
+            }
+        }
+        Some(characters.escaped(&units) + "..")
+    }
+
+    /// A text of Fortran.
+    pub(super) fn string(&self, kind: &Die<'v, 'a>, part: Part<'_>, shape: Shape) -> Result<Value, Missing> {
+        let count = size_of(kind).and_then(|size| usize::try_from(size).ok());
+        let count = count.ok_or(Missing::Unsupported("a length that isn't a constant"))?;
+        self.characters(part, Characters::BYTES, count, shape)
+    }
+
+    /// A text of this many characters that is part of the variable, up to its first 0.
+    pub(super) fn characters(
+        &self,
+        part: Part<'_>,
+        characters: Characters,
+        count: usize,
+        shape: Shape,
+    ) -> Result<Value, Missing> {
+        let length = count.min(shape.length).saturating_mul(characters.width);
+        let bytes = self.machine.bytes(part.place, part.size, part.offset, length)?;
+        Ok(Value::Plain(characters.quoted(&bytes, self.machine.target)))
+    }
+
+    /// A text of Rust or Go: an address and a number of bytes. `None` if the type isn't that of such texts, or
+    /// the bytes aren't known.
+    pub(super) fn counted_text(&self, kind: &Die<'v, 'a>, part: Part<'_>, shape: Shape) -> Option<Value> {
+        if !COUNTED.contains(&kind.name()?.as_str()) {
+            return None;
+        }
+        let members = kind.children().into_iter().filter(|child| child.tag() == Some(gimli::DW_TAG_member));
+        let (first, second) = match members.collect::<Vec<_>>().as_slice() {
+            [first, second] => (first.clone(), second.clone()),
+            _ => return None,
+        };
+        type_of(&first)?.tag().filter(|tag| is_pointer(*tag))?;
+        let (address, count) = (self.word(&first, part)?, usize::try_from(self.word(&second, part)?).ok()?);
+        let bytes = self.machine.memory(address, count.min(shape.length)).ok()?;
+        let more = if count > shape.length { ".." } else { "" };
+        Some(Value::Text { address: format!("{:#x}", address), prefix: "", text: utf8(&bytes) + more })
+    }
+
+    /// The value of a member that is a pointer or a number.
+    fn word(&self, member: &Die<'v, 'a>, part: Part<'_>) -> Option<u64> {
+        let size = usize::try_from(size_of(&type_of(member)?)?).ok().filter(|size| *size <= 8)?;
+        let offset = usize::try_from(number(member, gimli::DW_AT_data_member_location)?).ok()?;
+        let bytes = self.machine.bytes(part.place, part.size, part.offset.checked_add(offset)?, size).ok()?;
+        Some(unsigned(&self.in_order(bytes)) as u64)
+    }
+}

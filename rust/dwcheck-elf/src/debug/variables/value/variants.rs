@@ -1,0 +1,37 @@
+//! Parts of structures of which only one is there, such as the variants of enums of Rust (DWARF 5, 5.7.10).
+
+use super::numbers::{cut, unsigned};
+use super::Part;
+use crate::debug::debug_info::Die;
+use crate::debug::variables::location::Locator;
+use crate::debug::variables::place::Missing;
+use crate::debug::variables::types::{number, type_of};
+
+impl<'v, 'a> Locator<'v, 'a> {
+    /// What is there of the variants of a structure: the children of the one that the discriminant names, or
+    /// else of the one that is for all other discriminants. Empty if there is neither.
+    pub(super) fn chosen(&self, variants: &Die<'v, 'a>, part: Part<'_>) -> Result<Vec<Die<'v, 'a>>, Missing> {
+        let mut all = variants.children();
+        all.retain(|one| one.tag() == Some(gimli::DW_TAG_variant));
+        if all.iter().any(|one| one.attribute(gimli::DW_AT_discr_list).is_some()) {
+            return Err(Missing::Unsupported("a variant for several discriminants"));
+        }
+        let named = match variants.reference(gimli::DW_AT_discr) {
+            Some(member) => {
+                let (discriminant, width) = self.discriminant(&member, part)?;
+                let held = |one: &&Die<'v, 'a>| number(one, gimli::DW_AT_discr_value);
+                all.iter().find(|one| held(one).map_or(false, |held| cut(u128::from(held), width) == discriminant))
+            }
+            None => None,
+        };
+        let is_for_others = |one: &&Die<'v, 'a>| one.attribute(gimli::DW_AT_discr_value).is_none();
+        Ok(named.or_else(|| all.iter().find(is_for_others)).map_or_else(Vec::new, |one| one.children()))
+    }
+
+    /// The number that says which variant is there, and how many bytes it has.
+    fn discriminant(&self, member: &Die<'v, 'a>, part: Part<'_>) -> Result<(u128, usize), Missing> {
+        let kind = type_of(member).ok_or(Missing::Unsupported("no type"))?;
+        let bytes = self.in_order(self.bytes(&kind, self.placed(member, part)?)?);
+        Ok((unsigned(&bytes), bytes.len()))
+    }
+}

@@ -1,0 +1,245 @@
+//! Finds separate files of debug information: by build id in `/usr/lib/debug/.build-id`, or by the
+//! section `.gnu_debuglink`.
+
+use crate::elf::mapped::Bytes;
+use crate::elf::plain::Plain;
+use crate::elf::program::Program;
+use std::ffi::{OsStr, OsString};
+use std::fmt;
+use std::fs::File;
+use std::io;
+use std::os::unix::ffi::OsStrExt;
+use std::path::{Component, Path, PathBuf};
+use typed_arena::Arena;
+
+/// The folder in which separate files of debug information are installed.
+const FOLDER: &str = "usr/lib/debug";
+
+/// The separate files of debug information that were opened, and what was decompressed of them.
+pub struct DebugFiles {
+    /// The folder that stands for `/`.
+    root: PathBuf,
+    files: Arena<Bytes>,
+    unpacked: Arena<Vec<u8>>,
+}
+
+/// Why a file of debug information that was found isn't used.
+#[derive(Clone, Debug, PartialEq, Eq)]
+pub enum NotUsed {
+    /// It can't be read.
+    Unreadable(String),
+    /// Its build id is the first one, that of the program is the second one.
+    BuildId(Vec<u8>, Vec<u8>),
+    /// Its checksum isn't the one in `.gnu_debuglink`.
+    Checksum,
+}
+
+impl DebugFiles {
+    /// Looks for files in the folder `root`, which stands for `/`.
+    pub fn new(root: &Path) -> Self {
+        DebugFiles { root: root.to_path_buf(), files: Arena::new(), unpacked: Arena::new() }
+    }
+
+    /// Where the bytes of sections that are decompressed are kept.
+    pub fn unpacked(&self) -> &Arena<Vec<u8>> {
+        &self.unpacked
+    }
+
+    /// The file of debug information of a program whose file is `path`. `None` if there is none. If
+    /// the file that has its name can't be used, the error has its path and the reason.
+    pub fn of(&self, path: &Path, program: &Program<'_>) -> Result<Option<&Bytes>, (PathBuf, NotUsed)> {
+        Ok(self.find(path, program)?.map(|(_, bytes)| bytes))
+    }
+
+    /// The same file, with its path.
+    pub fn find(&self, path: &Path, program: &Program<'_>) -> Result<Option<(PathBuf, &Bytes)>, (PathBuf, NotUsed)> {
+        if let Some(id) = program.build_id() {
+            let file = self.root.join(FOLDER).join(".build-id").join(name_of(id));
+            if let Some(bytes) = self.open(&file)? {
+                return checked(file, bytes, id);
+            }
+        }
+        match program.debug_link() {
+            Some((name, checksum)) => self.linked(path, program, (name, checksum)),
+            None => Ok(None),
+        }
+    }
+
+    /// The file that `.gnu_debuglink` names: in the program's folder, in `.debug` there, or in the
+    /// folder of debug information.
+    fn linked(
+        &self,
+        path: &Path,
+        program: &Program<'_>,
+        (name, checksum): (&[u8], u32),
+    ) -> Result<Option<(PathBuf, &Bytes)>, (PathBuf, NotUsed)> {
+        let name = Path::new(OsStr::from_bytes(name));
+        let is_plain =
+            name.components().count() == 1 && name.components().all(|part| matches!(part, Component::Normal(_)));
+        let folder = path.parent().and_then(|folder| folder.strip_prefix("/").ok());
+        let folder = match folder.filter(|_| is_plain) {
+            Some(folder) => folder,
+            None => return Ok(None),
+        };
+        let inner = self.root.join(folder);
+        // A file that has the name may be another one, such as the program itself.
+        let mut unfit = None;
+        for file in [inner.join(name), inner.join(".debug").join(name), self.root.join(FOLDER).join(folder).join(name)]
+        {
+            let found = match self.open(&file) {
+                Ok(None) => continue,
+                Ok(Some(bytes)) if crc32fast::hash(bytes) != checksum => Err((file, NotUsed::Checksum)),
+                Ok(Some(bytes)) => checked(file, bytes, program.build_id().unwrap_or(&[])),
+                Err(why) => Err(why),
+            };
+            match found {
+                Ok(found) => return Ok(found),
+                Err(why) => unfit = unfit.or(Some(why)),
+            }
+        }
+        unfit.map_or(Ok(None), Err)
+    }
+
+    /// The file that `.gnu_debugaltlink` of the file `path` names, which has what several such files share: by its
+    /// build id, or by its path, which may be relative to the folder of `path`. If it isn't there, the error says so.
+    pub fn shared(&self, path: &Path, program: &Program<'_>) -> Result<Option<&Bytes>, String> {
+        let (name, id) = match program.debug_alt_link() {
+            Some(found) => found,
+            None => return Ok(None),
+        };
+        let name = Path::new(OsStr::from_bytes(name));
+        let by_id = self.root.join(FOLDER).join(".build-id").join(name_of(id));
+        let has_id = |bytes: &&Bytes| Program::read(bytes).map_or(false, |program| program.build_id() == Some(id));
+        let mut found = std::iter::once(by_id).chain(self.named_by(path, name));
+        let found = found.find_map(|file| self.open(&file).ok().flatten().filter(has_id));
+        found.map(Some).ok_or_else(|| {
+            let name = name.to_string_lossy();
+            format!("the file with debug information that it shares, {}, isn't there", Plain(&name))
+        })
+    }
+
+    /// The files that may have the debug information of units of a program whose file is `path` (`NAME.dwp`): next to
+    /// it, and in the folder of debug information by its path, its name or its build id.
+    pub(crate) fn packages(&self, path: &Path, program: &Program<'_>) -> Vec<(PathBuf, &Bytes)> {
+        let (folder, name) = match (path.parent().and_then(|folder| folder.strip_prefix("/").ok()), path.file_name()) {
+            (Some(folder), Some(name)) => (folder, package_name(name)),
+            _ => return Vec::new(),
+        };
+        let (inner, central) = (self.root.join(folder), self.root.join(FOLDER));
+        let by_name = [inner.join(&name), inner.join(".debug").join(&name), central.join(folder).join(&name)];
+        let by_id = program.build_id().map(|id| central.join(".build-id").join(name_of(id)).with_extension("dwp"));
+        let all = by_name.into_iter().chain([central.join(&name)]).chain(by_id);
+        all.filter_map(|file| Some((file.clone(), self.open(&file).ok()??))).collect()
+    }
+
+    /// Where a file may be that the file `path` names.
+    fn named_by(&self, path: &Path, name: &Path) -> Vec<PathBuf> {
+        let whole = path.canonicalize().ok();
+        let near = [Some(path), whole.as_deref()].into_iter().flatten().filter_map(Path::parent);
+        let inside = |path: PathBuf| path.strip_prefix(&self.root).map_or_else(|_| path.clone(), Path::to_path_buf);
+        near.map(|folder| self.root.join(without_turns(&inside(folder.join(name))))).collect()
+    }
+
+    /// The file at an absolute path. `None` if it isn't there, or can't be read.
+    pub(crate) fn at(&self, path: &Path) -> Option<&Bytes> {
+        let inner = path.strip_prefix("/").ok()?;
+        let goes_down = inner.components().all(|part| matches!(part, Component::Normal(_)));
+        if goes_down {
+            self.open(&self.root.join(inner)).ok()?
+        } else {
+            None
+        }
+    }
+
+    /// Opens a regular file. `None` if it isn't there.
+    fn open(&self, path: &Path) -> Result<Option<&Bytes>, (PathBuf, NotUsed)> {
+        let read = || -> io::Result<Option<Bytes>> {
+            if !path.metadata()?.is_file() {
+                return Ok(None);
+            }
+            let file = File::open(path)?;
+            let size = file.metadata()?.len();
+            Bytes::of_file(&file, size).map(Some)
+        };
+        match read() {
+            Ok(bytes) => Ok(bytes.map(|bytes| &*self.files.alloc(bytes))),
+            Err(error) if error.kind() == io::ErrorKind::NotFound => Ok(None),
+            Err(error) => Err((path.to_path_buf(), NotUsed::Unreadable(error.to_string()))),
+        }
+    }
+}
+
+/// A path without `..`, relative to the folder that stands for `/`.
+fn without_turns(path: &Path) -> PathBuf {
+    let mut straight = PathBuf::new();
+    for part in path.components() {
+        match part {
+            Component::Normal(part) => straight.push(part),
+            Component::ParentDir => {
+                straight.pop();
+            }
+            _ => {}
+        }
+    }
+    straight
+}
+
+/// The name of the package of a program.
+fn package_name(program: &OsStr) -> OsString {
+    let mut name = program.to_os_string();
+    name.push(".dwp");
+    name
+}
+
+/// The name of a file by its build id, such as `3f/2ab01c.debug`.
+fn name_of(id: &[u8]) -> String {
+    let digits = hex(id);
+    let (first, rest) = digits.split_at(digits.len().min(2));
+    format!("{}/{}.debug", first, rest)
+}
+
+/// A build id in hex digits.
+pub(crate) fn hex(id: &[u8]) -> String {
+    id.iter().map(|byte| format!("{:02x}", byte)).collect()
+}
+
+/// Returns a file if it has this build id, or none.
+fn checked<'b>(file: PathBuf, bytes: &'b Bytes, id: &[u8]) -> Result<Option<(PathBuf, &'b Bytes)>, (PathBuf, NotUsed)> {
+    match same_id(bytes, id) {
+        Ok(bytes) => Ok(Some((file, bytes))),
+        Err(why) => Err((file, why)),
+    }
+}
+
+/// Returns the bytes of a file if it has this build id, or none.
+fn same_id<'b>(bytes: &'b Bytes, id: &[u8]) -> Result<&'b Bytes, NotUsed> {
+    let program = Program::read(bytes).map_err(|error| NotUsed::Unreadable(error.to_string()))?;
+    match program.build_id() {
+        Some(other) if other != id && !id.is_empty() => Err(NotUsed::BuildId(other.to_vec(), id.to_vec())),
+        _ => Ok(bytes),
+    }
+}
+
+impl Default for DebugFiles {
+    fn default() -> Self {
+        DebugFiles::new(Path::new("/"))
+    }
+}
+
+impl fmt::Debug for DebugFiles {
+    fn fmt(&self, f: &mut fmt::Formatter<'_>) -> fmt::Result {
+        f.debug_struct("DebugFiles").field("root", &self.root).finish_non_exhaustive()
+    }
+}
+
+impl fmt::Display for NotUsed {
+    fn fmt(&self, f: &mut fmt::Formatter<'_>) -> fmt::Result {
+        match self {
+            NotUsed::Unreadable(error) => write!(f, "can't be read: {}", error),
+            NotUsed::BuildId(own, program) => {
+                write!(f, "not used: its build id is {}, that of the program is {}", hex(own), hex(program))
+            }
+            NotUsed::Checksum => f.write_str("not used: its checksum isn't the one in .gnu_debuglink"),
+        }
+    }
+}

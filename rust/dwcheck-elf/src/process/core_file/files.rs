@@ -1,0 +1,251 @@
+//! Opens the files that a process had mapped into memory when it died.
+
+use super::in_memory::{build_id, has_same_id, image};
+use super::{CoreFile, Mapping};
+use crate::elf::debug_files::DebugFiles;
+use crate::elf::mapped::Bytes;
+use std::collections::{HashMap, HashSet};
+use std::ffi::OsStr;
+use std::fmt;
+use std::fs::File;
+use std::os::unix::ffi::OsStrExt;
+use std::path::{Component, Path, PathBuf};
+
+/// How many of a file's first bytes are compared with the core's memory.
+const COMPARED: usize = 4096;
+
+/// A file that the process had mapped.
+#[derive(Debug)]
+pub struct MappedFile {
+    /// The file's name in the core.
+    pub path: PathBuf,
+    /// The bytes that the file has now, or why they can't be used. If
+    /// [`use_program`](Files::use_program) has replaced them, the bytes of the program.
+    pub bytes: Result<Bytes, FileError>,
+    /// If they can't be used, the bytes of the file that the core has, without section headers, if it has all of its
+    /// segments that can't be written to.
+    image: Option<Bytes>,
+    /// The build id that the core has of it.
+    build_id: Option<Vec<u8>>,
+}
+
+impl MappedFile {
+    /// Whether neither the file nor what the core has of it can be used.
+    pub(crate) fn is_lost(&self) -> bool {
+        self.bytes.is_err() && self.image.is_none()
+    }
+
+    /// The build id that the core has of the file.
+    pub(crate) fn build_id(&self) -> Option<&[u8]> {
+        self.build_id.as_deref()
+    }
+}
+
+/// Why a mapped file can't be used.
+#[derive(Debug)]
+pub enum FileError {
+    /// The file's name isn't an absolute path, or contains `..`. The kernel gives no such name.
+    Name,
+    /// The file can't be read.
+    Read(std::io::Error),
+    /// The file isn't a regular file, or its size is 0, like that of files in `/proc`.
+    NotRegular,
+    /// The file isn't the one that was mapped: its first bytes differ from those in the core.
+    Changed,
+}
+
+/// The files whose code a process had mapped, each once. Other mapped files, such as those with data
+/// alone, aren't opened.
+#[derive(Debug, Default)]
+pub struct Files {
+    files: Vec<MappedFile>,
+    /// The index of each file in `files`, by its name.
+    places: HashMap<Vec<u8>, usize>,
+    debug_files: DebugFiles,
+}
+
+impl Files {
+    /// Opens the files that a core names and of which the process could execute a part. Their paths
+    /// are looked up in the folder `root`, which is `/` for this machine's own files.
+    pub fn read(core: &CoreFile<'_>, root: &Path) -> Self {
+        Files::open(core, root, |mapping| {
+            let path = Path::new(OsStr::from_bytes(mapping.path));
+            below(root, path).and_then(|path| content(&path))
+        })
+    }
+
+    /// Opens the files of which the process with this id, which runs, can execute a part. They are
+    /// the mapped files themselves, even if they were deleted or replaced, as far as this program may
+    /// open these; otherwise the files at their paths.
+    pub fn of_live(core: &CoreFile<'_>, pid: u32) -> Self {
+        let pid = crate::process::maps::alive(pid);
+        let root = PathBuf::from(format!("/proc/{}/root", pid));
+        Files::open(core, &root, |mapping| {
+            let mapped = format!("/proc/{}/map_files/{:x}-{:x}", pid, mapping.begin, mapping.end);
+            let path = Path::new(OsStr::from_bytes(mapping.path));
+            content(Path::new(&mapped)).or_else(|_| below(&root, path).and_then(|path| content(&path)))
+        })
+    }
+
+    fn open(core: &CoreFile<'_>, root: &Path, open: impl Fn(&Mapping<'_>) -> Result<Bytes, FileError>) -> Self {
+        let has_code = |mapping: &&Mapping<'_>| !core.executable_in(&(mapping.begin..mapping.end)).is_empty();
+        let mut starts = starts(core);
+        let mut files = Files { debug_files: DebugFiles::new(root), ..Files::default() };
+        for mapping in core.mappings().iter().filter(has_code) {
+            if files.places.contains_key(mapping.path) {
+                continue;
+            }
+            files.places.insert(mapping.path.to_vec(), files.files.len());
+            let path = PathBuf::from(OsStr::from_bytes(mapping.path));
+            let bytes = open(mapping);
+            let starts = starts.remove(mapping.path).unwrap_or_default();
+            let bytes = bytes.and_then(|bytes| same(core, &starts, bytes));
+            let build_id = starts.iter().find_map(|start| build_id(core.bytes_from(start.begin)?).map(<[u8]>::to_vec));
+            files.files.push(MappedFile { path, bytes, image: None, build_id });
+        }
+        files.take_images(core);
+        files
+    }
+
+    /// Takes the bytes of files that can't be used from the core, all together not more than the core has.
+    fn take_images(&mut self, core: &CoreFile<'_>) {
+        if self.files.iter().all(|file| file.bytes.is_ok()) {
+            return;
+        }
+        let (memory, starts) = (core.held(), starts(core));
+        let mut left = memory.blocks().map(|block| block.bytes.len()).sum();
+        for file in self.files.iter_mut().filter(|file| file.bytes.is_err()) {
+            let starts = starts.get(file.path.as_os_str().as_bytes()).map_or(&[][..], Vec::as_slice);
+            let mut begins = starts.iter().map(|start| start.begin);
+            file.image = begins.find_map(|begin| image(&memory, begin, core.target(), &mut left)).map(Bytes::from);
+        }
+    }
+
+    /// Uses `bytes` as the content of the program's file, for a program that isn't at its path in
+    /// the core anymore. Returns false, and changes nothing, if `bytes` can't be what the process
+    /// had mapped there: the segments have to be those that are mapped, and the first bytes have to
+    /// be those in the core, if the core has them.
+    pub fn use_program(&mut self, core: &CoreFile<'_>, bytes: &Bytes) -> bool {
+        let starts = |path: &[u8]| starts(core).remove(path).unwrap_or_default();
+        let is_mapped = |path: &&[u8]| core.maps_segments(path, bytes) && is_same(core, &starts(path), bytes);
+        let place = core.program_path().filter(is_mapped).and_then(|path| self.places.get(path));
+        match place.and_then(|place| self.files.get_mut(*place)) {
+            Some(file) => {
+                file.bytes = Ok(bytes.clone());
+                file.image = None;
+                true
+            }
+            None => false,
+        }
+    }
+
+    /// The program's file: the one that is mapped at the address of the program's first
+    /// instruction. `None` if the core doesn't have that address or names no file there.
+    pub fn program(&self, core: &CoreFile<'_>) -> Option<&MappedFile> {
+        self.places.get(core.program_path()?).and_then(|place| self.files.get(*place))
+    }
+
+    /// The separate files of debug information, which are opened when they are needed.
+    pub(crate) fn debug_files(&self) -> &DebugFiles {
+        &self.debug_files
+    }
+
+    /// All files, in the order in which the core first names them.
+    pub fn all(&self) -> &[MappedFile] {
+        &self.files
+    }
+
+    /// The index of a file in [`all`](Self::all), and its bytes. `None` if the core doesn't name
+    /// the file, or if its bytes can't be used.
+    pub(super) fn find(&self, path: &[u8]) -> Option<(usize, &[u8])> {
+        let place = *self.places.get(path)?;
+        let bytes = self.files.get(place)?.bytes.as_deref().ok()?;
+        Some((place, bytes))
+    }
+
+    /// The same, but for a file that can't be used, the bytes of it that the core has.
+    pub(super) fn find_image(&self, path: &[u8]) -> Option<(usize, &[u8])> {
+        let place = *self.places.get(path)?;
+        let file = self.files.get(place)?;
+        let bytes = file.bytes.as_deref().ok().or(file.image.as_deref())?;
+        Some((place, bytes))
+    }
+}
+
+/// Where a file that a core names is on this machine: the absolute path `/a/b` is `a/b` in the
+/// folder `root`.
+fn below(root: &Path, path: &Path) -> Result<PathBuf, FileError> {
+    let inner = path.strip_prefix("/").map_err(|_| FileError::Name)?;
+    let goes_down = inner.components().all(|part| matches!(part, Component::Normal(_)));
+    if goes_down {
+        Ok(root.join(inner))
+    } else {
+        Err(FileError::Name)
+    }
+}
+
+/// Opens a regular file. Other files, such as devices and pipes, aren't opened.
+fn content(path: &Path) -> Result<Bytes, FileError> {
+    if !path.metadata().map_err(FileError::Read)?.is_file() {
+        return Err(FileError::NotRegular);
+    }
+    let file = File::open(path).map_err(FileError::Read)?;
+    let size = file.metadata().map_err(FileError::Read)?.len();
+    if size == 0 {
+        return Err(FileError::NotRegular);
+    }
+    Bytes::of_file(&file, size).map_err(FileError::Read)
+}
+
+/// Returns the bytes of a file if the file still seems to be the one that was mapped.
+fn same(core: &CoreFile<'_>, starts: &[&Mapping<'_>], bytes: Bytes) -> Result<Bytes, FileError> {
+    if is_same(core, starts, &bytes) {
+        Ok(bytes)
+    } else {
+        Err(FileError::Changed)
+    }
+}
+
+/// Whether a file with these bytes still seems to be the one that was mapped. `starts` are the
+/// mappings of its beginning. If the core has the beginning of an ELF file there, the file has to
+/// begin with the same bytes, or to have the same build id: a process may change its code. Other files
+/// aren't compared.
+fn is_same(core: &CoreFile<'_>, starts: &[&Mapping<'_>], bytes: &[u8]) -> bool {
+    starts.iter().all(|mapping| {
+        let size = usize::try_from(mapping.end.saturating_sub(mapping.begin)).unwrap_or(COMPARED).min(COMPARED);
+        let held = core.bytes_from(mapping.begin).unwrap_or(&[]);
+        let held = held.get(..size).unwrap_or(held);
+        let held = held.get(..bytes.len()).unwrap_or(held);
+        let is_same = || {
+            bytes.starts_with(held) || core.bytes_from(mapping.begin).map_or(false, |memory| has_same_id(memory, bytes))
+        };
+        !held.starts_with(b"\x7fELF") || is_same()
+    })
+}
+
+/// The mappings of the beginning of each file, by its name, to which nothing is written. In a small
+/// program the other segments are in the file's first page too. That page is then mapped again for
+/// each of them, right after the mapping before it, and the data in it may have changed.
+fn starts<'c>(core: &'c CoreFile<'_>) -> HashMap<&'c [u8], Vec<&'c Mapping<'c>>> {
+    let ends: HashSet<(&[u8], u64)> = core.mappings().iter().map(|mapping| (mapping.path, mapping.end)).collect();
+    let mut starts: HashMap<&[u8], Vec<&Mapping<'_>>> = HashMap::new();
+    for mapping in core.mappings().iter().filter(|mapping| mapping.offset == 0) {
+        if !ends.contains(&(mapping.path, mapping.begin)) {
+            starts.entry(mapping.path).or_default().push(mapping);
+        }
+    }
+    starts
+}
+
+impl fmt::Display for FileError {
+    fn fmt(&self, f: &mut fmt::Formatter<'_>) -> fmt::Result {
+        match self {
+            FileError::Name => f.write_str("isn't the absolute path of a file"),
+            FileError::Read(error) => write!(f, "can't be read: {}", error),
+            FileError::NotRegular => f.write_str("isn't a regular file with bytes"),
+            FileError::Changed => f.write_str("isn't the file that was mapped"),
+        }
+    }
+}
+
+impl std::error::Error for FileError {}

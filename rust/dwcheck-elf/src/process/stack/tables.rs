@@ -1,0 +1,250 @@
+//! The unwind tables of a process's modules. An FDE is checked and compiled when a look-up first
+//! needs it.
+
+use crate::cfi::section_table::{add, SectionTable};
+use crate::elf::program::Program;
+use crate::elf::target::Target;
+use crate::process::core_file::{Image, Module};
+use dwcheck::{Caller, Error, Process, State};
+use std::collections::{HashMap, HashSet};
+use std::ops::Range;
+use std::path::PathBuf;
+
+/// The modules of a process, with the tables that say how to unwind in their code.
+pub(super) struct Tables<'a> {
+    target: Target,
+    modules: Vec<Module<'a>>,
+    /// Where which module's code is, in ascending order.
+    code: Vec<Code>,
+    /// What was read of each file that was needed so far.
+    files: HashMap<FileKey, FileTables<'a>>,
+    process: Process,
+    /// What is known of the FDEs in `process`, by their cookies.
+    compiled: Vec<Compiled>,
+    /// The FDEs that can't be used: the file, the index of its section, and that of the FDE.
+    refused: HashSet<(FileKey, usize, usize)>,
+    problems: Vec<(PathBuf, String)>,
+}
+
+/// The frame sections of a file.
+#[derive(Default)]
+struct FileTables<'a> {
+    /// `.debug_frame` first.
+    sections: Vec<SectionTable<'a>>,
+    /// The address of Go's function `runtime.sigpanic`. Go's signal handler makes it look as if the
+    /// interrupted code had called it.
+    sigpanic: Option<u64>,
+}
+
+/// What tells files apart: the index of a mapped file, or that it is the program or the vDSO. A file
+/// that is mapped several times is read once.
+pub(super) type FileKey = (u8, usize);
+
+/// A part of a module's code: its addresses in the process, and the index of the module.
+#[derive(Clone, Debug)]
+struct Code {
+    range: Range<u64>,
+    module: usize,
+}
+
+/// An address for which a row is needed.
+struct Wanted {
+    address: u64,
+    /// The address in the module's file.
+    linked: u64,
+    file: FileKey,
+    code: Code,
+}
+
+/// An FDE that `dwcheck` has accepted.
+struct Compiled {
+    /// Its first address in the process.
+    begin: u64,
+    is_signal_frame: bool,
+    is_signal_return: bool,
+    /// The addresses in the process at which the return address is signed.
+    signed: Vec<Range<u64>>,
+}
+
+/// The caller of a frame that a row was found for.
+pub(super) struct Found {
+    pub caller: Caller,
+    /// Whether the frame is a signal frame, whose caller was interrupted and didn't call.
+    pub is_signal_frame: bool,
+    /// Whether it is a signal frame to which a handler returns, which didn't call either.
+    pub is_signal_return: bool,
+    /// Whether the return address is signed.
+    pub is_signed: bool,
+}
+
+impl<'a> Tables<'a> {
+    /// The tables of these modules. Reads nothing yet.
+    pub fn new(target: Target, modules: Vec<Module<'a>>) -> Self {
+        let mut tables = Tables {
+            target,
+            modules,
+            code: Vec::new(),
+            files: HashMap::new(),
+            process: Process::new(target.into()),
+            compiled: Vec::new(),
+            refused: HashSet::new(),
+            problems: Vec::new(),
+        };
+        tables.place_code();
+        tables
+    }
+
+    /// Adds a module.
+    pub fn add(&mut self, module: Module<'a>) {
+        self.modules.push(module);
+        self.place_code();
+    }
+
+    fn place_code(&mut self) {
+        let of = |(module, one): (usize, &Module<'_>)| {
+            one.code.iter().map(|range| Code { range: range.clone(), module }).collect::<Vec<_>>()
+        };
+        self.code = self.modules.iter().enumerate().flat_map(of).collect();
+        self.code.sort_by_key(|code| code.range.start);
+    }
+
+    /// The modules.
+    pub fn modules(&self) -> &[Module<'a>] {
+        &self.modules
+    }
+
+    /// The index of the module that has code at an address.
+    pub fn module_at(&self, address: u64) -> Option<usize> {
+        self.code_at(address).map(|code| code.module)
+    }
+
+    /// The files with something that isn't used, and why.
+    pub fn problems(&self) -> &[(PathBuf, String)] {
+        &self.problems
+    }
+
+    fn code_at(&self, address: u64) -> Option<&Code> {
+        let next = self.code.partition_point(|code| code.range.start <= address);
+        self.code.get(next.checked_sub(1)?).filter(|code| code.range.contains(&address))
+    }
+
+    /// The caller of the frame that is looked up at an address. `None` if no FDE that can be used
+    /// covers the address.
+    pub fn caller(&mut self, address: u64, state: &State<'_>) -> Result<Option<Found>, Error> {
+        if self.process.module_at(address).is_none() {
+            self.compile(address)?;
+        }
+        let compiled = self.compiled_at(address);
+        let caller = self.process.unwind(address, state)?;
+        Ok(compiled.zip(caller).map(|(compiled, caller)| Found {
+            caller,
+            is_signal_frame: compiled.is_signal_frame,
+            is_signal_return: compiled.is_signal_return,
+            is_signed: compiled.signed.iter().any(|range| range.contains(&address)),
+        }))
+    }
+
+    /// The same, but only if an FDE begins at the address.
+    pub fn caller_at_begin(&mut self, address: u64, state: &State<'_>) -> Result<Option<Found>, Error> {
+        let caller = self.caller(address, state)?;
+        Ok(caller.filter(|_| self.compiled_at(address).map_or(false, |compiled| compiled.begin == address)))
+    }
+
+    /// Whether an FDE that can be used covers an address.
+    pub fn covers(&mut self, address: u64) -> Result<bool, Error> {
+        if self.process.module_at(address).is_none() {
+            self.compile(address)?;
+        }
+        Ok(self.compiled_at(address).is_some())
+    }
+
+    fn compiled_at(&self, address: u64) -> Option<&Compiled> {
+        self.process.module_at(address).and_then(|module| self.compiled.get(module.cookie as usize))
+    }
+
+    /// Checks and compiles the FDE that covers an address, if there is one that can be used.
+    fn compile(&mut self, address: u64) -> Result<(), Error> {
+        let code = match self.code_at(address) {
+            Some(code) => code.clone(),
+            None => return Ok(()),
+        };
+        let module = &self.modules[code.module];
+        let file = key(module);
+        let linked = self.target.wrap(address.wrapping_sub(module.bias));
+        let problems = &mut self.problems;
+        let tables = self.files.entry(file).or_insert_with(|| {
+            let (tables, unread) = read(module);
+            problems.extend(unread.into_iter().map(|problem| (module.path.clone(), problem)));
+            tables
+        });
+        let count = tables.sections.len();
+        let wanted = Wanted { address, linked, file, code };
+        for section in 0..count {
+            if self.compile_in(section, &wanted)? {
+                break;
+            }
+        }
+        Ok(())
+    }
+
+    /// Does [`compile`](Self::compile) with one of the file's sections. Returns whether an FDE was
+    /// added.
+    fn compile_in(&mut self, section: usize, wanted: &Wanted) -> Result<bool, Error> {
+        let module = &self.modules[wanted.code.module];
+        let FileTables { sections, sigpanic } = &self.files[&wanted.file];
+        let table = &sections[section];
+        let piece = match table.find(wanted.linked) {
+            Some(piece) if !self.refused.contains(&(wanted.file, section, piece.fde)) => piece,
+            _ => return Ok(false),
+        };
+        // The addresses of the piece in the process, as far as they are in this code.
+        let before = wanted.linked - piece.range.start;
+        let after = piece.range.end - wanted.linked;
+        let begin = wanted.address.saturating_sub(before).max(wanted.code.range.start);
+        let end = wanted.address.saturating_add(after).min(wanted.code.range.end);
+        let cookie = self.compiled.len() as u64;
+        let added = table.one(piece.fde).map(|one| {
+            let loaded = one.format.module(&one.bytes, module.bias).cookie(cookie).range(begin..=end - 1);
+            (add(&mut self.process, &one, &loaded, wanted.address), one)
+        });
+        let reason = match added {
+            Ok((Ok(()), one)) => {
+                let move_by =
+                    |range: &Range<u64>| range.start.wrapping_add(module.bias)..range.end.wrapping_add(module.bias);
+                let signed = one.signed.iter().map(move_by).collect();
+                let is_signal_frame = one.is_signal_frame || *sigpanic == Some(piece.range.start);
+                let begin = piece.range.start.wrapping_add(module.bias);
+                self.compiled.push(Compiled { begin, is_signal_frame, is_signal_return: one.is_signal_frame, signed });
+                return Ok(true);
+            }
+            Ok((Err(Error::Refused(fault)), _)) => fault.name(),
+            Ok((Err(error), _)) => return Err(error),
+            Err(reason) => reason,
+        };
+        self.problems.push((module.path.clone(), table.problem(piece.fde, reason)));
+        self.refused.insert((wanted.file, section, piece.fde));
+        Ok(false)
+    }
+}
+
+/// What tells the file of a module from others.
+pub(super) fn key(module: &Module<'_>) -> FileKey {
+    match module.image {
+        Image::File(place, _) => (0, place),
+        Image::Program(_) => (1, 0),
+        Image::Vdso(_) => (2, 0),
+    }
+}
+
+/// Reads the frame sections of a module, and says which can't be used.
+fn read<'a>(module: &Module<'a>) -> (FileTables<'a>, Vec<String>) {
+    match Program::read(module.image.bytes()) {
+        Ok(program) => {
+            let (sections, problems) = SectionTable::all(&program);
+            let functions = program.has_section(".gopclntab").then(|| program.functions());
+            let sigpanic = functions.and_then(|functions| functions.address_of("runtime.sigpanic").ok());
+            (FileTables { sections, sigpanic }, problems)
+        }
+        Err(error) => (FileTables::default(), vec![error.to_string()]),
+    }
+}
