@@ -114,7 +114,7 @@ build/dwcheck-elf: build/libdwcheck.a FORCE
 	    rm -f $@; \
 	    echo "dwcheck-elf is left out; make packages installs what it needs: $$missing"; \
 	else \
-	    cd rust/dwcheck-elf && DWCHECK_LIB_DIR=$(CURDIR)/build CARGO_TARGET_DIR=$(CURDIR)/build/cargo \
+	    cd rust/dwcheck-command && DWCHECK_LIB_DIR=$(CURDIR)/build CARGO_TARGET_DIR=$(CURDIR)/build/cargo \
 	        ../cargo.sh build --quiet --release --bin dwcheck-elf && \
 	    { cmp -s $(CURDIR)/build/cargo/release/dwcheck-elf $(CURDIR)/$@ || cp $(CURDIR)/build/cargo/release/dwcheck-elf $(CURDIR)/$@; }; \
 	fi

@@ -13,7 +13,7 @@
 #              there are also runs in which each request for memory fails in turn
 #     ANSWERS  eh_frame_answers, an example of rust/dwcheck: then what the library finds in .eh_frame
 #              sections is compared with a model
-#     DAMAGED  damaged_eh_frame, an example of rust/dwcheck-elf: then damaged .eh_frame sections are
+#     DAMAGED  damaged_eh_frame, an example of rust/dwcheck-command: then damaged .eh_frame sections are
 #              checked, and compared with gimli
 #     SEED     a number that chooses the random cases; 1 if not set
 #     COUNT    the number of random cases of each kind; 2000 if not set

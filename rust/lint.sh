@@ -9,7 +9,8 @@ mkdir -p "$DWCHECK_LIB_DIR"
 ar rcs "$DWCHECK_LIB_DIR/libdwcheck.a"
 . "$top/tools/each_test.sh"
 
-for crate in rust/dwcheck-sys rust/dwcheck rust/dwcheck-lint rust/dwcheck-elf examples/rust; do
+for crate in rust/dwcheck-sys rust/dwcheck rust/dwcheck-lint rust/dwcheck-elf rust/dwcheck-profile rust/dwcheck-trace \
+    rust/dwcheck-command examples/rust; do
     cd "$top/$crate"
     test_of "rustfmt of $crate" cargo fmt --check
     # Later versions of clippy leave out format_push_string unless it is asked for.

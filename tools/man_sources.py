@@ -1,7 +1,7 @@
 """What source files say of programs and libraries, in Markdown, for tools/man.py.
 
 The commands of a program and their options are read from the source text that describes them to clap:
-doc comments and attributes (arguments.rs of dwcheck-elf), or a list of outlines (command_line.rt of dwcheck).
+doc comments and attributes (arguments.rs of dwcheck-command), or a list of outlines (command_line.rt of dwcheck).
 The calls of a library are read from its header.
 """
 import pathlib
@@ -85,7 +85,7 @@ class Member:
             return self.attribute("default_value")
         *path, name = text.split("::")
         if path and name.isupper():
-            file = f"rust/dwcheck-elf/src/{path[-1]}.rs"
+            file = f"rust/{path[0].replace('_', '-')}/src/{path[1] if path[1:] else 'lib'}.rs"
             found = re.search(rf"const {name}: \w+ = (\w+);", read(file))
             if not found:
                 raise ValueError(f"{file} has no number {name}")

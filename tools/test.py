@@ -35,6 +35,8 @@ LOGS = BUILD / "test"
 PROVED = LOGS / "proved"
 # Without debug information the tests are compiled in less time.
 RUST = {"DWCHECK_LIB_DIR": str(BUILD), "CARGO_TARGET_DIR": str(BUILD / "cargo-test"), "CARGO_PROFILE_DEV_DEBUG": "0"}
+# The crates that the stage `elf` tests. It builds no examples, which the stage `lint` checks.
+ELF = "--no-fail-fast -p dwcheck-elf -p dwcheck-profile -p dwcheck-trace -p dwcheck-command"
 # How many seconds a stage may be silent before a line says that it goes on.
 SILENCE = 60
 
@@ -139,7 +141,8 @@ STAGES = [
           environment=RUST),
     Stage("pages", "the commands in README.md and docs/", "bench/pages.py build/dwcheck --elf build/dwcheck-elf --slow", counted_pages,
           progress="^(.*): [0-9]+ commands, .*"),
-    Stage("elf", "rust/dwcheck-elf", "cd rust/dwcheck-elf && ../cargo.sh test --no-fail-fast", counted_by_cargo,
+    Stage("elf", "the program dwcheck-elf and its libraries", f"cd rust && ./cargo.sh test {ELF} --lib --bins --tests && ./cargo.sh test {ELF} --doc",
+          counted_by_cargo,
           environment=RUST | {"DWCHECK": str(BUILD / "dwcheck")}),
     Stage("cases", "cases over the program dwcheck", "/usr/bin/python3 tests/dwcheck/run.py build/dwcheck", counted_lines),
     Stage("library", "cases over the library for C", "/usr/bin/python3 tests/library/run.py build/libdwcheck.so.2.0.0", counted_lines),

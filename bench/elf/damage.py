@@ -8,7 +8,7 @@ are changed in headers, in sections and anywhere, and some files are cut short. 
 folders of 250 ELF files, and `check`, `rows`, `row`, `locs` and `vars` on every 50th file. `stack` is
 run on each core file, and, for the kind `program`, with `--vars` on a core file that isn't changed with
 its program, which is: its tables, symbols, debug information and .gnu_debugdata. `profile` is run on
-each recording, which is one of rust/dwcheck-elf/tests/recordings, with each format in turn. Each run must end within 60
+each recording, which is one of rust/dwcheck-command/tests/recordings, with each format in turn. Each run must end within 60
 seconds, in 1 GB of address space, with an exit status that dwcheck-elf documents, and without a
 panic. A survey must write a line of JSON for each different file that still begins as an ELF file
 does, and one line of totals. This needs gcc, clang, gdb, binutils and xz.
@@ -44,7 +44,7 @@ __attribute__((noinline)) double mixed(double d, int n) {
 int main(int argc, char **argv) { return mixed(argc, argc) + deep(argc + 3); }
 """
 IN_A_FOLDER = 250
-RECORDINGS = os.path.join(os.path.dirname(os.path.abspath(__file__)), "../../rust/dwcheck-elf/tests/recordings")
+RECORDINGS = os.path.join(os.path.dirname(os.path.abspath(__file__)), "../../rust/dwcheck-command/tests/recordings")
 FORMATS = ["script", "folded", "html", "speedscope", "pprof", "top"]
 # How many bytes of address space a run may take.
 MEMORY = 1 << 30

@@ -17,7 +17,7 @@ prints what it found until then. Only files with .debug_loc or .debug_loclists c
     refused                a list breaks a rule; the lines at the end say which ones
     unread                 a list or .debug_info can't be read, or differs from what gimli reads
 
-LIST_LOOKUPS is the example of rust/dwcheck-elf, which `cargo build --release --example list_lookups` makes.
+LIST_LOOKUPS is the example of rust/dwcheck-command, which `cargo build --release --example list_lookups` makes.
 It looks up addresses in each list of the same files, by the library and by gimli.
 
 The exit status is 1 if a file is unread, if a look-up isn't gimli's, or if a run of a program fails.

@@ -3,7 +3,7 @@
 
     bench/elf/package_rows.py EH_ROWS COUNT SEED [FOLDER]       some 20 minutes for 200 packages
 
-EH_ROWS is the example eh_rows of rust/dwcheck-elf. Packages that aren't installed here and have 1.5
+EH_ROWS is the example eh_rows of rust/dwcheck-command. Packages that aren't installed here and have 1.5
 to 25 MB are drawn, fetched with `apt-get download`, unpacked in FOLDER, and removed again, until
 COUNT of them had `.eh_frame` sections. Prints a line for each of these, what differs or is refused,
 and the sums. This needs apt with its lists of packages (`apt-get update`).

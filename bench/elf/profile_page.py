@@ -3,7 +3,7 @@
 
     bench/elf/profile_page.py DWCHECK_ELF [--screenshot FILE]
 
-The page is that of a recording of spin.c (rust/dwcheck-elf/tests/recordings). A click on a function has
+The page is that of a recording of spin.c (rust/dwcheck-command/tests/recordings). A click on a function has
 to give it the whole width, a search has to mark what it names, `inverted` has to put what ran at the top,
 and a time range has to leave out the samples before and after it. Needs chromium. The last line is `ok`,
 or the exit status is 1.
@@ -16,7 +16,7 @@ import tempfile
 from browser import finish, use
 
 TOP = os.path.dirname(os.path.dirname(os.path.dirname(os.path.abspath(__file__))))
-RECORDINGS = os.path.join(TOP, "rust/dwcheck-elf/tests/recordings")
+RECORDINGS = os.path.join(TOP, "rust/dwcheck-command/tests/recordings")
 
 # What is done with the page. `said` collects what is seen.
 ACTIONS = """

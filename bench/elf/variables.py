@@ -8,7 +8,7 @@ random: of functions whose name in the symbol table contains WORD, if it is give
 of a program in Rust. At each stop it writes a state file with the registers, the stack and the program's own data, and the
 values of the variables that it has in scope, in the function and in those that are inlined there. `vars` gets
 the state file, which stays in FOLDER if it is given. The file `times` there names all of them, for the example
-variables_times of rust/dwcheck-elf. Each variable is counted in one of these lines; all but the first two have examples:
+variables_times of rust/dwcheck-command. Each variable is counted in one of these lines; all but the first two have examples:
 
     equal                    both have the same value
     neither                  neither of the two has a value

@@ -23,10 +23,6 @@ pub use debug::{expression, lines, loclists, variables};
 pub use elf::{abi, debug_files, functions, image, mapped, other_file, program, relocate, target};
 pub use process::{core_file, live, modules, stack, state_file};
 
-pub mod profile;
-#[cfg(all(target_os = "linux", target_arch = "x86_64"))]
-pub mod trace;
-
 /// The location lists of a program.
 pub mod lists {
     pub use crate::check::lists::{compare_look_ups, inspect_lists};
@@ -37,4 +33,15 @@ pub mod lists {
 pub mod names {
     pub use crate::elf::names::demangled;
     pub use crate::elf::spot::Spot;
+}
+
+/// What the crates `dwcheck-profile` and `dwcheck-trace` use beside the public modules. It is no part of the interface.
+#[doc(hidden)]
+pub mod internal {
+    pub use crate::cfi::section_table::{add, OneFde, SectionTable};
+    pub use crate::check::page;
+    pub use crate::elf::bytes::{Cursor, ReadError};
+    pub use crate::elf::names::short_name;
+    pub use crate::process::maps::Process;
+    pub use crate::process::stack::{ends_with_call, Names};
 }

@@ -6,8 +6,10 @@ use std::ops::Range;
 
 /// A range of addresses, and the index of the FDE that counts there.
 #[derive(Clone, Debug, PartialEq, Eq)]
-pub(crate) struct Piece {
+pub struct Piece {
+    /// The addresses.
     pub range: Range<u64>,
+    /// The index of the FDE.
     pub fde: usize,
 }
 

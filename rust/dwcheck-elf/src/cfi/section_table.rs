@@ -11,7 +11,7 @@ use std::ops::Range;
 
 /// The FDEs of a frame section, by address.
 #[derive(Debug)]
-pub(crate) struct SectionTable<'a> {
+pub struct SectionTable<'a> {
     section: FrameSection<'a>,
     records: Vec<Record>,
     /// Which record counts at which address.
@@ -20,9 +20,12 @@ pub(crate) struct SectionTable<'a> {
 
 /// An FDE with its CIE, as a section for the library.
 #[derive(Debug)]
-pub(crate) struct OneFde {
+pub struct OneFde {
+    /// The bytes of the section.
     pub bytes: Vec<u8>,
+    /// What has to be known to read it.
     pub format: Format,
+    /// Whether the frames of its code are signal frames.
     pub is_signal_frame: bool,
     /// The addresses at which the return address is signed.
     pub signed: Vec<Range<u64>>,
@@ -121,7 +124,7 @@ impl OneFde {
 /// Adds an FDE to a process, for the addresses of `loaded`, or, if another FDE answers for one of
 /// these, for `address` alone. A remember_state that is left over at the end of the FDE changes no
 /// row, so the rows of such an FDE are used too.
-pub(crate) fn add(process: &mut Process, one: &OneFde, loaded: &dwcheck::Module, address: u64) -> Result<(), Error> {
+pub fn add(process: &mut Process, one: &OneFde, loaded: &dwcheck::Module, address: u64) -> Result<(), Error> {
     let mut add = |bytes: &[u8]| match process.add(bytes, loaded.clone()) {
         Err(Error::Overlaps(_)) => process.add(bytes, loaded.clone().range(address..=address)),
         added => added,

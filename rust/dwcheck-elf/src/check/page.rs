@@ -10,7 +10,7 @@ const MARK: &str = "@DATA@";
 /// # Errors
 ///
 /// Those of `out`.
-pub(crate) fn write<W: Write>(
+pub fn write<W: Write>(
     page: &str,
     out: &mut W,
     data: impl FnOnce(&mut Escaped<'_, W>) -> io::Result<()>,
@@ -22,7 +22,7 @@ pub(crate) fn write<W: Write>(
 }
 
 /// Writes JSON so that HTML doesn't see an element in it.
-pub(crate) struct Escaped<'w, W>(&'w mut W);
+pub struct Escaped<'w, W>(&'w mut W);
 
 impl<W: Write> Write for Escaped<'_, W> {
     fn write(&mut self, bytes: &[u8]) -> io::Result<usize> {
@@ -44,7 +44,7 @@ impl<W: Write> Write for Escaped<'_, W> {
 }
 
 /// Writes items with commas between them.
-pub(crate) fn separated<T, W: Write>(
+pub fn separated<T, W: Write>(
     out: &mut W,
     all: impl Iterator<Item = T>,
     mut one: impl FnMut(T, &mut W) -> io::Result<()>,

@@ -4,7 +4,7 @@ use crate::elf::target::Target;
 
 /// Why a number can't be read.
 #[derive(Clone, Copy, Debug, PartialEq, Eq)]
-pub(crate) enum ReadError {
+pub enum ReadError {
     /// The bytes end before the number does.
     Truncated,
     /// A LEB128 number doesn't fit in 64 bits.
@@ -13,7 +13,7 @@ pub(crate) enum ReadError {
 
 /// A section, and the offset in it of the next byte to read.
 #[derive(Clone, Debug)]
-pub(crate) struct Cursor<'a> {
+pub struct Cursor<'a> {
     bytes: &'a [u8],
     at: usize,
     target: Target,

@@ -52,7 +52,7 @@ impl Bytes {
     }
 
     /// The bytes of a regular file with `size` bytes.
-    pub(crate) fn of_file(file: &File, size: u64) -> io::Result<Bytes> {
+    pub fn of_file(file: &File, size: u64) -> io::Result<Bytes> {
         if size == 0 {
             return Ok(Bytes::from(Vec::new()));
         }
@@ -65,7 +65,7 @@ impl Bytes {
 
     /// Gives back the memory of the bytes in a range, which won't be read again soon. If they are read, they are
     /// those of the file, as before.
-    pub(crate) fn give_back(&self, range: Range<usize>) {
+    pub fn give_back(&self, range: Range<usize>) {
         let bytes = match &*self.0 {
             Held::Mapped(bytes) => bytes,
             Held::Read(_) => return,

@@ -69,7 +69,7 @@ pub(crate) fn shown_name(symbol: &str) -> String {
 }
 
 /// The same without the return type and the parameters of C++ functions, as perf shows names.
-pub(crate) fn short_name(symbol: &str) -> String {
+pub fn short_name(symbol: &str) -> String {
     shown(&demangled_with(symbol, Form::Short)).collect()
 }
 

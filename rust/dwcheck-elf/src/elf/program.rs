@@ -232,7 +232,7 @@ impl<'data> Program<'data> {
     }
 
     /// The file's build id, which its file of debug information has too.
-    pub(crate) fn build_id(&self) -> Option<&'data [u8]> {
+    pub fn build_id(&self) -> Option<&'data [u8]> {
         self.file.build_id().ok().flatten()
     }
 

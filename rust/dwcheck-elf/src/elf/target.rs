@@ -52,7 +52,7 @@ impl Target {
     }
 
     /// Appends the low `size` bytes of `number`.
-    pub(crate) fn push(self, bytes: &mut Vec<u8>, number: u64, size: u8) {
+    pub fn push(self, bytes: &mut Vec<u8>, number: u64, size: u8) {
         let size = usize::from(size.min(8));
         match self.order {
             Order::Little => bytes.extend(number.to_le_bytes().iter().take(size)),
@@ -61,7 +61,7 @@ impl Target {
     }
 
     /// The unsigned number that up to 8 bytes hold.
-    pub(crate) fn number(self, bytes: &[u8]) -> u64 {
+    pub fn number(self, bytes: &[u8]) -> u64 {
         let add = |number: u64, byte: &u8| number << 8 | u64::from(*byte);
         match self.order {
             Order::Little => bytes.iter().rev().fold(0, add),

@@ -31,13 +31,16 @@ pub struct Map {
 
 /// A process, by its id.
 #[derive(Debug)]
-pub(crate) struct Process {
+pub struct Process {
+    /// The id.
     pub id: u32,
     /// A thread that has the process's memory.
     alive: u32,
+    /// The parts of its memory, ascending by address.
     pub maps: Vec<Map>,
     /// The auxiliary vector.
     pub auxiliary: Vec<u8>,
+    /// The name of its first thread.
     pub name: Option<String>,
 }
 
@@ -55,6 +58,7 @@ pub enum LiveError {
 }
 
 impl Process {
+    /// Reads what `/proc` has of a process.
     pub fn read(id: u32) -> Result<Process, LiveError> {
         let alive = alive(id);
         let folder = PathBuf::from(format!("/proc/{}", alive));
@@ -86,6 +90,7 @@ impl Process {
         Ok(tids)
     }
 
+    /// The name of a thread, by its id.
     pub fn thread_name(&self, tid: u32) -> Option<String> {
         let name = fs::read(format!("/proc/{}/task/{}/comm", self.id, tid)).ok()?;
         Some(String::from_utf8_lossy(&name).trim_end_matches('\n').to_string())

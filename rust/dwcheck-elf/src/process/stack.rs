@@ -23,11 +23,10 @@ mod variables;
 mod walker;
 
 pub use crate::debug::lines::SourceLine;
-pub(crate) use guess::ends_with_call;
+pub use guess::ends_with_call;
 pub use instruction::Instruction;
 pub use listed::Listed;
-pub(crate) use names::Names;
-pub use names::{Inlined, NameOptions, Place};
+pub use names::{Inlined, NameOptions, Names, Place};
 pub use text::Lines;
 
 use crate::debug::variables::{Shape, Variables};

@@ -137,7 +137,7 @@ impl Guesser<'_> {
 
 /// Whether bytes of x86 code end with a near call: e8 and four bytes, or ff, a ModRM byte whose
 /// middle bits are 2, and what this byte says that follows.
-pub(crate) fn ends_with_call(code: &[u8; 7]) -> bool {
+pub fn ends_with_call(code: &[u8; 7]) -> bool {
     let is_indirect = |length: usize| {
         let (code, modrm) = (code[7 - length], code[8 - length]);
         code == 0xff && modrm >> 3 & 7 == 2 && length_of(modrm) == length

@@ -96,7 +96,7 @@ impl Debug<'_> {
 }
 
 /// The names of a module.
-pub(crate) struct Names<'a> {
+pub struct Names<'a> {
     /// The build id of the file, in hex digits.
     pub build_id: Option<String>,
     functions: Functions<'a>,
@@ -214,7 +214,7 @@ impl<'a> Names<'a> {
     }
 
     /// The same, with the functions that a file of its own has there, the outermost first.
-    pub fn place_in(&self, address: u64, looked_up: u64, called: Vec<Called>, options: NameOptions) -> Place {
+    pub(crate) fn place_in(&self, address: u64, looked_up: u64, called: Vec<Called>, options: NameOptions) -> Place {
         let line = match &self.debug {
             Debug::Lines(lines) => lines.line(looked_up),
             _ => None,

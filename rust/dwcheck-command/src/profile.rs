@@ -1,0 +1,201 @@
+//! The command `profile`: writes the stacks that perf recorded.
+
+mod summary;
+
+use crate::arguments::{Format, ProfileWords};
+use crate::end::{shown, Done, Failure};
+use crate::output::{check_apart, Output};
+use crate::survey::STACK;
+use dwcheck_elf::text::Plain;
+use dwcheck_profile::script::ScriptOptions;
+use dwcheck_profile::{firefox, folded, html, pprof, script, speedscope, top};
+use dwcheck_profile::{Damage, Event, NameOptions, Names, Options, Places, Profile, Recording};
+use indicatif::{ProgressBar, ProgressStyle};
+use std::fs::File;
+use std::io::Write;
+use std::ops::RangeInclusive;
+use std::path::Path;
+
+/// Writes the profile of a recording on `out` or to a file, and a summary on standard error.
+pub fn profile(words: &ProfileWords, out: &mut impl Write) -> Result<Done, Failure> {
+    if let Some(output) = &words.output {
+        check_apart(output, words.kallsyms.as_deref().into_iter().chain([opened(&words.recording)]))?;
+    }
+    start_threads(words)?;
+    let (profile, names) = read(words)?;
+    check_event(words, &profile.events)?;
+    match &words.output {
+        None => write(words, &profile, &names, out)?,
+        Some(path) => {
+            let mut output = Output::create(path)?;
+            write(words, &profile, &names, output.writer())?;
+            output.finish()?;
+        }
+    }
+    out.flush()?;
+    summary::write(words, &profile, &names);
+    let done = if profile.damage.is_some() { Done::Unread } else { Done::Accepted };
+    // The program ends now. To free each table and each text before that would only take time.
+    std::mem::forget((profile, names));
+    Ok(done)
+}
+
+/// Starts as many threads as are asked for.
+fn start_threads(words: &ProfileWords) -> Result<(), Failure> {
+    let threads = rayon::ThreadPoolBuilder::new().num_threads(words.jobs.unwrap_or(0)).stack_size(STACK);
+    threads.build_global().map_err(|error| Failure::File(format!("no threads: {}", error)))
+}
+
+/// Reads the recording.
+fn read(words: &ProfileWords) -> Result<(Profile, Names), Failure> {
+    let options = options(words)?;
+    let kernel = words.kallsyms.clone();
+    if let Some(path) = &kernel {
+        File::open(path).map_err(|error| Failure::reading(path, &error))?;
+    }
+    let mut recording = open(&words.recording)?;
+    check_event(words, recording.about().events())?;
+    let bar = bar(recording.size());
+    // This runs in one of the threads, which have stacks of the size that is asked for.
+    Ok(rayon::scope(|_| {
+        let profile = Profile::read(&mut recording, &options, |position| {
+            bar.set_position(position);
+            true
+        });
+        bar.finish_and_clear();
+        let names = Names::read(&profile, &NameOptions { inlined: !words.no_inline, lines: words.lines, kernel });
+        (profile, names)
+    }))
+}
+
+/// Refuses an event that wasn't recorded. A recording that comes through a pipe has no events until it is read.
+fn check_event(words: &ProfileWords, events: &[Event]) -> Result<(), Failure> {
+    let name = match words.event.as_ref() {
+        Some(name) if !events.is_empty() && events.iter().all(|event| event.name != *name) => name,
+        _ => return Ok(()),
+    };
+    let mut known: Vec<_> = events.iter().map(|event| Plain(&event.name).to_string()).collect();
+    known.dedup();
+    let (name, recording, known) = (Plain(name), shown(&words.recording), known.join(", "));
+    Err(Failure::Argument(format!("bad argument: --event {}: {} has no such event; it has {}", name, recording, known)))
+}
+
+fn write(words: &ProfileWords, profile: &Profile, names: &Names, out: &mut impl Write) -> Result<(), Failure> {
+    let event = profile.sampled_events().first().copied().unwrap_or(0);
+    match words.format {
+        Format::Folded => folded::write(profile, names, event, out)?,
+        Format::Script => script::write(profile, names, ScriptOptions { stops: words.stops }, out)?,
+        Format::Html => html::write(profile, names, event, &title(words, profile), out)?,
+        Format::Speedscope => speedscope::write(profile, names, event, out)?,
+        Format::Pprof => pprof::write(profile, names, out)?,
+        Format::Firefox => firefox::write(profile, names, event, &title(words, profile), out)?,
+        Format::Top => top::write(profile, names, event, words.rows, out)?,
+    }
+    Ok(())
+}
+
+/// What was recorded: perf's command line, or else the recording's name.
+fn title(words: &ProfileWords, profile: &Profile) -> String {
+    match profile.features.command.as_slice() {
+        [] => shown(&words.recording),
+        command => command.join(" "),
+    }
+}
+
+/// The path that is opened for a recording.
+fn opened(recording: &Path) -> &Path {
+    match recording == Path::new("-") {
+        true => Path::new("/dev/stdin"),
+        false => recording,
+    }
+}
+
+fn open(path: &Path) -> Result<Recording<'static>, Failure> {
+    let opened = opened(path);
+    let cannot = |error: &dyn std::fmt::Display| Failure::File(format!("cannot read {}: {}", shown(path), error));
+    let file = File::open(opened).map_err(|error| cannot(&error))?;
+    let metadata = file.metadata().map_err(|error| cannot(&error))?;
+    let recording = match metadata {
+        folder if folder.is_dir() => Recording::of_folder(opened),
+        regular if regular.is_file() => Recording::of_file(&file),
+        _ => Recording::of_pipe(file),
+    };
+    recording.map_err(|damage| unread(path, &damage))
+}
+
+/// The failure for a recording that can't be opened. Of a folder, it names the file.
+fn unread(path: &Path, damage: &Damage) -> Failure {
+    match damage {
+        Damage::InFile(name, why) if name == "data" => Failure::File(format!(
+            "{}: {}; give a file, or a folder that perf record --threads wrote",
+            shown(&path.join(name)),
+            why
+        )),
+        Damage::InFile(name, why) => Failure::File(format!("{}: {}", shown(&path.join(name)), why)),
+        _ => Failure::File(format!("{}: {}", shown(path), damage)),
+    }
+}
+
+/// Shows on a terminal how much of the recording was read.
+fn bar(size: Option<u64>) -> ProgressBar {
+    let bar = match size {
+        Some(size) => ProgressBar::new(size),
+        None => return ProgressBar::hidden(),
+    };
+    match ProgressStyle::with_template("{bar:40} {bytes} of {total_bytes}, {eta} left") {
+        Ok(style) => bar.with_style(style),
+        Err(_) => bar,
+    }
+}
+
+fn options(words: &ProfileWords) -> Result<Options, Failure> {
+    let times = words.time.as_deref().map_or(Ok(0..=u64::MAX), times)?;
+    Ok(Options {
+        comms: words.comm.clone(),
+        pids: words.pid.clone(),
+        tids: words.tid.clone(),
+        times,
+        event: words.event.clone(),
+        limit: words.max_stack,
+        places: Places { root: words.root.clone(), ..Places::default() },
+    })
+}
+
+/// Times in nanoseconds, from two numbers of seconds, either of which may be left out.
+fn times(text: &str) -> Result<RangeInclusive<u64>, Failure> {
+    let wrong = || Failure::Argument(format!("--time {}: give two times in seconds, such as 12.5,13", text));
+    let (begin, end) = text.split_once(',').ok_or_else(wrong)?;
+    let begin = if begin.is_empty() { Some(0) } else { nanoseconds(begin) };
+    let end = if end.is_empty() { Some(u64::MAX) } else { nanoseconds(end) };
+    let (begin, end) = begin.zip(end).ok_or_else(wrong)?;
+    if begin > end {
+        return Err(wrong());
+    }
+    Ok(begin..=end)
+}
+
+fn nanoseconds(text: &str) -> Option<u64> {
+    const DIGITS: usize = 9;
+    let (whole, part) = text.split_once('.').unwrap_or((text, "0"));
+    let is_number = |text: &str| !text.is_empty() && text.bytes().all(|byte| byte.is_ascii_digit());
+    if !is_number(whole) || !is_number(part) || part.len() > DIGITS {
+        return None;
+    }
+    let part: u64 = format!("{:0<9}", part).parse().ok()?;
+    whole.parse::<u64>().ok()?.checked_mul(1_000_000_000)?.checked_add(part)
+}
+
+#[cfg(test)]
+mod tests {
+    use super::times;
+
+    #[test]
+    fn times_are_seconds_and_either_may_be_left_out() {
+        assert_eq!(times("1.5,2").unwrap(), 1_500_000_000..=2_000_000_000);
+        assert_eq!(times(",0.000001").unwrap(), 0..=1000);
+        assert_eq!(times("3,").unwrap(), 3_000_000_000..=u64::MAX);
+        for wrong in ["", "1", "2,1", "-1,2", "1.2.3,", "1e3,", "99999999999,", "1,2,3"] {
+            assert!(times(wrong).is_err(), "{}", wrong);
+        }
+    }
+}

@@ -1,0 +1,87 @@
+//! The lines on standard error that say what was read, and what wasn't.
+
+use crate::arguments::{Format, ProfileWords};
+use crate::end::shown;
+use dwcheck_elf::text::Plain;
+use dwcheck_profile::{End, Names, Profile};
+use std::collections::BTreeMap;
+use std::fmt::Write as _;
+use std::io::{self, Write};
+
+/// The most lines about the same file.
+const MOST_LINES: usize = 3;
+
+/// Writes the summary.
+pub fn write(words: &ProfileWords, profile: &Profile, names: &Names) {
+    let mut text = String::new();
+    problems(profile, names, &mut text);
+    if !words.quiet {
+        counts(profile, &mut text);
+    }
+    if words.stops {
+        stops(profile, &mut text);
+    }
+    events(words, profile, &mut text);
+    if let Some(damage) = &profile.damage {
+        let _ = writeln!(text, "dwcheck-elf: {}: {}", shown(&words.recording), damage);
+    }
+    if profile.samples.is_empty() {
+        let _ = writeln!(text, "dwcheck-elf: {}: no samples", shown(&words.recording));
+    }
+    // If standard error is closed, nobody can read it.
+    let _ = io::stderr().write_all(text.as_bytes());
+}
+
+/// What isn't used of files: the first lines of each, and how many more there are.
+fn problems(profile: &Profile, names: &Names, text: &mut String) {
+    let mut by_file: BTreeMap<&str, Vec<&str>> = BTreeMap::new();
+    for (file, problem) in profile.problems.iter().chain(&names.problems) {
+        by_file.entry(file).or_default().push(problem);
+    }
+    for (file, problems) in by_file {
+        for problem in problems.iter().take(MOST_LINES) {
+            let _ = writeln!(text, "dwcheck-elf: {}: {}", Plain(file), Plain(problem));
+        }
+        if problems.len() > MOST_LINES {
+            let _ = writeln!(text, "dwcheck-elf: {}: {} more like this", Plain(file), problems.len() - MOST_LINES);
+        }
+    }
+}
+
+fn counts(profile: &Profile, text: &mut String) {
+    let counts = &profile.counts;
+    let _ = write!(text, "samples {} frames {}", profile.samples.len(), counts.frames);
+    let _ = write!(text, " truncated {}", counts.truncated());
+    let others = [
+        ("lost", counts.lost),
+        ("throttled", counts.throttled),
+        ("by-frame-pointer", counts.by_frame_pointer),
+        ("cut-traces", counts.cut_traces),
+        ("short-records", counts.short),
+    ];
+    for (name, count) in others.into_iter().filter(|(_, count)| *count > 0) {
+        let _ = write!(text, " {} {}", name, count);
+    }
+    text.push('\n');
+}
+
+/// How many stacks ended for each reason.
+fn stops(profile: &Profile, text: &mut String) {
+    for end in End::ALL {
+        if let Some(count) = profile.counts.ends.get(&end) {
+            let _ = writeln!(text, "stop {}: {}", end, count);
+        }
+    }
+}
+
+/// Which events aren't shown.
+fn events(words: &ProfileWords, profile: &Profile, text: &mut String) {
+    let sampled = profile.sampled_events();
+    if matches!(words.format, Format::Script | Format::Pprof) || sampled.len() < 2 {
+        return;
+    }
+    let mut names = sampled.iter().map(|event| profile.event_name(*event));
+    let first = names.next().unwrap_or("");
+    let others: Vec<_> = names.map(|name| Plain(name).to_string()).collect();
+    let _ = writeln!(text, "dwcheck-elf: shown is {}; give --event for {}", Plain(first), others.join(", "));
+}

@@ -1,0 +1,348 @@
+//! The files whose code samples pass, and other code that has an owner: the kernel, and code that a
+//! compiler made at run time.
+
+use super::jitdump::is_dump;
+use super::recording::{BuildId, Features, Mapped};
+use super::tables::Tables;
+use dwcheck_elf::abi::{abi, Abi};
+use dwcheck_elf::internal::SectionTable;
+use dwcheck_elf::mapped::Bytes;
+use dwcheck_elf::program::{Program, Segment};
+use dwcheck_elf::target::Target;
+use once_cell::sync::OnceCell;
+use std::collections::HashMap;
+use std::ffi::OsStr;
+use std::fs::File;
+use std::ops::Range;
+use std::os::unix::ffi::OsStrExt;
+use std::path::{Component, Path, PathBuf};
+use std::sync::Arc;
+
+/// The index of an object.
+pub(super) type ObjectId = u32;
+
+/// What an object is.
+#[derive(Clone, Copy, Debug, PartialEq, Eq, Hash)]
+pub enum Kind {
+    /// A file, or the vDSO.
+    File,
+    /// The kernel and its modules.
+    Kernel,
+    /// Memory of this process that is no file's: code that was made at run time.
+    Memory(u32),
+    /// A file of this process that is in memory only (`memfd_create`), so that nobody can read it later.
+    MemoryFile(u32),
+}
+
+/// Code that has an owner.
+#[derive(Debug)]
+pub struct Object {
+    /// Its name: the path of a file, or what perf writes for it.
+    pub name: String,
+    /// What it is.
+    pub kind: Kind,
+    /// The name as the recording has it.
+    recorded: Vec<u8>,
+    build_id: Option<BuildId>,
+    loaded: OnceCell<Loaded>,
+}
+
+/// What is known of an object's file.
+#[derive(Debug, Default)]
+pub(super) struct Loaded {
+    pub bytes: Option<Bytes>,
+    pub machine: Option<(Target, &'static Abi)>,
+    /// The segments that may be executed.
+    code: Vec<Segment>,
+    /// The tables of the frame sections, `.debug_frame` first. None if the machine isn't known.
+    pub tables: Tables,
+    /// The addresses of signal frames, as linked.
+    signals: Vec<Range<u64>>,
+    /// What isn't used of the file, and why.
+    pub problems: Vec<String>,
+}
+
+impl Loaded {
+    /// The address as linked of the byte of the file at an offset. `None` if it isn't code.
+    pub fn linked(&self, offset: u64) -> Option<u64> {
+        let has = |segment: &&Segment| offset.checked_sub(segment.offset).map_or(false, |at| at < segment.file_size);
+        let segment = self.code.iter().find(has)?;
+        Some(offset.wrapping_sub(segment.offset).wrapping_add(segment.address))
+    }
+
+    /// Whether an address as linked is one to which a signal handler returns.
+    pub fn is_signal_frame(&self, address: u64) -> bool {
+        self.signals.iter().any(|range| range.contains(&address))
+    }
+
+    fn of(bytes: Bytes) -> Loaded {
+        let mut loaded = Loaded::default();
+        match Program::read(&bytes) {
+            Ok(program) => {
+                let target = program.target();
+                loaded.machine = abi(program.machine(), target.address_size).map(|abi| (target, abi));
+                loaded.code = program.segments().into_iter().filter(|segment| segment.is_executable).collect();
+                let (sections, problems) = SectionTable::all(&program);
+                loaded.signals = sections.iter().flat_map(|section| section.signal_frames()).collect();
+                loaded.problems = problems;
+                if sections.is_empty() && loaded.problems.is_empty() {
+                    loaded.problems.push("has no unwind table".into());
+                }
+                if loaded.machine.is_some() {
+                    loaded.tables = Tables::of(sections.into_iter().map(SectionTable::into_owned).collect());
+                }
+            }
+            Err(error) => loaded.problems.push(error.to_string()),
+        }
+        loaded.bytes = Some(bytes);
+        loaded
+    }
+
+    fn problem(problem: String) -> Loaded {
+        Loaded { problems: vec![problem], ..Loaded::default() }
+    }
+}
+
+/// Where files are looked for.
+#[derive(Clone, Debug)]
+pub struct Places {
+    /// The folder that stands for `/`.
+    pub root: PathBuf,
+    /// perf's cache of files by build id, such as `~/.debug`.
+    pub cache: Option<PathBuf>,
+}
+
+impl Default for Places {
+    fn default() -> Self {
+        let home = std::env::var_os("HOME").filter(|home| !home.is_empty());
+        Places { root: PathBuf::from("/"), cache: home.map(|home| Path::new(&home).join(".debug")) }
+    }
+}
+
+impl Places {
+    /// A file of perf's cache: what the program, the vDSO or the kernel with this build id had.
+    pub(super) fn cached(&self, id: &BuildId, name: &str) -> Option<PathBuf> {
+        let digits: String = id.bytes().iter().map(|byte| format!("{:02x}", byte)).collect();
+        let (first, rest) = digits.split_at(digits.len().min(2));
+        let folder = self.cache.as_ref()?.join(".build-id").join(first).join(rest);
+        Some(folder.join(name)).filter(|path| path.is_file())
+    }
+
+    /// Where a file with this name is. `None` if it isn't the absolute path of a file.
+    fn inside(&self, name: &[u8]) -> Option<PathBuf> {
+        let path = Path::new(OsStr::from_bytes(name)).strip_prefix("/").ok()?;
+        path.components().all(|part| matches!(part, Component::Normal(_))).then(|| self.root.join(path))
+    }
+}
+
+/// All objects of a recording.
+#[derive(Debug, Default)]
+pub(super) struct Objects {
+    all: Vec<Arc<Object>>,
+    files: HashMap<(Vec<u8>, Option<BuildId>), ObjectId>,
+    /// The memory of processes, by its names.
+    memory: HashMap<(u32, Vec<u8>), ObjectId>,
+    /// For each process what stands for code that it hasn't mapped.
+    unmapped: HashMap<u32, ObjectId>,
+    kernel: Option<ObjectId>,
+    /// The files in which processes list code that they have made.
+    dumps: HashMap<u32, PathBuf>,
+    places: Places,
+}
+
+/// What the kernel adds to the name of a file that was deleted.
+const DELETED: &[u8] = b" (deleted)";
+
+/// The name of the vDSO.
+const VDSO: &[u8] = b"[vdso]";
+
+impl Objects {
+    pub fn new(places: Places) -> Self {
+        Objects { places, ..Objects::default() }
+    }
+
+    pub fn all(&self) -> &[Arc<Object>] {
+        &self.all
+    }
+
+    pub fn places(&self) -> &Places {
+        &self.places
+    }
+
+    /// The files in which processes list code that they have made.
+    pub fn into_dumps(self) -> HashMap<u32, PathBuf> {
+        self.dumps
+    }
+
+    fn add(&mut self, name: &[u8], kind: Kind, build_id: Option<BuildId>) -> ObjectId {
+        let id = self.all.len() as ObjectId;
+        self.all.push(Arc::new(Object {
+            name: String::from_utf8_lossy(name).into_owned(),
+            kind,
+            recorded: name.to_vec(),
+            build_id,
+            loaded: OnceCell::new(),
+        }));
+        id
+    }
+
+    /// The kernel.
+    pub fn kernel(&mut self) -> ObjectId {
+        match self.kernel {
+            Some(id) => id,
+            None => {
+                let id = self.add(b"[kernel.kallsyms]", Kind::Kernel, None);
+                *self.kernel.insert(id)
+            }
+        }
+    }
+
+    /// What stands for code at addresses that a process hasn't mapped.
+    pub fn unmapped(&mut self, pid: u32) -> ObjectId {
+        if let Some(id) = self.unmapped.get(&pid) {
+            return *id;
+        }
+        let id = self.add(b"[unknown]", Kind::Memory(pid), None);
+        self.unmapped.insert(pid, id);
+        id
+    }
+
+    /// Memory of a process that is no file's, which has this name.
+    fn memory(&mut self, pid: u32, name: &[u8]) -> ObjectId {
+        let (name, kind) = match is_anonymous(name) {
+            true => (format!("/tmp/perf-{}.map", pid).into_bytes(), Kind::Memory(pid)),
+            false if name.starts_with(MEMORY_FILE) => (name.to_vec(), Kind::MemoryFile(pid)),
+            false => (name.to_vec(), Kind::Memory(pid)),
+        };
+        let key = (pid, name);
+        if let Some(id) = self.memory.get(&key) {
+            return *id;
+        }
+        let id = self.add(&key.1, kind, None);
+        self.memory.insert(key, id);
+        id
+    }
+
+    /// The kernel, if it was asked for before.
+    pub fn of_kernel(&self) -> Option<ObjectId> {
+        self.kernel
+    }
+
+    /// What stands for code that a process hasn't mapped, if it was asked for before.
+    pub fn of_unmapped(&self, pid: u32) -> Option<ObjectId> {
+        self.unmapped.get(&pid).copied()
+    }
+
+    /// What a process mapped.
+    pub fn mapped(&mut self, mapped: &Mapped<'_>, features: &Features) -> ObjectId {
+        if is_dump(mapped.name) {
+            self.dumps.extend(self.places.inside(mapped.name).map(|path| (mapped.pid, path)));
+        }
+        let is_memory = is_anonymous(mapped.name) || mapped.name.starts_with(MEMORY_FILE);
+        let is_file = mapped.name == VDSO || self.places.inside(mapped.name).is_some() && !is_memory;
+        if !is_file {
+            return self.memory(mapped.pid, mapped.name);
+        }
+        let build_id = mapped.build_id.clone().or_else(|| features.build_id(mapped.name).cloned());
+        let key = (mapped.name.to_vec(), build_id.clone());
+        if let Some(id) = self.files.get(&key) {
+            return *id;
+        }
+        let id = self.add(mapped.name, Kind::File, build_id);
+        self.files.insert(key, id);
+        id
+    }
+
+    /// The object with this index.
+    pub fn get(&self, id: ObjectId) -> Option<&Arc<Object>> {
+        self.all.get(id as usize)
+    }
+
+    /// What is known of the file of an object, which is opened when this is first asked.
+    pub fn loaded(&self, id: ObjectId) -> Option<&Loaded> {
+        let object = self.get(id).filter(|object| object.kind == Kind::File)?;
+        Some(object.loaded.get_or_init(|| object.open(&self.places)))
+    }
+}
+
+/// How the kernel names a file that is in memory only.
+const MEMORY_FILE: &[u8] = b"/memfd:";
+
+/// Whether the name is one that the kernel gives to memory without a name of its own. perf shows such memory by the name
+/// of the file in which the process may list its code.
+fn is_anonymous(name: &[u8]) -> bool {
+    const NAMES: [&[u8]; 6] = [b"//", b"/dev/zero", b"/anon_hugepage", b"/SYSV", b"[heap]", b"[stack"];
+    name.is_empty() || NAMES.into_iter().any(|begin| name.starts_with(begin))
+}
+
+impl Object {
+    /// The build id that was recorded. `None` if none was.
+    pub fn build_id(&self) -> Option<&BuildId> {
+        self.build_id.as_ref()
+    }
+
+    /// What is known of the file, if it was opened.
+    pub(super) fn opened(&self) -> Option<&Loaded> {
+        self.loaded.get()
+    }
+
+    fn open(&self, places: &Places) -> Loaded {
+        if self.recorded == VDSO {
+            return self.open_vdso(places);
+        }
+        let name = self.recorded.strip_suffix(DELETED).unwrap_or(&self.recorded);
+        let cached = || {
+            let path = places.cached(self.build_id.as_ref()?, "elf")?;
+            content(&path).ok().filter(|bytes| self.is_same(bytes))
+        };
+        match content(&places.inside(name).unwrap_or_default()) {
+            Ok(bytes) if self.is_same(&bytes) => Loaded::of(bytes),
+            other => match (cached(), other) {
+                (Some(bytes), _) => Loaded::of(bytes),
+                (None, Ok(_)) => Loaded::problem("isn't the file that was recorded: its build id is another".into()),
+                (None, Err(why)) => Loaded::problem(why),
+            },
+        }
+    }
+
+    /// The vDSO: that of perf's cache, or that of this program, which is the same if the kernel is.
+    fn open_vdso(&self, places: &Places) -> Loaded {
+        let cached = self.build_id.as_ref().and_then(|id| places.cached(id, "vdso"));
+        let cached = cached.and_then(|path| content(&path).ok());
+        let bytes = cached.or_else(own_vdso).filter(|bytes| self.is_same(bytes));
+        match bytes {
+            Some(bytes) => Loaded::of(bytes),
+            None => Loaded::problem("no vDSO with its build id is there".into()),
+        }
+    }
+
+    /// Whether a file has the build id that was recorded, or none was.
+    fn is_same(&self, bytes: &Bytes) -> bool {
+        let own = Program::read(bytes).ok().and_then(|program| program.build_id().map(<[u8]>::to_vec));
+        match (&self.build_id, own) {
+            (Some(recorded), Some(own)) => BuildId::of(&own).as_ref() == Some(recorded),
+            (None, _) => true,
+            (Some(_), None) => false,
+        }
+    }
+}
+
+/// The bytes of a regular file.
+fn content(path: &Path) -> Result<Bytes, String> {
+    let metadata = path.metadata().map_err(|error| format!("can't be read: {}", error))?;
+    if !metadata.is_file() {
+        return Err("isn't a regular file".into());
+    }
+    let file = File::open(path).map_err(|error| format!("can't be read: {}", error))?;
+    Bytes::of_file(&file, metadata.len()).map_err(|error| format!("can't be read: {}", error))
+}
+
+/// The vDSO of this program.
+fn own_vdso() -> Option<Bytes> {
+    use std::os::unix::fs::FileExt;
+    let maps = dwcheck_elf::internal::Process::read(std::process::id()).ok()?.maps;
+    let map = maps.into_iter().find(|map| map.path == VDSO)?;
+    let mut bytes = vec![0; usize::try_from(map.end.checked_sub(map.begin)?).ok()?];
+    File::open("/proc/self/mem").ok()?.read_exact_at(&mut bytes, map.begin).ok()?;
+    Some(Bytes::from(bytes))
+}

@@ -1,0 +1,94 @@
+//! The unwind tables of files.
+//!
+//! There is one table for each FDE, at the addresses as linked, wherever and however often processes mapped the
+//! file. An FDE is checked and compiled when a frame first needs it, by whichever thread walks there first.
+
+use dwcheck::Process;
+use dwcheck_elf::internal::{add as add_fde, SectionTable};
+use dwcheck_elf::target::Target;
+use once_cell::sync::OnceCell;
+
+/// Where a table is among those of a file.
+#[derive(Clone, Copy, Debug, PartialEq, Eq)]
+pub(super) struct TableId {
+    section: u32,
+    fde: u32,
+}
+
+/// An FDE that was needed.
+#[derive(Debug)]
+struct Compiled {
+    /// Its table, or why it is refused.
+    table: Result<Process, String>,
+    /// The number of the round of walks that needed it first.
+    round: u32,
+}
+
+/// A frame section, with those tables of it that were needed.
+#[derive(Debug)]
+struct Section {
+    table: SectionTable<'static>,
+    /// For each record its table.
+    compiled: Vec<OnceCell<Box<Compiled>>>,
+}
+
+/// The tables of a file.
+#[derive(Debug, Default)]
+pub(super) struct Tables(Vec<Section>);
+
+impl Tables {
+    /// The tables of frame sections, of which the first one that covers an address counts there.
+    pub fn of(sections: Vec<SectionTable<'static>>) -> Tables {
+        let section = |table: SectionTable<'static>| {
+            let compiled = std::iter::repeat_with(OnceCell::new).take(table.count()).collect();
+            Section { table, compiled }
+        };
+        Tables(sections.into_iter().map(section).collect())
+    }
+
+    /// The table with rows for an address, which is compiled if nobody has asked for it before, and whether an
+    /// earlier round of walks needed it too.
+    pub fn find(&self, address: u64, round: u32) -> Option<(TableId, bool)> {
+        self.0.iter().enumerate().find_map(|(place, section)| {
+            let (fde, since) = section.fde(address, round)?;
+            Some((TableId { section: place.try_into().ok()?, fde: fde.try_into().ok()? }, since < round))
+        })
+    }
+
+    /// A table that was found, if its rows are for tasks of this kind.
+    pub fn get(&self, id: TableId, target: Target) -> Option<&Process> {
+        let compiled = self.0.get(id.section as usize)?.compiled.get(id.fde as usize)?.get()?;
+        compiled.table.as_ref().ok().filter(|process| process.target() == target.into())
+    }
+
+    /// What is refused of those FDEs that frames needed.
+    pub fn problems(&self) -> impl Iterator<Item = String> + '_ {
+        self.0.iter().flat_map(|section| {
+            let refused = section.compiled.iter().enumerate();
+            refused.filter_map(move |(fde, compiled)| {
+                let why = compiled.get()?.table.as_ref().err()?;
+                Some(section.table.problem(fde, why))
+            })
+        })
+    }
+}
+
+impl Section {
+    /// The FDE that covers an address, if it can be used, and the round that needed it first.
+    fn fde(&self, address: u64, round: u32) -> Option<(usize, u32)> {
+        let fde = self.table.find(address)?.fde;
+        let compile = || Box::new(Compiled { table: self.compile(fde), round });
+        let compiled = self.compiled.get(fde)?.get_or_init(compile);
+        compiled.table.is_ok().then_some((fde, compiled.round))
+    }
+
+    /// Checks and compiles an FDE.
+    fn compile(&self, fde: usize) -> Result<Process, String> {
+        let one = self.table.one(fde)?;
+        let mut process = Process::new(one.format.target.into());
+        let addresses = self.table.addresses(fde);
+        let module = one.format.module(&one.bytes, 0).range(addresses.start..=addresses.end.saturating_sub(1));
+        add_fde(&mut process, &one, &module, addresses.start).map_err(|error| error.to_string())?;
+        Ok(process)
+    }
+}

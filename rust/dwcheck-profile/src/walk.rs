@@ -1,0 +1,381 @@
+//! Walks the stack of a sample.
+//!
+//! Walks only read what they share, so that any number of threads may walk at once. A walk that needs something
+//! which isn't there yet says so and ends; it is done again when that was added.
+
+use super::frames::{End, Frame, FrameId, Frames, Place};
+use super::objects::{Kind, ObjectId, Objects};
+use super::popped;
+use super::recording::{Features, Mode, Sample};
+use super::space::{Mapping, Space};
+use super::tables::TableId;
+use super::task::Task;
+use dwcheck::{Answer, Block, Cursor, Frame as Stepped, Process, Registers, State, Stop};
+use dwcheck_elf::target::Order;
+
+/// The marks in chains of addresses, which are the highest numbers (`PERF_CONTEXT_`).
+mod mark {
+    pub const LEAST: u64 = -4095i64 as u64;
+    pub const KERNEL: u64 = -128i64 as u64;
+    pub const USER: u64 = -512i64 as u64;
+}
+
+/// What a chain's addresses are of.
+#[derive(Clone, Copy, PartialEq, Eq)]
+enum Of {
+    Kernel,
+    Task,
+    Other,
+}
+
+/// What walks share, and only read.
+pub(super) struct Shared {
+    pub objects: Objects,
+    /// The frames of earlier stacks.
+    pub known: Frames,
+    /// How often stacks were walked together before.
+    pub round: u32,
+    /// The most frames of a task.
+    limit: usize,
+    order: Order,
+}
+
+/// What a walk needs and hasn't found.
+#[derive(Clone, Copy, Debug)]
+pub(super) enum Missing {
+    /// What stands for code that this process hasn't mapped.
+    Unmapped(u32),
+    /// The object for the kernel.
+    Kernel,
+}
+
+impl Shared {
+    /// What walks share that find at most `limit` frames of a task.
+    pub fn new(objects: Objects, limit: usize, order: Order) -> Shared {
+        Shared { objects, known: Frames::default(), round: 0, limit, order }
+    }
+
+    /// Adds what a walk needs.
+    pub fn add(&mut self, missing: Missing) {
+        match missing {
+            Missing::Unmapped(pid) => {
+                self.objects.unmapped(pid);
+            }
+            Missing::Kernel => {
+                self.objects.kernel();
+            }
+        }
+    }
+}
+
+/// Walks stacks one after another, and has the frames that were found.
+pub(super) struct Walker<'w> {
+    shared: &'w Shared,
+    features: &'w Features,
+    /// The frames of all stacks that need nothing new.
+    pub frames: Frames,
+    /// The stack that was walked last, the innermost frame first, up to one whose table no earlier round needed.
+    pub stack: Vec<FrameId>,
+    /// The other frames of that stack. They have no index yet: frames and stacks are numbered in an order that
+    /// doesn't depend on which thread compiles a table.
+    pub new: Vec<Frame>,
+    /// Whether there are such frames.
+    is_new: bool,
+    /// How many of its frames were found by frame pointers.
+    pub by_frame_pointer: u64,
+    registers: Registers,
+}
+
+/// A frame of a walk, with its index, if it has one.
+#[derive(Clone, Copy)]
+struct At {
+    id: Option<FrameId>,
+    frame: Frame,
+}
+
+/// What a step from a frame gives.
+enum Step {
+    Caller,
+    End(End),
+}
+
+impl<'w> Walker<'w> {
+    /// A walker of samples of a recording that says this of itself.
+    pub fn new(shared: &'w Shared, features: &'w Features) -> Walker<'w> {
+        Walker {
+            shared,
+            features,
+            frames: Frames::default(),
+            stack: Vec::new(),
+            new: Vec::new(),
+            is_new: false,
+            by_frame_pointer: 0,
+            registers: Registers::new(),
+        }
+    }
+
+    /// Walks the stack of a sample of a process that has mapped this. Returns why there are no more frames.
+    pub fn walk(&mut self, sample: &Sample<'_>, space: &Space) -> Result<End, Missing> {
+        self.stack.clear();
+        self.new.clear();
+        self.is_new = false;
+        self.by_frame_pointer = 0;
+        self.chained_kernel(sample)?;
+        let mut registers = std::mem::take(&mut self.registers);
+        let end = match Task::of(sample, self.features, self.shared.order, &mut registers) {
+            Some(task) => self.task(sample.pid, space, &task, &registers),
+            None => self.chained_task(sample, space),
+        };
+        self.registers = registers;
+        end
+    }
+
+    /// The number of frames of the stack.
+    pub fn count(&self) -> usize {
+        self.stack.len() + self.new.len()
+    }
+
+    fn push(&mut self, at: At) {
+        match at.id {
+            Some(id) => self.stack.push(id),
+            None => self.new.push(at.frame),
+        }
+    }
+
+    /// A frame, which is added unless its stack needs something new.
+    fn add(&mut self, frame: Frame) -> At {
+        let id = (!self.is_new).then(|| self.frames.add(frame));
+        At { id, frame }
+    }
+
+    /// What stands for code that a process hasn't mapped.
+    fn unmapped(&self, pid: u32) -> Result<ObjectId, Missing> {
+        self.shared.objects.of_unmapped(pid).ok_or(Missing::Unmapped(pid))
+    }
+
+    /// The frames of the kernel.
+    fn chained_kernel(&mut self, sample: &Sample<'_>) -> Result<(), Missing> {
+        let mut addresses = chain(sample, Of::Kernel);
+        if addresses.is_empty() && sample.mode == Mode::Kernel {
+            addresses.extend(sample.address);
+        }
+        if addresses.is_empty() {
+            return Ok(());
+        }
+        let kernel = self.shared.objects.of_kernel().ok_or(Missing::Kernel)?;
+        for (place, address) in addresses.into_iter().enumerate() {
+            let inside = address.wrapping_sub(u64::from(place > 0));
+            let frame = self.add(Frame::plain(kernel, inside, address));
+            self.push(frame);
+        }
+        Ok(())
+    }
+
+    /// The frames of a task that the processor or the kernel found, where there is no copy of the stack.
+    fn chained_task(&mut self, sample: &Sample<'_>, space: &Space) -> Result<End, Missing> {
+        let mut addresses = chain(sample, Of::Task);
+        let calls: Vec<u64> = sample.calls.iter().collect();
+        if !calls.is_empty() {
+            // Of each call, the last one first: from where, to where, and flags.
+            addresses.truncate(1);
+            addresses.extend(calls.chunks_exact(3).map(|call| call[0]));
+        }
+        if addresses.is_empty() && sample.mode == Mode::User {
+            addresses.extend(sample.address);
+        }
+        for (place, address) in addresses.iter().take(self.shared.limit).enumerate() {
+            // A call's own address is in it; a return address is after it.
+            let is_return = place > 0 && calls.is_empty();
+            let inside = address.wrapping_sub(u64::from(is_return));
+            let frame = match space.find(inside) {
+                Some(mapping) => self.at(mapping, inside, is_return),
+                None => {
+                    let object = self.unmapped(sample.pid)?;
+                    self.add(Frame::plain(object, inside, *address))
+                }
+            };
+            self.push(frame);
+        }
+        Ok(if addresses.is_empty() { End::None } else { End::Chain })
+    }
+
+    /// The frame of a mapping that is looked up at an address, or if `is_return`, that continues after it.
+    fn at(&mut self, mapping: &Mapping, address: u64, is_return: bool) -> At {
+        let offset = mapping.file_offset(address);
+        let objects = &self.shared.objects;
+        let loaded = objects.loaded(mapping.object);
+        let linked = loaded.and_then(|loaded| loaded.linked(offset)).filter(|_| mapping.is_executable);
+        let kind = objects.get(mapping.object).map(|object| object.kind);
+        let shown = if matches!(kind, Some(Kind::File | Kind::MemoryFile(_))) { offset } else { address };
+        // A list that a process writes of its code has addresses.
+        let unlinked = if kind == Some(Kind::File) { offset } else { address };
+        let place = Place { object: mapping.object, address: linked.unwrap_or(unlinked) };
+        if let Some((id, frame)) = self.frames.at(place) {
+            return At { id: Some(id).filter(|_| !self.is_new), frame };
+        }
+        let plain =
+            Frame { is_return, ..Frame::plain(place.object, place.address, shown.wrapping_add(u64::from(is_return))) };
+        let frame = match (self.shared.known.at(place), loaded, linked) {
+            (Some((_, known)), _, _) => known,
+            (None, Some(loaded), Some(linked)) => {
+                let table = loaded.tables.find(linked, self.shared.round);
+                self.is_new |= !table.map_or(false, |(_, was_needed)| was_needed);
+                let table = table.map(|(table, _)| table);
+                Frame { table, is_signal_frame: loaded.is_signal_frame(linked), ..plain }
+            }
+            _ => plain,
+        };
+        self.add(frame)
+    }
+
+    /// The frames of a task of which there is a copy of the stack.
+    fn task(&mut self, pid: u32, space: &Space, task: &Task<'_>, registers: &Registers) -> Result<End, Missing> {
+        let memory = [Block::new(task.stack_pointer, task.stack)];
+        let state = State { registers, memory: &memory, abi: task.convention() };
+        let mut cursor = match Cursor::new(task.program_counter, &state) {
+            Ok(cursor) => cursor,
+            Err(_) => return Ok(End::None),
+        };
+        let start = self.count();
+        let mut floor = None;
+        let mut mapping: Option<&Mapping> = None;
+        loop {
+            let address = cursor.address();
+            let inside = address.wrapping_sub(u64::from(!cursor.is_exact()));
+            match self.count() - start {
+                count if count >= self.shared.limit => return Ok(End::Limit),
+                count if count > 0 && address == 0 => return Ok(End::Complete),
+                _ => mapping = mapping.filter(|mapping| mapping.has(inside)).or_else(|| space.find(inside)),
+            }
+            let at = match mapping.filter(|mapping| mapping.is_executable) {
+                Some(mapping) => self.at(mapping, inside, false),
+                None if self.count() == start => {
+                    let frame = Frame::plain(self.unmapped(pid)?, inside, inside);
+                    let frame = self.add(frame);
+                    self.push(frame);
+                    return Ok(End::NotCode);
+                }
+                None => return Ok(End::NotCode),
+            };
+            self.push(at);
+            let step = match at.frame.table {
+                Some(table) => self.step(at.frame, table, &mut cursor, &state, task, &mut floor),
+                None => self.by_frame_pointer(&mut cursor, task, space),
+            };
+            if let Step::End(end) = step {
+                return Ok(end);
+            }
+        }
+    }
+
+    /// Moves the cursor from a frame with a row to its caller.
+    fn step(
+        &self,
+        frame: Frame,
+        table: TableId,
+        cursor: &mut Cursor,
+        state: &State<'_>,
+        task: &Task<'_>,
+        floor: &mut Option<u64>,
+    ) -> Step {
+        let loaded = self.shared.objects.loaded(frame.place.object);
+        let process = match loaded.and_then(|loaded| loaded.tables.get(table, task.target)) {
+            Some(process) => process,
+            None => return Step::End(End::NoTable),
+        };
+        let address = cursor.address();
+        let stepped = match stepped(process, frame.place.address, cursor, state, task) {
+            Some(stepped) => stepped,
+            None => return Step::End(End::Unreadable),
+        };
+        let cfa = stepped.cfa().and_then(Answer::value);
+        match cursor.stop() {
+            None => {}
+            Some(Stop::ReturnUndefined) => return Step::End(End::Complete),
+            Some(Stop::NotCovered) => return Step::End(End::NoTable),
+            Some(_) => {
+                let is_after = cfa.map_or(false, |cfa| task.is_after(cfa.wrapping_sub(1)) || task.is_after(cfa));
+                return Step::End(if is_after { End::EndOfCopy } else { End::Unreadable });
+            }
+        }
+        if frame.is_signal_frame {
+            cursor.set_interrupted();
+            *floor = None;
+            return Step::Caller;
+        }
+        // Where calls don't write to the stack, a frame may take nothing of it. But then it isn't its own caller.
+        let may_be_empty = task.abi.link_register.is_some() && cursor.address() != address;
+        match (floor.replace(cfa.unwrap_or(0)), cfa) {
+            (Some(floor), Some(cfa)) if cfa < floor || cfa == floor && !may_be_empty => Step::End(End::Unreadable),
+            _ => Step::Caller,
+        }
+    }
+
+    /// Moves the cursor from a frame without a row to its caller, by the frame pointer. It points to the caller's
+    /// frame pointer and the return address, which has to be in code.
+    fn by_frame_pointer(&mut self, cursor: &mut Cursor, task: &Task<'_>, space: &Space) -> Step {
+        let caller = || {
+            let size = u64::from(task.target.address_size.bytes());
+            let pointer = cursor.register(task.abi.frame_pointer)?;
+            let stack = cursor.register(task.abi.stack_pointer)?;
+            let saved = task.word(pointer).filter(|_| stack <= pointer && pointer % size == 0)?;
+            let held = task.word(pointer.checked_add(size)?)? & !task.convention().signed_bits;
+            let code = space.find(held.checked_sub(1)?)?;
+            let known = [
+                (task.abi.frame_pointer, saved),
+                (task.abi.stack_pointer, pointer.checked_add(2 * size)?),
+                (task.abi.program_counter, held),
+            ];
+            code.is_executable.then(|| (held, Registers::from(known)))
+        };
+        let (address, registers) = match caller() {
+            Some(caller) => caller,
+            None => return Step::End(End::NoTable),
+        };
+        let state = State { registers: &registers, memory: &[], abi: task.convention() };
+        match Cursor::at_caller(address, &state) {
+            Ok(caller) => *cursor = caller,
+            Err(_) => return Step::End(End::NoTable),
+        }
+        self.by_frame_pointer += 1;
+        Step::Caller
+    }
+}
+
+/// Steps from a frame that is at this address as linked. What the innermost one has popped is read as if the stack still
+/// had it.
+fn stepped(process: &Process, linked: u64, cursor: &mut Cursor, state: &State<'_>, task: &Task<'_>) -> Option<Stepped> {
+    let is_innermost = cursor.is_exact()
+        && cursor.address() == task.program_counter
+        && cursor.register(task.abi.stack_pointer) == Some(task.stack_pointer);
+    cursor.set_address(linked.wrapping_add(u64::from(!cursor.is_exact())));
+    let stepped = process.step(cursor, state).ok()?;
+    let is_lost = |register: &u16| cursor.register(*register).is_none() && state.registers.get(*register).is_some();
+    if !is_innermost || !task.abi.kept.iter().any(is_lost) {
+        return stepped;
+    }
+    let slots = popped::slots(process, linked, task, state.registers);
+    if slots.is_empty() {
+        return stepped;
+    }
+    let memory: Vec<Block<'_>> = state.memory.iter().copied().chain(slots.iter().map(popped::Slot::block)).collect();
+    let state = State { memory: &memory, ..*state };
+    *cursor = Cursor::new(linked, &state).ok()?;
+    process.step(cursor, &state).ok()?
+}
+
+/// The addresses of a sample's chain that are of the kernel or of the task.
+fn chain(sample: &Sample<'_>, wanted: Of) -> Vec<u64> {
+    let mut of = if sample.mode == Mode::Kernel { Of::Kernel } else { Of::Task };
+    let mut found = Vec::new();
+    for address in sample.chain.iter() {
+        match address {
+            mark::KERNEL => of = Of::Kernel,
+            mark::USER => of = Of::Task,
+            mark::LEAST..=u64::MAX => of = Of::Other,
+            _ if of == wanted => found.push(address),
+            _ => {}
+        }
+    }
+    found
+}
