@@ -10,8 +10,8 @@ set -u
 rust="librust-object-dev librust-gimli-dev librust-addr2line-dev librust-flate2-dev librust-crc32fast-dev
     librust-clap-dev librust-clap-complete-dev librust-rayon-dev librust-indicatif-dev librust-memchr-dev librust-memmap2-dev librust-nix-dev librust-libc-dev
     librust-serde-json-dev librust-typed-arena-dev librust-rustc-demangle-dev librust-cpp-demangle-dev
-    librust-glob-dev librust-xz2-dev librust-zstd-dev librust-smallvec-dev librust-rustc-hash-dev librust-once-cell-dev librust-cc-dev
-    libzydis-dev gcc"
+    librust-glob-dev librust-xz2-dev librust-smallvec-dev librust-rustc-hash-dev librust-once-cell-dev librust-cc-dev
+    libzydis-dev libzstd-dev gcc"
 cargo="cargo rustc"
 # The last two lines are assemblers of other machines, which tests of dwcheck-elf use.
 test="gcc g++ libc6-dev make binutils pkg-config python3 python3-pyelftools rust-clippy rustfmt valgrind libc6-dbg gdb elfutils xz-utils

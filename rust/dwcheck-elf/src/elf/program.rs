@@ -446,7 +446,7 @@ fn zstd_bytes(data: &[u8], size: u64, name: &'static str) -> Result<Vec<u8>, Pro
     if size > DECOMPRESSED_LIMIT {
         return Err(ProgramError::TooLarge(name, size));
     }
-    let bytes = zstd::bulk::decompress(data, size as usize);
+    let bytes = dwcheck_zstd::decompress(data, size as usize);
     let bytes = bytes.map_err(|error| ProgramError::Section(name, error.to_string()))?;
     match bytes.len() as u64 == size {
         true => Ok(bytes),

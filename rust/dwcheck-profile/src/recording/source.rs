@@ -4,9 +4,9 @@ use super::header::PIPE_SIZE;
 use super::{kind, Damage, RecordHead, HEAD};
 use dwcheck_elf::mapped::Bytes;
 use dwcheck_elf::target::Target;
+use dwcheck_zstd::Decoder;
 use std::fmt;
 use std::io::{self, BufRead, BufReader, Read};
-use zstd::stream::raw::{Decoder, InBuffer, Operation, OutBuffer};
 
 /// How many bytes are read at once.
 const READ_SIZE: usize = 1 << 18;
@@ -227,7 +227,7 @@ fn append(pipe: &mut impl BufRead, size: usize, to: &mut Vec<u8>) -> io::Result<
 /// record may begin in one of them and end in the next.
 #[derive(Default)]
 struct Unpacked {
-    decoder: Option<Decoder<'static>>,
+    decoder: Option<Decoder>,
     packed: Vec<u8>,
     /// How many of `packed` were decompressed.
     used: usize,
@@ -281,10 +281,9 @@ impl Unpacked {
         let decoder = self.decoder.as_mut().ok_or(Damage::Compressed(position))?;
         let start = self.bytes.len();
         self.bytes.resize(start + UNPACKED_SIZE, 0);
-        let mut input = InBuffer::around(self.packed.get(self.used..).unwrap_or(&[]));
-        let mut output = OutBuffer::around(self.bytes.get_mut(start..).unwrap_or(&mut []));
-        let ran = decoder.run(&mut input, &mut output);
-        let (read, written) = (input.pos(), output.pos());
+        let input = self.packed.get(self.used..).unwrap_or(&[]);
+        let output = self.bytes.get_mut(start..).unwrap_or(&mut []);
+        let (read, written, ran) = decoder.run(input, output);
         self.bytes.truncate(start + written);
         self.used += read;
         self.has_more = written == UNPACKED_SIZE;
