@@ -1,5 +1,5 @@
-//! Tests of how this crate is built up: a part uses only what its head says, and no module uses itself by way of
-//! others.
+//! Tests of how this crate is built up: a part uses only what its head says, no module uses itself by way of others,
+//! and the modules that are public are those that the README lists.
 
 use std::collections::{BTreeMap, BTreeSet};
 use std::fs;
@@ -81,6 +81,25 @@ fn cycle(uses: &Uses) -> Option<Vec<String>> {
     }
 }
 
+/// The modules that `lib.rs` makes public, but for the hidden one.
+fn public() -> BTreeSet<String> {
+    let text = fs::read_to_string(Path::new(env!("CARGO_MANIFEST_DIR")).join("src/lib.rs")).expect("lib.rs");
+    let reexported =
+        text.lines().filter_map(|line| line.strip_prefix("pub use ")?.split_once('{')).map(|(_, rest)| rest);
+    let reexported = reexported.flat_map(|names| names.trim_end_matches("};").split(", "));
+    let own = text.lines().filter_map(|line| line.strip_prefix("pub mod ")).map(name);
+    reexported.chain(own).filter(|module| *module != "internal").map(str::to_string).collect()
+}
+
+/// The modules in the README's table.
+fn listed() -> BTreeSet<String> {
+    let text = fs::read_to_string(Path::new(env!("CARGO_MANIFEST_DIR")).join("README.md")).expect("README.md");
+    let (_, table) = text.split_once("| Part | Module | What it does |").expect("a table of modules");
+    let rows = table.lines().skip(1).take_while(|line| line.starts_with('|'));
+    let cells = rows.filter_map(|row| row.split(" | ").nth(1).filter(|cell| cell.contains('`')));
+    cells.flat_map(|cell| cell.split('`').skip(1).step_by(2)).map(str::to_string).collect()
+}
+
 fn graph(edges: &[(&str, &[&str])]) -> Uses {
     let set = |used: &[&str]| used.iter().map(|used| used.to_string()).collect();
     edges.iter().map(|(module, used)| (module.to_string(), set(used))).collect()
@@ -105,6 +124,12 @@ fn a_part_uses_only_what_its_head_says() {
             assert!(name(&used) == part || may.contains(&name(&used)), "{} uses {}", module, used);
         }
     }
+}
+
+#[test]
+fn the_readme_lists_what_is_public() {
+    assert!(public().len() > 20, "{:?}", public());
+    assert_eq!(listed(), public());
 }
 
 #[test]
