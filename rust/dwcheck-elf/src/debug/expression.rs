@@ -3,6 +3,7 @@
 //! `dwcheck` checks expressions. This module only helps to show an expression that `dwcheck` has
 //! accepted, or where `dwcheck` refuses one.
 
+use crate::debug::codes::op;
 use crate::elf::bytes::{Cursor, ReadError};
 use crate::elf::target::Target;
 
@@ -59,7 +60,7 @@ impl Measure {
                 Change::By(change) => now.saturating_add(change.unsigned_abs()),
                 Change::Empty => 0,
             };
-            if code == BRA || code == SKIP {
+            if code == op::BRA || code == op::SKIP {
                 branches.push((cursor.at().saturating_add(operand as usize), now));
             }
             measure.operations += 1;
@@ -94,28 +95,33 @@ pub fn operations(expression: &[u8], target: Target) -> Vec<Operation> {
     all
 }
 
-pub(crate) const BRA: u8 = 0x28;
-pub(crate) const SKIP: u8 = 0x2f;
-
 /// Moves past the operands of an operation. For a branch, returns the distance in bytes from the
 /// end of the branch to its target. For any other operation, returns 0.
 pub(crate) fn skip(cursor: &mut Cursor<'_>, code: u8) -> Result<u64, ReadError> {
     let size = cursor.target().address_size.bytes();
     match code {
-        0x03 => cursor.take(u64::from(size)).map(|_| 0),
-        0x08 | 0x09 | 0x15 | 0x94 => cursor.take(1).map(|_| 0),
-        0x0a | 0x0b => cursor.take(2).map(|_| 0),
-        0x0c | 0x0d => cursor.take(4).map(|_| 0),
-        0x0e | 0x0f => cursor.take(8).map(|_| 0),
-        BRA | SKIP => cursor.signed(2),
-        0x10 | 0x11 | 0x23 | 0x70..=0x8f | 0x90 | 0x91 | 0x93 => cursor.skip_leb().map(|()| 0),
-        0x92 | 0x9d => cursor.skip_leb().and_then(|()| cursor.skip_leb()).map(|()| 0),
-        0x9e => {
+        op::ADDR => cursor.take(u64::from(size)).map(|_| 0),
+        op::CONST1U | op::CONST1S | op::PICK | op::DEREF_SIZE => cursor.take(1).map(|_| 0),
+        op::CONST2U | op::CONST2S => cursor.take(2).map(|_| 0),
+        op::CONST4U | op::CONST4S => cursor.take(4).map(|_| 0),
+        op::CONST8U | op::CONST8S => cursor.take(8).map(|_| 0),
+        op::BRA | op::SKIP => cursor.signed(2),
+        op::CONSTU | op::CONSTS | op::PLUS_UCONST | op::BREG0..=op::BREG31 | op::REGX | op::FBREG | op::PIECE => {
+            cursor.skip_leb().map(|()| 0)
+        }
+        op::BREGX | op::BIT_PIECE => cursor.skip_leb().and_then(|()| cursor.skip_leb()).map(|()| 0),
+        op::IMPLICIT_VALUE => {
             let length = cursor.uleb()?;
             cursor.take(length).map(|_| 0)
         }
-        0x06 | 0x12..=0x14 | 0x16..=0x17 | 0x19..=0x22 | 0x24..=0x27 | 0x29..=0x2e | 0x30..=0x6f => Ok(0),
-        0x96 | 0x97 | 0x9c | 0x9f => Ok(0),
+        op::DEREF
+        | op::DUP..=op::OVER
+        | op::SWAP..=op::ROT
+        | op::ABS..=op::PLUS
+        | op::SHL..=op::XOR
+        | op::EQ..=op::NE
+        | op::LIT0..=op::REG31 => Ok(0),
+        op::NOP | op::PUSH_OBJECT_ADDRESS | op::CALL_FRAME_CFA | op::STACK_VALUE => Ok(0),
         _ => Err(ReadError::Truncated),
     }
 }
@@ -123,9 +129,18 @@ pub(crate) fn skip(cursor: &mut Cursor<'_>, code: u8) -> Result<u64, ReadError> 
 /// How an operation changes the height of the stack.
 fn change(code: u8) -> Change {
     match code {
-        0x93 | 0x9d => Change::Empty,
-        0x03 | 0x08..=0x12 | 0x14 | 0x15 | 0x30..=0x4f | 0x70..=0x8f | 0x91 | 0x92 | 0x97 | 0x9c => Change::By(1),
-        0x13 | 0x1a..=0x1e | 0x21 | 0x22 | 0x24..=0x2e | 0x9f => Change::By(-1),
+        op::PIECE | op::BIT_PIECE => Change::Empty,
+        op::ADDR
+        | op::CONST1U..=op::DUP
+        | op::OVER
+        | op::PICK
+        | op::LIT0..=op::LIT31
+        | op::BREG0..=op::BREG31
+        | op::FBREG
+        | op::BREGX
+        | op::PUSH_OBJECT_ADDRESS
+        | op::CALL_FRAME_CFA => Change::By(1),
+        op::DROP | op::AND..=op::MUL | op::OR | op::PLUS | op::SHL..=op::NE | op::STACK_VALUE => Change::By(-1),
         _ => Change::By(0),
     }
 }

@@ -2,6 +2,7 @@
 //!
 //! It uses `elf` and `cfi`.
 
+pub mod codes;
 pub mod debug_info;
 pub mod expression;
 pub mod inlined;

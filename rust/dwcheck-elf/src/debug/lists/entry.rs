@@ -1,6 +1,7 @@
 //! Reads the entries of a location list (DWARF 5, section 2.6.2; DWARF 4, section 2.6.2).
 
 use super::expression::Scope;
+use crate::debug::codes::lle;
 use crate::elf::bytes::{Cursor, ReadError};
 use crate::elf::format::Name;
 use dwcheck::FaultKind;
@@ -87,32 +88,32 @@ impl<'a, 's> ListReader<'a, 's> {
     /// `None` if the code of the entry isn't known.
     fn new_item(&mut self) -> Result<Option<Item<'a>>, ReadError> {
         Ok(Some(match self.cursor.byte()? {
-            0x00 => Item::End,
-            0x01 => self.indexed()?.map_or(Item::NoAddress, Item::Base),
-            0x02 => {
+            lle::END_OF_LIST => Item::End,
+            lle::BASE_ADDRESSX => self.indexed()?.map_or(Item::NoAddress, Item::Base),
+            lle::STARTX_ENDX => {
                 let (begin, end) = (self.indexed()?, self.indexed()?);
                 let bounds = begin.and_then(|begin| Some(Bounds::Addresses(begin, end?)));
                 self.entry(bounds)?
             }
-            0x03 => {
+            lle::STARTX_LENGTH => {
                 let (begin, length) = (self.indexed()?, self.cursor.uleb()?);
                 self.entry(begin.map(|begin| Bounds::Length(begin, length)))?
             }
-            0x04 => {
+            lle::OFFSET_PAIR => {
                 let bounds = Bounds::Offsets(self.cursor.uleb()?, self.cursor.uleb()?);
                 self.entry(Some(bounds))?
             }
-            0x05 => self.entry(Some(Bounds::Default))?,
-            0x06 => Item::Base(self.word()?),
-            0x07 => {
+            lle::DEFAULT_LOCATION => self.entry(Some(Bounds::Default))?,
+            lle::BASE_ADDRESS => Item::Base(self.word()?),
+            lle::START_END => {
                 let bounds = Bounds::Addresses(self.word()?, self.word()?);
                 self.entry(Some(bounds))?
             }
-            0x08 => {
+            lle::START_LENGTH => {
                 let bounds = Bounds::Length(self.word()?, self.cursor.uleb()?);
                 self.entry(Some(bounds))?
             }
-            0x09 => {
+            lle::GNU_VIEW_PAIR => {
                 self.cursor.skip_leb()?;
                 self.cursor.skip_leb()?;
                 Item::Views

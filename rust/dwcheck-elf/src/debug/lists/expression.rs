@@ -1,7 +1,8 @@
 //! Rewrites an expression so that `dwcheck` can check and evaluate it.
 
 use super::hole::{Hole, Spot, DEREF, UNREADABLE};
-use crate::debug::expression::{skip, BRA, SKIP};
+use crate::debug::codes::op;
+use crate::debug::expression::skip;
 use crate::elf::bytes::{Cursor, ReadError};
 use crate::elf::target::Target;
 use std::borrow::Cow;
@@ -122,19 +123,19 @@ fn act(cursor: &mut Cursor<'_>, scope: &Scope<'_>) -> Result<Act, ReadError> {
     let operands = cursor.at();
     let loaded = |address: u64| Act::Address(scope.target.wrap(address.wrapping_add(scope.load)));
     Ok(match code {
-        ADDR if scope.load != 0 => loaded(cursor.number(scope.target.address_size.bytes())?),
-        BRA | SKIP => Act::Branch(cursor.signed(2)? as i64),
-        0x98..=0x9a => Act::Whole(Hole::Call),
-        0xa1 | 0xfb => (scope.address)(cursor.uleb()?).map_or(Act::NoAddress, loaded),
-        0xa2 | 0xfc => (scope.address)(cursor.uleb()?).map_or(Act::NoAddress, Act::Constant),
-        0xa0 | 0xf2 => {
+        op::ADDR if scope.load != 0 => loaded(cursor.number(scope.target.address_size.bytes())?),
+        op::BRA | op::SKIP => Act::Branch(cursor.signed(2)? as i64),
+        op::CALL2..=op::CALL_REF => Act::Whole(Hole::Call),
+        op::ADDRX | op::GNU_ADDR_INDEX => (scope.address)(cursor.uleb()?).map_or(Act::NoAddress, loaded),
+        op::CONSTX | op::GNU_CONST_INDEX => (scope.address)(cursor.uleb()?).map_or(Act::NoAddress, Act::Constant),
+        op::IMPLICIT_POINTER | op::GNU_IMPLICIT_POINTER => {
             let address = scope.target.address_size.bytes();
             cursor.take(u64::from(if scope.version == 2 { address } else { scope.offset_size }))?;
             cursor.skip_leb()?;
             Act::Value(Hole::ImplicitPointer)
         }
         // DW_OP_GNU_uninit says that the variable may not be initialized. It changes nothing else.
-        0xf0 => Act::Drop,
+        op::GNU_UNINIT => Act::Drop,
         _ => match hole(cursor, code, scope)? {
             Some((hole, takes)) => match (scope.known)(hole, cursor.since(operands)) {
                 Some(value) if hole == Hole::FormTlsAddress => Act::Plus(value),
@@ -151,45 +152,38 @@ fn act(cursor: &mut Cursor<'_>, scope: &Scope<'_>) -> Result<Act, ReadError> {
 /// for any other operation, of which nothing is read.
 fn hole(cursor: &mut Cursor<'_>, code: u8, scope: &Scope<'_>) -> Result<Option<(Hole, usize)>, ReadError> {
     Ok(Some(match code {
-        0x18 => (Hole::Xderef, 2),
-        0x95 => cursor.byte().map(|_| (Hole::Xderef, 2))?,
-        0x9b | 0xe0 => (Hole::FormTlsAddress, 1),
-        0xa3 | 0xf3 => {
+        op::XDEREF => (Hole::Xderef, 2),
+        op::XDEREF_SIZE => cursor.byte().map(|_| (Hole::Xderef, 2))?,
+        op::FORM_TLS_ADDRESS | op::GNU_PUSH_TLS_ADDRESS => (Hole::FormTlsAddress, 1),
+        op::ENTRY_VALUE | op::GNU_ENTRY_VALUE => {
             let length = cursor.uleb()?;
             cursor.take(length).map(|_| (Hole::EntryValue, 0))?
         }
-        0xa4 | 0xf4 => {
+        op::CONST_TYPE | op::GNU_CONST_TYPE => {
             cursor.skip_leb()?;
             let length = cursor.byte()?;
             cursor.take(u64::from(length)).map(|_| (Hole::ConstType, 0))?
         }
-        0xa5 | 0xf5 => {
+        op::REGVAL_TYPE | op::GNU_REGVAL_TYPE => {
             cursor.skip_leb()?;
             cursor.skip_leb().map(|()| (Hole::RegvalType, 0))?
         }
-        0xa6 | 0xa7 | 0xf6 => {
+        op::DEREF_TYPE | op::XDEREF_TYPE | op::GNU_DEREF_TYPE => {
             cursor.byte()?;
             cursor.skip_leb()?;
-            if code == 0xa7 {
+            if code == op::XDEREF_TYPE {
                 (Hole::Xderef, 2)
             } else {
                 (Hole::DerefType, 1)
             }
         }
-        0xa8 | 0xf7 => cursor.skip_leb().map(|()| (Hole::Convert, 1))?,
-        0xa9 | 0xf9 => cursor.skip_leb().map(|()| (Hole::Reinterpret, 1))?,
-        0xfa => cursor.take(4).map(|_| (Hole::ParameterRef, 0))?,
-        0xfd => cursor.take(u64::from(scope.offset_size)).map(|_| (Hole::VariableValue, 0))?,
+        op::CONVERT | op::GNU_CONVERT => cursor.skip_leb().map(|()| (Hole::Convert, 1))?,
+        op::REINTERPRET | op::GNU_REINTERPRET => cursor.skip_leb().map(|()| (Hole::Reinterpret, 1))?,
+        op::GNU_PARAMETER_REF => cursor.take(4).map(|_| (Hole::ParameterRef, 0))?,
+        op::GNU_VARIABLE_VALUE => cursor.take(u64::from(scope.offset_size)).map(|_| (Hole::VariableValue, 0))?,
         _ => return Ok(None),
     }))
 }
-
-const ADDR: u8 = 0x03;
-const CONST4U: u8 = 0x0c;
-const CONST8U: u8 = 0x0e;
-const DROP: u8 = 0x13;
-const PLUS: u8 = 0x22;
-const STACK_VALUE: u8 = 0x9f;
 
 /// How many bytes an operation has once it is rewritten.
 fn length(operation: &Operation, target: Target) -> usize {
@@ -232,23 +226,23 @@ fn write<'a>(expression: &'a [u8], operations: &[Operation], scope: &Scope<'_>) 
                 }
                 None => return whole(Hole::LongBranch, operation.begin),
             },
-            Act::Address(number) => push_word(&mut bytes, ADDR, number, target),
+            Act::Address(number) => push_word(&mut bytes, op::ADDR, number, target),
             Act::Constant(number) => push_word(&mut bytes, constant(target), number, target),
             Act::Plus(number) => {
                 push_word(&mut bytes, constant(target), number, target);
-                bytes.push(PLUS);
+                bytes.push(op::PLUS);
             }
-            Act::NoAddress => push_word(&mut bytes, ADDR, 0, target),
+            Act::NoAddress => push_word(&mut bytes, op::ADDR, 0, target),
             Act::Drop => {}
             Act::Hole(hole, takes) => {
-                bytes.extend(std::iter::repeat(DROP).take(takes));
+                bytes.extend(std::iter::repeat(op::DROP).take(takes));
                 holes.push(Spot { hole, original: operation.begin, rewritten: bytes.len() + DEREF });
                 bytes.extend_from_slice(&UNREADABLE);
             }
             Act::Value(hole) => {
                 holes.push(Spot { hole, original: operation.begin, rewritten: begin + DEREF });
                 bytes.extend_from_slice(&UNREADABLE);
-                bytes.push(STACK_VALUE);
+                bytes.push(op::STACK_VALUE);
             }
         }
     }
@@ -259,9 +253,9 @@ fn write<'a>(expression: &'a [u8], operations: &[Operation], scope: &Scope<'_>) 
 
 fn constant(target: Target) -> u8 {
     if target.address_size.bytes() == 8 {
-        CONST8U
+        op::CONST8U
     } else {
-        CONST4U
+        op::CONST4U
     }
 }
 

@@ -4,6 +4,7 @@
 //! as the original, and that are unreadable in every state. So all paths are still checked, and a run
 //! through the hole never has a wrong result.
 
+use crate::debug::codes::op;
 use std::fmt;
 
 /// What an operation is that `dwcheck` doesn't know.
@@ -52,7 +53,7 @@ pub struct Spot {
 
 /// Operations that are unreadable in every state, and push an entry: `DW_OP_const1s` -1 and
 /// `DW_OP_deref`. The last byte that they read is past the highest address.
-pub(crate) const UNREADABLE: [u8; 3] = [0x09, 0xff, 0x06];
+pub(crate) const UNREADABLE: [u8; 3] = [op::CONST1S, 0xff, op::DEREF];
 
 /// The offset in [`UNREADABLE`] of the operation that has no result.
 pub(crate) const DEREF: usize = 2;

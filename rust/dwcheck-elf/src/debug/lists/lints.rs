@@ -2,6 +2,7 @@
 
 use super::around::Around;
 use super::unit::{Entry, List, UnitLists};
+use crate::debug::codes::op;
 use crate::debug::expression::operations;
 use crate::elf::target::Target;
 use std::collections::BTreeMap;
@@ -168,19 +169,16 @@ fn has(ranges: &[Range<u64>], range: &Range<u64>) -> bool {
     before.map_or(false, |part| range.end <= ranges[part].end)
 }
 
-const FBREG: u8 = 0x91;
-const PUSH_OBJECT_ADDRESS: u8 = 0x97;
-
 fn is_unreadable(expression: &[u8], has_frame_base: bool, target: Target) -> bool {
-    let never = |code: u8| code == PUSH_OBJECT_ADDRESS || code == FBREG && !has_frame_base;
+    let never = |code: u8| code == op::PUSH_OBJECT_ADDRESS || code == op::FBREG && !has_frame_base;
     // Few expressions have such a byte at all.
     expression.iter().any(|byte| never(*byte)) && operations(expression, target).iter().any(|one| never(one.code))
 }
 
-const FORM_TLS_ADDRESS: [u8; 2] = [0x9b, 0xe0];
+const FORM_TLS_ADDRESS: [u8; 2] = [op::FORM_TLS_ADDRESS, op::GNU_PUSH_TLS_ADDRESS];
 
 /// The constants that gcc writes as the operand of `DW_OP_form_tls_address`: const4u, const8u.
-const CONSTANTS: [u8; 2] = [0x0c, 0x0e];
+const CONSTANTS: [u8; 2] = [op::CONST4U, op::CONST8U];
 
 fn has_tls_before_operand(expression: &[u8], target: Target) -> bool {
     // Nearly all expressions are shorter than both operations.

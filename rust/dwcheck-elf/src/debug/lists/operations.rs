@@ -1,11 +1,9 @@
 //! Compares the operations of an expression with those of the rewritten one, as gimli reads both.
 
 use super::hole::UNREADABLE;
+use crate::debug::codes::op;
 use crate::debug::debug_info::Slice;
 use gimli::{Dwarf, Encoding, EndianSlice, Expression, Operation, Reader, RunTimeEndian, Unit, UnitOffset};
-
-const NOP: u8 = 0x96;
-const UNINIT: u8 = 0xf0;
 
 /// How many `DW_OP_GNU_uninit` of an expression are replaced.
 const MAX_UNINIT: usize = 64;
@@ -91,7 +89,7 @@ fn without_uninit(bytes: &mut [u8], order: RunTimeEndian, encoding: Encoding) ->
             }
         };
         match bytes.get_mut(unread) {
-            Some(byte) if *byte == UNINIT => *byte = NOP,
+            Some(byte) if *byte == op::GNU_UNINIT => *byte = op::NOP,
             _ => return replaced,
         }
         replaced.push(unread);

@@ -6,6 +6,7 @@ use super::expression::{rewrite, Rewritten, Scope};
 use super::hole::{Hole, Spot, UNREADABLE};
 use super::problem::{Kind, Problem};
 use super::references::Reference;
+use crate::debug::codes::lle;
 use crate::elf::format::Name;
 use crate::elf::target::Target;
 use dwcheck::FaultKind;
@@ -175,7 +176,7 @@ impl UnitLists {
             Item::Base(address) => {
                 state.base = address;
                 state.is_unlike_gimli |= source.section == Name::DebugLoc && address == target.address_size.highest();
-                self.bytes.push(0x06);
+                self.bytes.push(lle::BASE_ADDRESS);
                 target.push(&mut self.bytes, source.new_base(address), target.address_size.bytes());
             }
             Item::NoAddress => state.problems.push(Problem::of(reference, at, Kind::NoSuchAddress)),
@@ -198,18 +199,18 @@ impl UnitLists {
         let bytes = &mut self.bytes;
         match bounds {
             Bounds::Offsets(begin, end) => {
-                bytes.push(0x04);
+                bytes.push(lle::OFFSET_PAIR);
                 push_uleb(bytes, begin);
                 push_uleb(bytes, end);
             }
-            Bounds::Default => bytes.push(0x05),
+            Bounds::Default => bytes.push(lle::DEFAULT_LOCATION),
             Bounds::Addresses(begin, end) => {
-                bytes.push(0x07);
+                bytes.push(lle::START_END);
                 target.push(bytes, begin, size);
                 target.push(bytes, end, size);
             }
             Bounds::Length(begin, length) => {
-                bytes.push(0x08);
+                bytes.push(lle::START_LENGTH);
                 target.push(bytes, begin, size);
                 push_uleb(bytes, length);
             }

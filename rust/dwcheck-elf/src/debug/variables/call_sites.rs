@@ -4,12 +4,10 @@
 use super::location::Locator;
 use super::place::{Missing, Place};
 use super::scopes::place;
+use crate::debug::codes::op;
 use crate::debug::debug_info::{Die, Slice};
 use gimli::{AttributeValue, DwAt};
 use std::rc::Rc;
-
-/// `DW_OP_stack_value`: the expression is the value of an object.
-const STACK_VALUE: u8 = 0x9f;
 
 impl<'v, 'a> Locator<'v, 'a> {
     /// The value that a register, or what an expression describes, had when the function was entered.
@@ -47,7 +45,7 @@ impl<'v, 'a> Locator<'v, 'a> {
 
     /// The value of an expression that isn't a location.
     pub(super) fn computed(&self, die: &Die<'v, 'a>, expression: &[u8]) -> Result<u64, Missing> {
-        match self.evaluated(die, &[expression, &[STACK_VALUE]].concat())? {
+        match self.evaluated(die, &[expression, &[op::STACK_VALUE]].concat())? {
             Place::Value(value) => Ok(value),
             _ => Err(Missing::Unsupported("a result of this kind")),
         }

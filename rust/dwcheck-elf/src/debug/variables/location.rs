@@ -2,8 +2,9 @@
 
 use super::place::{Machine, Missing, Place, Pointee};
 use super::{Frame, Variables};
+use crate::debug::codes::op;
 use crate::debug::debug_info::{Die, Slice};
-use crate::debug::expression::{operations, BRA, SKIP};
+use crate::debug::expression::operations;
 use crate::debug::lists::{expression_at, rewrite, Hole, Rewritten, Scope, Source};
 use crate::elf::bytes::Cursor;
 use crate::elf::format::Name;
@@ -218,7 +219,7 @@ impl<'v, 'a> Locator<'v, 'a> {
         let mut begin = 0;
         let all = operations(bytes, target);
         let ends = all.iter().skip(1).map(|operation| operation.offset).chain([bytes.len()]);
-        for (operation, end) in all.iter().zip(ends).filter(|(operation, _)| operation.code == PIECE) {
+        for (operation, end) in all.iter().zip(ends).filter(|(operation, _)| operation.code == op::PIECE) {
             let size = Cursor::new(&bytes[operation.offset + 1..end], target).uleb().unwrap_or(0);
             let part = bytes.get(begin..end).unwrap_or(&[]);
             let place = match self.run(part)? {
@@ -261,13 +262,11 @@ impl<'v, 'a> Locator<'v, 'a> {
     }
 }
 
-const PIECE: u8 = 0x93;
-
 /// Whether an expression is pieces that can be evaluated one by one.
 fn has_pieces(bytes: &[u8], target: Target) -> bool {
     let all = operations(bytes, target);
     let is = |code: u8| all.iter().any(|operation| operation.code == code);
-    is(PIECE) && !is(BRA) && !is(SKIP)
+    is(op::PIECE) && !is(op::BRA) && !is(op::SKIP)
 }
 
 fn place_of(location: Location) -> Result<Place, Missing> {
@@ -294,11 +293,11 @@ fn bytes_of(size: PieceSize) -> Option<usize> {
 fn unreadable(bytes: &[u8], at: usize, target: Target) -> Missing {
     let mut cursor = Cursor::new(bytes.get(at..).unwrap_or(&[]), target);
     let what = match cursor.byte() {
-        Ok(code @ 0x70..=0x8f) => format!("r{}", code - 0x70),
-        Ok(0x92) => cursor.uleb().map_or_else(|_| "a register".to_string(), |number| format!("r{}", number)),
-        Ok(0x91) => "frame base".to_string(),
-        Ok(0x9c) => "CFA".to_string(),
-        Ok(0x97) => "object address".to_string(),
+        Ok(code @ op::BREG0..=op::BREG31) => format!("r{}", code - op::BREG0),
+        Ok(op::BREGX) => cursor.uleb().map_or_else(|_| "a register".to_string(), |number| format!("r{}", number)),
+        Ok(op::FBREG) => "frame base".to_string(),
+        Ok(op::CALL_FRAME_CFA) => "CFA".to_string(),
+        Ok(op::PUSH_OBJECT_ADDRESS) => "object address".to_string(),
         _ => "memory".to_string(),
     };
     Missing::Unreadable(what)
