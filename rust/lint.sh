@@ -1,6 +1,6 @@
 #!/bin/bash
-# Runs rustfmt and clippy on each crate in Rust. Prints a line `ok NAME` or `FAILED NAME` for each, and
-# ends with status 1 if one failed. Nothing is linked, so an empty library stands in for the C library,
+# Runs rustfmt and clippy on each crate in Rust, and sees that each file of tests is compiled. Prints a line
+# `ok NAME` or `FAILED NAME` for each, and ends with status 1 if one failed. Nothing is linked, so an empty library stands in for the C library,
 # which takes long to build.
 set -u
 top=$(dirname "$(dirname "$(realpath "$0")")")
@@ -16,4 +16,13 @@ for crate in rust/dwcheck-sys rust/dwcheck rust/dwcheck-lint rust/dwcheck-zstd r
     # Later versions of clippy leave out format_push_string unless it is asked for.
     test_of "clippy of $crate" "$top/rust/cargo.sh" clippy --quiet --all-targets -- -D warnings -A clippy::format-push-string
 done
+
+tests_are_modules() { # A file in tests/all that main.rs doesn't name would be left out in silence.
+    local file name
+    for file in "$top"/rust/*/tests/all/*.rs; do
+        name=$(basename "$file" .rs)
+        [ "$name" = main ] || grep -qx "mod $name;" "$(dirname "$file")/main.rs" || { echo "$file is no module"; return 1; }
+    done
+}
+test_of "files of tests" tests_are_modules
 exit $status
