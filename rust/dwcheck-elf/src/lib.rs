@@ -43,5 +43,6 @@ pub mod internal {
     pub use crate::elf::bytes::{Cursor, ReadError};
     pub use crate::elf::names::short_name;
     pub use crate::process::maps::Process;
-    pub use crate::process::stack::{ends_with_call, Names};
+    pub use crate::process::stack::guess::ends_with_call;
+    pub use crate::process::stack::names::Names;
 }

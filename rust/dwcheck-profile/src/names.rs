@@ -5,7 +5,7 @@ use super::memory::Memory;
 use super::objects::{Kind, Object};
 use super::{Frame, Profile};
 use dwcheck_elf::debug_files::DebugFiles;
-use dwcheck_elf::internal::short_name;
+use dwcheck_elf::internal::{short_name, Names as ModuleNames};
 use dwcheck_elf::stack;
 use dwcheck_elf::text::Plain;
 use rayon::prelude::*;
@@ -229,9 +229,9 @@ fn of_file(
     let names = match options.inlined && !options.lines {
         true => {
             let addresses: Vec<u64> = frames.iter().map(|frame| address(*frame)).collect();
-            stack::Names::read_for(path, bytes, &debug_files, &addresses)
+            ModuleNames::read_for(path, bytes, &debug_files, &addresses)
         }
-        false => stack::Names::read(path, bytes, &debug_files, wanted),
+        false => ModuleNames::read(path, bytes, &debug_files, wanted),
     };
     let mut shown = Shown::default();
     let named =

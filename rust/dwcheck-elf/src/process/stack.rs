@@ -6,12 +6,12 @@
 //! another rule; such a caller is a guess, and marked with the rule ([`FoundBy`]).
 
 mod abort;
-mod guess;
+pub(crate) mod guess;
 mod instruction;
 mod json;
 mod kept;
 mod listed;
-mod names;
+pub(crate) mod names;
 mod overflow;
 mod per_file;
 mod signal_return;
@@ -23,10 +23,10 @@ mod variables;
 mod walker;
 
 pub use crate::debug::lines::SourceLine;
-pub use guess::ends_with_call;
 pub use instruction::Instruction;
 pub use listed::Listed;
-pub use names::{Inlined, NameOptions, Names, Place};
+pub(crate) use names::Names;
+pub use names::{Inlined, NameOptions, Place};
 pub use text::Lines;
 
 use crate::debug::variables::{Shape, Variables};
