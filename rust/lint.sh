@@ -1,7 +1,7 @@
 #!/bin/bash
-# Runs rustfmt and clippy on each crate in Rust, and sees that each file of tests is compiled. Prints a line
-# `ok NAME` or `FAILED NAME` for each, and ends with status 1 if one failed. Nothing is linked, so an empty library stands in for the C library,
-# which takes long to build.
+# Runs rustfmt and clippy on each crate in Rust, and sees that each file of tests is compiled. Prints a
+# line `ok NAME` or `FAILED NAME` for each, and ends with status 1 if one failed. Nothing is linked, so an
+# empty library stands in for the C library, which takes long to build.
 set -u
 top=$(dirname "$(dirname "$(realpath "$0")")")
 export DWCHECK_LIB_DIR=$top/build/no-library
