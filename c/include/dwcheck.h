@@ -206,10 +206,10 @@ uint32_t dwcheck_module_at(const dwcheck_process *process, uint64_t address, dwc
    frame_length, `order`, address_size, `kind`, and the three fields at the end. */
 uint32_t dwcheck_module_check(const dwcheck_module *module, dwcheck_counts *counts, dwcheck_fault *fault);
 
-/* A record of a section: a CIE, an FDE, or in .eh_frame a record of length 0. Its program is the bytes from `program`
-   up to `next`, the offset after the record; an empty record has none, and `program` is its own offset. An FDE has the offset of its CIE, and covers the addresses as linked from
-   `start` up to, but not including, `end`. A CIE has its version, its factors, and the register of the return address.
-   Fields that a record doesn't have are 0. */
+/* A record of a section: a CIE, an FDE, or in .eh_frame a record of length 0. Its program is the bytes from
+   `program` up to `next`, the offset after the record; an empty record has none, and `program` is its own offset. An
+   FDE has the offset of its CIE, and covers the addresses as linked from `start` up to, but not including, `end`. A
+   CIE has its version, its factors, and the register of the return address. Fields that a record doesn't have are 0. */
 enum { DWCHECK_RECORD_CIE = 0, DWCHECK_RECORD_FDE = 1, DWCHECK_RECORD_EMPTY = 2 };
 typedef struct dwcheck_record {
     uint64_t next, program, cie, start, end, code_alignment_factor;
