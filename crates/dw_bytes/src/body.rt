@@ -23,6 +23,7 @@ impl Body {
     /// The body of the record or table that begins at offset `at` of the section. If the length
     /// can't be read, `Truncated` or `ReservedLength` is reported at `at`. If the section has fewer
     /// bytes left than the length says, `Truncated` is reported at the body's first byte.
+    #[inline(always)]
     #[tactic(auto, unfolding(crate::specs::Bodies::framed_at))]
     pub fn read(section: &[u8], target: Target, at: u32) -> Result<Self, Fault>
         requires inside { at ≤ length section.now }

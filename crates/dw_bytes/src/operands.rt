@@ -149,6 +149,7 @@ pub fn register_and_block<'a>(cursor: &mut Cursor<'a>, at: u32) -> Result<(u16, 
 
 /// A block: the count of its bytes as unsigned LEB128, then the bytes. A block has no range to
 /// check, so `at` isn't used.
+#[inline(always)]
 pub fn block<'a>(cursor: &mut Cursor<'a>, at: u32) -> Result<Block<'a>, Fault>
     ensures exact { ReadsBy (λ v. one_value (block_of v))
         (operands_in_range_at at (block ∷ [])) cursor.old result cursor.new }

@@ -1,5 +1,5 @@
 -- What is kept of records where exact copies are left out.
-use Rattle.std.proofs.Common.{◌≡◌, ℕ, zero, suc, Bool, true, false, cond, List, [], ◌∷◌, ◌++◌, Option, Some, None, Contains, refl, ap, subst, arith, inl, inr}
+use Rattle.std.proofs.Common.{◌≡◌, ◌<◌, ℕ, zero, suc, Bool, true, false, cond, List, [], ◌∷◌, ◌++◌, Option, Some, None, Contains, refl, ap, subst, arith, inl, inr}
 use Rattle.std.specs.Prelude.{◌⊎◌, ◌==◌, ◌&&◌, nat_lt, find}
 use Rattle.std.specs.Str.{bytes_eq}
 use Rattle.std.proofs.lemmas.Bool.Decides.{nat_tests}
@@ -8,7 +8,7 @@ use Rattle.std.proofs.lemmas.Slice.Eq.{bytes_eq-Decides}
 use Rattle.dw_frame.specs.Records.{Cie, Fde, Record, cie_record, fde_record}
 use Rattle.dw_eh_frame.specs.Copies.{SaysTheSame, covers_from, distinct_after, is_copy, repeats, repeats_one}
 
-later : (x y : Record) (xs : List Record) → Contains xs y → Contains (x ∷ xs) y
+pub later : (x y : Record) (xs : List Record) → Contains xs y → Contains (x ∷ xs) y
 later x y xs (k, less, is) = (suc k, omega arith, is)
 
 -- ---- a copy says what an FDE before it says
@@ -44,15 +44,21 @@ repeated g f covers same =
       bytes = bytes-of g.program.rest f.program.rest parts.1;
     }
 
-copied : (before : List Fde) (f : Fde) → is_copy before f ≡ true → (g : Fde) × Contains before g × SaysTheSame g f
-copied before f copy = go (find (covers_from f.initial_location) before) refl (both-true (nat_lt 0 f.address_range) _ copy).1
+some-range : (f : Fde) → nat_lt 0 f.address_range ≡ true → 0 < f.address_range
+some-range f is = grind (arith, nat_tests)
+
+pub copied : (before : List Fde) (f : Fde) → is_copy before f ≡ true
+    → (g : Fde) × Contains before g × SaysTheSame g f × (0 < f.address_range)
+copied before f copy =
+    let parts = both-true (nat_lt 0 f.address_range) (repeats_one (find (covers_from f.initial_location) before) f) copy in
+    go (find (covers_from f.initial_location) before) refl (some-range f parts.0) parts.1
   where
-    go : (o : Option Fde) → find (covers_from f.initial_location) before ≡ o → repeats_one o f ≡ true
-        → (g : Fde) × Contains before g × SaysTheSame g f
-    go None is h = absurd cc
-    go (Some g) is h =
+    go : (o : Option Fde) → find (covers_from f.initial_location) before ≡ o → 0 < f.address_range → repeats_one o f ≡ true
+        → (g : Fde) × Contains before g × SaysTheSame g f × (0 < f.address_range)
+    go None is some h = absurd cc
+    go (Some g) is some h =
         let found = find-some (covers_from f.initial_location) before g is in
-        (g, found.0, repeated g f found.1 h)
+        (g, found.0, repeated g f found.1 h, some)
 
 -- ---- all records
 

@@ -1,71 +1,115 @@
--- Records without exact copies, and what one more record adds.
-use Rattle.std.proofs.Common.{◌≡◌, ℕ, ◌≤◌, Bool, true, false, cond, List, [], ◌∷◌, ◌++◌, length, sym, ap, ◌∙◌, arith, append_assoc}
-use Rattle.std.proofs.lemmas.List.{append-nil}
-use Rattle.std.proofs.lemmas.List.Elements.{filter_map-append}
-use Rattle.dw_frame.specs.Records.{Cie, Fde, Record, cie_record, fde_record, cie_in_record, fde_in_record, cies_among, fdes_among}
-use Rattle.dw_eh_frame.specs.Copies.{is_copy, distinct_after, distinct}
-use Rattle.dw_eh_frame.specs.Records.{EhCie, EhFde, EhRecord, eh_cie, eh_fde, eh_nothing, in_dwarf, all_in_dwarf}
+-- Records without exact copies of FDEs.
+use Rattle.std.proofs.Common.{◌≡◌, ℕ, ◌<◌, Bool, true, false, cond, List, [], ◌∷◌, ◌++◌, Contains, refl, ap, arith, inl, inr}
+use Rattle.std.specs.Prelude.{◌⊎◌}
+use Rattle.std.proofs.lemmas.List.Elements.{Contains-push_cases}
+use Rattle.dw_bytes.specs.declared.target.Target.{Target}
+use Rattle.dw_frame.specs.Bounds.{ArePlaced}
+use Rattle.dw_frame.specs.Records.{Cie, Fde, Record, cie_record, fde_record, cies_among, fdes_among}
+use Rattle.dw_eh_frame.specs.Copies.{AreDistinct, distinct, distinct_after, is_copy, without_copies}
+use Rattle.dw_eh_frame.proofs.CopiesKept.{copied, later}
+use Rattle.dw_eh_frame.proofs.Placed.{placed-from, sound-forward}
 
--- The FDEs before the second records are those before, and those that are kept of the first records.
-pub distinct-append : (before : List Fde) (xs ys : List Record)
-    → distinct_after before (xs ++ ys) ≡ distinct_after before xs ++ distinct_after (before ++ fdes_among (distinct_after before xs)) ys
-distinct-append before [] ys = ap (λ (b : List Fde). distinct_after b ys) (sym (append-nil before))
-distinct-append before (cie_record c ∷ xs) ys = ap (λ (l : List Record). cie_record c ∷ l) (distinct-append before xs ys)
-distinct-append before (fde_record f ∷ xs) ys = go (is_copy before f) (distinct-append before xs ys)
-    (distinct-append (before ++ f ∷ []) xs ys
-    ∙ ap (λ (b : List Fde). distinct_after (before ++ f ∷ []) xs ++ distinct_after b ys)
-    (append_assoc before (f ∷ []) (fdes_among (distinct_after (before ++ f ∷ []) xs))))
+-- ---- the CIEs and the FDEs that are kept
+
+pub distinct-cies : (before : List Fde) (records : List Record) → cies_among (distinct_after before records) ≡ cies_among records
+distinct-cies before [] = refl
+distinct-cies before (cie_record c ∷ records) = ap (λ (l : List Cie). c ∷ l) (distinct-cies before records)
+distinct-cies before (fde_record f ∷ records) =
+    go (is_copy before f) (distinct-cies before records) (distinct-cies (before ++ f ∷ []) records)
   where
-    go : (b : Bool)
-        → distinct_after before (xs ++ ys) ≡ distinct_after before xs ++ distinct_after (before ++ fdes_among (distinct_after before xs)) ys
-        → distinct_after (before ++ f ∷ []) (xs ++ ys) ≡ distinct_after (before ++ f ∷ []) xs
-        ++ distinct_after (before ++ f ∷ fdes_among (distinct_after (before ++ f ∷ []) xs)) ys
-        → cond b (distinct_after before (xs ++ ys)) (fde_record f ∷ distinct_after (before ++ f ∷ []) (xs ++ ys))
-        ≡ cond b (distinct_after before xs) (fde_record f ∷ distinct_after (before ++ f ∷ []) xs)
-        ++ distinct_after (before ++ fdes_among (cond b (distinct_after before xs) (fde_record f ∷ distinct_after (before ++ f ∷ []) xs))) ys
+    go : (b : Bool) → cies_among (distinct_after before records) ≡ cies_among records
+        → cies_among (distinct_after (before ++ f ∷ []) records) ≡ cies_among records
+        → cies_among (cond b (distinct_after before records) (fde_record f ∷ distinct_after (before ++ f ∷ []) records)) ≡ cies_among records
     go true left kept = left
-    go false left kept = ap (λ (l : List Record). fde_record f ∷ l) kept
+    go false left kept = kept
 
--- the records that are kept, after one more record of a section
-abbrev pub kept : List EhRecord → List Record
-kept records = distinct (all_in_dwarf records)
+pub distinct-fdes : (before : List Fde) (records : List Record)
+    → fdes_among (distinct_after before records) ≡ without_copies before (fdes_among records)
+distinct-fdes before [] = refl
+distinct-fdes before (cie_record c ∷ records) = distinct-fdes before records
+distinct-fdes before (fde_record f ∷ records) =
+    go (is_copy before f) (distinct-fdes before records) (distinct-fdes (before ++ f ∷ []) records)
+  where
+    go : (b : Bool) → fdes_among (distinct_after before records) ≡ without_copies before (fdes_among records)
+        → fdes_among (distinct_after (before ++ f ∷ []) records) ≡ without_copies (before ++ f ∷ []) (fdes_among records)
+        → fdes_among (cond b (distinct_after before records) (fde_record f ∷ distinct_after (before ++ f ∷ []) records))
+        ≡ cond b (without_copies before (fdes_among records)) (f ∷ without_copies (before ++ f ∷ []) (fdes_among records))
+    go true left kept = left
+    go false left kept = ap (λ (l : List Fde). f ∷ l) kept
 
-more : (records : List EhRecord) (x : EhRecord) → kept (records ++ x ∷ [])
-    ≡ kept records ++ distinct_after (fdes_among (kept records)) (all_in_dwarf (x ∷ []))
-more records x = ap distinct (filter_map-append in_dwarf records (x ∷ []))
-    ∙ distinct-append [] (all_in_dwarf records) (all_in_dwarf (x ∷ []))
+-- ---- where they lie
 
-pub kept-cie : (records : List EhRecord) (e : EhCie) → kept (records ++ eh_cie e ∷ []) ≡ kept records ++ cie_record e.cie ∷ []
-kept-cie records e = more records (eh_cie e)
+pub distinct-placed : (target : Target) (at end : ℕ) (before : List Fde) (records : List Record) → ArePlaced target at end records
+    → ArePlaced target at end (distinct_after before records)
+distinct-placed target at end before [] are = are
+distinct-placed target at end before (cie_record c ∷ records) (next, begins, sound, others) =
+    (next, begins, sound, distinct-placed target next end before records others)
+distinct-placed target at end before (fde_record f ∷ records) (next, begins, sound, others) =
+    go (is_copy before f) (distinct-placed target next end before records others)
+    (distinct-placed target next end (before ++ f ∷ []) records others)
+  where
+    go : (b : Bool) → ArePlaced target next end (distinct_after before records)
+        → ArePlaced target next end (distinct_after (before ++ f ∷ []) records)
+        → ArePlaced target at end (cond b (distinct_after before records) (fde_record f ∷ distinct_after (before ++ f ∷ []) records))
+    go true left kept =
+        placed-from target at next end (distinct_after before records)
+        (omega (arith, begins, sound-forward target next (fde_record f) sound)) left
+    go false left kept = (next, begins, sound, kept)
 
-pub kept-nothing : (records : List EhRecord) (n : ℕ) → kept (records ++ eh_nothing n ∷ []) ≡ kept records
-kept-nothing records n = more records (eh_nothing n) ∙ append-nil (kept records)
+-- ---- where there are no copies
 
-pub kept-copy : (records : List EhRecord) (e : EhFde) → is_copy (fdes_among (kept records)) e.fde ≡ true
-    → kept (records ++ eh_fde e ∷ []) ≡ kept records
-kept-copy records e copy = more records (eh_fde e)
-    ∙ (ap (λ b. kept records ++ cond b [] (fde_record e.fde ∷ [])) copy ∙ append-nil (kept records))
+-- each of the FDEs that were kept begins before the offset `at`
+abbrev AreBefore : ℕ → List Fde → Type 0
+AreBefore at before = (g : Fde) → Contains before g → g.offset < at
 
-pub kept-fde : (records : List EhRecord) (e : EhFde) → is_copy (fdes_among (kept records)) e.fde ≡ false
-    → kept (records ++ eh_fde e ∷ []) ≡ kept records ++ fde_record e.fde ∷ []
-kept-fde records e new = more records (eh_fde e) ∙ ap (λ b. kept records ++ cond b [] (fde_record e.fde ∷ [])) new
+-- The FDEs `before` and those among the records cover different addresses.
+abbrev AreApart : List Fde → List Record → Type 0
+AreApart before records = (g f : Fde) → Contains before g ⊎ Contains records (fde_record g) → Contains records (fde_record f)
+    → 0 < f.address_range → g.address_range ≡ f.address_range → g.initial_location ≡ f.initial_location → g ≡ f
 
--- ---- the CIEs and the FDEs among records, after one more record
+all-kept : (target : Target) (at end : ℕ) (before : List Fde) (records : List Record) → AreBefore at before → ArePlaced target at end records
+    → AreApart before records → distinct_after before records ≡ records
+all-kept target at end before [] earlier are apart = refl
+all-kept target at end before (cie_record c ∷ records) earlier (next, begins, sound, others) apart =
+    ap (λ (l : List Record). cie_record c ∷ l) (all-kept target next end before records
+    (λ g among. omega (arith, earlier g among, begins, sound-forward target next (cie_record c) sound)) others rest)
+  where
+    rest : AreApart before records
+    rest g f (inl old) among = apart g f (inl old) (later (cie_record c) (fde_record f) records among)
+    rest g f (inr new) among =
+        apart g f (inr (later (cie_record c) (fde_record g) records new)) (later (cie_record c) (fde_record f) records among)
+all-kept target at end before (fde_record e ∷ records) earlier (next, begins, sound, others) apart =
+    go (is_copy before e) refl (all-kept target next end (before ++ e ∷ []) records onward others rest)
+  where
+    forward : e.offset < next
+    forward = sound-forward target next (fde_record e) sound
 
-pub cies-cie : (records : List Record) (c : Cie) → cies_among (records ++ cie_record c ∷ []) ≡ cies_among records ++ c ∷ []
-cies-cie records c = filter_map-append cie_in_record records (cie_record c ∷ [])
+    onward : AreBefore next (before ++ e ∷ [])
+    onward g among = elim (Contains-push_cases before e g among) [
+      | inl old ↦ omega (arith, earlier g old, begins, forward)
+      | inr new ↦ omega (arith, ap (λ (h : Fde). h.offset) new, forward)
+    ]
 
-pub cies-fde : (records : List Record) (f : Fde) → cies_among (records ++ fde_record f ∷ []) ≡ cies_among records
-cies-fde records f = filter_map-append cie_in_record records (fde_record f ∷ []) ∙ append-nil (cies_among records)
+    rest : AreApart (before ++ e ∷ []) records
+    rest g f (inl known) among = elim (Contains-push_cases before e g known) [
+      | inl old ↦ apart g f (inl old) (later (fde_record e) (fde_record f) records among)
+      | inr new ↦ apart g f (inr (0, omega arith, ap fde_record new)) (later (fde_record e) (fde_record f) records among)
+    ]
+    rest g f (inr found) among =
+        apart g f (inr (later (fde_record e) (fde_record g) records found)) (later (fde_record e) (fde_record f) records among)
 
-pub fdes-cie : (records : List Record) (c : Cie) → fdes_among (records ++ cie_record c ∷ []) ≡ fdes_among records
-fdes-cie records c = filter_map-append fde_in_record records (cie_record c ∷ []) ∙ append-nil (fdes_among records)
+    go : (b : Bool) → is_copy before e ≡ b → distinct_after (before ++ e ∷ []) records ≡ records
+        → cond b (distinct_after before records) (fde_record e ∷ distinct_after (before ++ e ∷ []) records) ≡ fde_record e ∷ records
+    go true copy same =
+        let one = copied before e copy in
+        let is = apart one.0 e (inl one.1) (0, omega arith, refl) one.3 one.2.address_range one.2.initial_location in
+        absurd (omega (arith, earlier one.0 one.1, ap (λ (h : Fde). h.offset) is, begins))
+    go false other same = ap (λ (l : List Record). fde_record e ∷ l) same
 
-pub fdes-fde : (records : List Record) (f : Fde) → fdes_among (records ++ fde_record f ∷ []) ≡ fdes_among records ++ f ∷ []
-fdes-fde records f = filter_map-append fde_in_record records (fde_record f ∷ [])
-
--- there are at most as many FDEs as records
-pub fdes-fewer : (records : List Record) → length (fdes_among records) ≤ length records
-fdes-fewer [] = omega arith
-fdes-fewer (cie_record c ∷ records) = omega (arith, fdes-fewer records)
-fdes-fewer (fde_record f ∷ records) = omega (arith, fdes-fewer records)
+pub distinct-all : (target : Target) (at end : ℕ) (records : List Record) → ArePlaced target at end records → AreDistinct records
+    → distinct records ≡ records
+distinct-all target at end records are apart = all-kept target at end [] records (λ g (k, less, is). absurd (omega arith)) are both
+  where
+    both : AreApart [] records
+    both g f (inl (k, less, is)) among = absurd (omega arith)
+    both g f (inr found) among = apart g f found among

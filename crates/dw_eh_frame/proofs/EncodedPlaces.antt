@@ -10,15 +10,17 @@ use Rattle.dw_bytes.specs.Encoding.{bytes_of_address}
 use Rattle.dw_bytes.specs.Operands.{fixed, unsigned}
 use Rattle.dw_bytes.specs.Fields.{made, field, byte, Encodes}
 use Rattle.dw_bytes.proofs.FieldsOf.{passed}
-use Rattle.dw_frame.specs.Bounds.{ArePlaced, offset_of, IsSoundRecord}
-use Rattle.dw_frame.specs.Records.{is_version, Fde, Record, cie_record, fde_record}
+use Rattle.dw_frame.specs.Bounds.{ArePlaced}
+use Rattle.dw_frame.specs.Records.{is_version}
 use Rattle.dw_frame.specs.Sections.{CieHeader, top_of, is_register, column_fault, factors}
 use Rattle.dw_frame.proofs.EachRecord.{some-length}
 use Rattle.dw_eh_frame.specs.declared.pointer.Bases.{Bases}
-use Rattle.dw_eh_frame.specs.Copies.{is_copy, distinct, distinct_after}
+use Rattle.dw_eh_frame.specs.Copies.{distinct}
 use Rattle.dw_eh_frame.specs.Encoding.{IsEhCie, IsEhFde, IsEhRecord, AreEhRecords}
 use Rattle.dw_eh_frame.specs.Records.{EhRecord, eh_cie, eh_fde, eh_nothing, all_in_dwarf}
 use Rattle.dw_eh_frame.specs.Views.{LiesAt}
+use Rattle.dw_eh_frame.proofs.Distinct.{distinct-placed}
+use Rattle.dw_eh_frame.proofs.Placed.{placed-from}
 
 -- ---- what a CIE says
 
@@ -109,38 +111,26 @@ record-lies is_aarch64 bases target earlier at bytes x s =
 
 -- ---- records one after another
 
-placed-from : (target : Target) (low at end : ℕ) (records : List Record) → low ≤ at → ArePlaced target at end records
-    → ArePlaced target low end records
-placed-from target low at end [] less placed = omega arith
-placed-from target low at end (x ∷ xs) less (next, from, sound, others) = (next, omega arith, sound, others)
-
-pub placed-after : (is_aarch64 : Bool) (bases : Bases) (target : Target) (earlier : List EhRecord) (kept : List Fde) (at : ℕ) (bytes : List ℕ)
+pub placed-after : (is_aarch64 : Bool) (bases : Bases) (target : Target) (earlier : List EhRecord) (at : ℕ) (bytes : List ℕ)
     (records : List EhRecord) → AreEhRecords is_aarch64 bases target earlier at bytes records
-    → ArePlaced target at (at + length bytes) (distinct_after kept (all_in_dwarf records))
-placed-after is_aarch64 bases target earlier kept at bytes [] are = omega arith
-placed-after is_aarch64 bases target earlier kept at bytes (x ∷ xs) (first, rest, parts, is, others) =
+    → ArePlaced target at (at + length bytes) (all_in_dwarf records)
+placed-after is_aarch64 bases target earlier at bytes [] are = omega arith
+placed-after is_aarch64 bases target earlier at bytes (x ∷ xs) (first, rest, parts, is, others) =
     let next = at + length first in
     let ends : next + length rest ≡ at + length bytes = omega (arith, ap length parts, length-append first rest) in
-    let later : (more : List Fde) → ArePlaced target next (at + length bytes) (distinct_after more (all_in_dwarf xs)) =
-    λ more. subst (λ n. ArePlaced target next n (distinct_after more (all_in_dwarf xs))) ends
-    (placed-after is_aarch64 bases target (earlier ++ x ∷ []) more next rest xs others) in
+    let later = subst (λ n. ArePlaced target next n (all_in_dwarf xs)) ends
+    (placed-after is_aarch64 bases target (earlier ++ x ∷ []) next rest xs others) in
     go x (record-lies is_aarch64 bases target earlier at first x is) later
   where
-    go : (x : EhRecord) → LiesAt target at (at + length first) x
-        → ((more : List Fde) → ArePlaced target (at + length first) (at + length bytes) (distinct_after more (all_in_dwarf xs)))
-        → ArePlaced target at (at + length bytes) (distinct_after kept (all_in_dwarf (x ∷ xs)))
-    go (eh_nothing n) lies later = placed-from target at (at + length first) (at + length bytes) _ (omega arith) (later kept)
-    go (eh_cie e) lies later = (at + length first, omega (arith, lies.0), lies.1, later kept)
-    go (eh_fde e) lies later = copied (is_copy kept e.fde)
-      where
-        copied : (copy : Bool) → ArePlaced target at (at + length bytes)
-            (cond copy (distinct_after kept (all_in_dwarf xs)) (fde_record e.fde ∷ distinct_after (kept ++ e.fde ∷ []) (all_in_dwarf xs)))
-        copied true = placed-from target at (at + length first) (at + length bytes) _ (omega arith) (later kept)
-        copied false = (at + length first, omega (arith, lies.0), lies.1, later (kept ++ e.fde ∷ []))
+    go : (x : EhRecord) → LiesAt target at (at + length first) x → ArePlaced target (at + length first) (at + length bytes) (all_in_dwarf xs)
+        → ArePlaced target at (at + length bytes) (all_in_dwarf (x ∷ xs))
+    go (eh_nothing n) lies later = placed-from target at (at + length first) (at + length bytes) (all_in_dwarf xs) (omega arith) later
+    go (eh_cie e) lies later = (at + length first, omega (arith, lies.0), lies.1, later)
+    go (eh_fde e) lies later = (at + length first, omega (arith, lies.0), lies.1, later)
 
 pub placed-records : (is_aarch64 : Bool) (bases : Bases) (target : Target) (section : List ℕ) (records : List EhRecord)
     → AreEhRecords is_aarch64 bases target [] 0 section records → ArePlaced target 0 (length section) (distinct (all_in_dwarf records))
 placed-records is_aarch64 bases target section records are =
     let same : 0 + length section ≡ length section = omega arith in
-    subst (λ n. ArePlaced target 0 n (distinct (all_in_dwarf records))) same
-    (placed-after is_aarch64 bases target [] [] 0 section records are)
+    distinct-placed target 0 (length section) [] (all_in_dwarf records) (subst (λ n. ArePlaced target 0 n (all_in_dwarf records)) same
+    (placed-after is_aarch64 bases target [] 0 section records are))

@@ -14,7 +14,7 @@ use Rattle.dw_bytes.specs.Reading.{ReadPosition}
 use Rattle.dw_bytes.proofs.Readers.{fixed-exact, same-reading}
 use Rattle.dw_eh_frame.specs.declared.pointer.Bases.{Bases}
 use Rattle.dw_eh_frame.specs.Records.{EhCie, EhFde, EhRecord, eh_cie, eh_fde, eh_nothing, eh_cie_with, eh_cie_at}
-use Rattle.dw_eh_frame.specs.Records.{eh_fde_with, eh_body_at, begins_at, lost, pointer_fault}
+use Rattle.dw_eh_frame.specs.Records.{eh_fde_with, eh_body_at, begins_at, lost, earlier_cie_fault}
 use Rattle.dw_eh_frame.specs.Encoding.{program_at, IsEhCieHead, IsEhFdeHead, IsEhCie, IsEhFde, IsEhBody}
 use Rattle.dw_eh_frame.proofs.ExactPointers.{fde-head-exact}
 use Rattle.dw_eh_frame.proofs.ExactHeads.{head-exact}
@@ -87,7 +87,7 @@ cie-found is_aarch64 target at format place bytes x read =
 
 fde-found : (is_aarch64 : Bool) (bases : Bases) (target : Target) (section : List ℕ) (before : List EhRecord) (at : ℕ) (format : Format)
     (place : ℕ) (bytes : List ℕ) (x : EhRecord) → AllRead is_aarch64 target section before
-    → ReadFde is_aarch64 bases section at format (body-of target place bytes) x → pointer_fault before x ≡ None
+    → ReadFde is_aarch64 bases section at format (body-of target place bytes) x → earlier_cie_fault before x ≡ None
     → IsEhFde bases target before at format place bytes x
 fde-found is_aarch64 bases target section before at format place bytes x all read no_fault =
     let pointer = (fixed-exact target 4 (body-of target place bytes) refl).found read.back read.mid read.pointer_is in
@@ -102,7 +102,7 @@ fde-found is_aarch64 bases target section before at format place bytes x all rea
     read.record_is ∙ ap (λ (e : EhFde). eh_fde e) fde_is in
     let fault : cond (list_any (begins_at read.cie.cie.offset) before) None
     (Some (lost (eh_fde_with at format place read.cie addresses.0 addresses.1 after))) ≡ None =
-    ap (λ (y : EhRecord). pointer_fault before y) (sym whole) ∙ no_fault in
+    ap (λ (y : EhRecord). earlier_cie_fault before y) (sym whole) ∙ no_fault in
     let any = if-lost (list_any (begins_at read.cie.cie.offset) before)
     (lost (eh_fde_with at format place read.cie addresses.0 addresses.1 after)) fault in
     let offset = cie-offset is_aarch64 target section (place - read.back) read.cie cie_at in
@@ -125,7 +125,7 @@ fde-found is_aarch64 bases target section before at format place bytes x all rea
 pub body-found : (is_aarch64 : Bool) (bases : Bases) (target : Target) (section : List ℕ) (before : List EhRecord) (at : ℕ)
     (format : Format)
     (place : ℕ) (bytes : List ℕ) (x : EhRecord) → AllRead is_aarch64 target section before
-    → eh_body_at is_aarch64 bases section at format (program_at target place bytes) ≡ Ok x → pointer_fault before x ≡ None
+    → eh_body_at is_aarch64 bases section at format (program_at target place bytes) ≡ Ok x → earlier_cie_fault before x ≡ None
     → IsEhBody is_aarch64 bases target before at format place bytes x
 body-found is_aarch64 bases target section before at format place bytes x all read no_fault =
     elim (body-parts is_aarch64 bases section at format (body-of target place bytes) x read) [
@@ -193,16 +193,16 @@ body-only is_aarch64 bases target section before at format place bytes x all is 
 
 -- an FDE whose CIE is one of the records before it has no fault
 pub no-fault : (is_aarch64 : Bool) (bases : Bases) (target : Target) (before : List EhRecord) (at : ℕ) (format : Format) (place : ℕ)
-    (bytes : List ℕ) (x : EhRecord) → IsEhBody is_aarch64 bases target before at format place bytes x → pointer_fault before x ≡ None
+    (bytes : List ℕ) (x : EhRecord) → IsEhBody is_aarch64 bases target before at format place bytes x → earlier_cie_fault before x ≡ None
 no-fault is_aarch64 bases target before at format place bytes x is =
     elim is [
-      | inl w ↦ ap (λ (y : EhRecord). pointer_fault before y) w.record_is
-      | inr (inl w) ↦ ap (λ (y : EhRecord). pointer_fault before y) w.record_is
+      | inl w ↦ ap (λ (y : EhRecord). earlier_cie_fault before y) w.record_is
+      | inr (inl w) ↦ ap (λ (y : EhRecord). earlier_cie_fault before y) w.record_is
       | inr (inr w) ↦
           let (k, less, here) = w.cie_is_before in
           let after = program_at target (place + length w.pointer + length w.fields) w.program in
           let any : list_any (begins_at w.cie.cie.offset) before ≡ true = list_any-from_Any (begins_at w.cie.cie.offset) before
           (k, eh_cie w.cie, less, here, eq-eqb w.cie.cie.offset w.cie.cie.offset refl) in
-          ap (λ (y : EhRecord). pointer_fault before y) w.record_is
+          ap (λ (y : EhRecord). earlier_cie_fault before y) w.record_is
           ∙ ap (λ b. cond b None (Some (lost (eh_fde_with at format place w.cie w.addresses.0 w.addresses.1 after)))) any
     ]

@@ -18,7 +18,7 @@ use Rattle.dw_frame.specs.Sections.{CieHeader, past_augmentation}
 use Rattle.dw_eh_frame.specs.declared.augmentation.Augmentation.{Augmentation}
 use Rattle.dw_eh_frame.specs.Augmentations.{no_letters, is_old, say, string_at, eh_data_at, known_or, augmentation_at}
 use Rattle.dw_eh_frame.specs.Records.{EhCieHead, eh_cie_head_at}
-use Rattle.dw_eh_frame.specs.Encoding.{IsString, IsTable, IsAugmentation, IsEhCieHead}
+use Rattle.dw_eh_frame.specs.Encoding.{IsString, IsEhData, IsAugmentation, IsEhCieHead}
 use Rattle.dw_eh_frame.proofs.ExactSteps.{Then, finish, exact-as, exact-for, none-exact, made-exact, map-exact, then-exact, after-exact}
 use Rattle.dw_eh_frame.proofs.ExactSteps.{passing, checked-exact, known, known-exact, skipping-exact}
 use Rattle.dw_eh_frame.proofs.ExactStrings.{string-exact}
@@ -29,19 +29,19 @@ abbrev table-by : Bool → ReadPosition → Result ReadPosition Fault
 table-by test r = cond test (address_at r >>= λ a. Ok a.1) (Ok r)
 
 table-by-exact : (target : Target) (test : Bool)
-    → ExactAt {X = Unit {0}} target (passing (table-by test)) (λ at bytes u. IsTable target test bytes)
+    → ExactAt {X = Unit {0}} target (passing (table-by test)) (λ at bytes u. IsEhData target test bytes)
 table-by-exact target true r same = skipping-exact address_at (Address target) r (address-exact target r same)
 table-by-exact target false r same =
-    exact-for {X = Unit {0}} (passing (table-by false)) (λ bytes u. (bytes ≡ []) × (u ≡ tt)) (λ bytes u. IsTable target false bytes) r
+    exact-for {X = Unit {0}} (passing (table-by false)) (λ bytes u. (bytes ≡ []) × (u ≡ tt)) (λ bytes u. IsEhData target false bytes) r
     (λ bytes u h. h.0) (λ bytes u h. (h, refl))
     (made-exact {X = Unit {0}} tt r)
 
 table-exact : (target : Target) (letters : List ℕ)
-    → ExactAt {X = Unit {0}} target (passing (eh_data_at letters)) (λ at bytes u. IsTable target (is_old letters) bytes)
+    → ExactAt {X = Unit {0}} target (passing (eh_data_at letters)) (λ at bytes u. IsEhData target (is_old letters) bytes)
 unfolding eh_data_at
 table-exact target letters r same =
     exact-as {X = Unit {0}} (passing (eh_data_at letters)) (passing (table-by (is_old letters)))
-    (λ bytes u. IsTable target (is_old letters) bytes) r
+    (λ bytes u. IsEhData target (is_old letters) bytes) r
     refl (table-by-exact target (is_old letters) r same)
 
 decided : (test : Bool) → (test ≡ true) ⊎ (test ≡ false)
@@ -199,14 +199,14 @@ abbrev from-table : Target → ℕ → ℕ → List ℕ → ReadPosition → Res
 from-table target place version letters r = eh_data_at letters r >>= from-data target place version letters
 
 abbrev IsFromTable : Target → ℕ → List ℕ → ℕ → List ℕ → EhCieHead → Type 0
-IsFromTable target version letters = Then {X = Unit {0}} (λ at bytes u. IsTable target (is_old letters) bytes)
+IsFromTable target version letters = Then {X = Unit {0}} (λ at bytes u. IsEhData target (is_old letters) bytes)
     (λ u. IsFromData target version letters)
 
 from-table-exact : (target : Target) (place version : ℕ) (letters : List ℕ)
     → ExactAt target (from-table target place version letters) (IsFromTable target version letters)
 from-table-exact target place version letters r same =
     after-exact target (eh_data_at letters) (from-data target place version letters)
-    (λ at bytes u. IsTable target (is_old letters) bytes) (IsFromData target version letters) r same
+    (λ at bytes u. IsEhData target (is_old letters) bytes) (IsFromData target version letters) r same
     (table-exact target letters r same) (from-data-exact target place version letters)
 
 abbrev from-string : Target → ℕ → ReadPosition → Result (EhCieHead × ReadPosition) Fault

@@ -18,7 +18,7 @@ use Rattle.dw_bytes.proofs.Sequences.{Forward, goes-on, stops, ends}
 use Rattle.dw_frame.proofs.EachRecord.{some-length}
 use Rattle.dw_eh_frame.specs.declared.pointer.Bases.{Bases}
 use Rattle.dw_eh_frame.specs.Records.{EhRecord, eh_cie, eh_cie_at, eh_body_at, eh_record_at, eh_records_from, eh_records_of}
-use Rattle.dw_eh_frame.specs.Records.{pointer_fault, reading_fault_after, eh_reading_fault}
+use Rattle.dw_eh_frame.specs.Records.{earlier_cie_fault, reading_fault_after, eh_reading_fault}
 use Rattle.dw_eh_frame.specs.Encoding.{program_at, IsEhRecord, AreEhRecords}
 use Rattle.dw_eh_frame.proofs.ExactCases.{cie-offset, record-parts, record-is, cie-at-is}
 use Rattle.dw_eh_frame.proofs.ExactBodies.{AllRead, body-found, body-only, no-fault}
@@ -30,7 +30,7 @@ fine a = Ok a
 
 record-found : (is_aarch64 : Bool) (bases : Bases) (target : Target) (section : List ℕ) (before : List EhRecord) (at : ℕ) (x : EhRecord)
     (after : ReadPosition) → AllRead is_aarch64 target section before
-    → eh_record_at is_aarch64 bases section (section_from target section at) ≡ Ok (x, after) → pointer_fault before x ≡ None
+    → eh_record_at is_aarch64 bases section (section_from target section at) ≡ Ok (x, after) → earlier_cie_fault before x ≡ None
     → Next (IsEhRecord is_aarch64 bases target before at) (section_from target section at) x after
 record-found is_aarch64 bases target section before at x after all is no_fault =
     let (format, body, frame_is, read) = record-parts is_aarch64 bases section (section_from target section at) x after is in
@@ -76,7 +76,7 @@ record-only is_aarch64 bases target section before at x after all next =
 
 record-has-no-fault : (is_aarch64 : Bool) (bases : Bases) (target : Target) (before : List EhRecord) (at : ℕ) (bytes : List ℕ)
     (x : EhRecord)
-    → IsEhRecord is_aarch64 bases target before at bytes x → pointer_fault before x ≡ None
+    → IsEhRecord is_aarch64 bases target before at bytes x → earlier_cie_fault before x ≡ None
 record-has-no-fault is_aarch64 bases target before at bytes x s =
     no-fault is_aarch64 bases target before at s.format (at + length s.front) s.body x s.body_is
 
@@ -232,7 +232,7 @@ section-found is_aarch64 bases target section (x ∷ xs) before at all (is, no_f
             let here : eh_record_at is_aarch64 bases section (section_from target section at) ≡ fine {A = EhRecord × ReadPosition}
             (x, found.1) =
             read ∙ ap (λ (y : EhRecord). fine {A = EhRecord × ReadPosition} (y, found.1)) x_is in
-            let faults = both-none (pointer_fault before x) (reading_fault_after (before ++ x ∷ []) (all-of xs)) no_fault in
+            let faults = both-none (earlier_cie_fault before x) (reading_fault_after (before ++ x ∷ []) (all-of xs)) no_fault in
             let next = record-found is_aarch64 bases target section before at x found.1 all here faults.0 in
             let after = record-leaves is_aarch64 bases target section before at x found.1 next in
             let others = section-found is_aarch64 bases target section xs (before ++ x ∷ []) (at + length next.bytes)

@@ -10,9 +10,9 @@ pub mod PlaceSearch
 pub mod FirstFdes
 pub mod FdeSearch
 pub mod CieSearch
-pub mod Distinct
 pub mod Placed
+pub mod CopiesKept
+pub mod Distinct
 pub mod EncodedPlaces
 pub mod CiesByPointer
 pub mod Steps
-pub mod CopiesKept

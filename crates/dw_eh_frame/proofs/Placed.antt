@@ -10,6 +10,11 @@ pub placed-later : (target : Target) (at end next : ℕ) (xs : List Record) → 
 placed-later target at end next [] le are = omega (arith, le, are)
 placed-later target at end next (x ∷ xs) le (onward, begins, sound, others) = (onward, begins, sound, placed-later target onward end next xs le others)
 
+pub placed-from : (target : Target) (low at end : ℕ) (records : List Record) → low ≤ at → ArePlaced target at end records
+    → ArePlaced target low end records
+placed-from target low at end [] less placed = omega arith
+placed-from target low at end (x ∷ xs) less (next, from, sound, others) = (next, omega arith, sound, others)
+
 pub placed-more : (target : Target) (at end next : ℕ) (xs : List Record) (y : Record) → ArePlaced target at end xs → offset_of y ≡ end
     → IsSoundRecord target next y → ArePlaced target at next (xs ++ y ∷ [])
 placed-more target at end next [] y are here sound = (next, omega (arith, are, here), sound, omega arith)

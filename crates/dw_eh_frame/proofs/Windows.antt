@@ -11,7 +11,7 @@ use Rattle.dw_bytes.proofs.Readers.{ExactAt, fixed-exact, leaves-suffix}
 use Rattle.dw_frame.specs.declared.dialect.Dialect.{Dialect}
 use Rattle.dw_frame.specs.Dialects.{ProgramPosition, in_dialect}
 use Rattle.dw_eh_frame.specs.declared.pointer.Bases.{Bases}
-use Rattle.dw_eh_frame.specs.Dialects.{dialect_of}
+use Rattle.dw_eh_frame.specs.Dialects.{dialect_for}
 use Rattle.dw_eh_frame.specs.Encoding.{IsEhCieHead, IsEhFdeHead}
 use Rattle.dw_eh_frame.specs.Pointers.{pointer_at, range_at}
 use Rattle.dw_eh_frame.specs.Records.{EhCie, EhCieHead, EhFde, eh_area_at, eh_cie_from, eh_cie_head_at, eh_cie_with, eh_fde_from}
@@ -52,7 +52,7 @@ pub cie-read : (a : Bool) (at : ℕ) (format : Format) (section : List ℕ) (end
     (program : ProgramPosition) (target : Target) (position : ℕ) (dialect : Dialect) → r.position ≤ end → end ≤ length section
     → r ≡ window r.target section r.position end → eh_cie_head_at r ≡ Ok (head, after) → z ≡ head.numbers.data_alignment_factor
     → program ≡ in_dialect dialect (window target section position end)
-    → target ≡ r.target → position ≡ after.position → dialect ≡ dialect_of a head.augmentation
+    → target ≡ r.target → position ≡ after.position → dialect ≡ dialect_for a head.augmentation
     → eh_cie_from a at format r ≡ Ok (cie-made at format head z program)
 unfolding eh_cie_from
 cie-read a at format section end r after head z program target position dialect ordered inside whole is z_is program_is target_is position_is
@@ -60,9 +60,9 @@ cie-read a at format section end r after head z program target position dialect 
     let rest = left section end r after eh_cie_head_at (IsEhCieHead r.target) (head-exact r.target) head ordered inside whole is in
     ap (λ (h : Result (EhCieHead × ReadPosition) Fault). h >>= λ found. Ok (eh_cie_with a at format found.0 found.1)) is
     ∙ (ap (λ (p : ProgramPosition). done-cie (cie-made at format head head.numbers.data_alignment_factor p))
-    (ap (in_dialect (dialect_of a head.augmentation)) rest
-    ∙ (ap (λ (t : Target). in_dialect (dialect_of a head.augmentation) (window t section after.position end)) (sym target_is)
-    ∙ (ap (λ n. in_dialect (dialect_of a head.augmentation) (window target section n end)) (sym position_is)
+    (ap (in_dialect (dialect_for a head.augmentation)) rest
+    ∙ (ap (λ (t : Target). in_dialect (dialect_for a head.augmentation) (window t section after.position end)) (sym target_is)
+    ∙ (ap (λ n. in_dialect (dialect_for a head.augmentation) (window target section n end)) (sym position_is)
     ∙ (ap (λ (d : Dialect). in_dialect d (window target section position end)) (sym dialect_is) ∙ sym program_is))))
     ∙ ap (λ (y : ℤ). done-cie (cie-made at format head y program)) (sym z_is))
   where

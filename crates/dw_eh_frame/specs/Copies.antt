@@ -1,6 +1,6 @@
 -- Exact copies of FDEs. If several objects have the same function, a linker may keep one of the
 -- functions and all their FDEs. These are one FDE here: the first.
-use Rattle.std.specs.Prelude.{◌≡◌, ℕ, ◌==◌, ◌&&◌, nat_lt, Bool, false, if◌then◌else◌, List, [], ◌∷◌, ◌++◌, Option, Some, None, find}
+use Rattle.std.specs.Prelude.{◌≡◌, ◌<◌, Contains, ℕ, ◌==◌, ◌&&◌, nat_lt, Bool, false, if◌then◌else◌, List, [], ◌∷◌, ◌++◌, Option, Some, None, find}
 use Rattle.std.specs.Str.{bytes_eq}
 use Rattle.dw_bytes.specs.declared.target.Target.{Target}
 use Rattle.dw_bytes.specs.Answers.{values_in}
@@ -32,8 +32,19 @@ distinct_after before (cie_record c ∷ records) = cie_record c ∷ distinct_aft
 distinct_after before (fde_record f ∷ records) =
     if is_copy before f then distinct_after before records else fde_record f ∷ distinct_after (before ++ f ∷ []) records
 
+-- FDEs without exact copies, where the FDEs `before` are those that were kept before
+abbrev pub without_copies : List Fde → List Fde → List Fde
+without_copies before [] = []
+without_copies before (f ∷ fdes) =
+    if is_copy before f then without_copies before fdes else f ∷ without_copies (before ++ f ∷ []) fdes
+
 abbrev pub distinct : List Record → List Record
 distinct records = distinct_after [] records
+
+-- no two FDEs among the records cover the same addresses
+abbrev pub AreDistinct : List Record → Type 0
+AreDistinct records = (g f : Fde) → Contains records (fde_record g) → Contains records (fde_record f) → 0 < f.address_range
+    → g.address_range ≡ f.address_range → g.initial_location ≡ f.initial_location → g ≡ f
 
 -- the records that are read of a section, as DWARF has them, without exact copies
 abbrev pub eh_frame_records : Bool → Bases → Target → List ℕ → List Record

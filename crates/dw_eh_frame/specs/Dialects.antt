@@ -21,5 +21,5 @@ dialect_with true true = EhFrameAarch64
 dialect_with true false = EhFrameAarch64Encoded
 
 -- how the instructions of a CIE with this augmentation are read, and those of its FDEs
-abbrev pub dialect_of : Bool → Augmentation → Dialect
-dialect_of is_aarch64 a = dialect_with is_aarch64 (is_plain a.addresses.format a.addresses.base)
+abbrev pub dialect_for : Bool → Augmentation → Dialect
+dialect_for is_aarch64 a = dialect_with is_aarch64 (is_plain a.addresses.format a.addresses.base)

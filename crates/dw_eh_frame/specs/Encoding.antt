@@ -29,9 +29,9 @@ pub record IsString (bytes : List ℕ) (letters : List ℕ) : Type 0 where
 
 -- With the letters eh an address follows the string: that of a table about exceptions. Without them
 -- nothing does.
-abbrev pub IsTable : Target → Bool → List ℕ → Type 0
-IsTable target true bytes = (address : ℕ) × Address target bytes address
-IsTable target false bytes = bytes ≡ []
+abbrev pub IsEhData : Target → Bool → List ℕ → Type 0
+IsEhData target true bytes = (address : ℕ) × Address target bytes address
+IsEhData target false bytes = bytes ≡ []
 
 -- no letters, or the letters eh: there is no augmentation data
 pub record IsWithoutData (letters : List ℕ) (bytes : List ℕ) (a : Augmentation) : Type 0 where
@@ -66,7 +66,7 @@ pub record IsEhCieHead (target : Target) (at : ℕ) (bytes : List ℕ) (head : E
   pub version_is : Fixed target.order 1 version_bytes version
   pub version_known : is_version version ≡ true
   pub string_is : IsString string letters
-  pub table_is : IsTable target (is_old letters) table
+  pub table_is : IsEhData target (is_old letters) table
   pub numbers_are : Encodes target (past_augmentation (λ header. header) target version)
       (at + length version_bytes + length string + length table) numbers head.numbers
   pub augmentation_is : IsAugmentation target letters

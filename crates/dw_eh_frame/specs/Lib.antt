@@ -21,5 +21,5 @@ pub mod Views
 -- how copies are found
 pub mod CopySearch
 pub mod FirstFdes
--- what is kept of the records that were read so far
+-- what is known while records are read
 pub mod Progress

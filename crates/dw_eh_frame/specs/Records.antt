@@ -16,7 +16,7 @@ use Rattle.dw_frame.specs.Records.{is_version, Cie, Fde, Record, cie_record, fde
 use Rattle.dw_frame.specs.Sections.{CieHeader, past_augmentation}
 use Rattle.dw_eh_frame.specs.declared.augmentation.Augmentation.{Augmentation}
 use Rattle.dw_eh_frame.specs.declared.pointer.Bases.{Bases}
-use Rattle.dw_eh_frame.specs.Dialects.{dialect_of}
+use Rattle.dw_eh_frame.specs.Dialects.{dialect_for}
 use Rattle.dw_eh_frame.specs.Pointers.{pointer_at, range_at}
 use Rattle.dw_eh_frame.specs.Augmentations.{string_at, eh_data_at, augmentation_at}
 
@@ -68,7 +68,7 @@ eh_cie_with is_aarch64 at format head r = record {
     code_alignment_factor = head.numbers.code_alignment_factor;
     data_alignment_factor = head.numbers.data_alignment_factor;
     return_address_register = head.numbers.return_address_register;
-    program = in_dialect (dialect_of is_aarch64 head.augmentation) r;
+    program = in_dialect (dialect_for is_aarch64 head.augmentation) r;
   };
   augmentation = head.augmentation;
 }
@@ -169,15 +169,15 @@ abbrev pub lost : EhFde → Fault
 lost e = record { kind = NoSuchCie; at = e.fde.cie_pointer_offset }
 
 -- the fault of a record that was read after the records `before`
-abbrev pub pointer_fault : List EhRecord → EhRecord → Option Fault
-pointer_fault before (eh_fde e) = if list_any (begins_at e.fde.cie_pointer) before then None else Some (lost e)
-pointer_fault before _ = None
+abbrev pub earlier_cie_fault : List EhRecord → EhRecord → Option Fault
+earlier_cie_fault before (eh_fde e) = if list_any (begins_at e.fde.cie_pointer) before then None else Some (lost e)
+earlier_cie_fault before _ = None
 
 -- the first fault of what is read after the records `before`
 abbrev pub reading_fault_after : List EhRecord → List (Result EhRecord Fault) → Option Fault
 reading_fault_after before [] = None
 reading_fault_after before (Err fault ∷ items) = Some fault
-reading_fault_after before (Ok x ∷ items) = option_or (pointer_fault before x) (reading_fault_after (before ++ x ∷ []) items)
+reading_fault_after before (Ok x ∷ items) = option_or (earlier_cie_fault before x) (reading_fault_after (before ++ x ∷ []) items)
 
 -- The first fault in reading a section: of the first record that can't be read, or that is an FDE
 -- whose CIE isn't one of the records before it.

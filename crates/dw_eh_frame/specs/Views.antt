@@ -1,6 +1,7 @@
 -- What values of the code's types stand for in the specifications.
 use Rattle.std.specs.Prelude.{◌≡◌, ℕ, Bool, List, Ok}
 use Rattle.dw_bytes.specs.declared.target.Target.{Target}
+use Rattle.dw_frame.specs.declared.entry.FrameDescriptionEntry as declared_entry
 use Rattle.dw_frame.specs.Bounds.{IsSoundCie, IsSoundFde}
 use Rattle.dw_frame.specs.Sections.{CieHeader}
 use Rattle.dw_frame.specs.Views.{cie_of, fde_of}
@@ -30,6 +31,10 @@ eh_cie_of c = record { cie = cie_of c.cie; augmentation = c.augmentation }
 abbrev pub eh_fde_of : declared_fde.EhFde → EhFde
 eh_fde_of f = record { fde = fde_of f.fde; cie = eh_cie_of f.cie }
 
+-- an FDE with its CIE
+abbrev pub fde_with_cie : declared_cie.EhCie → declared_entry.FrameDescriptionEntry → EhFde
+fde_with_cie c f = record { fde = fde_of f; cie = eh_cie_of c }
+
 abbrev pub eh_record_of : declared_record.EhRecord → EhRecord
 eh_record_of (records.Cie c) = eh_cie (eh_cie_of c)
 eh_record_of (records.Fde f) = eh_fde (eh_fde_of f)
@@ -48,8 +53,8 @@ LiesAt target at next (eh_cie e) = (e.cie.offset ≡ at) × IsSoundCie target ne
 LiesAt target at next (eh_fde e) = (e.fde.offset ≡ at) × IsSoundFde target next e.fde
 LiesAt target at next (eh_nothing n) = n ≡ at
 
--- the CIE that was read, or the CIE of the FDE, is one of the section
+-- the CIE that was read, or the CIE of the FDE, is one of the section; the FDE points to it
 abbrev pub HasCieOf : Bool → Target → List ℕ → declared_record.EhRecord → Type 0
 HasCieOf is_aarch64 target section (records.Cie c) = IsCieOf is_aarch64 target section c
-HasCieOf is_aarch64 target section (records.Fde f) = IsCieOf is_aarch64 target section f.cie
+HasCieOf is_aarch64 target section (records.Fde f) = IsCieOf is_aarch64 target section f.cie × (f.fde.cie_pointer ≡ f.cie.cie.offset)
 HasCieOf is_aarch64 target section (records.Nothing at) = Unit {0}

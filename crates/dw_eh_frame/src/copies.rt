@@ -1,13 +1,13 @@
 //! FDEs that are exact copies of earlier ones.
 
-ghost use Rattle.std.specs.Prelude.{◌≡◌, ◌∷◌, [], ◌++◌, ◌<◌, ◌^◌, OnOk, length, map};
-ghost use Rattle.dw_eh_frame.specs.Copies.{is_copy, repeats};
+ghost use Rattle.std.specs.Prelude.{◌≡◌, ◌∷◌, [], ◌++◌, ◌<◌, ◌^◌, IfOk, OnOk, length, map};
+ghost use Rattle.dw_eh_frame.specs.Copies.{is_copy, repeats, without_copies as fdes_without_copies};
 ghost use Rattle.dw_eh_frame.specs.CopySearch.{AreFirsts};
 ghost use Rattle.dw_frame.specs.Views.{fde_of};
 
 use crate::first_fdes::FirstFdes;
 use dw_frame::FrameDescriptionEntry;
-use std::alloc::AllocError;
+use std::alloc::{AllocError, Global};
 
 /// Whether an FDE is a copy of `first`, if both begin at the same address.
 fn is_copy_of(first: &FrameDescriptionEntry<'_>, fde: &FrameDescriptionEntry<'_>) -> bool
@@ -21,7 +21,7 @@ fn is_copy_of(first: &FrameDescriptionEntry<'_>, fde: &FrameDescriptionEntry<'_>
 /// Whether an FDE is an exact copy of one of the FDEs before it. `firsts` says which of them begin
 /// where.
 #[inline(always)]
-pub(crate) fn is_exact_copy(
+fn is_exact_copy(
     before: &[FrameDescriptionEntry<'_>],
     firsts: &FirstFdes,
     fde: &FrameDescriptionEntry<'_>,
@@ -41,7 +41,7 @@ pub(crate) fn is_exact_copy(
 /// Remembers an FDE that comes after `before`, unless it covers no address or one of those begins at
 /// the same address.
 #[inline(always)]
-pub(crate) fn remember(
+fn remember(
     firsts: &mut FirstFdes,
     before: &[FrameDescriptionEntry<'_>],
     fde: &FrameDescriptionEntry<'_>,
@@ -54,4 +54,24 @@ pub(crate) fn remember(
         return Ok(());
     }
     firsts.add(fde.initial_location, before.len() as u32)
+}
+
+/// The FDEs that aren't exact copies of earlier ones. It takes n log n for n FDEs, and memory for each
+/// FDE that is kept and for where it begins.
+pub(crate) fn without_copies<'a>(
+    alloc: Global,
+    fdes: &[FrameDescriptionEntry<'a>],
+) -> Result<Vec<FrameDescriptionEntry<'a>>, AllocError>
+    requires { length fdes.now < 2 ^ 32 }
+    ensures { IfOk result (λ kept. map fde_of kept.items ≡ fdes_without_copies [] (map fde_of fdes.now)) }
+{
+    let mut kept = Vec::new(alloc);
+    let mut firsts = FirstFdes::new(alloc);
+    for fde in fdes {
+        if !is_exact_copy(&kept, &firsts, fde) {
+            remember(&mut firsts, &kept, fde)?;
+            kept.push(*fde)?;
+        }
+    }
+    Ok(kept)
 }

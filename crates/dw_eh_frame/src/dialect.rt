@@ -1,7 +1,7 @@
 //! The dialect that the programs of an `.eh_frame` section are written in.
 
 ghost use Rattle.std.specs.Prelude.{◌≡◌};
-ghost use Rattle.dw_eh_frame.specs.Dialects.{dialect_of};
+ghost use Rattle.dw_eh_frame.specs.Dialects.{dialect_for};
 
 use crate::augmentation::Augmentation;
 use crate::pointer::{PointerBase, PointerFormat};
@@ -9,7 +9,7 @@ use dw_frame::Dialect;
 
 /// The dialect of the programs of a CIE with this augmentation and of its FDEs.
 pub(crate) fn dialect_by(is_aarch64: bool, augmentation: Augmentation) -> Dialect
-    ensures { result ≡ dialect_of is_aarch64 augmentation }
+    ensures { result ≡ dialect_for is_aarch64 augmentation }
 {
     let addresses = augmentation.addresses;
     let has_plain_addresses = match (addresses.format, addresses.base) {

@@ -12,7 +12,7 @@ ghost use Rattle.dw_eh_frame.specs.declared.pointer.PointerEncoding.{PointerEnco
 ghost use Rattle.dw_eh_frame.specs.declared.pointer.PointerFormat.{PointerFormat};
 ghost use Rattle.dw_eh_frame.specs.Pointers.{pointer_at, range_at};
 ghost use Rattle.dw_eh_frame.specs.Records.{EhFde, EhRecord, eh_fde, all_in_dwarf, eh_cie_at, eh_cie_head_at, eh_record_at, eh_records_from, eh_records_of, eh_reading_fault};
-ghost use Rattle.dw_eh_frame.specs.Copies.{SaysTheSame, distinct, eh_frame_records};
+ghost use Rattle.dw_eh_frame.specs.Copies.{AreDistinct, SaysTheSame, distinct, eh_frame_records};
 ghost use Rattle.dw_eh_frame.specs.Encoding.{IsEhCieHead, IsPointer, IsRange, AreEhRecords};
 
 /// What a CIE says before its program is read exactly if the next bytes encode it.
@@ -91,4 +91,10 @@ pub fn only_copies_are_left_out()
     ensures only { (is_aarch64 : Bool) (bases : Bases) (target : Target) (section : List ℕ) (x : Record)
         → Contains (eh_frame_records is_aarch64 bases target section) x
         → Contains (all_in_dwarf (values_in (eh_records_of is_aarch64 bases target section))) x }
+{}
+
+/// If no two FDEs cover the same addresses, none is an exact copy, and all records are kept.
+pub fn records_without_copies_are_kept()
+    ensures { (target : Target) (at end : ℕ) (records : List Record) → ArePlaced target at end records
+        → AreDistinct records → distinct records ≡ records }
 {}

@@ -14,4 +14,4 @@ mod records;
 pub use augmentation::Augmentation;
 pub use pointer::{Bases, PointerBase, PointerEncoding, PointerFormat};
 pub use record::{EhCie, EhFde, EhRecord, eh_record};
-pub use records::{EhRecords, eh_records};
+pub use records::{EhRecords, eh_records, eh_records_with_copies};

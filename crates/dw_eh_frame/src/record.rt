@@ -5,12 +5,14 @@ ghost use Rattle.dw_bytes.specs.Reading.{MovesForward, section_from};
 ghost use Rattle.dw_bytes.specs.Readers.{IsRefusedWithin, ReadsFrom};
 ghost use Rattle.dw_bytes.specs.Bodies.{framed_at, window};
 ghost use Rattle.dw_eh_frame.specs.Records.{eh_cie, eh_fde, eh_area_at, eh_body_at, eh_cie_at, eh_cie_before, eh_cie_from, eh_fde_from, eh_record_at};
-ghost use Rattle.dw_eh_frame.specs.Views.{HasCieOf, IsCieOf, LiesAt, eh_cie_of, eh_fde_of, eh_record_of};
+ghost use Rattle.dw_eh_frame.specs.Views.{HasCieOf, IsCieOf, LiesAt, eh_cie_of, eh_record_of, fde_with_cie};
 
 use crate::augmentation::Augmentation;
 use crate::dialect::dialect_by;
 use crate::head::read_head;
-use crate::pointer::{Bases, read_pointer, read_range};
+use crate::pointer::{
+    Bases, PointerBase, PointerEncoding, PointerFormat, read_pointer, read_range,
+};
 use dw_bytes::operands::block;
 use dw_bytes::{Body, Cursor, Fault, FaultKind, Format, Target};
 use dw_frame::{CommonInformationEntry, FrameDescriptionEntry, Program};
@@ -186,8 +188,10 @@ fn skip_area(cursor: &mut Cursor<'_>, has_data: bool) -> Result<(), Fault>
     Ok(())
 }
 
-/// Reads an FDE from the offset after its CIE pointer on. Its record begins at the offset `at` of a
-/// section, and ends at the offset `end`. Its CIE pointer is at the offset `place`.
+/// Reads an FDE of this CIE from the offset after its CIE pointer on. Its record begins at the offset
+/// `at` of a section, and ends at the offset `end`. Its CIE pointer is at the offset `place`.
+/// `addresses` is the encoding of its addresses, which is passed by itself so that a caller who knows
+/// it gets code for that encoding alone.
 #[inline(always)]
 #[tactic(auto, unfolding(crate::specs::Records::eh_fde_from))]
 fn read_fde<'a>(
@@ -197,29 +201,30 @@ fn read_fde<'a>(
     at: u32,
     format: Format,
     place: u32,
-    cie: EhCie<'a>,
+    cie: &EhCie<'a>,
+    addresses: PointerEncoding,
     end: u32,
-) -> Result<EhFde<'a>, Fault>
+) -> Result<FrameDescriptionEntry<'a>, Fault>
     requires begins { at < place }
     requires pointed { place < cursor.old.position }
     requires ordered { cursor.old.position ≤ end }
     requires inside { end ≤ length section.now }
     requires short { length section.now < 2 ^ 32 }
     requires reads { cursor.old ≡ window cursor.old.target section.now cursor.old.position end }
+    requires encoding { addresses ≡ cie.now.augmentation.addresses }
     ensures exact { MatchResult result
-        (λ fde. eh_fde_from bases at format place (eh_cie_of cie.entry) cursor.old ≡ Ok (eh_fde_of fde))
-        (λ fault. eh_fde_from bases at format place (eh_cie_of cie.entry) cursor.old ≡ Err fault) }
-    ensures sound { IfOk result (λ fde. LiesAt cursor.old.target at end (eh_fde (eh_fde_of fde))) }
-    ensures cie { IfOk result (λ fde. eh_cie_of fde.cie ≡ eh_cie_of cie.entry) }
+        (λ fde. eh_fde_from bases at format place (eh_cie_of cie.now) cursor.old ≡ Ok (fde_with_cie cie.now fde))
+        (λ fault. eh_fde_from bases at format place (eh_cie_of cie.now) cursor.old ≡ Err fault) }
+    ensures sound { IfOk result (λ fde. LiesAt cursor.old.target at end (eh_fde (fde_with_cie cie.now fde))) }
+    ensures pointer { IfOk result (λ fde. fde.cie_pointer ≡ cie.now.cie.offset) }
     ensures within { IsRefusedWithin cursor.old result }
 {
     let target = cursor.target();
-    let augmentation = cie.augmentation;
-    let initial_location = read_pointer(cursor, bases, augmentation.addresses)?;
-    let address_range = read_range(cursor, augmentation.addresses.format, initial_location)?;
-    skip_area(cursor, augmentation.has_data)?;
+    let initial_location = read_pointer(cursor, bases, addresses)?;
+    let address_range = read_range(cursor, addresses.format, initial_location)?;
+    skip_area(cursor, cie.augmentation.has_data)?;
     let dialect = cie.cie.program.dialect();
-    let fde = FrameDescriptionEntry {
+    Ok(FrameDescriptionEntry {
         offset: at,
         format,
         cie_pointer: u64::from(cie.cie.offset),
@@ -227,8 +232,7 @@ fn read_fde<'a>(
         initial_location,
         address_range,
         program: Program::new(section, cursor.position(), end, target, dialect),
-    };
-    Ok(EhFde { fde, cie })
+    })
 }
 
 /// Reads a record from the offset after its length on. `body` is the part of the section that has
@@ -269,16 +273,77 @@ fn read_body<'a>(
         Ok(EhRecord::Cie(read_cie(section, &mut cursor, at, body.format, body.end, is_aarch64)?))
     } else {
         let cie = cie_before(section, target, body.start, id, is_aarch64, last)?;
-        Ok(EhRecord::Fde(read_fde(
+        let addresses = cie.augmentation.addresses;
+        let fde = read_fde(
             section,
             &mut cursor,
             bases,
             at,
             body.format,
             body.start,
-            cie,
+            &cie,
+            addresses,
             body.end,
-        )?))
+        )?;
+        Ok(EhRecord::Fde(EhFde { fde, cie }))
+    }
+}
+
+/// How linkers write the addresses of FDEs: as four bytes, relative to their place (0x1b).
+const USUAL_ADDRESSES: PointerEncoding = PointerEncoding {
+    format: PointerFormat::I32,
+    base: PointerBase::Place,
+};
+
+/// The FDE at offset `at` of a section, and the offset after its record, if its CIE is `last` and its
+/// addresses are written as usual. `None` if that isn't so, or if the record can't be read. This is
+/// faster than `record_after`: nearly all records are such FDEs, and here the CIE isn't copied, and no
+/// encoding but the usual one is compiled.
+#[inline(always)]
+#[tactic(auto, unfolding(crate::specs::Records::eh_record_at, crate::specs::Records::eh_body_at, crate::specs::Records::eh_full_at))]
+pub(crate) fn usual_fde<'a>(
+    section: &'a [u8],
+    target: Target,
+    bases: Bases,
+    is_aarch64: bool,
+    at: u32,
+    last: &EhCie<'a>,
+) -> Option<(FrameDescriptionEntry<'a>, u32)>
+    requires inside { at ≤ length section.now }
+    requires short { length section.now < 2 ^ 32 }
+    requires last { IsCieOf is_aarch64 target section.now last.now }
+    ensures exact { IfSome result (λ found. eh_record_at is_aarch64 bases section.now (section_from target section.now at)
+        ≡ Ok (eh_fde (fde_with_cie last.now found.0), section_from target section.now found.1)) }
+    ensures forward { IfSome result (λ found. at < found.1 × found.1 ≤ length section.now) }
+    ensures sound { IfSome result (λ found. LiesAt target at found.1 (eh_fde (fde_with_cie last.now found.0))) }
+    ensures pointer { IfSome result (λ found. found.0.cie_pointer ≡ last.now.cie.offset) }
+{
+    if last.augmentation.addresses != USUAL_ADDRESSES {
+        return None;
+    }
+    let Ok(body) = Body::read(section, target, at) else {
+        return None;
+    };
+    let mut cursor = Cursor::at(&section[..body.end as usize], target, body.start);
+    let Ok(back) = cursor.u32() else {
+        return None;
+    };
+    if back == 0 || back > body.start || body.start - back != last.cie.offset {
+        return None;
+    }
+    match read_fde(
+        section,
+        &mut cursor,
+        bases,
+        at,
+        body.format,
+        body.start,
+        last,
+        USUAL_ADDRESSES,
+        body.end,
+    ) {
+        Ok(fde) => Some((fde, body.end)),
+        Err(_) => None,
     }
 }
 

@@ -1,30 +1,28 @@
 //! Reading all records of an `.eh_frame` section.
 
-ghost use Rattle.std.specs.Prelude.{◌≡◌, ◌<◌, ◌≤◌, ◌^◌, IfErr, IfOk, OnOk, [], ◌∷◌, ◌++◌, length, map, true};
-ghost use Rattle.dw_bytes.specs.Answers.{Answers, memory};
+ghost use Rattle.std.specs.Prelude.{◌≡◌, ◌<◌, ◌≤◌, ◌^◌, IfErr, IfNone, IfOk, IfSome, OnOk, [], ◌∷◌, ◌++◌, length, map, true};
+ghost use Rattle.dw_bytes.specs.Answers.{Answers, memory, values_in};
 ghost use Rattle.dw_frame.specs.Bounds.{ArePlaced, Ascends};
 ghost use Rattle.dw_frame.specs.Records.{cies_among, fdes_among};
 ghost use Rattle.dw_frame.specs.Views.{cie_of, fde_of};
 ghost use Rattle.dw_eh_frame.specs.Copies.{eh_frame_records};
-ghost use Rattle.dw_eh_frame.specs.CopySearch.{AreFirsts};
-ghost use Rattle.dw_eh_frame.specs.Progress.{IsNotTaken, cie_offset, has_cie_at, with_fde};
-ghost use Rattle.dw_eh_frame.specs.Records.{eh_reading_fault};
+ghost use Rattle.dw_eh_frame.specs.Progress.{IsLast, IsNotTaken, IsUnderWay, StopsReading, cie_offset, has_cie_at};
+ghost use Rattle.dw_eh_frame.specs.Records.{all_in_dwarf, eh_reading_fault, eh_records_of};
 
-use crate::copies::{is_exact_copy, remember};
-use crate::first_fdes::FirstFdes;
+use crate::copies::without_copies;
 use crate::pointer::Bases;
-use crate::record::{EhRecord, record_after};
+use crate::record::{EhCie, EhRecord, record_after, usual_fde};
 use dw_bytes::{Fault, FaultKind, Target};
 use dw_frame::{CommonInformationEntry, FrameDescriptionEntry};
 use std::alloc::Global;
 
 /// The CIEs and the FDEs of an `.eh_frame` section as DWARF has them, each in the order of the
-/// section. Exact copies of FDEs are left out.
+/// section.
 #[derive(Drop)]
 pub struct EhRecords<'a> {
     /// All CIEs.
     pub cies: Vec<CommonInformationEntry<'a>>,
-    /// The FDEs, without exact copies.
+    /// The FDEs.
     pub fdes: Vec<FrameDescriptionEntry<'a>>,
 }
 
@@ -53,21 +51,24 @@ fn take_cie<'a>(found: &mut EhRecords<'a>, cie: &CommonInformationEntry<'a>) -> 
     Ok(())
 }
 
-/// Adds an FDE, unless it is an exact copy of an earlier one. Its CIE must be one of those that were
-/// read before it.
+/// Adds an FDE.
 #[inline(always)]
-fn take_fde<'a>(
-    found: &mut EhRecords<'a>,
-    firsts: &mut FirstFdes,
-    fde: &FrameDescriptionEntry<'a>,
-) -> Result<(), Fault>
-    requires ascend { Ascends cie_offset (map cie_of found.old.cies.items) }
-    requires firsts { AreFirsts firsts.old (map fde_of found.old.fdes.items) }
-    requires few { length found.old.fdes.items < 2 ^ 32 }
+fn push_fde<'a>(found: &mut EhRecords<'a>, fde: &FrameDescriptionEntry<'a>) -> Result<(), Fault>
+    ensures cies { OnOk result (found.new.cies.items ≡ found.old.cies.items) }
+    ensures fdes { OnOk result (map fde_of found.new.fdes.items ≡ map fde_of found.old.fdes.items ++ fde_of fde.now ∷ []) }
+    ensures refused { IfErr result (λ fault. fault ≡ memory) }
+{
+    found.fdes.push(*fde)?;
+    Ok(())
+}
+
+/// Adds an FDE. Its CIE must be one of those that were read before it.
+#[inline(always)]
+fn take_fde<'a>(found: &mut EhRecords<'a>, fde: &FrameDescriptionEntry<'a>) -> Result<(), Fault>
+    requires { Ascends cie_offset (map cie_of found.old.cies.items) }
     ensures cies { OnOk result (found.new.cies.items ≡ found.old.cies.items) }
     ensures known { OnOk result (has_cie_at (map cie_of found.old.cies.items) fde.now.cie_pointer ≡ true) }
-    ensures fdes { OnOk result (map fde_of found.new.fdes.items ≡ with_fde (map fde_of found.old.fdes.items) (fde_of fde.now)) }
-    ensures firsts { OnOk result (AreFirsts firsts.new (map fde_of found.new.fdes.items)) }
+    ensures fdes { OnOk result (map fde_of found.new.fdes.items ≡ map fde_of found.old.fdes.items ++ fde_of fde.now ∷ []) }
     ensures refused { IfErr result (IsNotTaken (map cie_of found.old.cies.items) (fde_of fde.now)) }
 {
     if !has_cie(&found.cies, fde.cie_pointer) {
@@ -76,12 +77,118 @@ fn take_fde<'a>(
             at: fde.cie_pointer_offset,
         });
     }
-    if is_exact_copy(&found.fdes, firsts, fde) {
-        return Ok(());
+    push_fde(found, fde)
+}
+
+/// Reads the FDE at the offset `at` of a section, if it is a usual one of the CIE that was used last,
+/// and adds it. Returns the offset after it, or `None` where `read_any` has to read the record.
+#[inline(always)]
+fn read_usual<'a>(
+    found: &mut EhRecords<'a>,
+    last: &Option<EhCie<'a>>,
+    section: &'a [u8],
+    target: Target,
+    bases: Bases,
+    is_aarch64: bool,
+    at: u32,
+) -> Result<Option<u32>, Fault>
+    requires short { length section.now < 2 ^ 32 }
+    requires way { IsUnderWay is_aarch64 bases target section.now at (map cie_of found.old.cies.items) (map fde_of found.old.fdes.items) }
+    requires last { IsLast is_aarch64 target section.now (map cie_of found.old.cies.items) last.now }
+    ensures cies { OnOk result (found.new.cies.items ≡ found.old.cies.items) }
+    ensures way { IfOk result (λ next. IfSome next (λ n. (at < n)
+        × IsUnderWay is_aarch64 bases target section.now n (map cie_of found.new.cies.items) (map fde_of found.new.fdes.items))) }
+    ensures none { IfOk result (λ next. IfNone next (found.new ≡ found.old)) }
+    ensures refused { IfErr result (λ fault. fault ≡ memory) }
+{
+    let Some(cie) = last else {
+        return Ok(None);
+    };
+    match usual_fde(section, target, bases, is_aarch64, at, cie) {
+        Some((fde, next)) => {
+            push_fde(found, &fde)?;
+            Ok(Some(next))
+        }
+        None => Ok(None),
     }
-    remember(firsts, &found.fdes, fde)?;
-    found.fdes.push(*fde)?;
-    Ok(())
+}
+
+/// Reads the record at the offset `at` of a section, and adds it. Returns the offset after it. `last`
+/// becomes the CIE that was read or used.
+#[inline(never)]
+fn read_any<'a>(
+    found: &mut EhRecords<'a>,
+    last: &mut Option<EhCie<'a>>,
+    section: &'a [u8],
+    target: Target,
+    bases: Bases,
+    is_aarch64: bool,
+    at: u32,
+) -> Result<u32, Fault>
+    requires short { length section.now < 2 ^ 32 }
+    requires inside { at < length section.now }
+    requires way { IsUnderWay is_aarch64 bases target section.now at (map cie_of found.old.cies.items) (map fde_of found.old.fdes.items) }
+    requires last { IsLast is_aarch64 target section.now (map cie_of found.old.cies.items) last.old }
+    ensures way { IfOk result (λ next. (at < next)
+        × IsUnderWay is_aarch64 bases target section.now next (map cie_of found.new.cies.items) (map fde_of found.new.fdes.items)) }
+    ensures last { OnOk result (IsLast is_aarch64 target section.now (map cie_of found.new.cies.items) last.new) }
+    ensures stops { IfErr result (StopsReading is_aarch64 bases target section.now) }
+    ensures within { IfErr result (λ fault. fault.at ≤ length section.now) }
+{
+    let (record, next) = record_after(section, target, bases, is_aarch64, at, last.as_ref())?;
+    match record {
+        EhRecord::Cie(cie) => {
+            take_cie(found, &cie.cie)?;
+            *last = Some(cie);
+        }
+        EhRecord::Fde(fde) => {
+            take_fde(found, &fde.fde)?;
+            *last = Some(fde.cie);
+        }
+        EhRecord::Nothing(_) => {}
+    }
+    Ok(next)
+}
+
+/// Reads the records of a section of fewer than 2^32 bytes, with exact copies of FDEs. `bases` says
+/// where the section is, and `is_aarch64` whether its programs are for aarch64. Instructions aren't
+/// read. It takes n log n for n bytes at most, and memory for each CIE and FDE.
+///
+/// The error is the first fault in the order of the section: a fault of `eh_record`; or `NoSuchCie`
+/// (9) at the CIE pointer of an FDE whose CIE isn't one of the records before it. `Memory` (60) has
+/// offset 0.
+pub fn eh_records_with_copies<'a>(
+    alloc: Global,
+    section: &'a [u8],
+    target: Target,
+    bases: Bases,
+    is_aarch64: bool,
+) -> Result<EhRecords<'a>, Fault>
+    requires { length section.now < 2 ^ 32 }
+    ensures answer { Answers (eh_reading_fault is_aarch64 bases target section.now) result }
+    ensures inside { IfErr result (λ fault. fault.at ≤ length section.now) }
+    ensures placed { IfOk result (λ _. ArePlaced target 0 (length section.now)
+        (all_in_dwarf (values_in (eh_records_of is_aarch64 bases target section.now)))) }
+    ensures cies { IfOk result (λ found. map cie_of found.cies.items
+        ≡ cies_among (all_in_dwarf (values_in (eh_records_of is_aarch64 bases target section.now)))) }
+    ensures fdes { IfOk result (λ found. map fde_of found.fdes.items
+        ≡ fdes_among (all_in_dwarf (values_in (eh_records_of is_aarch64 bases target section.now)))) }
+{
+    let mut found = EhRecords {
+        cies: Vec::new(alloc),
+        fdes: Vec::new(alloc),
+    };
+    let mut last = None;
+    let mut at = 0u32;
+    while (at as usize) < section.len() {
+        at = match read_usual(&mut found, &last, section, target, bases, is_aarch64, at)? {
+            Some(next) => next,
+            None => read_any(
+                &mut found, &mut last, section, target, bases, is_aarch64, at,
+            )?,
+        };
+    }
+    Ok(found)
 }
 
 /// Reads the records of a section of fewer than 2^32 bytes. `bases` says where the section is, and
@@ -108,27 +215,9 @@ pub fn eh_records<'a>(
     ensures fdes { IfOk result (λ found. map fde_of found.fdes.items
         ≡ fdes_among (eh_frame_records is_aarch64 bases target section.now)) }
 {
-    let mut found = EhRecords {
-        cies: Vec::new(alloc),
-        fdes: Vec::new(alloc),
-    };
-    let mut firsts = FirstFdes::new(alloc);
-    let mut last = None;
-    let mut at = 0u32;
-    while (at as usize) < section.len() {
-        let (record, next) = record_after(section, target, bases, is_aarch64, at, last.as_ref())?;
-        match record {
-            EhRecord::Cie(cie) => {
-                take_cie(&mut found, &cie.cie)?;
-                last = Some(cie);
-            }
-            EhRecord::Fde(fde) => {
-                take_fde(&mut found, &mut firsts, &fde.fde)?;
-                last = Some(fde.cie);
-            }
-            EhRecord::Nothing(_) => {}
-        }
-        at = next;
-    }
-    Ok(found)
+    let EhRecords { cies, fdes } = eh_records_with_copies(
+        alloc, section, target, bases, is_aarch64,
+    )?;
+    let fdes = without_copies(alloc, &fdes)?;
+    Ok(EhRecords { cies, fdes })
 }

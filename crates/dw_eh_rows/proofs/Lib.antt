@@ -1,4 +1,5 @@
 pub mod Among
+pub mod NoCopies
 pub mod WholeSections
 pub mod SignalsRead
 pub mod SignalAddresses

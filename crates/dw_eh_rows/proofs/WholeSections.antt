@@ -11,7 +11,7 @@ use Rattle.dw_rows.specs.WellFormed.{AreGood}
 use Rattle.dw_eh_frame.specs.declared.pointer.Bases.{Bases}
 use Rattle.dw_eh_frame.specs.Copies.{distinct, eh_frame_records}
 use Rattle.dw_eh_frame.specs.Encoding.{AreEhRecords}
-use Rattle.dw_eh_frame.specs.Records.{EhRecord, all_in_dwarf, eh_records_of, eh_reading_fault, pointer_fault, reading_fault_after}
+use Rattle.dw_eh_frame.specs.Records.{EhRecord, all_in_dwarf, eh_records_of, eh_reading_fault, earlier_cie_fault, reading_fault_after}
 use Rattle.dw_eh_rows.specs.Section.{IsEhWellFormed, eh_section_fault}
 
 -- the laws of the crates below that are used here
@@ -34,7 +34,7 @@ read-whole : (before : List EhRecord) (items : List (Result EhRecord Fault)) →
 read-whole before [] none = refl
 read-whole before (Err fault ∷ items) none = absurd cc
 read-whole before (Ok x ∷ items) none =
-    let split = both-none (pointer_fault before x) (reading_fault_after (before ++ x ∷ []) items) none in
+    let split = both-none (earlier_cie_fault before x) (reading_fault_after (before ++ x ∷ []) items) none in
     ap (λ (l : List (Result EhRecord Fault)). Ok x ∷ l) (read-whole (before ++ x ∷ []) items split.1)
 
 pub values-read : (xs : List EhRecord) → values_in {X = EhRecord} (map Ok xs) ≡ xs

@@ -1,14 +1,44 @@
 //! The check of an `.eh_frame` section.
 
-ghost use Rattle.std.specs.Prelude.{◌≡◌, ◌<◌, ◌≤◌, ◌^◌, IfErr, IfOk, length};
-ghost use Rattle.dw_bytes.specs.Answers.{Answers};
+ghost use Rattle.std.specs.Prelude.{◌≡◌, ◌<◌, ◌≤◌, ◌^◌, ◌⊎◌, IfErr, IfOk, IfSome, None, Some, length};
+ghost use Rattle.dw_bytes.specs.Answers.{Answers, memory};
 ghost use Rattle.dw_rows.specs.Section.{IsChecked};
 ghost use Rattle.dw_eh_rows.specs.Section.{eh_frame_of, eh_section_fault};
 
-use dw_bytes::{Fault, Target};
-use dw_eh_frame::{Bases, eh_records};
+use dw_bytes::{Fault, FaultKind, OUT_OF_MEMORY, Target};
+use dw_eh_frame::{Bases, EhRecords, eh_records, eh_records_with_copies};
 use dw_rows::{CheckedFrame, check_records};
 use std::alloc::Global;
+
+/// Checks a section as if no FDE were an exact copy: with all FDEs, as they are read. `Some` if it has
+/// no fault: then there are no copies either, since copies share addresses. `None` if it has copies, or
+/// a fault that isn't one in reading it. This is faster than looking for copies in each section.
+#[tactic(auto, unfolding(crate::specs::Section::eh_section_fault))]
+fn check_all_records<'a>(
+    alloc: Global,
+    section: &'a [u8],
+    target: Target,
+    bases: Bases,
+    is_aarch64: bool,
+) -> Result<Option<CheckedFrame<'a>>, Fault>
+    requires { length section.now < 2 ^ 32 }
+    ensures fault { IfErr result (λ fault. (fault ≡ memory) ⊎ (eh_section_fault is_aarch64 bases target section.now ≡ Some fault)) }
+    ensures inside { IfErr result (λ fault. fault.at ≤ length section.now) }
+    ensures faultless { IfOk result (λ found. IfSome found (λ _. eh_section_fault is_aarch64 bases target section.now ≡ None)) }
+    ensures checked { IfOk result (λ found. IfSome found IsChecked) }
+    ensures frame { IfOk result (λ found. IfSome found (λ frame. frame ≡ eh_frame_of is_aarch64 bases target section.now)) }
+{
+    dw_rows::laws::records_without_fault_are_good();
+    dw_eh_frame::laws::records_without_copies_are_kept();
+    let EhRecords { cies, fdes } = eh_records_with_copies(
+        alloc, section, target, bases, is_aarch64,
+    )?;
+    match check_records(alloc, section, target, cies, fdes) {
+        Ok(frame) => Ok(Some(frame)),
+        Err(fault) if fault.kind == FaultKind::Memory => Err(OUT_OF_MEMORY),
+        Err(_) => Ok(None),
+    }
+}
 
 /// Checks a section of fewer than 2^32 bytes: that its records can be read, and that the CIE of
 /// each FDE is one of the records before it; then the programs of the CIEs, those of the FDEs, and
@@ -34,6 +64,9 @@ pub fn check_eh_frame<'a>(
     ensures checked { IfOk result IsChecked }
     ensures frame { IfOk result (λ frame. frame ≡ eh_frame_of is_aarch64 bases target section.now) }
 {
+    if let Some(frame) = check_all_records(alloc, section, target, bases, is_aarch64)? {
+        return Ok(frame);
+    }
     let records = eh_records(alloc, section, target, bases, is_aarch64)?;
     check_records(alloc, section, target, records.cies, records.fdes)
 }

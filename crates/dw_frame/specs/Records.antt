@@ -1,5 +1,4 @@
--- The records of a `.debug_frame` section, CIEs and FDEs, with their fields (DWARF 5, section
--- 6.4.1).
+-- The records of a frame section, CIEs and FDEs, with their fields (DWARF 5, section 6.4.1).
 use Rattle.std.specs.Prelude.{◌==◌, ◌||◌, ℕ, ℤ, Bool, List, Option, Some, None}
 use Rattle.std.specs.List.{filter_map}
 use Rattle.dw_bytes.specs.declared.target.Format.{Format}

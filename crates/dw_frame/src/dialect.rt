@@ -1,10 +1,11 @@
-//! `Dialect`: which instructions the codes of a program mean, besides by DWARF.
+//! `Dialect`: in which ways the codes of a program differ from DWARF's.
 
 ghost use Rattle.std.specs.Prelude.{◌≡◌};
 ghost use Rattle.dw_frame.specs.Dialects.{has_args_size, is_aarch64, has_plain_addresses};
 
-/// What decides which instructions the codes of a program mean. Instructions of vendors that say
-/// nothing about registers are read as nop. It is one byte, so that a `Program` takes no more room.
+/// Which codes a program may use besides DWARF's, and which of DWARF's it may not. The vendor codes
+/// are read as nop: no rule of a row depends on them. It is one byte, so that a `Program` takes no
+/// more room.
 #[derive(Clone, Copy, Debug)]
 pub enum Dialect {
     /// `.debug_frame`: the codes of DWARF, and no other.

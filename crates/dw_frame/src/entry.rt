@@ -1,4 +1,4 @@
-//! `Entry`: the records of a `.debug_frame` section, CIEs and FDEs.
+//! `Entry`: the records of a frame section, CIEs and FDEs.
 
 ghost use Rattle.std.specs.Prelude.{◌≡◌, ◌+◌, ◌<◌, ◌^◌, true};
 ghost use Rattle.dw_frame.specs.Records.{is_version};
@@ -46,7 +46,8 @@ pub struct FrameDescriptionEntry<'a> {
     pub offset: u32,
     /// Whether the record is in the 32-bit or the 64-bit DWARF format.
     pub format: Format,
-    /// The CIE_pointer field: the offset in the section where the FDE says that its CIE begins.
+    /// The offset in the section where the FDE says that its CIE begins. In `.debug_frame` that is
+    /// what the CIE_pointer field holds.
     pub cie_pointer: u64,
     /// The offset of the CIE_pointer field in the section.
     pub cie_pointer_offset: u32,
@@ -70,7 +71,7 @@ impl<'a> FrameDescriptionEntry<'a> {
     }
 }
 
-/// A record of a `.debug_frame` section.
+/// A record of a frame section.
 #[derive(Clone, Copy, Debug)]
 pub enum Entry<'a> {
     /// A common information entry.

@@ -1,5 +1,5 @@
 -- FDEs in order of offset and in order of address, and what a checked section stores.
-use Rattle.std.specs.Prelude.{◌≡◌, ℕ, ◌+◌, ◌*◌, ◌<◌, ◌≤◌, List, [], length, map, All, Contains, slice_index_or}
+use Rattle.std.specs.Prelude.{◌≡◌, ℕ, ◌+◌, ◌*◌, ◌<◌, ◌≤◌, List, [], length, map, All, Contains, IfSome, slice_get, slice_index_or}
 use Rattle.dw_bytes.specs.declared.target.Format.TheVariants.{Dwarf32}
 use Rattle.dw_bytes.specs.declared.target.Order.TheVariants.{Little}
 use Rattle.dw_bytes.specs.declared.target.AddressSize.TheVariants.{Four}
@@ -11,6 +11,7 @@ use Rattle.dw_rows.specs.Section.{FrameSection, SharesAddress, IsChecked, row_co
 use Rattle.dw_rules.specs.RuleSet.{StoredRules}
 use Rattle.dw_rules.specs.Expressions.{cie_expressions}
 use Rattle.dw_rules.specs.Initial.{AreLeftBy}
+use Rattle.dw_rules.specs.ProgramState.{IsLeftBy}
 
 abbrev pub fde_offset : Fde → ℕ
 fde_offset f = f.offset
@@ -110,6 +111,10 @@ pub record IsCountUpTo (entries : List IndexEntry) (a count : ℕ) : Type 0 wher
   pub bound : count ≤ length entries
   pub below : (k : ℕ) (d : IndexEntry) → k < count → (slice_index_or entries k d).start ≤ a
   pub above : (k : ℕ) (d : IndexEntry) → count ≤ k → k < length entries → a < (slice_index_or entries k d).start
+
+-- the rules are those that the program of the CIE at this index leaves
+abbrev pub IsLeftAt : List Cie → ℕ → StoredRules → Type 0
+IsLeftAt cies place k = IfSome (slice_get cies place) (λ c. IsLeftBy c k)
 
 -- What a checked section stores: its CIEs, FDEs and expressions (`s`), the rules that the CIEs'
 -- programs leave (`left`), an index of its FDEs in order of address, how many of its expressions

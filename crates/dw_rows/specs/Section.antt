@@ -1,5 +1,5 @@
--- A whole `.debug_frame` section: when it is accepted, and its first fault (DWARF 5, section
--- 6.4.1).
+-- A whole frame section, `.debug_frame` or `.eh_frame`: when it is accepted, and its first fault
+-- (DWARF 5, section 6.4.1).
 use Rattle.std.specs.Prelude.{◌≡◌, ℕ, ◌+◌, ◌<◌, ◌≤◌, ◌==◌, ◌&&◌, nat_lt, nat_le, Bool, if◌then◌else◌, Option, Some, None, is_some, List}
 use Rattle.std.specs.Prelude.{[], ◌∷◌, Contains, find, length, map, option_and_then}
 use Rattle.std.specs.Option.{option_or}

@@ -1,4 +1,4 @@
-//! A checked `.debug_frame` section: the check of the section, and look-ups of its FDEs and rows.
+//! A checked frame section: the check of the section, and look-ups of its FDEs and rows.
 
 ghost use Rattle.std.specs.Prelude.{◌≡◌, ◌+◌, ◌<◌, ◌≤◌, ◌^◌, None, Some, Contains, length, map, option_map, IfOk, IfErr, IfSome, IfNone};
 ghost use Rattle.std.specs.Prelude.{find};
@@ -36,8 +36,8 @@ use dw_stack::CheckedExpression;
 use std::alloc::Global;
 use std::marker::Model;
 
-/// A section that passed `check_frame`: each CIE_pointer is the offset of a CIE, each program
-/// passes its check, and no address is covered by two FDEs.
+/// A section that passed `check_frame` or `check_records`: each CIE_pointer is the offset of a CIE,
+/// each program passes its check, and no address is covered by two FDEs.
 ///
 /// ```rust
 /// let frame = check_frame(alloc, section, target)?;

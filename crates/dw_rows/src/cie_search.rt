@@ -3,7 +3,7 @@
 ghost use Rattle.std.specs.Prelude.{◌≡◌, ◌<◌, None, Some, option_map, map, length, slice_get, MatchOption, IfSome};
 ghost use Rattle.dw_frame.specs.Views.{cie_of};
 ghost use Rattle.dw_rows.specs.Section.{cie_at};
-ghost use Rattle.dw_rows.specs.Overlap.{cie_offset};
+ghost use Rattle.dw_rows.specs.Overlap.{IsLeftAt, cie_offset};
 ghost use Rattle.dw_frame.specs.Bounds.{Ascends};
 ghost use Rattle.dw_rules.specs.ProgramState.{IsLeftBy};
 ghost use Rattle.dw_rules.specs.Initial.{AreLeftBy};
@@ -81,47 +81,34 @@ pub fn set_rules_of_cie<'a>(
     Some(cies[place])
 }
 
-/// A CIE that a search found, with the offset at which it begins and its index among the CIEs.
-#[derive(Clone, Copy)]
-pub struct CieSearch<'a> {
-    pub offset: u64,
-    pub place: usize,
-    pub cie: CommonInformationEntry<'a>,
-}
-
-/// Returns the CIE that begins at `offset`, or `None` if no CIE begins there. Stores in `state`, as
-/// the initial rules, the rules that the CIE's program leaves. `last` is the CIE of the previous
-/// FDE, or `None` for the first FDE. If `last` is the CIE at `offset`, `state` already has its
-/// rules. If the CIE after `last` is at `offset`, no binary search is needed.
+/// Finds the CIE that begins at `offset`, and returns its index in `cies`, or `None` if no CIE begins
+/// there. Stores in `state`, as the initial rules, the rules that the CIE's program leaves. `last` is
+/// the index of the previous FDE's CIE, whose rules `state` has, or `None` for the first FDE. If that
+/// CIE or the one after it begins at `offset`, no binary search is needed.
 #[inline(always)]
-pub fn set_rules_after<'a>(
+pub fn set_rules_after(
     state: &mut UnwindState,
-    cies: &[CommonInformationEntry<'a>],
+    cies: &[CommonInformationEntry<'_>],
     initial: &InitialRules,
-    last: Option<CieSearch<'a>>,
+    last: Option<usize>,
     offset: u64,
-) -> Option<CieSearch<'a>>
+) -> Option<usize>
     requires order { Ascends cie_offset (map cie_of cies.now) }
     requires left { AreLeftBy (map cie_of cies.now) initial.now }
-    requires last { IfSome last (λ found. (cie_at (map cie_of cies.now) found.offset
-        ≡ Some (cie_of found.cie)) × IsLeftBy (cie_of found.cie) state.old.initial_rules) }
-    ensures cie { option_map (λ found. cie_of found.cie) result
-        ≡ cie_at (map cie_of cies.now) offset }
-    ensures asked { IfSome result (λ found. found.offset ≡ offset) }
-    ensures first { IfSome result
-        (λ found. IsLeftBy (cie_of found.cie) state.new.initial_rules) }
+    requires last { IfSome last (λ place. IsLeftAt (map cie_of cies.now) place state.old.initial_rules) }
+    ensures cie { MatchOption result
+        (cie_at (map cie_of cies.now) offset ≡ None)
+        (λ place. (place < length cies.now)
+        × (cie_at (map cie_of cies.now) offset ≡ slice_get (map cie_of cies.now) place)) }
+    ensures first { IfSome result (λ place. IsLeftAt (map cie_of cies.now) place state.new.initial_rules) }
 {
     let near = match last {
-        Some(found) => {
-            if found.offset == offset {
-                return last;
-            }
-            found.place
-        }
+        Some(place) => place,
         None => 0,
     };
     let place = place_near(cies, near, offset)?;
-    state.set_initial_rules(initial, place);
-    let cie = cies[place];
-    Some(CieSearch { offset, place, cie })
+    if last != Some(place) {
+        state.set_initial_rules(initial, place);
+    }
+    Some(place)
 }

@@ -7,7 +7,7 @@ ghost use Rattle.dw_rules.specs.RowsWithExpressions.{row_with_expressions};
 ghost use Rattle.dw_rows.specs.RowLookups.{IsRowUnder};
 ghost use Rattle.dw_frame.specs.Records.{Cie, Fde, Record, cies_among, fdes_among};
 ghost use Rattle.dw_rules.specs.Abi.{abi_fault};
-ghost use Rattle.dw_rules.specs.Rules.{PlacedRule, PlacedCfa, PlacedRow, Row};
+ghost use Rattle.dw_rules.specs.Rules.{PlacedRule, PlacedCfa, PlacedRow, Row, default};
 ghost use Rattle.dw_bytes.specs.declared.fault.FaultKind.{FaultKind};
 ghost use Rattle.dw_frame.specs.Dialects.{debug_frame};
 ghost use Rattle.dw_frame.specs.Instructions.{Instruction};
@@ -169,9 +169,10 @@ pub fn rows_have_good_expressions()
         → row_of s a ≡ Some row → IsRowUnder s.target row }
 {}
 
-/// The program of a CIE of `.debug_frame` begins with no rules.
-pub fn debug_frame_begins_with_no_rules()
-    ensures { (cie : Cie) → cie.program.dialect ≡ debug_frame → (cie_start cie).cfa ≡ None }
+/// The program of a CIE begins with no rules of registers, and in `.debug_frame` with no CFA.
+pub fn cie_programs_begin_with_no_rules()
+    ensures rules { (cie : Cie) (register : ℕ) → (cie_start cie).rules register ≡ default }
+    ensures cfa { (cie : Cie) → cie.program.dialect ≡ debug_frame → (cie_start cie).cfa ≡ None }
 {}
 
 /// Each remember_state has at most one matching restore_state, and each restore_state has at most

@@ -1,5 +1,5 @@
-//! Checks `.debug_frame` sections, and finds the rows of their unwind tables (DWARF 5, section
-//! 6.4).
+//! Checks frame sections, and finds the rows of their unwind tables (DWARF 5, section 6.4). It reads
+//! `.debug_frame` itself, and takes the records of an `.eh_frame` section.
 #![tactic(auto)]
 
 mod checked_expressions;

@@ -1,13 +1,13 @@
 //! The checks of a section's CIE_pointers, of its CIEs' programs, and of its FDEs' programs.
 
-ghost use Rattle.std.specs.Prelude.{◌≡◌, ◌<◌, ◌++◌, None, Some, map, length, IfOk, OnOk};
+ghost use Rattle.std.specs.Prelude.{◌≡◌, ◌<◌, ◌++◌, None, map, length, slice_get, IfOk, OnOk};
 ghost use Rattle.dw_bytes.specs.Answers.{Checks, Answers};
 ghost use Rattle.dw_frame.specs.Views.{cie_of, fde_of};
-ghost use Rattle.dw_rules.specs.Expressions.{cie_expressions, fde_expressions};
+ghost use Rattle.dw_rules.specs.Expressions.{cie_expressions, expressions_of, fde_expressions};
 ghost use Rattle.dw_rules.specs.ProgramFault.{cie_fault};
-ghost use Rattle.dw_rows.specs.Section.{first_fault, pointer_fault, program_fault, placed_rows};
+ghost use Rattle.dw_rows.specs.Section.{cie_at, first_fault, pointer_fault, program_fault, placed_rows};
 ghost use Rattle.std.specs.List.{flat_map};
-ghost use Rattle.dw_rows.specs.Overlap.{cie_offset};
+ghost use Rattle.dw_rows.specs.Overlap.{IsLeftAt, cie_offset};
 ghost use Rattle.dw_frame.specs.Bounds.{Ascends};
 ghost use Rattle.dw_rules.specs.Initial.{AreLeftBy};
 
@@ -64,6 +64,28 @@ pub fn check_cies<'a>(
     Ok(left)
 }
 
+/// Checks the program of an FDE of the CIE at the index `place`, whose rules are in `context`. Adds
+/// the program's expressions to `checked`, and returns how many rows the FDE has.
+#[inline(always)]
+fn check_fde_of_cie<'a>(
+    context: &mut UnwindContext,
+    checked: &mut CheckedExpressions<'a>,
+    cies: &[CommonInformationEntry<'a>],
+    place: usize,
+    fde: &FrameDescriptionEntry<'a>,
+) -> Result<u64, Fault>
+    requires inside { place < length cies.now }
+    requires cie { cie_at (map cie_of cies.now) fde.now.cie_pointer ≡ slice_get (map cie_of cies.now) place }
+    requires left { IsLeftAt (map cie_of cies.now) place context.old.initial_rules }
+    ensures answer { Answers (program_fault (map cie_of cies.now) (fde_of fde.now)) result }
+    ensures left { OnOk result (context.new.initial_rules ≡ context.old.initial_rules) }
+    ensures kept { OnOk result (checked.new ≡ checked.old ++ expressions_of (fde_of fde.now).program) }
+    ensures rows { IfOk result (λ rows. rows
+        ≡ length (placed_rows (map cie_of cies.now) (fde_of fde.now))) }
+{
+    quick_or_full_check(context, checked, &cies[place], fde)
+}
+
 /// Checks each FDE's program, starting from the rules that its CIE's program leaves. Adds the
 /// programs' expressions to `checked`, and returns how many rows all FDEs have together. Each
 /// CIE_pointer must be the offset of a CIE.
@@ -87,11 +109,10 @@ pub fn check_fdes<'a>(
     let mut rows = 0;
     let mut last = None;
     for fde in fdes {
-        let offset = fde.cie_pointer;
-        match set_rules_after(&mut context.state, cies, initial, last, offset) {
-            Some(found) => {
-                rows += u128::from(quick_or_full_check(context, checked, &found.cie, fde)?);
-                last = Some(found);
+        match set_rules_after(&mut context.state, cies, initial, last, fde.cie_pointer) {
+            Some(place) => {
+                rows += u128::from(check_fde_of_cie(context, checked, cies, place, fde)?);
+                last = Some(place);
             }
             None => unreachable!(),
         }

@@ -1,5 +1,5 @@
-//! Compiled tables: all rows of a checked `.debug_frame` section in order of address, so that
-//! look-ups are fast and need neither the section nor its programs (DWARF 5, section 6.4.1).
+//! Compiled tables: all rows of a checked frame section in order of address, so that look-ups are
+//! fast and need neither the section nor its programs (DWARF 5, section 6.4.1).
 #![tactic(auto)]
 
 mod entry_starts;

@@ -20,5 +20,5 @@ unreachable-requires c =
     contains-map fde_of c.args.fdes.now fde (c.loop-fde.fde-index, omega arith, sym c.fde-item.is) in
     let pointed : pointer_fault cies (fde_of fde) ≡ None =
     none-each (pointer_fault cies) (map fde_of c.args.fdes.now) c.requires.pointed (fde_of fde) among in
-    let nowhere : cie_at cies fde.cie_pointer ≡ None = sym c.in-None.ensures.cie in
+    let nowhere : cie_at cies fde.cie_pointer ≡ None = c.in-None.ensures.cie in
     none-refused cies (fde_of fde) nowhere pointed
