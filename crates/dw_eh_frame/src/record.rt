@@ -297,7 +297,7 @@ const USUAL_ADDRESSES: PointerEncoding = PointerEncoding {
 
 /// The FDE at offset `at` of a section, and the offset after its record, if its CIE is `last` and its
 /// addresses are written as usual. `None` if that isn't so, or if the record can't be read. This is
-/// faster than `record_after`: nearly all records are such FDEs, and here the CIE isn't copied, and no
+/// faster than `eh_record_after`: nearly all records are such FDEs, and here the CIE isn't copied, and no
 /// encoding but the usual one is compiled.
 #[inline(always)]
 #[tactic(auto, unfolding(crate::specs::Records::eh_record_at, crate::specs::Records::eh_body_at, crate::specs::Records::eh_full_at))]
@@ -347,11 +347,11 @@ pub(crate) fn usual_fde<'a>(
     }
 }
 
-/// The record at offset `at` of a section, and the offset after the record. `last` may be any CIE
-/// of the section: an FDE that has it doesn't read it again.
+/// The record that `eh_record` returns. `last` may be any CIE of the section: an FDE that has it
+/// doesn't read it again, so that a caller who goes through all records passes the CIE before them.
 #[inline(always)]
 #[tactic(auto, unfolding(crate::specs::Records::eh_record_at))]
-pub(crate) fn record_after<'a>(
+pub fn eh_record_after<'a>(
     section: &'a [u8],
     target: Target,
     bases: Bases,
@@ -397,5 +397,5 @@ pub fn eh_record<'a>(
     ensures sound { IfOk result (λ e. LiesAt target at e.1 (eh_record_of e.0)) }
     ensures within { IfErr result (λ fault. fault.at ≤ length section.now) }
 {
-    record_after(section, target, bases, is_aarch64, at, None)
+    eh_record_after(section, target, bases, is_aarch64, at, None)
 }

@@ -11,7 +11,7 @@ ghost use Rattle.dw_eh_frame.specs.Records.{all_in_dwarf, eh_reading_fault, eh_r
 
 use crate::copies::without_copies;
 use crate::pointer::Bases;
-use crate::record::{EhCie, EhRecord, record_after, usual_fde};
+use crate::record::{EhCie, EhRecord, eh_record_after, usual_fde};
 use dw_bytes::{Fault, FaultKind, Target};
 use dw_frame::{CommonInformationEntry, FrameDescriptionEntry};
 use std::alloc::Global;
@@ -25,6 +25,11 @@ pub struct EhRecords<'a> {
     /// The FDEs.
     pub fdes: Vec<FrameDescriptionEntry<'a>>,
 }
+
+/// Linkers write most FDEs of at least this many bytes. The list of FDEs is allocated with room for
+/// one for each `SHORT_FDE` bytes of the section, so it rarely has to grow, and what isn't used is
+/// freed at the end.
+const SHORT_FDE: usize = 32;
 
 /// Whether one of the CIEs, which must be in order of offset, begins at an offset.
 #[inline(always)]
@@ -135,7 +140,7 @@ fn read_any<'a>(
     ensures stops { IfErr result (StopsReading is_aarch64 bases target section.now) }
     ensures within { IfErr result (λ fault. fault.at ≤ length section.now) }
 {
-    let (record, next) = record_after(section, target, bases, is_aarch64, at, last.as_ref())?;
+    let (record, next) = eh_record_after(section, target, bases, is_aarch64, at, last.as_ref())?;
     match record {
         EhRecord::Cie(cie) => {
             take_cie(found, &cie.cie)?;
@@ -176,7 +181,7 @@ pub fn eh_records_with_copies<'a>(
 {
     let mut found = EhRecords {
         cies: Vec::new(alloc),
-        fdes: Vec::new(alloc),
+        fdes: Vec::with_capacity(alloc, section.len() / SHORT_FDE)?,
     };
     let mut last = None;
     let mut at = 0u32;
@@ -188,6 +193,7 @@ pub fn eh_records_with_copies<'a>(
             )?,
         };
     }
+    found.fdes.shrink_to_fit();
     Ok(found)
 }
 

@@ -1,13 +1,14 @@
 //! Which addresses are those of signal frames.
 
-ghost use Rattle.std.specs.Prelude.{◌≡◌, ◌<◌, ◌^◌, ◌++◌, [], ◌∷◌, IfOk, IfErr, OnOk, length};
+ghost use Rattle.std.specs.Prelude.{◌≡◌, ◌<◌, ◌^◌, ◌++◌, ℕ, Bool, List, [], ◌∷◌, IfOk, IfErr, IfSome, OnOk, length};
 ghost use Rattle.dw_bytes.specs.Answers.{Answers, fault_in, memory, values_in};
 ghost use Rattle.dw_eh_frame.specs.Records.{eh_records_of};
-ghost use Rattle.dw_eh_frame.specs.Views.{eh_record_of};
+ghost use Rattle.dw_bytes.specs.declared.target.Target.{Target};
+ghost use Rattle.dw_eh_frame.specs.Views.{HasCieOf, IsCieOf, eh_record_of};
 ghost use Rattle.dw_eh_rows.specs.Signals.{is_signal_at, signal_frames as frames_of};
 
 use dw_bytes::{Fault, Target};
-use dw_eh_frame::{Bases, EhRecord, eh_record};
+use dw_eh_frame::{Bases, EhCie, EhRecord, eh_record_after};
 use std::alloc::Global;
 
 /// `count` addresses, the first of which is `start`.
@@ -33,6 +34,18 @@ fn push_signal_frame(ranges: &mut Vec<AddressRange>, record: &EhRecord<'_>) -> R
     Ok(())
 }
 
+/// The CIE that was read last, once this record was read.
+#[inline(always)]
+fn cie_after<'a>(record: &EhRecord<'a>, last: Option<EhCie<'a>>) -> Option<EhCie<'a>>
+    ensures { (is_aarch64 : Bool) (target : Target) (section : List ℕ) → HasCieOf is_aarch64 target section record.now
+        → IfSome last.entry (IsCieOf is_aarch64 target section) → IfSome result (IsCieOf is_aarch64 target section) }
+{
+    match record {
+        EhRecord::Cie(cie) => Some(*cie),
+        _ => last,
+    }
+}
+
 /// The addresses of each FDE of a section of fewer than 2^32 bytes that is a signal frame, in the
 /// order of the section. It takes as long as reading the records, and memory for
 /// what it returns. `is_aarch64` changes nothing here.
@@ -52,10 +65,19 @@ pub fn signal_frames(
 {
     dw_eh_frame::laws::records_come_in_order();
     let mut ranges = Vec::new(alloc);
+    let mut last = None;
     let mut at = 0u32;
     while (at as usize) < section.len() {
-        let (record, next) = eh_record(section, target, bases, is_aarch64, at)?;
+        let (record, next) = eh_record_after(
+            section,
+            target,
+            bases,
+            is_aarch64,
+            at,
+            last.as_ref(),
+        )?;
         push_signal_frame(&mut ranges, &record)?;
+        last = cie_after(&record, last);
         at = next;
     }
     Ok(ranges)

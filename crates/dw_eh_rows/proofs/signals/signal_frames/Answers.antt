@@ -8,17 +8,19 @@ pub returns-in_err-record-clause-answer : goal.returns-in_err-record-clause-answ
 returns-in_err-record-clause-answer c =
     let p = err_from_is_err_and c.from_residual.result c.from_residual.ensures.1 in rw (p.1, p.2)
     (inr (signals-refused c.args.is_aarch64 c.args.bases c.args.target c.args.section.now c.loop-at.at c.loop-at.ranges.items _
-    c.loop-at.invariant
+    c.loop-at.invariant.ranges
     (c.records_come_in_order.ensures.fault c.args.is_aarch64 c.args.bases c.args.target c.args.section.now c.loop-at.at _
     c.loop-at-test.true c.in_err-record.ensures.exact)))
 
 pub loop-at-preserved : goal.loop-at-preserved
-loop-at-preserved c =
-    signals-more c.args.is_aarch64 c.args.bases c.args.target c.args.section.now c.loop-at.at c.in_ok-record.next
-    (eh_record_of c.in_ok-record.record) c.loop-at.ranges.items c.push_signal_frame.new.ranges.items c.loop-at.invariant
-    (c.records_come_in_order.ensures.entry c.args.is_aarch64 c.args.bases c.args.target c.args.section.now c.loop-at.at c.in_ok-record.next
-    (eh_record_of c.in_ok-record.record) c.in_ok-record.ensures.exact)
-    c.in_ok-record.ensures.forward.1 c.in_ok-push_signal_frame.ensures.pushed
+loop-at-preserved c = record {
+  ranges = signals-more c.args.is_aarch64 c.args.bases c.args.target c.args.section.now c.loop-at.at c.in_ok-record.next
+      (eh_record_of c.in_ok-record.record) c.loop-at.ranges.items c.push_signal_frame.new.ranges.items c.loop-at.invariant.ranges
+      (c.records_come_in_order.ensures.entry c.args.is_aarch64 c.args.bases c.args.target c.args.section.now c.loop-at.at c.in_ok-record.next
+      (eh_record_of c.in_ok-record.record) c.in_ok-record.ensures.exact)
+      c.in_ok-record.ensures.forward.1 c.in_ok-push_signal_frame.ensures.pushed;
+  last = c.cie_after-last.ensures c.args.is_aarch64 c.args.target c.args.section.now c.in_ok-record.ensures.cie c.loop-at.invariant.last;
+}
 
 pub returns : goal.returns
 returns c =
@@ -26,7 +28,7 @@ returns c =
     c.loop-at-test.false in
     record {
       answer = signals-whole c.args.is_aarch64 c.args.bases c.args.target c.args.section.now c.loop-at.at c.loop-at.ranges.items
-          c.loop-at.invariant end;
+          c.loop-at.invariant.ranges end;
       frames = signals-end c.args.is_aarch64 c.args.bases c.args.target c.args.section.now c.loop-at.at c.loop-at.ranges.items
-          c.loop-at.invariant end;
+          c.loop-at.invariant.ranges end;
     }
