@@ -1,7 +1,7 @@
 //! The checked expressions of a section, in a list that grows while the section's programs are
 //! checked.
 
-ghost use Rattle.std.specs.Prelude.{◌≡◌, [], ◌∷◌, ◌++◌, Some, OnOk};
+ghost use Rattle.std.specs.Prelude.{◌≡◌, [], ◌∷◌, ◌++◌, Some, OnOk, IfOk};
 ghost use Rattle.dw_bytes.specs.Answers.{Answers};
 ghost use Rattle.dw_frame.specs.Views.{instruction_of, expression_of};
 ghost use Rattle.dw_stack.specs.Located.{located_as, located_fault};
@@ -10,15 +10,26 @@ ghost use Rattle.dw_rules.specs.Expressions.{expression_in, list_of};
 use dw_bytes::{Fault, FaultKind, OUT_OF_MEMORY};
 use dw_frame::{CallFrameInstruction, UnwindExpression};
 use dw_stack::{CheckedExpression, Kind, check_expression};
-use std::alloc::Global;
+use std::alloc::{AllocError, Global};
 use std::marker::Model;
+
+/// An expression of at most this many bytes has at most 16 operations, and so `check_expression`
+/// allocates nothing for it.
+const SHORT: usize = 16;
 
 /// The expressions that have passed their check, in the order in which they were checked. Each has
 /// the offset of its first byte in the section.
+///
+/// ```rust
+/// let mut checked = CheckedExpressions::with_room(alloc, 64)?;
+/// check_cie_program(&mut context.state, &mut checked, &cie)?; // allocates nothing
+/// ```
 #[derive(Drop)]
 pub struct CheckedExpressions<'a> {
     alloc: Global,
     kept: Vec<(u32, CheckedExpression<'a>)>,
+    /// Whether a check may allocate memory.
+    may_grow: bool,
 }
 
 impl<'a> Model for CheckedExpressions<'a> {
@@ -41,7 +52,35 @@ impl<'a> CheckedExpressions<'a> {
         CheckedExpressions {
             alloc,
             kept: Vec::new(alloc),
+            may_grow: true,
         }
+    }
+
+    /// An empty list with room for `count` expressions. Checks that add to it allocate nothing: for
+    /// an expression more, and for one of more than 16 bytes, they report `Memory`.
+    pub fn with_room(alloc: Global, count: usize) -> Result<Self, AllocError>
+        ensures { IfOk result (λ list. list ≡ []) }
+    {
+        Ok(CheckedExpressions {
+            alloc,
+            kept: Vec::with_capacity(alloc, count)?,
+            may_grow: false,
+        })
+    }
+
+    /// Removes all expressions. Their room stays.
+    pub fn clear(&mut self)
+        ensures { self.new ≡ [] }
+    {
+        self.kept.clear();
+    }
+
+    /// All expressions, in the order in which they were checked, each with the offset of its first
+    /// byte in the section.
+    pub fn as_slice(&self) -> &[(u32, CheckedExpression<'a>)]
+        ensures { all_located result.now ≡ self.now }
+    {
+        self.kept.as_slice()
     }
 
     /// How many expressions there are.
@@ -81,6 +120,13 @@ impl<'a> CheckedExpressions<'a> {
         }
     }
 
+    /// Whether checking and storing this expression might allocate memory that may not be allocated.
+    #[inline(always)]
+    fn lacks_room(&self, found: &UnwindExpression<'a>) -> bool {
+        !self.may_grow
+            && (found.expression.bytes().len() > SHORT || self.kept.len() == self.kept.capacity())
+    }
+
     /// Checks an expression under the kind `kind`, and appends it to the list. A fault has its
     /// offset in the section.
     fn check_as(&mut self, kind: Kind, found: UnwindExpression<'a>) -> Result<(), Fault>
@@ -89,6 +135,9 @@ impl<'a> CheckedExpressions<'a> {
         ensures kept { OnOk result
             (self.new ≡ self.old ++ located_as kind (expression_of found.entry) ∷ []) }
     {
+        if self.lacks_room(&found) {
+            return Err(OUT_OF_MEMORY);
+        }
         match check_expression(self.alloc, found.expression, kind) {
             Ok(checked) => {
                 self.kept.push((found.offset, checked))?;

@@ -14,12 +14,14 @@ mod record_checks;
 mod row_cursor;
 mod row_iter;
 
+pub use checked_expressions::CheckedExpressions;
 pub use checked_frame::{CheckedFrame, check_frame, check_records};
 pub use dw_rules::{
     Abi, CfaRule, MAX_KEPT, MAX_REMEMBERED, MAX_RULES, PlainRules, RegisterRule, RegisterRules,
     UnwindRow, UnwindTableRow,
 };
 pub use index::IndexEntry;
-pub use program_checks::{check_cie, check_fde};
+pub use lookup::write_row_at;
+pub use program_checks::{check_cie, check_cie_program, check_fde, quick_or_full_check};
 pub use row_cursor::{begin_rows, next_range};
 pub use row_iter::Rows;

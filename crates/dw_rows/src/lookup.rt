@@ -15,9 +15,10 @@ use crate::row_cursor::{Next, begin_rows_at, next_plain};
 use dw_frame::{CommonInformationEntry, FrameDescriptionEntry, Instructions};
 use dw_rules::{RowExpressions, UnwindState, UnwindTableRow};
 
-/// Overwrites `row` with the row of `address`. `fde` must cover the address, and the initial rules
-/// in `state` must be the rules that the CIE's program leaves.
-pub(crate) fn write_row_at<'f, 'a>(
+/// Overwrites `row` with the row of `address`. `fde` must cover the address, its program must have
+/// passed its check, and the initial rules in `state` must be the rules that the CIE's program
+/// leaves. It runs the program up to that row, and allocates no memory.
+pub fn write_row_at<'f, 'a>(
     state: &mut UnwindState,
     cie: &CommonInformationEntry<'a>,
     fde: &FrameDescriptionEntry<'a>,
