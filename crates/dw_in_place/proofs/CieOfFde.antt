@@ -1,5 +1,5 @@
 -- The CIE of an FDE that is read anywhere in a section is sound, and begins at the FDE's CIE_pointer.
-use Rattle.std.proofs.Common.{◌≡◌, ℕ, ◌+◌, ◌-◌, Bool, true, false, cond, eqb, List, [], ◌++◌, length, Result, Ok, Err, None, refl, sym, ap, subst, ◌∙◌, arith, inl, inr}
+use Rattle.std.proofs.Common.{◌≡◌, ℕ, ◌+◌, ◌-◌, Bool, true, false, cond, eqb, List, [], ◌++◌, length, Result, Ok, Err, refl, sym, ap, subst, ◌∙◌, arith, inl, inr}
 use Rattle.std.specs.Prelude.{◌⊎◌}
 use Rattle.std.proofs.lemmas.Bool.{eqb-true, ne_eqb}
 use Rattle.std.proofs.lemmas.List.{length-append}
@@ -13,7 +13,7 @@ use Rattle.dw_bytes.proofs.Bodies.{framed-found}
 use Rattle.dw_bytes.proofs.Readers.{bind-ok, fixed-exact, same-reading}
 use Rattle.dw_frame.specs.Bounds.{IsSoundCie}
 use Rattle.dw_eh_frame.specs.declared.pointer.Bases.{Bases}
-use Rattle.dw_eh_frame.specs.Records.{EhCie, EhFde, EhRecord, eh_cie, eh_fde, eh_nothing, eh_fde_with, eh_cie_from, eh_cie_at, eh_body_at, eh_record_at}
+use Rattle.dw_eh_frame.specs.Records.{EhCie, EhFde, EhRecord, eh_cie, eh_fde, eh_nothing, eh_cie_from, eh_cie_at, eh_body_at, eh_record_at}
 use Rattle.dw_eh_frame.specs.Encoding.{program_at}
 use Rattle.dw_eh_frame.proofs.EncodedPlaces.{record-lies}
 use Rattle.dw_eh_frame.proofs.ExactBodies.{body-found}

@@ -1,5 +1,5 @@
 -- In a table that is in order, an address has one entry, the last that begins at it or before it.
-use Rattle.std.proofs.Common.{◌≡◌, ℕ, ◌+◌, ◌<◌, ◌≤◌, ◌↔◌, Option, Some, None, arith, inl, inr}
+use Rattle.std.proofs.Common.{◌≡◌, ℕ, ◌+◌, ◌<◌, ◌↔◌, Option, Some, None, arith, inl, inr}
 use Rattle.std.proofs.lemmas.Bool.{cases_lt}
 use Rattle.dw_in_place.specs.SearchTables.{Table, Finds, IsEntryFor, IsInOrder, IsLastBy, location_in}
 

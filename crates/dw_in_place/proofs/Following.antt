@@ -1,8 +1,8 @@
 -- A record that is read in a section is read in the same way if bytes follow the section.
-use Rattle.std.proofs.Common.{◌≡◌, ℕ, ◌+◌, ◌-◌, ◌≤◌, ◌<◌, Bool, true, false, cond, eqb, List, [], ◌∷◌, ◌++◌, length, drop, Option, Some, None, Result, Ok, Err, refl, sym, ap, subst, ◌∙◌, arith, inl, inr, append_assoc}
+use Rattle.std.proofs.Common.{◌≡◌, ℕ, ◌-◌, ◌≤◌, Bool, true, false, cond, eqb, List, ◌++◌, length, Option, Result, Ok, Err, refl, sym, ap, ◌∙◌, arith, inl, inr, append_assoc}
 use Rattle.std.specs.Prelude.{◌⊎◌}
-use Rattle.std.proofs.lemmas.Bool.{eqb-true, eq-eqb, cases_lt}
-use Rattle.std.proofs.lemmas.List.{length-append, length-drop, drop-append-le, drop-drop}
+use Rattle.std.proofs.lemmas.Bool.{cases_lt}
+use Rattle.std.proofs.lemmas.List.{length-append, length-drop, drop-append-le}
 use Rattle.dw_bytes.specs.declared.target.Target.{Target}
 use Rattle.dw_bytes.specs.declared.target.Format.{Format}
 use Rattle.dw_bytes.specs.declared.fault.Fault.{Fault}
@@ -13,7 +13,7 @@ use Rattle.dw_bytes.proofs.Bodies.{framed-found, framed-only}
 use Rattle.dw_bytes.proofs.Readers.{bind-ok}
 use Rattle.dw_frame.proofs.EachRecord.{some-length}
 use Rattle.dw_eh_frame.specs.declared.pointer.Bases.{Bases}
-use Rattle.dw_eh_frame.specs.Records.{EhCie, EhFde, EhRecord, eh_cie, eh_fde, eh_nothing, eh_cie_from, eh_cie_at, eh_body_at, eh_record_at}
+use Rattle.dw_eh_frame.specs.Records.{EhCie, EhFde, EhRecord, eh_cie_from, eh_cie_at, eh_body_at, eh_record_at}
 use Rattle.dw_eh_frame.proofs.ExactCases.{body-parts, nothing-is, cie-is, fde-is, cie-before-parts, cie-before-is, record-parts, record-is}
 use Rattle.dw_eh_rows.specs.Signals.{fde_in}
 use Rattle.dw_in_place.specs.InPlace.{covering, fde_at}
@@ -84,8 +84,8 @@ body-still is_aarch64 bases section more at format body x is = elim (body-parts 
       let before = cie-before-parts is_aarch64 body.target section body.position w.back w.cie w.cie_is in
       let still = cie-still is_aarch64 body.target section more (body.position - w.back) w.cie before.1 in
       fde-is is_aarch64 bases (section ++ more) at format body w.back w.mid w.cie w.fde w.some w.pointer_is w.no_id
-          (cie-before-is is_aarch64 body.target (section ++ more) body.position w.back w.cie before.0 still) w.fde_is
-          ∙ ap (λ (y : EhRecord). fine y) (sym w.record_is)
+      (cie-before-is is_aarch64 body.target (section ++ more) body.position w.back w.cie before.0 still) w.fde_is
+      ∙ ap (λ (y : EhRecord). fine y) (sym w.record_is)
 ]
 
 record IsReadStill (is_aarch64 : Bool) (bases : Bases) (target : Target) (section : List ℕ) (at : ℕ) (x : EhRecord) : Type 0 where

@@ -1,6 +1,6 @@
 -- An FDE without a fault in place and its CIE are an accepted section of two records.
-use Rattle.std.proofs.Common.{◌≡◌, ◌≢◌, ℕ, zero, suc, ◌+◌, ◌<◌, ◌≤◌, Bool, true, false, cond, leb, ltb, List, [], ◌∷◌, ◌++◌, length, take, drop, map, Option, Some, None, Contains, refl, sym, ap, subst, ◌∙◌, arith, inl, inr}
-use Rattle.std.specs.Prelude.{◌⊎◌, ◌==◌, is_some, find}
+use Rattle.std.proofs.Common.{◌≡◌, ℕ, zero, suc, ◌≤◌, Bool, true, false, cond, List, [], ◌∷◌, ◌++◌, length, take, drop, map, Option, Some, None, Contains, refl, sym, ap, subst, ◌∙◌, arith}
+use Rattle.std.specs.Prelude.{is_some, find}
 use Rattle.std.specs.Option.{option_or}
 use Rattle.std.proofs.lemmas.Bool.{eq-eqb, leb-true, le-leb, le-ltb}
 use Rattle.std.proofs.lemmas.List.{append-nil, take-map, drop-map, map-append, length-map, length-append}
@@ -14,10 +14,10 @@ use Rattle.dw_stack.specs.Located.{LocatedExpression, located_of, all_located}
 use Rattle.dw_rules.specs.ExpressionOrder.{expression_offset, AreInOrder}
 use Rattle.dw_rules.specs.Expressions.{expressions_of, cie_expressions}
 use Rattle.dw_rules.specs.ProgramFault.{cie_fault, fde_fault, end_of}
-use Rattle.dw_rules.specs.Rules.{PlacedRow, Row}
+use Rattle.dw_rules.specs.Rules.{Row}
 use Rattle.dw_rules.specs.RowsWithExpressions.{row_with_expressions}
 use Rattle.dw_rows.specs.RowCursors.{Lends}
-use Rattle.dw_rows.specs.Section.{Covers, IsChecked, IsCoverOf, cie_at, pointer_fault, fault_by_cie, parts_fault, rows_by_cie, rows_in, row_of, shares}
+use Rattle.dw_rows.specs.Section.{Covers, IsChecked, IsCoverOf, cie_at, fault_by_cie, parts_fault, rows_by_cie}
 use Rattle.dw_rows.specs.UnwindRows.{rows_of, has_address}
 use Rattle.dw_rows.proofs.Faults.{option_or-none}
 use Rattle.dw_rows.proofs.expressions.Lending.{lends-in, cies-in-order, fdes-in-order}

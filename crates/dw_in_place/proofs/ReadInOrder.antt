@@ -8,8 +8,8 @@ use Rattle.dw_bytes.specs.Reading.{ReadPosition, section_from}
 use Rattle.dw_frame.specs.Bounds.{IsSoundCie}
 use Rattle.dw_frame.specs.Records.{Cie}
 use Rattle.dw_eh_frame.specs.declared.pointer.Bases.{Bases}
-use Rattle.dw_eh_frame.specs.Records.{EhCie, EhFde, EhRecord, eh_cie, eh_fde, eh_nothing, eh_fde_with, eh_record_at}
-use Rattle.dw_eh_frame.specs.Encoding.{IsEhRecord, AreEhRecords, program_at}
+use Rattle.dw_eh_frame.specs.Records.{EhCie, EhFde, EhRecord, eh_cie, eh_fde, eh_nothing, eh_record_at}
+use Rattle.dw_eh_frame.specs.Encoding.{IsEhRecord, AreEhRecords}
 use Rattle.dw_eh_frame.specs.Views.{LiesAt}
 use Rattle.dw_eh_frame.proofs.EncodedPlaces.{record-lies}
 use Rattle.dw_eh_frame.proofs.ExactBodies.{AllRead}

@@ -1,18 +1,17 @@
 -- In an accepted section, the row of an FDE that is read with its CIE alone is the section's.
-use Rattle.std.proofs.Common.{◌≡◌, ℕ, zero, suc, ◌+◌, Bool, true, false, cond, List, [], ◌∷◌, ◌++◌, length, map, Option, Some, None, Contains, refl, sym, ap, subst, ◌∙◌, arith, inl, inr}
+use Rattle.std.proofs.Common.{◌≡◌, ℕ, zero, suc, ◌+◌, Bool, true, false, cond, List, [], ◌∷◌, map, Option, Some, None, Contains, refl, sym, ap, subst, ◌∙◌, arith, inl, inr}
 use Rattle.std.specs.Prelude.{◌==◌, IfSome, find, filter, option_map}
 use Rattle.std.specs.List.{AllByRecursion}
-use Rattle.std.proofs.lemmas.Bool.{eqb-true, eq-eqb}
+use Rattle.std.proofs.lemmas.Bool.{eqb-true}
 use Rattle.std.proofs.lemmas.List.Elements.{Contains-append_cases, recursion_from_All}
 use Rattle.dw_bytes.specs.declared.target.Target.{Target}
-use Rattle.dw_frame.specs.Records.{Cie, Fde}
 use Rattle.dw_stack.specs.declared.state.Kind.{Kind}
 use Rattle.dw_stack.specs.declared.state.Kind.TheVariants.{FrameCfa, FrameRegister}
 use Rattle.dw_stack.specs.Located.{LocatedExpression}
 use Rattle.dw_rules.specs.Effects.{Effect}
-use Rattle.dw_rules.specs.Expressions.{expressions_of, expression_at, frame_expressions, cie_expressions, fde_expressions}
+use Rattle.dw_rules.specs.Expressions.{expressions_of, expression_at, frame_expressions}
 use Rattle.dw_rules.specs.InForce.{Start}
-use Rattle.dw_rules.specs.Rules.{PlacedRule, PlacedCfa, PlacedRow, Row, default, undefined, same_value, offset, val_offset, register}
+use Rattle.dw_rules.specs.Rules.{PlacedRule, PlacedCfa, PlacedRow, default, undefined, same_value, offset, val_offset, register}
 use Rattle.dw_rules.specs.Rules.{expression, val_expression, register_and_offset, cfa_expression}
 use Rattle.dw_rules.specs.RowsWithExpressions.{located_at, or_nowhere, rule_with_expressions, cfa_with_expressions, given_entry, row_with_expressions, rules_with_expressions}
 use Rattle.dw_rules.specs.RowsWithExpressions.{IsLent, LendsRule, LendsCfa, LendsEntry, LendsEach}

@@ -1,15 +1,11 @@
 -- What look-ups in place give in a section without fault.
-use Rattle.std.proofs.Common.{◌≡◌, ℕ, zero, suc, ◌+◌, ◌<◌, ◌≤◌, Bool, true, false, cond, ltb, List, [], ◌∷◌, ◌++◌, length, Option, Some, None, Result, Ok, Contains, refl, sym, ap, subst, ◌∙◌, arith, inl, inr}
+use Rattle.std.proofs.Common.{◌≡◌, ℕ, zero, suc, ◌<◌, Bool, true, false, cond, List, [], ◌∷◌, length, Option, Some, None, Result, Ok, Contains, refl, sym, ap, subst, ◌∙◌, arith}
 use Rattle.std.proofs.lemmas.Bool.{lt-ltb}
-use Rattle.std.proofs.lemmas.Bool.Decides.{nat_tests}
 use Rattle.dw_bytes.specs.declared.target.Target.{Target}
 use Rattle.dw_bytes.specs.declared.fault.Fault.{Fault}
-use Rattle.dw_bytes.specs.Reading.{ReadPosition, ◌>>=◌, section_from}
-use Rattle.dw_frame.specs.Bounds.{Ascends, IsSoundFde}
 use Rattle.dw_frame.specs.Records.{Cie, Fde, Record, cie_record, fde_record, cies_among}
-use Rattle.dw_rules.specs.ProgramFault.{cie_fault, fde_fault}
 use Rattle.dw_rules.proofs.Search.{ascending-same}
-use Rattle.dw_rows.specs.Overlap.{cie_offset, fde_offset}
+use Rattle.dw_rows.specs.Overlap.{fde_offset}
 use Rattle.dw_rows.specs.Section.{Covers, IsChecked, cie_at, covers, row_of}
 use Rattle.dw_rows.proofs.Faults.{found-at}
 use Rattle.dw_rows.proofs.rows.Lookups.{row-none}
@@ -17,16 +13,16 @@ use Rattle.dw_rows.proofs.sections.CheckedSections.{checked-parts, checked-cies-
 use Rattle.dw_rows.proofs.sections.Parts.{good-past}
 use Rattle.dw_eh_frame.specs.declared.pointer.Bases.{Bases}
 use Rattle.dw_eh_frame.specs.Copies.{eh_frame_records}
-use Rattle.dw_eh_frame.specs.Records.{EhCie, EhFde, EhRecord, eh_cie, eh_fde, eh_nothing, all_in_dwarf, eh_record_at}
+use Rattle.dw_eh_frame.specs.Records.{EhCie, EhFde, EhRecord, eh_cie, eh_fde, eh_nothing, all_in_dwarf}
 use Rattle.dw_eh_rows.specs.Section.{eh_frame_of}
-use Rattle.dw_eh_rows.specs.Signals.{eh_fdes, fde_in}
+use Rattle.dw_eh_rows.specs.Signals.{eh_fdes}
 use Rattle.dw_eh_rows.proofs.Among.{later, eh-record, fde-record}
 use Rattle.dw_eh_rows.proofs.WholeSections.{IsFaultless as IsFaultlessSection, read-of}
-use Rattle.dw_in_place.specs.InPlace.{alone, covering, unless_fault, fde_at, fde_in_place_fault, is_after_cie, row_of_fde}
-use Rattle.dw_in_place.specs.LookUps.{LeadsTo, LeadsToAll, offset_by, fde_by_entry, row_by}
-use Rattle.dw_in_place.specs.SearchTables.{Table, Finds, IsEntryFor, location_in}
+use Rattle.dw_in_place.specs.InPlace.{alone, unless_fault, fde_at, fde_in_place_fault, row_of_fde}
+use Rattle.dw_in_place.specs.LookUps.{LeadsToAll, offset_by, fde_by_entry, row_by}
+use Rattle.dw_in_place.specs.SearchTables.{Table, Finds}
 use Rattle.dw_in_place.proofs.AtOffset.{fde-at-is, covering-is, covers-so, covers-then}
-use Rattle.dw_in_place.proofs.Entries.{found-entry, one-entry, none-begins}
+use Rattle.dw_in_place.proofs.Entries.{found-entry, one-entry}
 use Rattle.dw_in_place.proofs.OneFde.{IsFaultless, no-fault, alone-checked}
 use Rattle.dw_in_place.proofs.ReadInOrder.{ReadsFde, reads-fde}
 use Rattle.dw_in_place.proofs.SameRow.{row-in-place}

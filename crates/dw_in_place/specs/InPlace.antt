@@ -1,6 +1,6 @@
 -- One FDE of an `.eh_frame` section with its CIE, read and checked without the rest of the section
 -- (LSB Core, section 10.6.1).
-use Rattle.std.specs.Prelude.{ℕ, nat_le, Bool, if◌then◌else◌, List, [], ◌∷◌, Option, Some, None, option_and_then, Result, Ok, Err}
+use Rattle.std.specs.Prelude.{ℕ, nat_le, Bool, if◌then◌else◌, List, [], ◌∷◌, Option, Some, None, Result, Ok, Err}
 use Rattle.std.specs.Option.{option_or}
 use Rattle.dw_bytes.specs.declared.target.Target.{Target}
 use Rattle.dw_bytes.specs.declared.fault.Fault.{Fault}
@@ -9,7 +9,7 @@ use Rattle.dw_rules.specs.Rules.{Row}
 use Rattle.dw_rules.specs.ProgramFault.{cie_fault, fde_fault, end_of}
 use Rattle.dw_rows.specs.Section.{FrameSection, frame_by, covers, row_of}
 use Rattle.dw_eh_frame.specs.declared.pointer.Bases.{Bases}
-use Rattle.dw_eh_frame.specs.Records.{EhFde, EhRecord, eh_record_at, lost}
+use Rattle.dw_eh_frame.specs.Records.{EhFde, eh_record_at, lost}
 use Rattle.dw_eh_rows.specs.Signals.{fde_in}
 
 -- ---- the first fault

@@ -41,7 +41,8 @@ fn is_after_its_cie(fde: &EhFde<'_>) -> bool
 fn covers_address(fde: &EhFde<'_>, address: u64) -> bool
     ensures { IsTrue result ↔ Covers (eh_fde_of fde.now).fde address }
 {
-    fde.fde.initial_location <= address && address - fde.fde.initial_location < fde.fde.address_range
+    fde.fde.initial_location <= address
+        && address - fde.fde.initial_location < fde.fde.address_range
 }
 
 /// Checks that the CIE of an FDE is before it, and then the programs of both, up to their ends. The

@@ -65,7 +65,15 @@ fn finds_rows_in_place(rt: HostRuntime) -> Result<(), Fail> {
     let fde = found.expect(&rt, "an FDE");
     assert!(rt; fde.fde.offset == 0x18 && fde.cie.cie.return_address_register == 16);
     assert!(rt; row.start_address() == 0x1001 && row.end_address() == 0x1020);
-    assert!(rt; matches!(&row.cfa(), CfaRule::RegisterAndOffset { register: 7, offset: 16 }));
+    assert!(rt;
+        matches!(
+            &row.cfa(),
+            CfaRule::RegisterAndOffset {
+                register: 7,
+                offset: 16
+            }
+        )
+    );
     assert!(rt; matches!(&row.register(6), RegisterRule::Offset(-16)));
     Ok(())
 }
@@ -112,7 +120,15 @@ fn says_what_is_wrong(rt: HostRuntime) -> Result<(), Fail> {
         &mut none,
         &mut row,
     );
-    assert!(rt; matches!(&found, Err(Fault { kind: FaultKind::Memory, at: 0 })));
+    assert!(rt;
+        matches!(
+            &found,
+            Err(Fault {
+                kind: FaultKind::Memory,
+                at: 0
+            })
+        )
+    );
     Ok(())
 }
 

@@ -1,4 +1,4 @@
-use Rattle.std.proofs.Common.{◌≡◌, ℕ, List, ◌++◌, map, Option, Some, None, refl, sym, ap, subst, ◌∙◌, inl, inr}
+use Rattle.std.proofs.Common.{◌≡◌, ℕ, List, map, Option, Some, refl, sym, ap, subst, ◌∙◌, inl, inr}
 use Rattle.std.specs.Prelude.{find}
 use Rattle.std.proofs.lemmas.Result.{err_from_is_err_and}
 use Rattle.dw_bytes.specs.Reading.{section_from}
@@ -48,7 +48,7 @@ returns-in_err-in_cie-clause-fde c =
           (section_from c.args.target c.args.section.now c.in_ok-record.field-0-1) c.in_ok-record.ensures.exact
           ∙ (ap (λ (o : Option EhFde). covering c.args.address o) (sym c.in-Some.ensures)
           ∙ covering-refused c.args.address (eh_fde_of c.in-Some.fde) _ (c.if-not-covers_address.ensures.0 refl) some)
-        )
+          )
     ])
 
 pub split_at-requires : goal.split_at-requires

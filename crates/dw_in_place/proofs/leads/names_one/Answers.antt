@@ -1,4 +1,4 @@
-use Rattle.std.proofs.Common.{◌≡◌, ℕ, rules, refl, sym, ap, ◌∙◌, get_or, map}
+use Rattle.std.proofs.Common.{ℕ, rules, refl, sym, ap, ◌∙◌, get_or}
 use Rattle.std.proofs.lemmas.List.Sorted.{answers_always}
 use Rattle.dw_frame.specs.Views.{fde_of}
 use Rattle.dw_frame.specs.declared.entry.FrameDescriptionEntry.{FrameDescriptionEntry}

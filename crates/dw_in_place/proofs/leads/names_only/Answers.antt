@@ -1,4 +1,4 @@
-use Rattle.std.proofs.Common.{◌≡◌, ℕ, Contains, map, refl}
+use Rattle.std.proofs.Common.{◌≡◌, Contains, map, refl}
 use Rattle.dw_frame.specs.Records.{Fde}
 use Rattle.dw_frame.specs.Views.{fde_of}
 use Rattle.dw_in_place.specs.LookUps.{offset_by}
