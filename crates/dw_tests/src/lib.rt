@@ -8,6 +8,8 @@ mod bytes;
 mod certificates;
 pub mod examples;
 #[cfg(test)]
+mod in_place;
+#[cfg(test)]
 mod inputs;
 #[cfg(test)]
 mod look_ups;

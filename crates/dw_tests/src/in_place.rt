@@ -1,0 +1,143 @@
+//! Look-ups in an `.eh_frame` section where it lies, by its `.eh_frame_hdr`.
+
+use crate::inputs::{BASES, LITTLE};
+use dw_bytes::{Fault, FaultKind};
+use dw_eh_rows::check_eh_frame;
+use dw_in_place::{SearchTable, leads_to_all, row_for_address_in, row_in_place};
+use dw_rows::{CfaRule, CheckedExpressions, RegisterRule, UnwindTableRow};
+use dw_rules::UnwindContext;
+use std::test::Fail;
+
+/// A CIE, and at 0x18 an FDE of 0x1000 to 0x1020, as gcc writes them for a function that pushes its
+/// frame pointer; at 0x30 an FDE of 0x1020 to 0x1030 as ld writes for `.plt`, whose CFA is an
+/// expression; and a record of length 0. The section is at 0x2000.
+const SECTION: [u8; 92] = [
+    0x14, 0, 0, 0, 0, 0, 0, 0, 1, 0x7a, 0x52, 0, 1, 0x78, 0x10, 1, 0x1b, 0x0c, 7, 8, 0x90, 1, 0, 0,
+    0x14, 0, 0, 0, 0x1c, 0, 0, 0, 0xe0, 0xef, 0xff, 0xff, 0x20, 0, 0, 0, 0, 0x41, 0x0e, 0x10, 0x86,
+    2, 0, 0, 0x24, 0, 0, 0, 0x34, 0, 0, 0, 0xe8, 0xef, 0xff, 0xff, 0x10, 0, 0, 0, 0, 0x0e, 0x10,
+    0x4a, 0x0f, 0x0b, 0x77, 8, 0x80, 0, 0x3f, 0x1a, 0x3b, 0x2a, 0x33, 0x24, 0x22, 0, 0, 0, 0, 0, 0,
+    0, 0, 0, 0, 0,
+];
+
+/// Its `.eh_frame_hdr`, which is at 0x3000.
+const HEADER: [u8; 28] = [
+    1, 0x1b, 3, 0x3b, 0xfc, 0xef, 0xff, 0xff, 2, 0, 0, 0, 0, 0xe0, 0xff, 0xff, 0x18, 0xf0, 0xff,
+    0xff, 0x20, 0xe0, 0xff, 0xff, 0x30, 0xf0, 0xff, 0xff,
+];
+
+/// The header with both entries for the FDE at 0x18.
+const LYING: [u8; 28] = [
+    1, 0x1b, 3, 0x3b, 0xfc, 0xef, 0xff, 0xff, 2, 0, 0, 0, 0, 0xe0, 0xff, 0xff, 0x18, 0xf0, 0xff,
+    0xff, 0x20, 0xe0, 0xff, 0xff, 0x18, 0xf0, 0xff, 0xff,
+];
+
+#[test]
+fn reads_headers(rt: HostRuntime) {
+    let table = SearchTable::read(&HEADER, LITTLE, 0x3000).expect(&rt, "a table");
+    assert!(rt; table.frame_address() == 0x2000);
+    assert!(rt; table.count() == 2);
+    assert!(rt; table.is_in_order());
+    assert!(rt; table.record_for_address(0xfff) == None);
+    assert!(rt; table.record_for_address(0x1000) == Some(0x2018));
+    assert!(rt; table.record_for_address(0x101f) == Some(0x2018));
+    assert!(rt; table.record_for_address(0x1020) == Some(0x2030));
+    assert!(rt; table.record_for_address(0x5000) == Some(0x2030));
+    assert!(rt; SearchTable::read(&HEADER[..27], LITTLE, 0x3000).is_none());
+    assert!(rt; SearchTable::read(&SECTION, LITTLE, 0x3000).is_none());
+}
+
+#[test]
+fn finds_rows_in_place(rt: HostRuntime) -> Result<(), Fail> {
+    let table = SearchTable::read(&HEADER, LITTLE, 0x3000).expect(&rt, "a table");
+    let mut context = UnwindContext::new();
+    let mut expressions = CheckedExpressions::with_room(rt.alloc(), 4)?;
+    let mut row = UnwindTableRow::empty();
+    let found = row_for_address_in(
+        &SECTION,
+        &table,
+        BASES,
+        false,
+        0x1001,
+        &mut context,
+        &mut expressions,
+        &mut row,
+    )?;
+    let fde = found.expect(&rt, "an FDE");
+    assert!(rt; fde.fde.offset == 0x18 && fde.cie.cie.return_address_register == 16);
+    assert!(rt; row.start_address() == 0x1001 && row.end_address() == 0x1020);
+    assert!(rt;
+        matches!(
+            &row.cfa(),
+            CfaRule::RegisterAndOffset {
+                register: 7,
+                offset: 16
+            }
+        )
+    );
+    assert!(rt; matches!(&row.register(6), RegisterRule::Offset(-16)));
+    Ok(())
+}
+
+#[test]
+fn checks_expressions_in_their_room(rt: HostRuntime) -> Result<(), Fail> {
+    let mut context = UnwindContext::new();
+    let mut expressions = CheckedExpressions::with_room(rt.alloc(), 1)?;
+    let mut row = UnwindTableRow::empty();
+    let found = row_in_place(
+        &SECTION,
+        LITTLE,
+        BASES,
+        false,
+        0x30,
+        0x102a,
+        &mut context,
+        &mut expressions,
+        &mut row,
+    )?;
+    assert!(rt; found.is_some());
+    match row.cfa() {
+        CfaRule::Expression { offset, expression } => {
+            assert!(rt; offset == 0x46 && expression.operation_count() == 9);
+        }
+        CfaRule::RegisterAndOffset { .. } => panic!(rt; "an expression"),
+    }
+    Ok(())
+}
+
+#[test]
+fn says_what_is_wrong(rt: HostRuntime) -> Result<(), Fail> {
+    let mut context = UnwindContext::new();
+    let mut none = CheckedExpressions::with_room(rt.alloc(), 0)?;
+    let mut row = UnwindTableRow::empty();
+    let found = row_in_place(
+        &SECTION,
+        LITTLE,
+        BASES,
+        false,
+        0x30,
+        0x1020,
+        &mut context,
+        &mut none,
+        &mut row,
+    );
+    assert!(rt;
+        matches!(
+            &found,
+            Err(Fault {
+                kind: FaultKind::Memory,
+                at: 0
+            })
+        )
+    );
+    Ok(())
+}
+
+#[test]
+fn knows_tables_that_lead_to_all(rt: HostRuntime) -> Result<(), Fail> {
+    let frame = check_eh_frame(rt.alloc(), &SECTION, LITTLE, BASES, false)?;
+    let table = SearchTable::read(&HEADER, LITTLE, 0x3000).expect(&rt, "a table");
+    let lying = SearchTable::read(&LYING, LITTLE, 0x3000).expect(&rt, "a table");
+    assert!(rt; leads_to_all(&table, BASES.section, &frame));
+    assert!(rt; !leads_to_all(&lying, BASES.section, &frame));
+    Ok(())
+}
