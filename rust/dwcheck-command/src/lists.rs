@@ -28,7 +28,7 @@ pub fn locs(words: &LocsWords, out: &mut impl Write) -> Result<Done, Failure> {
     let lists =
         program.debug_loclists().map_err(|error| Failure::File(format!("{}: {}", shown(&words.program), error)))?;
     let bytes = lists.as_ref().map_or(&[][..], |lists| &lists.bytes);
-    let found = match locations(bytes, target.into(), &Lookup { list, base, address }) {
+    let found = match locations(bytes, target, &Lookup { list, base, address }) {
         Ok(found) => found,
         Err(Error::Refused(fault)) => {
             write_defect(out, &words.program, &Defect::of_lists(bytes, fault, target))?;
@@ -57,7 +57,7 @@ fn write_outcome(
 ) -> Result<(), Failure> {
     let expression = span.of(lists).unwrap_or(&[]);
     let blocks = file.blocks();
-    let evaluation = evaluate(expression, ExpressionKind::Location, target.into(), &file.context, &file.state(&blocks));
+    let evaluation = evaluate(expression, ExpressionKind::Location, target, &file.context, &file.state(&blocks));
     let evaluation = evaluation.map_err(|error| Failure::File(error.to_string()))?;
     let depth = Measure::of(expression, 0, target).depth;
     writeln!(out, "expr {}", Offset(span.offset))?;

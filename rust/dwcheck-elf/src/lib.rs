@@ -20,7 +20,8 @@ mod process;
 pub use cfi::{alone, eh_frame_hdr, frames, row, text, validate};
 pub use check::{fault, inspect, lint, report};
 pub use debug::{expression, lines, loclists, variables};
-pub use elf::{abi, debug_files, functions, image, mapped, other_file, program, relocate, target};
+pub use dwcheck_types::{abi, target};
+pub use elf::{debug_files, functions, image, mapped, other_file, program, relocate};
 pub use process::{core_file, live, modules, stack, state_file};
 
 /// The location lists of a program.
@@ -40,9 +41,9 @@ pub mod names {
 pub mod internal {
     pub use crate::cfi::section_table::{add, OneFde, SectionTable};
     pub use crate::check::page;
-    pub use crate::elf::bytes::{Cursor, ReadError};
     pub use crate::elf::names::short_name;
     pub use crate::process::maps::Process;
     pub use crate::process::stack::guess::ends_with_call;
     pub use crate::process::stack::names::Names;
+    pub use dwcheck_types::cursor::{Cursor, ReadError};
 }

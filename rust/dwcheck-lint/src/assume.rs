@@ -86,7 +86,9 @@ impl Assumption<'_> {
 
     fn assume_cfa(&mut self, row: &Row<'_>, address: u64) {
         match row.cfa {
-            Cfa::Offset(register, offset) => self.state.set(register, Value::from_cfa(offset.wrapping_neg())),
+            Cfa::RegisterOffset { register, offset } => {
+                self.state.set(register, Value::from_cfa(offset.wrapping_neg()))
+            }
             Cfa::Expression(expression) => match simple(expression) {
                 Some(found) if found.is_loaded => {
                     let (base, offset) = self.base_of(found.register);
@@ -118,7 +120,7 @@ impl Assumption<'_> {
             let is_return_address = register == self.machine.return_address;
             let value = if is_signed && is_return_address { Value::SIGNED_BY_CFA } else { Value::Entry(register) };
             match row.rule(register) {
-                None | Some(Rule::Same) => {
+                None | Some(Rule::SameValue) => {
                     let is_free = self.state.get(register) == Value::Unknown;
                     if is_free && self.machine.is_followed(register) {
                         self.state.set(register, value);
@@ -132,7 +134,7 @@ impl Assumption<'_> {
                         self.state.put(base, offset.wrapping_add(found.offset).wrapping_add(found.added), value);
                     }
                 }
-                Some(Rule::Undefined | Rule::Value) => {}
+                Some(Rule::Undefined | Rule::ValOffset(_) | Rule::ValExpression(_) | Rule::Architectural) => {}
             }
         }
     }

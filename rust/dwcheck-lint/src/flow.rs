@@ -111,7 +111,7 @@ impl Drop for Flow<'_, '_> {
 
 /// Whether a row is the one with which a function begins that is called.
 pub fn is_entry_row(module: &Module<'_>, row: &Row<'_>) -> bool {
-    row.cfa == Cfa::Offset(module.machine.stack_pointer, module.machine.entry_offset)
+    row.cfa == Cfa::RegisterOffset { register: module.machine.stack_pointer, offset: module.machine.entry_offset }
 }
 
 impl<'m, 'c> Flow<'m, 'c> {
@@ -157,7 +157,8 @@ impl<'m, 'c> Flow<'m, 'c> {
     /// Whether the CFA or the stack pointer is ever computed from a register that callees may change.
     fn frame_is_in_changeable_register(&self) -> bool {
         let (changeable, pointer) = (self.module.machine.changeable, self.module.machine.stack_pointer);
-        let in_rows = |row: &Row<'_>| matches!(row.cfa, Cfa::Offset(register, _) if changeable.contains(register));
+        let in_rows =
+            |row: &Row<'_>| matches!(row.cfa, Cfa::RegisterOffset { register, .. } if changeable.contains(register));
         let sets_pointer = |effect: &Effect| match *effect {
             Effect::Move { to, from } | Effect::Add { to, from, .. } => to == pointer && changeable.contains(from),
             Effect::SubtractRegister { to, from, by } => {

@@ -159,7 +159,7 @@ impl Said {
         let all = rows.iter().flat_map(|row| &row.rules).filter(|(register, _)| machine.is_followed(*register));
         all.for_each(|(register, _)| said.registers.insert(*register));
         let by_register = |row: &Row<'_>| match row.cfa {
-            Cfa::Offset(register, _) => Some(register),
+            Cfa::RegisterOffset { register, .. } => Some(register),
             Cfa::Expression(_) => None,
         };
         rows.iter().filter_map(by_register).for_each(|register| said.frame.insert(register));
@@ -203,8 +203,8 @@ impl Judge<'_> {
     /// The CFA of a row.
     fn cfa(&self, row: &Row<'_>, context: &Context<'_>) -> Value {
         match row.cfa {
-            Cfa::Offset(register, _) if !self.machine.is_followed(register) => Value::Unknown,
-            Cfa::Offset(register, offset) => match self.state.get(register) {
+            Cfa::RegisterOffset { register, .. } if !self.machine.is_followed(register) => Value::Unknown,
+            Cfa::RegisterOffset { register, offset } => match self.state.get(register) {
                 // A register that has the caller's value again isn't the function's frame any more.
                 entry @ Value::Entry(_) => entry,
                 value => value.plus(offset),
@@ -244,8 +244,8 @@ impl Judge<'_> {
         let known = match row.rule(register) {
             Some(Rule::Undefined) => return,
             None if !self.machine.is_followed(register) => return,
-            Some(Rule::Same) if !self.machine.is_followed(register) => Ok(None),
-            rule => self.judge_rule(register, rule.unwrap_or(Rule::Same), context),
+            Some(Rule::SameValue) if !self.machine.is_followed(register) => Ok(None),
+            rule => self.judge_rule(register, rule.unwrap_or(Rule::SameValue), context),
         };
         match known {
             Ok(Some(())) => {}
@@ -265,7 +265,7 @@ impl Judge<'_> {
                 Some(Rule::Undefined) => continue,
                 // Rule "registers that rows speak of": most code for aarch64 leaves vector registers out.
                 None if is_silent => continue,
-                rule => self.judge_rule(*register, rule.unwrap_or(Rule::Same), context),
+                rule => self.judge_rule(*register, rule.unwrap_or(Rule::SameValue), context),
             };
             match known {
                 Ok(Some(())) => {}
@@ -281,14 +281,14 @@ impl Judge<'_> {
     /// Whether a rule gives a register's entry value. `Ok(None)` if that isn't known.
     fn judge_rule(&self, register: Register, rule: Rule<'_>, context: &Context<'_>) -> Result<Option<()>, WrongRule> {
         match rule {
-            Rule::Same => self.is_entry(self.state.get(register), register, WrongRule::Changed),
+            Rule::SameValue => self.is_entry(self.state.get(register), register, WrongRule::Changed),
             Rule::Register(other) => self.is_entry(self.state.get(other), register, WrongRule::Elsewhere),
             Rule::Offset(offset) => self.judge_slot(Value::from_cfa(offset), register),
             Rule::Expression(expression) => {
                 let cfa = Value::from_cfa(0);
                 self.judge_slot(context.evaluate(expression, Some(cfa)), register)
             }
-            Rule::Undefined | Rule::Value => Ok(None),
+            Rule::Undefined | Rule::ValOffset(_) | Rule::ValExpression(_) | Rule::Architectural => Ok(None),
         }
     }
 

@@ -19,7 +19,6 @@
 
 pub mod aarch64;
 pub mod assume;
-mod bytes;
 pub mod callees;
 pub mod code;
 pub mod coverage;

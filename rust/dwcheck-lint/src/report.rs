@@ -57,18 +57,18 @@ impl fmt::Display for RowText<'_> {
     fn fmt(&self, f: &mut fmt::Formatter<'_>) -> fmt::Result {
         let RowText(machine, row) = self;
         match row.cfa {
-            Cfa::Offset(register, offset) => write!(f, "cfa={}", Sum(machine, register, offset))?,
+            Cfa::RegisterOffset { register, offset } => write!(f, "cfa={}", Sum(machine, register, offset))?,
             Cfa::Expression(_) => f.write_str("cfa=expression")?,
         }
         for (register, rule) in &row.rules {
             write!(f, " {}=", machine.name(*register))?;
             match rule {
                 Rule::Undefined => f.write_str("undefined")?,
-                Rule::Same => f.write_str("same")?,
+                Rule::SameValue => f.write_str("same")?,
                 Rule::Offset(offset) => write!(f, "[c{:+}]", offset)?,
                 Rule::Register(other) => f.write_str(machine.name(*other))?,
                 Rule::Expression(_) => f.write_str("[expression]")?,
-                Rule::Value => f.write_str("value")?,
+                Rule::ValOffset(_) | Rule::ValExpression(_) | Rule::Architectural => f.write_str("value")?,
             }
         }
         Ok(())
@@ -132,7 +132,9 @@ impl Finding<'_> {
             return None;
         }
         match (self.mark.row.cfa, self.mark.truth.cfa) {
-            (Cfa::Offset(register, _), Some((other, offset))) if self.mark.verdict.wrong.has(Facts::CFA) => {
+            (Cfa::RegisterOffset { register, .. }, Some((other, offset)))
+                if self.mark.verdict.wrong.has(Facts::CFA) =>
+            {
                 if register == other {
                     return Some(format!(".cfi_def_cfa_offset {}", offset));
                 }

@@ -30,7 +30,7 @@ impl Truth {
     /// What a state says. If the row's register gives the CFA, the CFA is shown by it.
     pub fn of(machine: &Machine, row: &Row<'_>, state: &State) -> Truth {
         let of_row = match row.cfa {
-            Cfa::Offset(register, _) => Some(register),
+            Cfa::RegisterOffset { register, .. } => Some(register),
             Cfa::Expression(_) => None,
         };
         let registers = || machine.followed();

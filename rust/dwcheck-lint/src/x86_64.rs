@@ -8,6 +8,7 @@ use crate::machine::Machine;
 use crate::register::{Register, Registers};
 use crate::zydis::{decoded, text, Decoded, Mnemonic, Operand, OperandKind, NO_REGISTER, RIP};
 use common::common;
+use dwcheck_types::abi::{self, callee_saved};
 use remembered::remembered;
 
 const NAMES: [&str; 33] = [
@@ -24,19 +25,30 @@ const DWARF: [Register; 16] = {
     [r(0), r(2), r(1), r(3), r(7), r(6), r(4), r(5), r(8), r(9), r(10), r(11), r(12), r(13), r(14), r(15)]
 };
 
-const RBP: Register = Register(6);
-const RSP: Register = Register(7);
+const RBP: Register = Register(abi::X86_64.frame_pointer as u8);
+const RSP: Register = Register(abi::X86_64.stack_pointer as u8);
+
+/// The callee-saved registers.
+const KEPT: [Register; callee_saved::X86_64.len()] = {
+    let mut kept = [Register(0); callee_saved::X86_64.len()];
+    let mut index = 0;
+    while index < kept.len() {
+        kept[index] = Register(callee_saved::X86_64[index] as u8);
+        index += 1;
+    }
+    kept
+};
 
 /// x86-64 with the calling convention of System V.
 pub static X86_64: Machine = Machine {
-    number: 62,
+    number: abi::X86_64.machine,
     names: &NAMES,
     followed: 16,
     register: |number| Register(u8::try_from(number).unwrap_or(u8::MAX)),
     stack_pointer: RSP,
     frame_pointer: RBP,
-    return_address: Register(16),
-    kept: &[Register(3), RBP, Register(12), Register(13), Register(14), Register(15)],
+    return_address: Register(abi::X86_64.program_counter as u8),
+    kept: &KEPT,
     kept_if_said: Registers::NONE,
     stack_alignment: 1,
     has_rows_for_calls: false,

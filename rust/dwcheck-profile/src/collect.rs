@@ -7,7 +7,7 @@ use super::space::{Mapping, NameId, Processes};
 use super::tree::Tree;
 use super::walk::Shared;
 use super::{Counts, Options, Profile, Sample};
-use dwcheck_elf::target::Order;
+use dwcheck_types::target::Order;
 use std::collections::HashMap;
 
 /// The process of records of the kernel's own mappings.

@@ -4,11 +4,11 @@
 use super::jitdump::is_dump;
 use super::recording::{BuildId, Features, Mapped};
 use super::tables::Tables;
-use dwcheck_elf::abi::{abi, Abi};
 use dwcheck_elf::internal::SectionTable;
 use dwcheck_elf::mapped::Bytes;
 use dwcheck_elf::program::{Program, Segment};
-use dwcheck_elf::target::Target;
+use dwcheck_types::abi::{abi, Abi};
+use dwcheck_types::target::Target;
 use once_cell::sync::OnceCell;
 use std::collections::HashMap;
 use std::ffi::OsStr;

@@ -5,7 +5,7 @@
 
 use dwcheck::Process;
 use dwcheck_elf::internal::{add as add_fde, SectionTable};
-use dwcheck_elf::target::Target;
+use dwcheck_types::target::Target;
 use once_cell::sync::OnceCell;
 
 /// Where a table is among those of a file.
@@ -58,7 +58,7 @@ impl Tables {
     /// A table that was found, if its rows are for tasks of this kind.
     pub fn get(&self, id: TableId, target: Target) -> Option<&Process> {
         let compiled = self.0.get(id.section as usize)?.compiled.get(id.fde as usize)?.get()?;
-        compiled.table.as_ref().ok().filter(|process| process.target() == target.into())
+        compiled.table.as_ref().ok().filter(|process| process.target() == target)
     }
 
     /// What is refused of those FDEs that frames needed.
@@ -85,7 +85,7 @@ impl Section {
     /// Checks and compiles an FDE.
     fn compile(&self, fde: usize) -> Result<Process, String> {
         let one = self.table.one(fde)?;
-        let mut process = Process::new(one.format.target.into());
+        let mut process = Process::new(one.format.target);
         let addresses = self.table.addresses(fde);
         let module = one.format.module(&one.bytes, 0).range(addresses.start..=addresses.end.saturating_sub(1));
         add_fde(&mut process, &one, &module, addresses.start).map_err(|error| error.to_string())?;

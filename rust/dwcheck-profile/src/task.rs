@@ -2,8 +2,8 @@
 
 use super::recording::{Features, Sample, TaskRegisters};
 use dwcheck::Registers;
-use dwcheck_elf::abi::{abi, Abi};
-use dwcheck_elf::target::{AddressSize, Order, Target};
+use dwcheck_types::abi::{abi, Abi};
+use dwcheck_types::target::{AddressSize, Order, Target};
 use object::elf::{EM_386, EM_AARCH64, EM_X86_64};
 
 /// A processor that was recorded.
@@ -107,7 +107,7 @@ impl<'a> Task<'a> {
     /// above those of addresses.
     pub fn convention(&self) -> dwcheck::Abi<'static> {
         const ADDRESS_BITS: u32 = 48;
-        let convention = dwcheck::Abi::new(self.abi.kept, Some(self.abi.stack_pointer));
+        let convention = dwcheck::Abi::new(self.abi.callee_saved, Some(self.abi.stack_pointer));
         match self.abi.machine {
             EM_AARCH64 => convention.signed(u64::MAX << ADDRESS_BITS),
             _ => convention,

@@ -11,7 +11,7 @@ use super::space::{Mapping, Space};
 use super::tables::TableId;
 use super::task::Task;
 use dwcheck::{Answer, Block, Cursor, Frame as Stepped, Process, Registers, State, Stop};
-use dwcheck_elf::target::Order;
+use dwcheck_types::target::Order;
 
 /// The marks in chains of addresses, which are the highest numbers (`PERF_CONTEXT_`).
 mod mark {
@@ -351,7 +351,7 @@ fn stepped(process: &Process, linked: u64, cursor: &mut Cursor, state: &State<'_
     cursor.set_address(linked.wrapping_add(u64::from(!cursor.is_exact())));
     let stepped = process.step(cursor, state).ok()?;
     let is_lost = |register: &u16| cursor.register(*register).is_none() && state.registers.get(*register).is_some();
-    if !is_innermost || !task.abi.kept.iter().any(is_lost) {
+    if !is_innermost || !task.abi.callee_saved.iter().any(is_lost) {
         return stepped;
     }
     let slots = popped::slots(process, linked, task, state.registers);

@@ -287,7 +287,7 @@ impl<'s> ModuleFile<'s> {
         let kept = KEPT_NUMBERS.map(|number| match row.rule(Register(number as u8)) {
             _ if !keeps => Kept::Unknown,
             Some(RowRule::Undefined) => Kept::Unknown,
-            None | Some(RowRule::Same) => Kept::InPlace,
+            None | Some(RowRule::SameValue) => Kept::InPlace,
             Some(_) => Kept::Elsewhere,
         });
         let reads = reads(self.module.machine, row, &kept);
@@ -300,17 +300,17 @@ impl<'s> ModuleFile<'s> {
 fn reads(machine: &Machine, row: &Row<'_>, kept: &[Kept; KEPT]) -> Option<Registers> {
     let mut reads = Registers::NONE;
     match row.cfa {
-        Cfa::Offset(register, _) => reads.insert(register),
+        Cfa::RegisterOffset { register, .. } => reads.insert(register),
         Cfa::Expression(_) => return None,
     }
     let judged = KEPT_NUMBERS.iter().zip(kept).filter(|(_, kept)| **kept != Kept::Unknown);
     let judged = judged.map(|(number, _)| Register(*number as u8)).chain([machine.return_address]);
     for register in judged {
         match row.rule(register) {
-            None | Some(RowRule::Same) => reads.insert(register),
+            None | Some(RowRule::SameValue) => reads.insert(register),
             Some(RowRule::Register(other)) => reads.insert(other),
             Some(RowRule::Offset(_) | RowRule::Undefined) => {}
-            Some(RowRule::Expression(_) | RowRule::Value) => return None,
+            Some(_) => return None,
         }
     }
     Some(reads)

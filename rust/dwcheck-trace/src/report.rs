@@ -273,7 +273,7 @@ fn mark<'t>(file: &'t ModuleFile<'_>, site: &Site, wrong: &Wrong) -> Option<Mark
 /// What is true where a row is wrong.
 fn truth(row: &Row<'_>, places: &Places) -> Truth {
     let of_row = match row.cfa {
-        Cfa::Offset(Register(number), _) => Some(usize::from(number)),
+        Cfa::RegisterOffset { register: Register(number), .. } => Some(usize::from(number)),
         Cfa::Expression(_) => None,
     };
     let usual = [7, 6];

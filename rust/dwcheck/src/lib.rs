@@ -62,13 +62,13 @@ mod state;
 mod steps;
 #[cfg(test)]
 mod strange;
-mod target;
 mod walk;
 
 pub use abi::Abi;
 pub use cache::Cache;
 pub use caller::{Answer, Caller};
 pub use cursor::{Cursor, Frames};
+pub use dwcheck_types::target::{AddressSize, Order, Target};
 pub use expression::{
     evaluate, Context, Evaluation, ExpressionKind, Location, Outcome, Piece, PieceSize,
 };
@@ -82,7 +82,6 @@ pub use rows::Rows;
 pub use section::{Contents, FrameSection, Record, RecordKind, Records};
 pub use state::{Block, Registers, State};
 pub use steps::{Step, Steps};
-pub use target::{AddressSize, Order, Target};
 pub use walk::{Backtrace, Frame, Stop};
 
 /// The bytes of a `.debug_frame` section. They may be empty.
@@ -112,8 +111,8 @@ pub fn check(frame: DebugFrame<'_>, lists: DebugLoclists<'_>, target: Target) ->
             frame.len(),
             lists.as_ptr(),
             lists.len(),
-            target.order_number(),
-            target.address_bytes(),
+            ffi::order_number(target),
+            target.address_size.bytes().into(),
             fault,
         )
     })

@@ -3,8 +3,8 @@
 use crate::expression::ExpressionKind;
 use crate::fault::{Error, Section};
 use crate::ffi;
-use crate::target::Target;
 use crate::{DebugFrame, DebugLoclists};
+use dwcheck_types::target::Target;
 
 /// The number of expressions for which the first call of [`report`] has room.
 const FIRST_EXPRESSIONS: usize = 64;
@@ -129,8 +129,8 @@ fn report_into(
             frame.len(),
             lists.as_ptr(),
             lists.len(),
-            target.order_number(),
-            target.address_bytes(),
+            ffi::order_number(target),
+            target.address_size.bytes().into(),
             &mut counts,
             slots.as_mut_ptr(),
             slots.len(),

@@ -3,7 +3,7 @@
 use crate::fault::Error;
 use crate::ffi;
 use crate::module::{EhFrame, Module};
-use crate::target::Target;
+use dwcheck_types::target::Target;
 use std::iter::FusedIterator;
 use std::ops::Range;
 

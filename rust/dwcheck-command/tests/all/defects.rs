@@ -238,7 +238,7 @@ fn a_wrong_row_of_the_library_is_a_difference() {
     let mut changed = frames.bytes().to_vec();
     let place = place_of(&changed, &[0x0e, 16]);
     changed[place + 1] = 24;
-    let mut process = dwcheck::Process::new(frames.target().into());
+    let mut process = dwcheck::Process::new(frames.target());
     process.add(&changed, frames.format().module(&changed, 0)).unwrap();
     let difference = validate_rows(&frames, &process).unwrap_err();
     match &difference.what {

@@ -21,9 +21,9 @@ pub(crate) use signing::signed;
 pub use crate::elf::format::{Format, Name};
 
 use crate::elf::program::{Program, ProgramError, Section};
-use crate::elf::target::Target;
 use copies::mark_copies;
 use dwcheck::{Error, Fault, FaultKind, Process};
+use dwcheck_types::target::Target;
 use edits::{edited, Edited};
 use std::borrow::Cow;
 use std::collections::HashSet;
@@ -261,7 +261,7 @@ impl<'data> Frames<'data> {
     /// [`Error::Refused`] with the first fault; [`Error::NoMemory`]; or [`Error::NoRoom`] if the
     /// rows may take more than 64 times the section's bytes and more than 64 MiB.
     pub fn process(&self, load: u64) -> Result<Process, Error> {
-        let mut process = Process::new(self.target().into());
+        let mut process = Process::new(self.target());
         let module = self.section.format.module(self.bytes(), load);
         process.add(self.bytes(), module.range(0..=self.target().address_size.highest()))?;
         Ok(process)

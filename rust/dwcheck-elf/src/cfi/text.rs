@@ -7,8 +7,8 @@
 pub use crate::elf::plain::Plain;
 
 use crate::cfi::row::Row;
-use crate::elf::target::{AddressSize, Target};
 use dwcheck::{Answer, Evaluation, Location, Outcome, PieceSize};
+use dwcheck_types::target::{AddressSize, Target};
 use std::fmt;
 
 /// An address, such as `0x000000000040116b`.

@@ -9,7 +9,7 @@ mod gimli_rows;
 
 use crate::cfi::frames::Name;
 use crate::cfi::row::Row;
-use crate::elf::bytes::Cursor;
+use dwcheck_types::cursor::Cursor;
 use std::fmt;
 
 pub(crate) use comparable::comparable;

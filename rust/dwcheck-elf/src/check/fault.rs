@@ -9,8 +9,8 @@ use crate::cfi::instructions::{instructions, Instruction};
 use crate::debug::expression;
 use crate::elf::functions::Functions;
 use crate::elf::spot::Spot;
-use crate::elf::target::Target;
 use dwcheck::{Fault, FaultKind};
+use dwcheck_types::target::Target;
 
 /// A frame section, with what is needed to describe its faults.
 pub struct Terms<'a> {

@@ -10,8 +10,8 @@ use super::lists;
 use crate::cfi::row::Row;
 use crate::cfi::validate::{validate_rows, Agreement, DwcheckRows, RowSource};
 use crate::elf::program::Program;
-use crate::elf::target::Target;
 use dwcheck::{DebugFrame, DebugLoclists, Error, Process};
+use dwcheck_types::target::Target;
 use std::fmt;
 use std::path::{Path, PathBuf};
 
@@ -226,7 +226,7 @@ fn counted(frames: &Frames<'_>, process: &Process) -> Agreement {
 }
 
 fn inspect_section_of_lists(lists: &[u8], target: Target) -> Result<Verdict, InspectError> {
-    match dwcheck::report(DebugFrame(&[]), DebugLoclists(lists), target.into()) {
+    match dwcheck::report(DebugFrame(&[]), DebugLoclists(lists), target) {
         Ok(report) => Ok(Verdict::Lists(report)),
         Err(Error::Refused(fault)) => Ok(Verdict::Refused(vec![Defect::of_lists(lists, fault, target)])),
         Err(error) => Err(InspectError::Dwcheck(Name::DebugLoclists, error)),

@@ -9,12 +9,12 @@ use crate::cfi::validate::comparable;
 use crate::elf::functions::Functions;
 use crate::elf::image::{Image, Part};
 use crate::elf::program::Program;
-use crate::elf::target::AddressSize;
 use dwcheck::{CfaRule, Process};
 use dwcheck_lint::landings::landings;
 use dwcheck_lint::machine::Machine;
 use dwcheck_lint::module::{Convention, Module, Segment};
 use dwcheck_lint::table::{Cfa, Fde, Row, Rows, Rule};
+use dwcheck_types::target::AddressSize;
 use gimli::{CallFrameInstruction, EndianSlice, Pointer, RunTimeEndian, UnwindSection};
 use std::cell::RefCell;
 use std::collections::HashSet;
@@ -257,18 +257,22 @@ impl<'a> OneSection<'a> {
     fn row_of(&self, machine: &Machine, row: &dwcheck::Row) -> Option<Row<'a>> {
         let (register, begin) = (machine.register, row.addresses.start);
         let cfa = match row.cfa {
-            CfaRule::RegisterAndOffset { register: number, offset } => Cfa::Offset(register(number), offset),
+            CfaRule::RegisterAndOffset { register: number, offset } => {
+                Cfa::RegisterOffset { register: register(number), offset }
+            }
             CfaRule::Expression(_) => Cfa::Expression(self.expression(begin, None)?),
             _ => return None,
         };
         let rule = |number: u16, rule| {
             Some(match rule {
                 dwcheck::Rule::Undefined => Rule::Undefined,
-                dwcheck::Rule::SameValue => Rule::Same,
+                dwcheck::Rule::SameValue => Rule::SameValue,
                 dwcheck::Rule::Offset(offset) => Rule::Offset(offset),
+                dwcheck::Rule::ValOffset(offset) => Rule::ValOffset(offset),
                 dwcheck::Rule::Register(number) => Rule::Register(register(number)),
                 dwcheck::Rule::Expression(_) => Rule::Expression(self.expression(begin, Some(number))?),
-                _ => Rule::Value,
+                dwcheck::Rule::ValExpression(_) => Rule::ValExpression(self.expression(begin, Some(number))?),
+                _ => return None,
             })
         };
         let rules = row.rules.iter().map(|(number, found)| Some((register(*number), rule(*number, *found)?)));

@@ -11,7 +11,7 @@ use crate::debug::lists::{
 };
 use crate::elf::debug_files::DebugFiles;
 use crate::elf::program::Program;
-use crate::elf::target::Target;
+use dwcheck_types::target::Target;
 use gimli::{DebugAddrIndex, Dwarf, Reader, Section as _, SectionId, Unit, UnitHeader, UnitSectionOffset};
 use report::{report, units, NAMES};
 use std::collections::HashMap;

@@ -26,9 +26,9 @@ use crate::elf::covered::Covered;
 use crate::elf::functions::Functions;
 use crate::elf::names::{raw_name, shown_name};
 use crate::elf::program::Program;
-use crate::elf::target::Target;
 use dwcheck::Process;
 use dwcheck_lint::machine::Machine;
+use dwcheck_types::target::Target;
 use instructions::Memory;
 
 /// What a report says of a program.

@@ -1,7 +1,7 @@
 //! The memory of a loaded file that its process doesn't change: its read-only segments, and `.data.rel.ro`, where
 //! the dynamic linker stores addresses before it makes the section read-only.
 
-use crate::elf::target::Target;
+use dwcheck_types::target::Target;
 use object::elf::{self, PF_W};
 use object::read::{Object as _, ObjectSection, ObjectSegment, ObjectSymbol, ObjectSymbolTable, RelocationTarget};
 use object::{Relocation, RelocationKind, SegmentFlags};

@@ -3,7 +3,7 @@
 use crate::elf::layout::Layout;
 use crate::elf::names::{is_shown_as, similar, STUB};
 use crate::elf::plt::stubs;
-use crate::elf::target::Target;
+use dwcheck_types::target::Target;
 use object::elf;
 use object::read::{Object, ObjectSection, ObjectSymbol, SymbolSection};
 use object::{SectionFlags, SymbolFlags};

@@ -1,10 +1,8 @@
 //! ELF files and what they hold: sections, symbols, segments, relocations, separate files of debug information; and
-//! the words that all other parts use: targets, ABIs, numbers, names.
+//! what all other parts use: formats and names.
 //!
 //! It uses no other part.
 
-pub mod abi;
-pub mod bytes;
 pub mod constants;
 pub mod covered;
 pub mod debug_files;
@@ -20,4 +18,3 @@ pub mod plt;
 pub mod program;
 pub mod relocate;
 pub mod spot;
-pub mod target;

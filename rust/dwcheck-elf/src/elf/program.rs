@@ -9,7 +9,7 @@ use crate::elf::image::Image;
 use crate::elf::layout::{is_loaded, Layout};
 use crate::elf::other_file::OtherFile;
 use crate::elf::relocate::{self, RelocationError};
-use crate::elf::target::{AddressSize, Order, Target};
+use dwcheck_types::target::{AddressSize, Order, Target};
 use flate2::{Decompress, FlushDecompress};
 use object::elf;
 use object::read::{CompressionFormat, Object, ObjectSection, ObjectSegment, ObjectSymbol};

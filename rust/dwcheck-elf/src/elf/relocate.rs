@@ -3,7 +3,7 @@
 mod aarch64;
 
 use crate::elf::layout::Layout;
-use crate::elf::target::Target;
+use dwcheck_types::target::Target;
 use object::elf;
 use object::read::{Object as _, ObjectSection, ObjectSymbol, RelocationTarget, SymbolSection};
 use object::{Relocation, RelocationKind, SymbolIndex};

@@ -16,10 +16,10 @@ pub use notes::{Mapping, ProcessInfo};
 pub use registers::Thread;
 pub use signal::{Sender, Signal};
 
-use crate::elf::abi::{abi, Abi};
 use crate::elf::other_file::OtherFile;
-use crate::elf::target::{AddressSize, Order, Target};
 use crate::process::maps::{can_differ, Process};
+use dwcheck_types::abi::{abi, Abi};
+use dwcheck_types::target::{AddressSize, Order, Target};
 use notes::Notes;
 use object::elf::{self, FileHeader32, FileHeader64, ELFMAG, ET_CORE, PF_W, PF_X, PT_LOAD};
 use object::read::elf::{FileHeader, ProgramHeader};

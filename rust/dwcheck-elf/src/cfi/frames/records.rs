@@ -1,9 +1,9 @@
 //! The records of a frame section, as the library reads them one by one.
 
 use super::Format;
-use crate::elf::bytes::Cursor;
-use crate::elf::target::Target;
 use dwcheck::{Error, Fault, RecordKind};
+use dwcheck_types::cursor::Cursor;
+use dwcheck_types::target::Target;
 use std::ops::Range;
 
 /// A record of a frame section. All offsets are in the file's section, decompressed.

@@ -5,8 +5,8 @@ use super::gimli_rows::{Bounded, Bytes, GimliRows};
 use super::{compare_rows, next_record, Agreement, Difference, RowSource, What};
 use crate::cfi::frames::{Frames, Kind, Name, Record, Standing};
 use crate::cfi::row::{Cfa, Row, Rule};
-use crate::elf::bytes::Cursor;
 use dwcheck::{CfaRule, Process, Rows};
+use dwcheck_types::cursor::Cursor;
 use gimli::{
     BaseAddresses, DebugFrame, Register, RegisterRule, UnwindContext, UnwindOffset, UnwindSection, UnwindTable,
     UnwindTableRow,

@@ -2,7 +2,7 @@
 
 use super::RowSource;
 use crate::cfi::row::{Cfa, Row, Rule};
-use crate::elf::target::Target;
+use dwcheck_types::target::Target;
 use gimli::{
     CfaRule, EndianSlice, Reader, Register, RegisterRule, RunTimeEndian, UnwindContextStorage, UnwindTable,
     UnwindTableRow,

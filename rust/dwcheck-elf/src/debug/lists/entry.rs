@@ -1,10 +1,10 @@
 //! Reads the entries of a location list (DWARF 5, section 2.6.2; DWARF 4, section 2.6.2).
 
 use super::expression::Scope;
-use crate::debug::codes::lle;
-use crate::elf::bytes::{Cursor, ReadError};
 use crate::elf::format::Name;
 use dwcheck::FaultKind;
+use dwcheck_types::codes::lle;
+use dwcheck_types::cursor::{Cursor, ReadError};
 
 /// What a list has at some place.
 #[derive(Clone, Copy, Debug, PartialEq, Eq)]

@@ -1,10 +1,10 @@
 //! Rewrites an expression so that `dwcheck` can check and evaluate it.
 
 use super::hole::{Hole, Spot, DEREF, UNREADABLE};
-use crate::debug::codes::op;
 use crate::debug::expression::skip;
-use crate::elf::bytes::{Cursor, ReadError};
-use crate::elf::target::Target;
+use dwcheck_types::codes::op;
+use dwcheck_types::cursor::{Cursor, ReadError};
+use dwcheck_types::target::Target;
 use std::borrow::Cow;
 
 /// What the meaning of an expression depends on, besides its bytes.

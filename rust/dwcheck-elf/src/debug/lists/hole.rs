@@ -4,7 +4,7 @@
 //! as the original, and that are unreadable in every state. So all paths are still checked, and a run
 //! through the hole never has a wrong result.
 
-use crate::debug::codes::op;
+use dwcheck_types::codes::op;
 use std::fmt;
 
 /// What an operation is that `dwcheck` doesn't know.

@@ -1,8 +1,8 @@
 //! Compares the operations of an expression with those of the rewritten one, as gimli reads both.
 
 use super::hole::UNREADABLE;
-use crate::debug::codes::op;
 use crate::debug::debug_info::Slice;
+use dwcheck_types::codes::op;
 use gimli::{Dwarf, Encoding, EndianSlice, Expression, Operation, Reader, RunTimeEndian, Unit, UnitOffset};
 
 /// How many `DW_OP_GNU_uninit` of an expression are replaced.

@@ -7,8 +7,8 @@ use super::lints::Surroundings;
 use super::problem::{Kind, Problem};
 use super::unit::{Entry, Source, UnitLists, TABLE_HEADER};
 use crate::elf::format::Name;
-use crate::elf::target::Target;
 use dwcheck::{evaluate, Abi, Context, DebugFrame, DebugLoclists, Error, ExpressionKind, Fault, Registers, State};
+use dwcheck_types::target::Target;
 use gimli::UnitOffset;
 use std::collections::HashSet;
 
@@ -90,7 +90,7 @@ impl<'a> Section<'a> {
 
 /// The first fault of a section of tables, as `dwcheck` finds it.
 pub(crate) fn checked(tables: &[u8], target: Target) -> Result<Option<Fault>, Error> {
-    match dwcheck::check(DebugFrame(&[]), DebugLoclists(tables), target.into()) {
+    match dwcheck::check(DebugFrame(&[]), DebugLoclists(tables), target) {
         Ok(()) => Ok(None),
         Err(Error::Refused(fault)) => Ok(Some(fault)),
         Err(error) => Err(error),
@@ -135,7 +135,7 @@ fn entry_at(entries: &[Entry], offset: usize) -> Option<&Entry> {
 pub(crate) fn refused(expression: &[u8], target: Target) -> Result<Option<Fault>, Error> {
     let registers = Registers::new();
     let state = State { registers: &registers, memory: &[], abi: Abi::NONE };
-    match evaluate(expression, ExpressionKind::Location, target.into(), &Context::default(), &state) {
+    match evaluate(expression, ExpressionKind::Location, target, &Context::default(), &state) {
         Ok(_) => Ok(None),
         Err(Error::Refused(fault)) => Ok(Some(fault)),
         Err(error) => Err(error),

@@ -6,10 +6,11 @@ use super::expression::{rewrite, Rewritten, Scope};
 use super::hole::{Hole, Spot, UNREADABLE};
 use super::problem::{Kind, Problem};
 use super::references::Reference;
-use crate::debug::codes::lle;
 use crate::elf::format::Name;
-use crate::elf::target::Target;
 use dwcheck::FaultKind;
+use dwcheck_types::codes::lle;
+use dwcheck_types::cursor::push_uleb;
+use dwcheck_types::target::Target;
 use std::collections::BTreeMap;
 use std::ops::Range;
 
@@ -273,13 +274,4 @@ fn entry(
         || range.as_ref().map_or(false, |range| is_tombstone(range.start));
     let original = expression.offset..expression.offset + expression.bytes.len();
     Entry { offset, range, is_dropped, original, rewritten }
-}
-
-/// Appends an unsigned LEB128 number.
-fn push_uleb(bytes: &mut Vec<u8>, mut number: u64) {
-    while number > 0x7f {
-        bytes.push(number as u8 | 0x80);
-        number >>= 7;
-    }
-    bytes.push(number as u8);
 }

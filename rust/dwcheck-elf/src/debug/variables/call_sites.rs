@@ -4,8 +4,8 @@
 use super::location::Locator;
 use super::place::{Missing, Place};
 use super::scopes::place;
-use crate::debug::codes::op;
 use crate::debug::debug_info::{Die, Slice};
+use dwcheck_types::codes::op;
 use gimli::{AttributeValue, DwAt};
 use std::rc::Rc;
 

@@ -2,14 +2,14 @@
 
 use super::place::{Machine, Missing, Place, Pointee};
 use super::{Frame, Variables};
-use crate::debug::codes::op;
 use crate::debug::debug_info::{Die, Slice};
 use crate::debug::expression::operations;
 use crate::debug::lists::{expression_at, rewrite, Hole, Rewritten, Scope, Source};
-use crate::elf::bytes::Cursor;
 use crate::elf::format::Name;
-use crate::elf::target::Target;
 use dwcheck::{evaluate, Abi, Context, ExpressionKind, Location, Outcome, PieceSize, State};
+use dwcheck_types::codes::op;
+use dwcheck_types::cursor::Cursor;
+use dwcheck_types::target::Target;
 use gimli::{AttributeValue, DebugAddrIndex, DebugInfoOffset, LocationListsOffset};
 use std::cell::Cell;
 use std::rc::Rc;
@@ -176,7 +176,7 @@ impl<'v, 'a> Locator<'v, 'a> {
         let Machine { registers, memory, target } = self.machine;
         let state = State { registers, memory, abi: Abi::NONE };
         let context = Context { cfa: self.frame.cfa(), frame_base: self.frame_base.get(), object: None };
-        let evaluation = evaluate(expression, ExpressionKind::Location, target.into(), &context, &state);
+        let evaluation = evaluate(expression, ExpressionKind::Location, target, &context, &state);
         evaluation.map(|evaluation| evaluation.outcome).map_err(|error| match error {
             dwcheck::Error::Refused(fault) => Missing::Refused(fault.name()),
             _ => Missing::Unsupported("not enough memory"),

@@ -1,8 +1,8 @@
 //! Where a variable is in a frame, and the bytes that are there.
 
 use crate::debug::lists::Hole;
-use crate::elf::target::{Order, Target};
 use dwcheck::{Block, Registers};
+use dwcheck_types::target::{Order, Target};
 use std::fmt;
 
 /// Why a variable or a part of it has no value.

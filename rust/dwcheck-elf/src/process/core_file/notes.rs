@@ -2,10 +2,10 @@
 
 use super::registers::{thread, vectors, Thread};
 use super::{CoreError, Sender, Signal};
-use crate::elf::abi::Abi;
-use crate::elf::bytes::{Cursor, ReadError};
-use crate::elf::target::{AddressSize, Target};
 use crate::process::maps::Map;
+use dwcheck_types::abi::Abi;
+use dwcheck_types::cursor::{Cursor, ReadError};
+use dwcheck_types::target::{AddressSize, Target};
 use object::elf::{NT_AUXV, NT_FILE, NT_PRFPREG, NT_PRPSINFO, NT_PRSTATUS, NT_SIGINFO};
 
 /// The type of the entry of the auxiliary vector that has the address of the program's first

@@ -3,9 +3,9 @@
 
 use crate::cfi::section_table::{add, SectionTable};
 use crate::elf::program::Program;
-use crate::elf::target::Target;
 use crate::process::core_file::{Image, Module};
 use dwcheck::{Caller, Error, Process, State};
+use dwcheck_types::target::Target;
 use std::collections::{HashMap, HashSet};
 use std::ops::Range;
 use std::path::PathBuf;
@@ -85,7 +85,7 @@ impl<'a> Tables<'a> {
             modules,
             code: Vec::new(),
             files: HashMap::new(),
-            process: Process::new(target.into()),
+            process: Process::new(target),
             compiled: Vec::new(),
             refused: HashSet::new(),
             problems: Vec::new(),

@@ -2,7 +2,7 @@
 
 use super::{Frame, Place, SourceLine, Stack, Stop};
 use crate::cfi::text::{Address, Plain};
-use crate::elf::target::Target;
+use dwcheck_types::target::Target;
 use std::fmt;
 
 /// Why a stack has no more frames, in words.

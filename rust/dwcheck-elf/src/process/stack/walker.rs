@@ -61,7 +61,7 @@ impl Walker<'_, '_> {
     /// The caller of a frame. Stores the frame's CFA in it.
     fn caller(&mut self, frame: &mut Frame, registers: &Registers) -> Result<Caller, Error> {
         let abi = self.core.abi();
-        let state = State { registers, memory: self.blocks, abi: Abi::new(abi.kept, Some(abi.stack_pointer)) };
+        let state = State { registers, memory: self.blocks, abi: Abi::new(abi.callee_saved, Some(abi.stack_pointer)) };
         let found = self.tables.caller(frame.looked_up(), &state)?;
         // No call is before the code to which a signal handler returns, so a row of what is before it
         // doesn't count.

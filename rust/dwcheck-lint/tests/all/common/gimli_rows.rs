@@ -50,7 +50,9 @@ impl<'a> GimliRows<'a> {
             }
             rules.sort_by_key(|(register, _)| *register);
             let cfa = match row.cfa() {
-                CfaRule::RegisterAndOffset { register, offset } => Cfa::Offset(numbered(*register), *offset),
+                CfaRule::RegisterAndOffset { register, offset } => {
+                    Cfa::RegisterOffset { register: numbered(*register), offset: *offset }
+                }
                 CfaRule::Expression(expression) => Cfa::Expression(expression.0.slice()),
             };
             rows.push(Row { begin: row.start_address(), end: row.end_address(), cfa, rules });
@@ -62,11 +64,13 @@ impl<'a> GimliRows<'a> {
     fn rule(&self, rule: &RegisterRule<Bytes<'a>>) -> Rule<'a> {
         match rule {
             RegisterRule::Undefined => Rule::Undefined,
-            RegisterRule::SameValue => Rule::Same,
+            RegisterRule::SameValue => Rule::SameValue,
             RegisterRule::Offset(offset) => Rule::Offset(*offset),
+            RegisterRule::ValOffset(offset) => Rule::ValOffset(*offset),
             RegisterRule::Register(register) => Rule::Register((self.machine.register)(register.0)),
             RegisterRule::Expression(expression) => Rule::Expression(expression.0.slice()),
-            _ => Rule::Value,
+            RegisterRule::ValExpression(expression) => Rule::ValExpression(expression.0.slice()),
+            RegisterRule::Architectural => Rule::Architectural,
         }
     }
 }

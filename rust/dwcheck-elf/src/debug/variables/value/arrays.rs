@@ -9,7 +9,7 @@ use crate::debug::variables::place::Missing;
 use crate::debug::variables::types::{
     constant_length, has_lowest, is_column_major, lowest, number, plain, ranges, size_of, type_of, MAX_SIZE, MAX_TYPES,
 };
-use crate::elf::target::AddressSize;
+use dwcheck_types::target::AddressSize;
 use gimli::{AttributeValue, DwAt};
 
 /// What all dimensions of an array have in common.

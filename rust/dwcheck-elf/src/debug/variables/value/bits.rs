@@ -6,7 +6,7 @@ use crate::debug::debug_info::Die;
 use crate::debug::variables::location::Locator;
 use crate::debug::variables::place::{Missing, Place};
 use crate::debug::variables::types::{number, size_of};
-use crate::elf::target::Order;
+use dwcheck_types::target::Order;
 
 impl<'v, 'a> Locator<'v, 'a> {
     /// The value of a member of this type that has a number of bits.

@@ -8,7 +8,7 @@ use crate::debug::debug_info::Die;
 use crate::debug::variables::location::Locator;
 use crate::debug::variables::place::Missing;
 use crate::debug::variables::types::{is_fortran, plain};
-use crate::elf::target::Order;
+use dwcheck_types::target::Order;
 use gimli::{AttributeValue, DwAte};
 
 const NO_SUCH_ENCODING: Missing = Missing::Unsupported("a type of this encoding");

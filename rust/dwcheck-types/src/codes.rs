@@ -3,12 +3,15 @@
 /// Makes bytes of gimli's constants, which also work as patterns.
 macro_rules! bytes {
     ($($name:ident = $constant:ident),* $(,)?) => {
-        $(pub(crate) const $name: u8 = gimli::constants::$constant.0;)*
+        $(
+            #[doc = concat!("`", stringify!($constant), "`")]
+            pub const $name: u8 = gimli::constants::$constant.0;
+        )*
     };
 }
 
 /// Operations of expressions, `DW_OP_`.
-pub(crate) mod op {
+pub mod op {
     bytes! {
         ADDR = DW_OP_addr,
         DEREF = DW_OP_deref,
@@ -31,6 +34,7 @@ pub(crate) mod op {
         XDEREF = DW_OP_xderef,
         ABS = DW_OP_abs,
         AND = DW_OP_and,
+        MINUS = DW_OP_minus,
         MUL = DW_OP_mul,
         OR = DW_OP_or,
         PLUS = DW_OP_plus,
@@ -39,6 +43,10 @@ pub(crate) mod op {
         XOR = DW_OP_xor,
         BRA = DW_OP_bra,
         EQ = DW_OP_eq,
+        GE = DW_OP_ge,
+        GT = DW_OP_gt,
+        LE = DW_OP_le,
+        LT = DW_OP_lt,
         NE = DW_OP_ne,
         SKIP = DW_OP_skip,
         LIT0 = DW_OP_lit0,
@@ -84,13 +92,14 @@ pub(crate) mod op {
         GNU_CONST_INDEX = DW_OP_GNU_const_index,
     }
 
-    // gimli 0.27 has no names for these.
-    pub(crate) const GNU_UNINIT: u8 = 0xf0;
-    pub(crate) const GNU_VARIABLE_VALUE: u8 = 0xfd;
+    /// `DW_OP_GNU_uninit`, which gimli 0.27 doesn't name.
+    pub const GNU_UNINIT: u8 = 0xf0;
+    /// `DW_OP_GNU_variable_value`, which gimli 0.27 doesn't name.
+    pub const GNU_VARIABLE_VALUE: u8 = 0xfd;
 }
 
 /// Entries of location lists, `DW_LLE_`.
-pub(crate) mod lle {
+pub mod lle {
     bytes! {
         END_OF_LIST = DW_LLE_end_of_list,
         BASE_ADDRESSX = DW_LLE_base_addressx,

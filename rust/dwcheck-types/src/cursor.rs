@@ -1,6 +1,6 @@
 //! Reads the numbers of a section one after another: numbers of fixed size, and LEB128 numbers.
 
-use crate::elf::target::Target;
+use crate::target::Target;
 
 /// Why a number can't be read.
 #[derive(Clone, Copy, Debug, PartialEq, Eq)]
@@ -10,6 +10,9 @@ pub enum ReadError {
     /// A LEB128 number doesn't fit in 64 bits.
     LebRange,
 }
+
+/// How far the last byte that a LEB128 number of 64 bits may have, the tenth one, is shifted.
+const LAST_SHIFT: u32 = 63;
 
 /// A section, and the offset in it of the next byte to read.
 #[derive(Clone, Debug)]
@@ -108,16 +111,16 @@ impl<'a> Cursor<'a> {
         }
     }
 
-    /// The next unsigned LEB128 number.
+    /// The next unsigned LEB128 number. Padding is accepted, but no more than ten bytes, and no value of more than 64
+    /// bits: otherwise it is [`LebRange`](ReadError::LebRange).
     pub fn uleb(&mut self) -> Result<u64, ReadError> {
         let (mut value, mut shift) = (0u64, 0u32);
         loop {
             let byte = self.byte()?;
-            let group = u64::from(byte & 0x7f);
-            if shift > 63 || group << shift >> shift != group {
+            if shift == LAST_SHIFT && byte > 1 {
                 return Err(ReadError::LebRange);
             }
-            value |= group << shift;
+            value |= u64::from(byte & 0x7f) << shift;
             if byte & 0x80 == 0 {
                 return Ok(value);
             }
@@ -125,19 +128,20 @@ impl<'a> Cursor<'a> {
         }
     }
 
-    /// The next signed LEB128 number, with its sign extended to 64 bits.
+    /// The next signed LEB128 number, with its sign extended to 64 bits. It is refused where [`uleb`](Self::uleb)
+    /// refuses one.
     pub fn sleb(&mut self) -> Result<u64, ReadError> {
         let (mut value, mut shift) = (0u64, 0u32);
         loop {
             let byte = self.byte()?;
-            if shift > 63 || shift == 63 && byte != 0 && byte != 0x7f {
+            if shift == LAST_SHIFT && byte != 0 && byte != 0x7f {
                 return Err(ReadError::LebRange);
             }
             value |= u64::from(byte & 0x7f) << shift;
             shift += 7;
             if byte & 0x80 == 0 {
-                let negative = byte & 0x40 != 0 && shift < 64;
-                return Ok(if negative { value | u64::MAX << shift } else { value });
+                let is_negative = byte & 0x40 != 0 && shift < 64;
+                return Ok(if is_negative { value | u64::MAX << shift } else { value });
             }
         }
     }
@@ -146,5 +150,81 @@ impl<'a> Cursor<'a> {
     pub fn skip_leb(&mut self) -> Result<(), ReadError> {
         while self.byte()? & 0x80 != 0 {}
         Ok(())
+    }
+}
+
+/// Appends a number as unsigned LEB128, without padding.
+pub fn push_uleb(bytes: &mut Vec<u8>, mut number: u64) {
+    while number > 0x7f {
+        bytes.push(number as u8 | 0x80);
+        number >>= 7;
+    }
+    bytes.push(number as u8);
+}
+
+/// Appends a number as signed LEB128, without padding.
+pub fn push_sleb(bytes: &mut Vec<u8>, mut number: i64) {
+    while !(-0x40..0x40).contains(&number) {
+        bytes.push(number as u8 | 0x80);
+        number >>= 7;
+    }
+    bytes.push(number as u8 & 0x7f);
+}
+
+#[cfg(test)]
+mod tests {
+    use super::*;
+
+    /// What the readers make of these bytes, and how many bytes are left.
+    fn both(bytes: &[u8]) -> [(Result<u64, ReadError>, usize); 2] {
+        let cursors = [Cursor::new(bytes, Target::LITTLE_64), Cursor::new(bytes, Target::LITTLE_64)];
+        let [mut one, mut other] = cursors;
+        let (unsigned, signed) = (one.uleb(), other.sleb());
+        [(unsigned, one.rest().len()), (signed, other.rest().len())]
+    }
+
+    /// Nine bytes, and then these.
+    fn after_nine(byte: u8, last: &[u8]) -> Vec<u8> {
+        [&[byte; 9][..], last].concat()
+    }
+
+    #[test]
+    fn written_leb128_numbers_are_read_again() {
+        for number in (0..64).flat_map(|bit| [1u64 << bit, (1 << bit) - 1, u64::MAX << bit]).chain([u64::MAX]) {
+            let (mut unsigned, mut signed) = (Vec::new(), Vec::new());
+            push_uleb(&mut unsigned, number);
+            push_sleb(&mut signed, number as i64);
+            assert_eq!(both(&unsigned)[0], (Ok(number), 0));
+            assert_eq!(both(&signed)[1], (Ok(number), 0));
+        }
+    }
+
+    #[test]
+    fn padded_leb128_numbers_have_at_most_ten_bytes() {
+        assert_eq!(both(&[0x85, 0x80, 0x00, 7]), [(Ok(5), 1), (Ok(5), 1)]);
+        assert_eq!(both(&[0xfb, 0xff, 0x7f])[1], (Ok(-5i64 as u64), 0));
+        assert_eq!(both(&after_nine(0x80, &[0])), [(Ok(0), 0), (Ok(0), 0)]);
+        // An eleventh byte is too many, whether it is there or not.
+        for last in [&[0x80][..], &[0x80, 0], &[0xff, 0x7f]] {
+            let [unsigned, signed] = both(&after_nine(0x80, last));
+            assert_eq!((unsigned.0, signed.0), (Err(ReadError::LebRange), Err(ReadError::LebRange)));
+        }
+    }
+
+    #[test]
+    fn leb128_numbers_of_more_than_64_bits_are_refused() {
+        let [unsigned, signed] = both(&after_nine(0xff, &[1]));
+        assert_eq!((unsigned.0, signed.0), (Ok(u64::MAX), Err(ReadError::LebRange)));
+        let [unsigned, signed] = both(&after_nine(0x80, &[0x7f]));
+        assert_eq!((unsigned.0, signed.0), (Err(ReadError::LebRange), Ok(1 << 63)));
+        let [unsigned, signed] = both(&after_nine(0x80, &[2]));
+        assert_eq!((unsigned.0, signed.0), (Err(ReadError::LebRange), Err(ReadError::LebRange)));
+    }
+
+    #[test]
+    fn leb128_numbers_that_are_cut_off_are_truncated() {
+        let cut = (Err(ReadError::Truncated), 0);
+        assert_eq!(both(&[]), [cut, cut]);
+        assert_eq!(both(&[0x80; 9]), [cut, cut]);
     }
 }
