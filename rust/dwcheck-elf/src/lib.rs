@@ -43,7 +43,7 @@ pub mod internal {
     pub use crate::check::page;
     pub use crate::elf::names::short_name;
     pub use crate::process::maps::Process;
-    pub use crate::process::stack::guess::ends_with_call;
     pub use crate::process::stack::names::Names;
+    pub use crate::process::without_row;
     pub use dwcheck_types::cursor::{Cursor, ReadError};
 }

@@ -58,13 +58,22 @@ pub struct Frame {
     /// The table that covers it, if one does.
     pub(super) table: Option<TableId>,
     pub(super) is_signal_frame: bool,
+    /// Whether signal handlers return to the kernel by the code after the place, and no table says so.
+    pub(super) precedes_signal_return: bool,
 }
 
 impl Frame {
     /// A frame at a place without a row: in no file, or in a file that has no table for it.
     pub(super) fn plain(object: ObjectId, address: u64, shown: u64) -> Frame {
         let place = Place { object, address };
-        Frame { place, shown, is_return: shown != address, table: None, is_signal_frame: false }
+        Frame {
+            place,
+            shown,
+            is_return: shown != address,
+            table: None,
+            is_signal_frame: false,
+            precedes_signal_return: false,
+        }
     }
 }
 

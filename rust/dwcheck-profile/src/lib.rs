@@ -36,6 +36,7 @@ mod tables;
 mod task;
 pub mod top;
 mod tree;
+mod view;
 mod walk;
 
 pub use frames::{End, Frame, Place};

@@ -4,6 +4,7 @@
 use super::jitdump::is_dump;
 use super::recording::{BuildId, Features, Mapped};
 use super::tables::Tables;
+use dwcheck_elf::internal::without_row::{sigpanic, SignalReturn};
 use dwcheck_elf::internal::SectionTable;
 use dwcheck_elf::mapped::Bytes;
 use dwcheck_elf::program::{Program, Segment};
@@ -56,7 +57,7 @@ pub(super) struct Loaded {
     code: Vec<Segment>,
     /// The tables of the frame sections, `.debug_frame` first. None if the machine isn't known.
     pub tables: Tables,
-    /// The addresses of signal frames, as linked.
+    /// The addresses of signal frames, as linked: those that tables mark, and those of Go's `sigpanic`.
     signals: Vec<Range<u64>>,
     /// What isn't used of the file, and why.
     pub problems: Vec<String>,
@@ -70,9 +71,16 @@ impl Loaded {
         Some(offset.wrapping_sub(segment.offset).wrapping_add(segment.address))
     }
 
-    /// Whether an address as linked is one to which a signal handler returns.
+    /// Whether the frames of code at an address as linked are signal frames, whose callers were interrupted.
     pub fn is_signal_frame(&self, address: u64) -> bool {
         self.signals.iter().any(|range| range.contains(&address))
+    }
+
+    /// Whether signal handlers return to the kernel by the code at an offset of the file.
+    pub fn is_signal_return(&self, offset: u64) -> bool {
+        let code = usize::try_from(offset).ok().and_then(|offset| self.bytes.as_ref()?.get(offset..));
+        let found = self.machine.zip(code).and_then(|((_, abi), code)| SignalReturn::of(abi.machine, code));
+        found.is_some()
     }
 
     fn of(bytes: Bytes) -> Loaded {
@@ -84,6 +92,8 @@ impl Loaded {
                 loaded.code = program.segments().into_iter().filter(|segment| segment.is_executable).collect();
                 let (sections, problems) = SectionTable::all(&program);
                 loaded.signals = sections.iter().flat_map(|section| section.signal_frames()).collect();
+                let sigpanic = sigpanic(&program).and_then(|begin| sections.iter().find_map(|one| one.find(begin)));
+                loaded.signals.extend(sigpanic.map(|piece| piece.range));
                 loaded.problems = problems;
                 if sections.is_empty() && loaded.problems.is_empty() {
                     loaded.problems.push("has no unwind table".into());

@@ -55,6 +55,12 @@ impl Tables {
         })
     }
 
+    /// Whether the FDE of a table begins at an address.
+    pub fn begins_at(&self, id: TableId, address: u64) -> bool {
+        let section = self.0.get(id.section as usize);
+        section.map_or(false, |section| section.table.addresses(id.fde as usize).start == address)
+    }
+
     /// A table that was found, if its rows are for tasks of this kind.
     pub fn get(&self, id: TableId, target: Target) -> Option<&Process> {
         let compiled = self.0.get(id.section as usize)?.compiled.get(id.fde as usize)?.get()?;

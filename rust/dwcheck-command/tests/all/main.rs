@@ -31,6 +31,7 @@ mod profile_page;
 mod program;
 mod refusals;
 mod report;
+mod same_frames;
 mod stacks;
 mod surveys;
 #[cfg(all(target_os = "linux", target_arch = "x86_64"))]

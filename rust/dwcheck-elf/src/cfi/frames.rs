@@ -16,7 +16,7 @@ pub use notes::Notes;
 pub use records::{Kind, Record, Standing};
 
 pub(crate) use records::{body, find};
-pub(crate) use signing::signed;
+use signing::signed;
 
 pub use crate::elf::format::{Format, Name};
 

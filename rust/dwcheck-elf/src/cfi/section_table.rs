@@ -1,7 +1,7 @@
 //! The FDEs of a frame section, each of which can be used alone.
 
 use crate::cfi::alone::Alone;
-use crate::cfi::frames::{find, harmless, signed, Format, FrameSection, Kind, Name, Record};
+use crate::cfi::frames::{find, harmless, Format, FrameSection, Kind, Name, Record};
 use crate::cfi::instructions::{instructions, with_nops, REMEMBER_STATE, RESTORE_STATE};
 use crate::cfi::pieces::{Piece, Pieces};
 use crate::elf::program::Program;
@@ -27,8 +27,6 @@ pub struct OneFde {
     pub format: Format,
     /// Whether the frames of its code are signal frames.
     pub is_signal_frame: bool,
-    /// The addresses at which the return address is signed.
-    pub signed: Vec<Range<u64>>,
     /// The range of offsets of its instructions.
     program: Range<usize>,
 }
@@ -89,10 +87,9 @@ impl<'a> SectionTable<'a> {
         };
         let alone = cie.filter(|cie| cie.is_cie()).and_then(|cie| Alone::fde(format, &source.bytes, cie, fde));
         let Alone { bytes, format, records } = alone.ok_or("its CIE can't be read")?;
-        let signed = if format.is_aarch64() { signed(&bytes, &records, format.target) } else { Vec::new() };
         let bytes = harmless(&format, &bytes, &records).into_owned();
         let program = records.last().map_or(0..0, Record::program);
-        Ok(OneFde { bytes, format, is_signal_frame, signed, program })
+        Ok(OneFde { bytes, format, is_signal_frame, program })
     }
 
     /// The line that says that an FDE can't be used.

@@ -18,6 +18,7 @@ pub use signal::{Sender, Signal};
 
 use crate::elf::other_file::OtherFile;
 use crate::process::maps::{can_differ, Process};
+use crate::process::without_row::signed_bits;
 use dwcheck_types::abi::{abi, Abi};
 use dwcheck_types::target::{AddressSize, Order, Target};
 use notes::Notes;
@@ -222,12 +223,16 @@ impl<'data> CoreFile<'data> {
         &self.mappings
     }
 
-    /// A signed return address without its authentication code (aarch64). The core's note says which
-    /// bits hold the code. Without the note, they are the bits above those that addresses have.
-    pub fn without_code(&self, address: u64) -> u64 {
-        let is_wide = self.segments.iter().any(|segment| segment.address >> 48 != 0);
-        let unused = if is_wide { u64::MAX << 52 } else { u64::MAX << 48 };
-        address & !self.pac_mask.unwrap_or(unused)
+    /// The bits of a return address that may have its signature (aarch64). The core's note says which ones. Without the
+    /// note, they are the bits above those that addresses have. 0 for machines that sign no addresses.
+    pub fn signed_bits(&self) -> u64 {
+        match self.abi.link_register {
+            Some(_) => {
+                let highest = self.segments.iter().map(|segment| segment.address).max();
+                signed_bits(self.pac_mask, highest.unwrap_or(0))
+            }
+            None => 0,
+        }
     }
 
     /// Whether the core file is cut off: its headers list memory that would be past the end of the

@@ -1,18 +1,20 @@
 //! The code by which signal handlers return to the kernel, where no row says so, such as Go's.
 
+use crate::elf::program::Program;
 use object::elf;
 
 /// Code by which a signal handler returns to the kernel.
-pub(super) struct SignalReturn {
+#[derive(Debug)]
+pub struct SignalReturn {
     /// The machine's number.
     machine: u16,
     /// Its instructions.
-    pub code: &'static [u8],
+    code: &'static [u8],
     /// How far above the stack pointer the kernel has stored the registers that the signal interrupted, where a
     /// handler returns to the code.
-    pub offset: u64,
+    pub(super) offset: u64,
     /// The DWARF numbers of these registers, each of which takes a word. `None` for what isn't one.
-    pub registers: &'static [Option<u16>],
+    pub(super) registers: &'static [Option<u16>],
 }
 
 /// The codes that are known. The registers are in the kernel's structure `sigcontext`.
@@ -67,9 +69,35 @@ const fn some<const N: usize>(numbers: [u16; N]) -> [Option<u16>; N] {
     all
 }
 
+/// The address of Go's function `runtime.sigpanic`. Go's signal handler makes it look as if the interrupted code had
+/// called it.
+pub fn sigpanic(program: &Program<'_>) -> Option<u64> {
+    let functions = program.has_section(".gopclntab").then(|| program.functions());
+    functions.and_then(|functions| functions.address_of("runtime.sigpanic").ok())
+}
+
 impl SignalReturn {
-    /// The codes of a machine.
-    pub fn of(machine: u16) -> impl Iterator<Item = &'static SignalReturn> {
-        ALL.iter().filter(move |found| found.machine == machine)
+    /// How many bytes of code have to be looked at.
+    pub const LONGEST: usize = 9;
+
+    /// The code with which these bytes of a machine (`e_machine`) begin, if handlers return by it.
+    pub fn of(machine: u16, code: &[u8]) -> Option<&'static SignalReturn> {
+        ALL.iter().find(|known| known.machine == machine && code.starts_with(known.code))
+    }
+}
+
+#[cfg(test)]
+mod tests {
+    use super::*;
+
+    #[test]
+    fn all_of_a_code_is_looked_at() {
+        assert_eq!(ALL.iter().map(|known| known.code.len()).max(), Some(SignalReturn::LONGEST));
+        for known in &ALL {
+            let (machine, code) = (known.machine, [known.code, &[0x90]].concat());
+            assert_eq!(SignalReturn::of(machine, &code).map(|found| found.offset), Some(known.offset));
+            assert!(SignalReturn::of(machine, &known.code[1..]).is_none());
+            assert!(SignalReturn::of(machine, &known.code[..known.code.len() - 1]).is_none());
+        }
     }
 }

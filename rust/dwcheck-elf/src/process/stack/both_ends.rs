@@ -1,4 +1,4 @@
-//! The frames of a walk that are kept: the innermost ones, and the outermost ones of a stack that has too many.
+//! The innermost frames of a walk, and the outermost ones of a stack that has too many.
 
 use super::{Frame, LeftOut, Stop, WalkOptions};
 use std::collections::VecDeque;
@@ -7,7 +7,7 @@ use std::collections::VecDeque;
 const MOST_PASSED: usize = 1 << 20;
 
 /// The frames so far.
-pub(super) struct Kept {
+pub(super) struct BothEnds {
     options: WalkOptions,
     frames: Vec<Frame>,
     /// The last ones of those that are past the limit.
@@ -23,9 +23,9 @@ pub(super) struct Walked {
     pub stop: Stop,
 }
 
-impl Kept {
+impl BothEnds {
     pub fn new(options: WalkOptions) -> Self {
-        Kept { options, frames: Vec::new(), outermost: VecDeque::new(), count: 0 }
+        BothEnds { options, frames: Vec::new(), outermost: VecDeque::new(), count: 0 }
     }
 
     /// Whether no other frame is looked for.
