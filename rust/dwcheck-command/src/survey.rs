@@ -5,7 +5,7 @@ mod json;
 mod sarif;
 mod totals;
 
-use crate::arguments::SurveyWords;
+use crate::arguments::SurveyArguments;
 use crate::end::{shown, Done, Failure};
 use crate::opened::{note, write_defect};
 use dwcheck_elf::fault::Defect;
@@ -71,16 +71,19 @@ pub enum Held {
 }
 
 /// Checks all files, and writes their faults and the totals, as text, as JSON or as SARIF.
-pub fn survey(words: &SurveyWords, out: &mut impl Write) -> Result<Done, Failure> {
-    let pool = rayon::ThreadPoolBuilder::new().num_threads(words.jobs.unwrap_or(0)).stack_size(STACK);
+pub fn survey(arguments: &SurveyArguments, out: &mut impl Write) -> Result<Done, Failure> {
+    let pool = rayon::ThreadPoolBuilder::new().num_threads(arguments.jobs.unwrap_or(0)).stack_size(STACK);
     let pool = pool.build().map_err(|error| Failure::File(format!("no threads: {}", error)))?;
-    let files = pool.install(|| Files::once_each(&words.paths));
+    let files = pool.install(|| Files::once_each(&arguments.paths));
     let bar = progress(files.paths.len() as u64);
-    let asked =
-        Asked { check: Check { all: words.all, ..Check::default() }, has_lists: words.lists, has_lines: words.sarif };
+    let asked = Asked {
+        check: Check { all: arguments.all, ..Check::default() },
+        has_lists: arguments.lists,
+        has_lines: arguments.sarif,
+    };
     let mut totals = Totals::of(&files);
     let mut results = sarif::Results::default();
-    if words.json {
+    if arguments.json {
         json::write_unread(out, &files)?;
     } else {
         note_unread(&files);
@@ -97,22 +100,22 @@ pub fn survey(words: &SurveyWords, out: &mut impl Write) -> Result<Done, Failure
         in_order(surveyed, |one| {
             bar.inc(1);
             totals.count(&one);
-            bar.suspend(|| write_one(out, words, &one, &mut results))
+            bar.suspend(|| write_one(out, arguments, &one, &mut results))
         })
     })?;
     bar.finish_and_clear();
-    write_totals(out, words, &totals, results)?;
+    write_totals(out, arguments, &totals, results)?;
     Ok(totals.done())
 }
 
 /// Writes what was found in a file, or keeps it for the document of SARIF.
 fn write_one(
     out: &mut impl Write,
-    words: &SurveyWords,
+    arguments: &SurveyArguments,
     one: &Surveyed,
     results: &mut sarif::Results,
 ) -> io::Result<()> {
-    match (words.json, words.sarif) {
+    match (arguments.json, arguments.sarif) {
         (true, _) => json::write_file(out, one),
         (false, true) => {
             results.add(one);
@@ -124,11 +127,16 @@ fn write_one(
 }
 
 /// Writes the totals, and the document of SARIF that has them.
-fn write_totals(out: &mut impl Write, words: &SurveyWords, totals: &Totals, results: sarif::Results) -> io::Result<()> {
-    match (words.json, words.sarif) {
+fn write_totals(
+    out: &mut impl Write,
+    arguments: &SurveyArguments,
+    totals: &Totals,
+    results: sarif::Results,
+) -> io::Result<()> {
+    match (arguments.json, arguments.sarif) {
         (true, _) => json::write_totals(out, totals),
         (false, true) => results.write(out, json::totals(totals)),
-        (false, false) => totals.write(out, words.notes.notes),
+        (false, false) => totals.write(out, arguments.notes.notes),
     }
 }
 

@@ -23,16 +23,16 @@ const LINK: Register = Register(30);
 const SP: Register = Register(abi::AARCH64.stack_pointer as u8);
 
 /// The callee-saved registers: x19 to x29, and d8 to d15.
-const KEPT: [Register; 19] = {
-    let mut kept = [Register(0); 19];
+const CALLEE_SAVED: [Register; 19] = {
+    let mut callee_saved = [Register(0); 19];
     let mut index = 0;
     while index < 19 {
         // x30, the last one of the general registers, isn't given back.
         let is_general = index < callee_saved::AARCH64.len() - 1;
-        kept[index] = Register(if is_general { callee_saved::AARCH64[index] as u8 } else { 21 + index as u8 });
+        callee_saved[index] = Register(if is_general { callee_saved::AARCH64[index] as u8 } else { 21 + index as u8 });
         index += 1;
     }
-    kept
+    callee_saved
 };
 
 /// aarch64 with the calling convention of Arm's AAPCS64.
@@ -49,8 +49,8 @@ pub static AARCH64: Machine = Machine {
     stack_pointer: SP,
     frame_pointer: Register(abi::AARCH64.frame_pointer as u8),
     return_address: LINK,
-    kept: &KEPT,
-    kept_if_said: Registers::of(&[32, 33, 34, 35, 36, 37, 38, 39]),
+    callee_saved: &CALLEE_SAVED,
+    callee_saved_if_named: Registers::of(&[32, 33, 34, 35, 36, 37, 38, 39]),
     stack_alignment: 16,
     // LLVM up to 14 writes such.
     has_rows_for_calls: true,
@@ -207,9 +207,9 @@ impl Word {
     fn move_wide(self) -> Effect {
         let shift = 16 * self.bits(22, 21);
         let field = i64::from(self.bits(20, 5)) << shift;
-        let kept = if self.is_wide() { -1 } else { 0xffff_ffff };
+        let all = if self.is_wide() { -1 } else { 0xffff_ffff };
         match (self.general(0), self.bits(30, 29)) {
-            (Some(to), 0b00) => Effect::Set { to, number: !field & kept },
+            (Some(to), 0b00) => Effect::Set { to, number: !field & all },
             (Some(to), 0b10) => Effect::Set { to, number: field },
             (Some(to), 0b11) => Effect::Insert { to, mask: 0xffff << shift, number: field },
             (to, _) => written(to),

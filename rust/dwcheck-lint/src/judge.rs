@@ -1,7 +1,7 @@
 //! Compares a row with what is known.
 
 use crate::expression::Context;
-use crate::machine::{Machine, MOST_KEPT};
+use crate::machine::{Machine, MOST_CALLEE_SAVED};
 use crate::module::Convention;
 use crate::register::{Register, Registers};
 use crate::state::State;
@@ -23,8 +23,8 @@ impl Facts {
     pub const RETURN_ADDRESS: Facts = Facts(2);
     const FRAME: u32 = 3;
 
-    /// A register, by its index in [`Machine::kept`].
-    pub fn kept(index: usize) -> Facts {
+    /// A register, by its index in [`Machine::callee_saved`].
+    pub fn callee_saved(index: usize) -> Facts {
         Facts(4 << index)
     }
 
@@ -62,8 +62,10 @@ impl Facts {
 
     /// The registers among these, for a machine.
     pub fn names(self, machine: &Machine) -> impl Iterator<Item = &'static str> + '_ {
-        let kept = machine.kept.iter().enumerate();
-        kept.filter(move |(index, _)| self.has(Facts::kept(*index))).map(move |(_, register)| machine.name(*register))
+        let callee_saved = machine.callee_saved.iter().enumerate();
+        callee_saved
+            .filter(move |(index, _)| self.has(Facts::callee_saved(*index)))
+            .map(move |(_, register)| machine.name(*register))
     }
 }
 
@@ -110,7 +112,7 @@ pub struct Verdict {
     /// How the rule of the return address is wrong.
     pub return_address: Option<WrongRule>,
     /// How the rules of the registers are wrong.
-    pub rules: [Option<WrongRule>; MOST_KEPT],
+    pub rules: [Option<WrongRule>; MOST_CALLEE_SAVED],
 }
 
 /// Why a row isn't judged.
@@ -258,8 +260,8 @@ impl Judge<'_> {
     }
 
     fn judge_registers(&self, row: &Row<'_>, context: &Context<'_>, verdict: &mut Verdict) {
-        let silent = self.machine.kept_if_said.without(self.said.registers);
-        for (index, register) in self.machine.kept.iter().enumerate() {
+        let silent = self.machine.callee_saved_if_named.without(self.said.registers);
+        for (index, register) in self.machine.callee_saved.iter().enumerate() {
             let is_silent = silent.contains(*register);
             let known = match row.rule(*register) {
                 Some(Rule::Undefined) => continue,
@@ -269,9 +271,9 @@ impl Judge<'_> {
             };
             match known {
                 Ok(Some(())) => {}
-                Ok(None) => verdict.unknown.add(Facts::kept(index)),
+                Ok(None) => verdict.unknown.add(Facts::callee_saved(index)),
                 Err(wrong) => {
-                    verdict.wrong.add(Facts::kept(index));
+                    verdict.wrong.add(Facts::callee_saved(index));
                     verdict.rules[index] = Some(wrong);
                 }
             }

@@ -160,7 +160,11 @@ impl Kind {
         let (machine, mark) = (module.machine, &group.mark);
         let usual = [machine.stack_pointer, machine.frame_pointer];
         let is_realigned = matches!(mark.row.cfa, Cfa::RegisterOffset { register, .. } if !usual.contains(&register));
-        let wrong = machine.kept.iter().enumerate().filter(|(index, _)| mark.verdict.wrong.has(Facts::kept(*index)));
+        let wrong = machine
+            .callee_saved
+            .iter()
+            .enumerate()
+            .filter(|(index, _)| mark.verdict.wrong.has(Facts::callee_saved(*index)));
         let mut rules_of_wrong = wrong.map(|(_, register)| mark.row.rule(*register));
         let is_by_frame = rules_of_wrong.all(|rule| matches!(rule, Some(Rule::Expression(_))));
         let rules = mark.verdict.rules;

@@ -136,7 +136,7 @@ fn watched(flow: &Flow<'_, '_>, row: &Row<'_>) -> Option<Registers> {
     let mut watched = Registers::NONE;
     // A register with another rule than these isn't read.
     let is_read = |register: &Register| matches!(row.rule(*register), None | Some(Rule::SameValue));
-    let judged = machine.kept.iter().copied().chain([machine.return_address]);
+    let judged = machine.callee_saved.iter().copied().chain([machine.return_address]);
     judged.filter(is_read).for_each(|register| watched.insert(register));
     match row.cfa {
         Cfa::RegisterOffset { register, .. } => watched.insert(register),

@@ -19,12 +19,12 @@ pub mod calls;
 mod collect;
 pub mod firefox;
 pub mod folded;
+mod frame_names;
 mod frames;
 pub mod html;
 mod jitdump;
 mod kernel;
 mod memory;
-mod names;
 mod objects;
 mod popped;
 pub mod pprof;
@@ -39,9 +39,9 @@ mod tree;
 mod view;
 mod walk;
 
-pub use frames::{End, Frame, Place};
-pub use names::{Function, NameOptions, Names};
-pub use objects::{Kind, Object, Places};
+pub use frame_names::{Function, NameOptions, Names};
+pub use frames::{CodeAddress, End, Frame};
+pub use objects::{Kind, Object, SearchPaths};
 pub use recording::{BuildId, Damage, Event, Features, Recording};
 pub use tree::{Node, NodeId, Tree};
 
@@ -70,7 +70,7 @@ pub struct Options {
     /// The most frames of a task.
     pub limit: usize,
     /// Where files are looked for.
-    pub places: Places,
+    pub search_paths: SearchPaths,
 }
 
 impl Default for Options {
@@ -82,7 +82,7 @@ impl Default for Options {
             times: 0..=u64::MAX,
             event: None,
             limit: MOST_FRAMES,
-            places: Places::default(),
+            search_paths: SearchPaths::default(),
         }
     }
 }
@@ -159,7 +159,7 @@ pub struct Profile {
     pub features: Features,
     /// Why the recording ended early. `None` if it didn't.
     pub damage: Option<Damage>,
-    places: Places,
+    search_paths: SearchPaths,
     /// Where the kernel's text began.
     kernel_start: Option<u64>,
     /// The files in which processes list code that they have made.

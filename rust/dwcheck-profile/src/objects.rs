@@ -115,21 +115,21 @@ impl Loaded {
 
 /// Where files are looked for.
 #[derive(Clone, Debug)]
-pub struct Places {
+pub struct SearchPaths {
     /// The folder that stands for `/`.
     pub root: PathBuf,
     /// perf's cache of files by build id, such as `~/.debug`.
     pub cache: Option<PathBuf>,
 }
 
-impl Default for Places {
+impl Default for SearchPaths {
     fn default() -> Self {
         let home = std::env::var_os("HOME").filter(|home| !home.is_empty());
-        Places { root: PathBuf::from("/"), cache: home.map(|home| Path::new(&home).join(".debug")) }
+        SearchPaths { root: PathBuf::from("/"), cache: home.map(|home| Path::new(&home).join(".debug")) }
     }
 }
 
-impl Places {
+impl SearchPaths {
     /// A file of perf's cache: what the program, the vDSO or the kernel with this build id had.
     pub(super) fn cached(&self, id: &BuildId, name: &str) -> Option<PathBuf> {
         let digits: String = id.bytes().iter().map(|byte| format!("{:02x}", byte)).collect();
@@ -157,7 +157,7 @@ pub(super) struct Objects {
     kernel: Option<ObjectId>,
     /// The files in which processes list code that they have made.
     dumps: HashMap<u32, PathBuf>,
-    places: Places,
+    search_paths: SearchPaths,
 }
 
 /// What the kernel adds to the name of a file that was deleted.
@@ -167,16 +167,16 @@ const DELETED: &[u8] = b" (deleted)";
 const VDSO: &[u8] = b"[vdso]";
 
 impl Objects {
-    pub fn new(places: Places) -> Self {
-        Objects { places, ..Objects::default() }
+    pub fn new(search_paths: SearchPaths) -> Self {
+        Objects { search_paths, ..Objects::default() }
     }
 
     pub fn all(&self) -> &[Arc<Object>] {
         &self.all
     }
 
-    pub fn places(&self) -> &Places {
-        &self.places
+    pub fn search_paths(&self) -> &SearchPaths {
+        &self.search_paths
     }
 
     /// The files in which processes list code that they have made.
@@ -246,10 +246,10 @@ impl Objects {
     /// What a process mapped.
     pub fn mapped(&mut self, mapped: &Mapped<'_>, features: &Features) -> ObjectId {
         if is_dump(mapped.name) {
-            self.dumps.extend(self.places.inside(mapped.name).map(|path| (mapped.pid, path)));
+            self.dumps.extend(self.search_paths.inside(mapped.name).map(|path| (mapped.pid, path)));
         }
         let is_memory = is_anonymous(mapped.name) || mapped.name.starts_with(MEMORY_FILE);
-        let is_file = mapped.name == VDSO || self.places.inside(mapped.name).is_some() && !is_memory;
+        let is_file = mapped.name == VDSO || self.search_paths.inside(mapped.name).is_some() && !is_memory;
         if !is_file {
             return self.memory(mapped.pid, mapped.name);
         }
@@ -271,7 +271,7 @@ impl Objects {
     /// What is known of the file of an object, which is opened when this is first asked.
     pub fn loaded(&self, id: ObjectId) -> Option<&Loaded> {
         let object = self.get(id).filter(|object| object.kind == Kind::File)?;
-        Some(object.loaded.get_or_init(|| object.open(&self.places)))
+        Some(object.loaded.get_or_init(|| object.open(&self.search_paths)))
     }
 }
 
@@ -296,16 +296,16 @@ impl Object {
         self.loaded.get()
     }
 
-    fn open(&self, places: &Places) -> Loaded {
+    fn open(&self, search_paths: &SearchPaths) -> Loaded {
         if self.recorded == VDSO {
-            return self.open_vdso(places);
+            return self.open_vdso(search_paths);
         }
         let name = self.recorded.strip_suffix(DELETED).unwrap_or(&self.recorded);
         let cached = || {
-            let path = places.cached(self.build_id.as_ref()?, "elf")?;
+            let path = search_paths.cached(self.build_id.as_ref()?, "elf")?;
             content(&path).ok().filter(|bytes| self.is_same(bytes))
         };
-        match content(&places.inside(name).unwrap_or_default()) {
+        match content(&search_paths.inside(name).unwrap_or_default()) {
             Ok(bytes) if self.is_same(&bytes) => Loaded::of(bytes),
             other => match (cached(), other) {
                 (Some(bytes), _) => Loaded::of(bytes),
@@ -316,8 +316,8 @@ impl Object {
     }
 
     /// The vDSO: that of perf's cache, or that of this program, which is the same if the kernel is.
-    fn open_vdso(&self, places: &Places) -> Loaded {
-        let cached = self.build_id.as_ref().and_then(|id| places.cached(id, "vdso"));
+    fn open_vdso(&self, search_paths: &SearchPaths) -> Loaded {
+        let cached = self.build_id.as_ref().and_then(|id| search_paths.cached(id, "vdso"));
         let cached = cached.and_then(|path| content(&path).ok());
         let bytes = cached.or_else(own_vdso).filter(|bytes| self.is_same(bytes));
         match bytes {

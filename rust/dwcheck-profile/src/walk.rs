@@ -3,7 +3,7 @@
 //! Walks only read what they share, so that any number of threads may walk at once. A walk that needs something
 //! which isn't there yet says so and ends; it is done again when that was added.
 
-use super::frames::{End, Frame, FrameId, Frames, Place};
+use super::frames::{CodeAddress, End, Frame, FrameId, Frames};
 use super::objects::{Kind, ObjectId, Objects};
 use super::popped;
 use super::recording::{Features, Mode, Sample};
@@ -169,7 +169,7 @@ impl<'w> Walker<'w> {
         let kernel = self.shared.objects.of_kernel().ok_or(Missing::Kernel)?;
         for (place, address) in addresses.into_iter().enumerate() {
             let inside = address.wrapping_sub(u64::from(place > 0));
-            let frame = self.add(Frame::plain(kernel, inside, address));
+            let frame = self.add(Frame::without_row(kernel, inside, address));
             self.push(frame);
         }
         Ok(())
@@ -195,7 +195,7 @@ impl<'w> Walker<'w> {
                 Some(mapping) => self.at(mapping, inside, is_return),
                 None => {
                     let object = self.unmapped(sample.pid)?;
-                    self.add(Frame::plain(object, inside, *address))
+                    self.add(Frame::without_row(object, inside, *address))
                 }
             };
             self.push(frame);
@@ -213,12 +213,14 @@ impl<'w> Walker<'w> {
         let shown = if matches!(kind, Some(Kind::File | Kind::MemoryFile(_))) { offset } else { address };
         // A list that a process writes of its code has addresses.
         let unlinked = if kind == Some(Kind::File) { offset } else { address };
-        let place = Place { object: mapping.object, address: linked.unwrap_or(unlinked) };
+        let place = CodeAddress { object: mapping.object, address: linked.unwrap_or(unlinked) };
         if let Some((id, frame)) = self.frames.at(place) {
             return At { id: Some(id).filter(|_| !self.is_new), frame };
         }
-        let plain =
-            Frame { is_return, ..Frame::plain(place.object, place.address, shown.wrapping_add(u64::from(is_return))) };
+        let plain = Frame {
+            is_return,
+            ..Frame::without_row(place.object, place.address, shown.wrapping_add(u64::from(is_return)))
+        };
         let frame = match (self.shared.known.at(place), loaded, linked) {
             (Some((_, known)), _, _) => known,
             (None, Some(loaded), Some(linked)) => {
@@ -261,7 +263,7 @@ impl<'w> Walker<'w> {
             let code = mapping.filter(|mapping| mapping.is_executable).or_else(|| view.code(address));
             let (at, is_signal_return) = match code {
                 Some(mapping) => self.frame(mapping, &view, &mut cursor),
-                None if count == 0 => (self.add(Frame::plain(self.unmapped(pid)?, inside, inside)), false),
+                None if count == 0 => (self.add(Frame::without_row(self.unmapped(pid)?, inside, inside)), false),
                 None => return Ok(End::NotCode),
             };
             self.push(at);

@@ -164,9 +164,9 @@ impl Tracer<'_, '_> {
     /// Notes the registers that a function didn't give back.
     fn returned(&mut self, thread: &Thread, frame: &Frame, new: &Registers) {
         let lost: Vec<usize> = new
-            .kept()
+            .callee_saved()
             .iter()
-            .zip(&frame.kept)
+            .zip(&frame.callee_saved)
             .enumerate()
             .filter(|(_, (new, old))| new != old)
             .map(|(at, _)| at)

@@ -7,10 +7,10 @@ use libc::user_regs_struct;
 pub const COUNT: usize = 17;
 
 /// How many registers a function has to give back as it got them.
-pub const KEPT: usize = KEPT_NUMBERS.len();
+pub const SAVED_COUNT: usize = CALLEE_SAVED.len();
 
 /// The DWARF numbers of these: rbx, rbp, r12 to r15.
-pub const KEPT_NUMBERS: [u16; 6] = callee_saved::X86_64;
+pub const CALLEE_SAVED: [u16; 6] = callee_saved::X86_64;
 
 const STACK_POINTER: usize = X86_64.stack_pointer as usize;
 const PROGRAM_COUNTER: usize = X86_64.program_counter as usize;
@@ -63,8 +63,8 @@ impl Registers {
     }
 
     /// The registers that a function has to give back.
-    pub fn kept(&self) -> [u64; KEPT] {
-        KEPT_NUMBERS.map(|number| self.0[usize::from(number)])
+    pub fn callee_saved(&self) -> [u64; SAVED_COUNT] {
+        CALLEE_SAVED.map(|number| self.0[usize::from(number)])
     }
 
     /// All registers, with their DWARF numbers.

@@ -49,19 +49,19 @@ mod cursor;
 mod expression;
 mod fault;
 mod ffi;
+mod frame_section;
 #[cfg(test)]
 mod layout;
 mod lists;
 mod module;
 mod process;
-mod report;
 mod row;
 mod rows;
-mod section;
+mod section_report;
 mod state;
 mod steps;
 #[cfg(test)]
-mod strange;
+mod unknown_numbers;
 mod walk;
 
 pub use abi::Abi;
@@ -73,13 +73,13 @@ pub use expression::{
     evaluate, Context, Evaluation, ExpressionKind, Location, Outcome, Piece, PieceSize,
 };
 pub use fault::{Error, Fault, FaultKind, Section};
+pub use frame_section::{Contents, FrameSection, Record, RecordKind, Records};
 pub use lists::{list_locations, locations, Lookup};
 pub use module::{EhFrame, LoadedModule, Module, ModuleId};
 pub use process::Process;
-pub use report::{report, CheckedExpression, Report};
 pub use row::{CfaRule, Row, Rule, Span};
 pub use rows::Rows;
-pub use section::{Contents, FrameSection, Record, RecordKind, Records};
+pub use section_report::{report, CheckedExpression, Report};
 pub use state::{Block, Registers, State};
 pub use steps::{Step, Steps};
 pub use walk::{Backtrace, Frame, Stop};

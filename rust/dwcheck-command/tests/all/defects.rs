@@ -2,8 +2,8 @@
 
 use crate::common::{place_of, Folder};
 use dwcheck::FaultKind;
-use dwcheck_elf::alone::{accepted_part, every_fault};
-use dwcheck_elf::frames::{Format, FrameSection, Frames, Kind, Name, Record, Standing};
+use dwcheck_elf::frames::{Format, FrameSection, Frames, Kind, Name, Record, RecordStatus};
+use dwcheck_elf::one_by_one::{accepted_part, every_fault};
 use dwcheck_elf::program::{Program, Section};
 use dwcheck_elf::target::{AddressSize, Order, Target};
 use dwcheck_elf::validate::{validate_rows, What};
@@ -61,7 +61,7 @@ fn rest(frames: &Frames<'_>, address: u64) -> (Option<i64>, usize) {
         dwcheck::CfaRule::RegisterAndOffset { offset, .. } => offset,
         other => panic!("{:?}", other),
     });
-    (offset, rest.count(Standing::LeftOut))
+    (offset, rest.count(RecordStatus::LeftOut))
 }
 
 /// For some machines GNU as begins CIEs with def_cfa_register, where the CFA has no rule yet. It may be all of

@@ -13,7 +13,7 @@ mod signing;
 pub use edits::Changes;
 pub use expressions::{Expression, Measured};
 pub use notes::Notes;
-pub use records::{Kind, Record, Standing};
+pub use records::{Kind, Record, RecordStatus};
 
 pub(crate) use records::{body, find};
 use signing::signed;
@@ -88,7 +88,7 @@ impl<'data> FrameSection<'data> {
 }
 
 /// Changes what is harmless in these records of a section, or of a part of it.
-pub(crate) fn harmless<'a>(format: &Format, bytes: &'a [u8], records: &[Record]) -> Cow<'a, [u8]> {
+pub(crate) fn edited_bytes<'a>(format: &Format, bytes: &'a [u8], records: &[Record]) -> Cow<'a, [u8]> {
     edited(format, bytes, records).bytes
 }
 
@@ -186,8 +186,8 @@ impl<'data> Frames<'data> {
     }
 
     /// How many records have this standing.
-    pub fn count(&self, standing: Standing) -> usize {
-        self.records.iter().filter(|record| record.standing == standing).count()
+    pub fn count(&self, status: RecordStatus) -> usize {
+        self.records.iter().filter(|record| record.status == status).count()
     }
 
     /// The instructions that were changed.
@@ -241,7 +241,7 @@ impl<'data> Frames<'data> {
             let is_refused = refused.contains(&record.offset)
                 || matches!(record.kind, Kind::Fde { cie, .. } if refused.contains(&cie));
             if is_refused {
-                record.standing = Standing::LeftOut;
+                record.status = RecordStatus::LeftOut;
             }
         }
         let mut rest = rest.edited();
@@ -249,7 +249,7 @@ impl<'data> Frames<'data> {
         rest.records
             .iter_mut()
             .filter(|record| record.next > end)
-            .for_each(|record| record.standing = Standing::LeftOut);
+            .for_each(|record| record.status = RecordStatus::LeftOut);
         rest
     }
 
@@ -280,7 +280,7 @@ fn mark_unresolved(records: &mut [Record], format: &Format, source: &Section<'_>
     for record in records.iter_mut().filter(may_be_fde) {
         let place = body(&source.bytes, record.offset, format.target).map(|body| body.start as u64 + 4);
         if place.map_or(false, |place| source.unresolved.binary_search(&place).is_ok()) {
-            record.standing = Standing::LeftOut;
+            record.status = RecordStatus::LeftOut;
             marked.push(record.offset);
         }
     }

@@ -1,8 +1,8 @@
 //! Checks the frame sections and the location lists of a program.
 
 pub use super::verdict::{Check, InspectError, Inspected, Verdict};
-use crate::cfi::alone::{accepted_part, every_fault};
-use crate::cfi::frames::{body, Frames, FramesError, Kind, Name, Record, Standing};
+use crate::cfi::frames::{body, Frames, FramesError, Kind, Name, Record, RecordStatus};
+use crate::cfi::one_by_one::{accepted_part, every_fault};
 use crate::check::fault::{Defect, Terms};
 use crate::elf::debug_files::DebugFiles;
 
@@ -176,7 +176,7 @@ pub struct LeftOut {
 impl Rest<'_> {
     /// How much isn't in it.
     pub fn left_out(&self) -> LeftOut {
-        let is_counted = |record: &&Record| record.kind != Kind::Empty && record.standing != Standing::Copy;
+        let is_counted = |record: &&Record| record.kind != Kind::Empty && record.status != RecordStatus::Copy;
         let counted = self.frames.records().iter().filter(is_counted);
         let count = counted.clone().filter(|record| !record.is_used()).count();
         LeftOut { count, of: counted.count() }

@@ -3,8 +3,8 @@
 //! [`Sections`] reads and checks the frame sections, and [`Sections::module`] makes a
 //! [`Module`](dwcheck_lint::module::Module), which [`dwcheck_lint::lint`] judges.
 
-use crate::cfi::alone::accepted;
 use crate::cfi::frames::{Frames, Kind, Name, Record};
+use crate::cfi::one_by_one::accepted;
 use crate::cfi::validate::comparable;
 use crate::elf::functions::Functions;
 use crate::elf::image::{Image, Part};

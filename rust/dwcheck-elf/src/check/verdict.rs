@@ -4,8 +4,8 @@ use crate::cfi::defect::Defect;
 use crate::cfi::frames::Frames;
 use crate::cfi::validate::{Agreement, Difference};
 use crate::debug::lists;
+use crate::elf::escaped::Escaped;
 use crate::elf::format::Name;
-use crate::elf::plain::Plain;
 use crate::elf::program::ProgramError;
 use dwcheck::{Error, Report};
 use std::fmt;
@@ -22,7 +22,7 @@ use std::path::PathBuf;
 #[derive(Clone, Copy, Debug, Default, PartialEq, Eq)]
 pub struct Check {
     /// Whether to report every fault of a frame section, not only the first. See
-    /// [`crate::cfi::alone::every_fault`].
+    /// [`crate::cfi::one_by_one::every_fault`].
     pub all: bool,
     /// Whether to list the entries of location lists that are most likely mistakes
     /// ([`lists::Contents::doubtful`]).
@@ -106,13 +106,17 @@ impl fmt::Display for InspectError {
                 let name = name.as_deref().unwrap_or("without a name");
                 match count {
                     1 => {
-                        write!(f, "1 unit has its location lists in another file, {}, which can't be used", Plain(name))
+                        write!(
+                            f,
+                            "1 unit has its location lists in another file, {}, which can't be used",
+                            Escaped(name)
+                        )
                     }
                     _ => write!(
                         f,
                         "{} units have their location lists in other files, such as {}, which can't be used",
                         count,
-                        Plain(name)
+                        Escaped(name)
                     ),
                 }
             }

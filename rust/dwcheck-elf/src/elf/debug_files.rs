@@ -1,8 +1,8 @@
 //! Finds separate files of debug information: by build id in `/usr/lib/debug/.build-id`, or by the
 //! section `.gnu_debuglink`.
 
+use crate::elf::escaped::Escaped;
 use crate::elf::mapped::Bytes;
-use crate::elf::plain::Plain;
 use crate::elf::program::Program;
 use std::ffi::{OsStr, OsString};
 use std::fmt;
@@ -114,7 +114,7 @@ impl DebugFiles {
         let found = found.find_map(|file| self.open(&file).ok().flatten().filter(has_id));
         found.map(Some).ok_or_else(|| {
             let name = name.to_string_lossy();
-            format!("the file with debug information that it shares, {}, isn't there", Plain(&name))
+            format!("the file with debug information that it shares, {}, isn't there", Escaped(&name))
         })
     }
 

@@ -7,10 +7,10 @@
 
 mod abort;
 mod both_ends;
+pub(crate) mod frame_names;
 mod instruction;
 mod json;
 mod listed;
-pub(crate) mod names;
 mod overflow;
 mod per_file;
 mod tables;
@@ -22,10 +22,10 @@ mod walker;
 
 pub use crate::debug::lines::SourceLine;
 pub use crate::process::without_row::FoundBy;
+pub(crate) use frame_names::Names;
+pub use frame_names::{Inlined, NameOptions, Position};
 pub use instruction::Instruction;
 pub use listed::Listed;
-pub(crate) use names::Names;
-pub use names::{Inlined, NameOptions, Place};
 pub use text::Lines;
 
 use crate::debug::variables::{Shape, Variables};
@@ -312,13 +312,13 @@ impl<'a> Stacks<'a> {
 
     /// Where a frame is: its function, file and line. If the frame's address follows a call, these
     /// are those of the call.
-    pub fn place(&self, frame: &Frame) -> Place {
+    pub fn position(&self, frame: &Frame) -> Position {
         let tables = self.tables.borrow();
         let looked_up = frame.looked_up();
         let found = tables.module_at(looked_up);
         let (place, module) = match found.and_then(|place| Some((place, tables.modules().get(place)?))) {
             Some(found) => found,
-            None => return Place::default(),
+            None => return Position::default(),
         };
         let mut names = self.names.borrow_mut();
         let names = names.entry(place).or_insert_with(|| self.read_names(module));
@@ -326,11 +326,11 @@ impl<'a> Stacks<'a> {
         let (address, looked_up, options) = (linked(frame.address), linked(looked_up), self.name_options);
         let split = names.is_split(looked_up).then(|| self.split_functions(place, module, looked_up)).flatten();
         let found = match split {
-            Some(called) => names.place_in(address, looked_up, called, options),
-            None => names.place(address, looked_up, options),
+            Some(called) => names.position_in(address, looked_up, called, options),
+            None => names.position(address, looked_up, options),
         };
         let (build_id, address_in_module) = (names.build_id.clone(), Some(address));
-        Place { module: Some(module.path.clone()), build_id, address_in_module, ..found }
+        Position { module: Some(module.path.clone()), build_id, address_in_module, ..found }
     }
 
     fn read_names(&self, module: &Module<'a>) -> Names<'a> {

@@ -3,7 +3,7 @@
 use super::comparable::comparable;
 use super::gimli_rows::{Bounded, Bytes, GimliRows};
 use super::{compare_rows, next_record, Agreement, Difference, RowSource, What};
-use crate::cfi::frames::{Frames, Kind, Name, Record, Standing};
+use crate::cfi::frames::{Frames, Kind, Name, Record, RecordStatus};
 use crate::cfi::row::{Cfa, Row, Rule};
 use dwcheck::{CfaRule, Process, Rows};
 use dwcheck_types::cursor::Cursor;
@@ -111,7 +111,7 @@ impl<'r> RowSource<'r> for DwcheckRows<'_> {
 ///
 /// `process` has to be the result of [`Frames::process`] for the load address 0. If the library
 /// refuses the section, there is no such process, and only what is left of it without what is refused
-/// ([`accepted_part`](crate::cfi::alone::accepted_part)) can be compared.
+/// ([`accepted_part`](crate::cfi::one_by_one::accepted_part)) can be compared.
 ///
 /// # Errors
 ///
@@ -119,7 +119,7 @@ impl<'r> RowSource<'r> for DwcheckRows<'_> {
 pub fn validate_rows(frames: &Frames<'_>, process: &Process) -> Result<Agreement, Difference> {
     let comparable = comparable(frames);
     let (order, address_size) = (frames.target().gimli_order(), frames.target().address_size.bytes());
-    let has_gaps = frames.count(Standing::LeftOut) > 0;
+    let has_gaps = frames.count(RecordStatus::LeftOut) > 0;
     match frames.name() {
         Name::EhFrame => {
             let mut section = gimli::EhFrame::new(&comparable, order);
@@ -178,13 +178,13 @@ where
 
     /// Compares a record, unless it is left out, and counts it, unless it is a copy.
     fn record(&self, record: &Record, agreement: &mut Agreement, room: &mut Room<'a>) -> Result<(), What> {
-        match (record.standing, record.kind) {
-            (Standing::LeftOut, _) | (_, Kind::Empty | Kind::Unread(_)) => {}
+        match (record.status, record.kind) {
+            (RecordStatus::LeftOut, _) | (_, Kind::Empty | Kind::Unread(_)) => {}
             // A copy's rows are those of the FDE that it is a copy of, which may be left out.
-            (Standing::Copy, _) if self.has_gaps => {}
-            (standing, Kind::Fde { begin, end, .. }) => {
+            (RecordStatus::Copy, _) if self.has_gaps => {}
+            (status, Kind::Fde { begin, end, .. }) => {
                 let rows = self.compare(record.offset as usize, begin..end, room)?;
-                let is_counted = standing == Standing::Used;
+                let is_counted = status == RecordStatus::Used;
                 agreement.fdes += usize::from(is_counted);
                 agreement.rows += if is_counted { rows } else { 0 };
             }

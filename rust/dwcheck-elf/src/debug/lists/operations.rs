@@ -1,6 +1,6 @@
 //! Compares the operations of an expression with those of the rewritten one, as gimli reads both.
 
-use super::hole::UNREADABLE;
+use super::unsupported::UNREADABLE;
 use crate::debug::debug_info::Slice;
 use dwcheck_types::codes::op;
 use gimli::{Dwarf, Encoding, EndianSlice, Expression, Operation, Reader, RunTimeEndian, Unit, UnitOffset};
@@ -21,7 +21,7 @@ enum Expected<'a> {
     /// A branch by this distance. The first field says whether it depends on a value.
     Branch(bool, i16),
     /// A hole that takes this many entries.
-    Hole(usize),
+    Unsupported(usize),
     /// A hole that is a value by itself.
     Value,
 }
@@ -115,7 +115,7 @@ fn compare<'a, 'o>(
         let count = match expected(dwarf, unit, operation)? {
             Expected::Same(same) => match (left.first(), without_type(&same)) {
                 (Some((_, first)), _) if *first == same => 1,
-                (_, Some(takes)) if hole(left, takes).is_some() => takes + 2,
+                (_, Some(takes)) if unsupported(left, takes).is_some() => takes + 2,
                 (first, _) => return Err(format!("{:x?} became {:x?}", same, first)),
             },
             Expected::Branch(is_conditional, distance) => {
@@ -123,7 +123,9 @@ fn compare<'a, 'o>(
                 branches.push(Branches { end: offset + 3, distance, new_end: at + 3, new_distance });
                 1
             }
-            Expected::Hole(takes) => hole(left, takes).ok_or_else(|| format!("no hole for {:x?}", operation))?,
+            Expected::Unsupported(takes) => {
+                unsupported(left, takes).ok_or_else(|| format!("no hole for {:x?}", operation))?
+            }
             Expected::Value => value(left).ok_or_else(|| format!("no hole for {:x?}", operation))?,
         };
         left = &left[count..];
@@ -168,12 +170,12 @@ fn expected<'a, 'o>(
     let generic = UnitOffset(0);
     Ok(match operation {
         Operation::EntryValue { .. } | Operation::TypedLiteral { .. } | Operation::ParameterRef { .. } => {
-            Expected::Hole(0)
+            Expected::Unsupported(0)
         }
-        Operation::RegisterOffset { base_type, .. } if *base_type != generic => Expected::Hole(0),
-        Operation::Deref { space: true, .. } => Expected::Hole(2),
-        Operation::Deref { base_type, .. } if *base_type != generic => Expected::Hole(1),
-        Operation::Convert { .. } | Operation::Reinterpret { .. } | Operation::TLS => Expected::Hole(1),
+        Operation::RegisterOffset { base_type, .. } if *base_type != generic => Expected::Unsupported(0),
+        Operation::Deref { space: true, .. } => Expected::Unsupported(2),
+        Operation::Deref { base_type, .. } if *base_type != generic => Expected::Unsupported(1),
+        Operation::Convert { .. } | Operation::Reinterpret { .. } | Operation::TLS => Expected::Unsupported(1),
         Operation::ImplicitPointer { .. } => Expected::Value,
         Operation::AddressIndex { index } => Expected::Same(Operation::Address { address: address(*index)? }),
         Operation::ConstantIndex { index } => Expected::Same(Operation::UnsignedConstant { value: address(*index)? }),
@@ -205,7 +207,7 @@ fn branch(operations: &[Place<'_>], is_conditional: bool) -> Option<(usize, i16)
 }
 
 /// How many operations a hole has that takes this many entries. `None` if they aren't those of one.
-fn hole(operations: &[Place<'_>], takes: usize) -> Option<usize> {
+fn unsupported(operations: &[Place<'_>], takes: usize) -> Option<usize> {
     let (drops, rest) = (operations.get(..takes)?, &operations[takes..]);
     let has_drops = drops.iter().all(|(_, operation)| matches!(operation, Operation::Drop));
     let is_unreadable = match rest {
@@ -219,6 +221,6 @@ fn hole(operations: &[Place<'_>], takes: usize) -> Option<usize> {
 
 /// The same for a hole that is a value by itself.
 fn value(operations: &[Place<'_>]) -> Option<usize> {
-    let count = hole(operations, 0)?;
+    let count = unsupported(operations, 0)?;
     matches!(operations.get(count)?.1, Operation::StackValue).then(|| count + 1)
 }

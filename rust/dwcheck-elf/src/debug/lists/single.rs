@@ -1,7 +1,7 @@
 //! Looks up addresses in one list.
 
+use super::list_section::{checked, refused};
 use super::references::Reference;
-use super::section::{checked, refused};
 use super::unit::{Entry, Source, UnitLists, TABLE_HEADER};
 use dwcheck::{locations, Error, Lookup};
 use gimli::UnitOffset;

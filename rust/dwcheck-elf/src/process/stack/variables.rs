@@ -1,7 +1,7 @@
 //! The variables of frames.
 
 use super::{Frame, Stack, Stacks};
-use crate::cfi::text::Plain;
+use crate::cfi::text::Escaped;
 use crate::debug::variables::{self, Called, Function, Loaded, Shape, Step, Variables};
 use crate::elf::program::Program;
 use crate::process::core_file::Module;
@@ -55,7 +55,7 @@ impl<'a> Stacks<'a> {
 
     /// Notes that a file isn't there that has the debug information of a unit of a module.
     fn note_missing(&self, module: &Module<'a>, name: &str) {
-        let why = format!("its debug information is in another file, {}, which isn't there", Plain(name));
+        let why = format!("its debug information is in another file, {}, which isn't there", Escaped(name));
         self.split.borrow_mut().insert(module.path.clone(), why);
     }
 

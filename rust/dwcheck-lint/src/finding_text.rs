@@ -1,5 +1,6 @@
 //! Writes findings as text and as JSON.
 
+use crate::correct_row::Location;
 use crate::coverage::{Coverage, REASONS};
 use crate::finding::Finding;
 use crate::judge::{Facts, WrongCfa};
@@ -9,7 +10,6 @@ use crate::machine::Machine;
 use crate::module::Module;
 use crate::register::Register;
 use crate::table::{Cfa, Row, Rule};
-use crate::truth::Location;
 use std::fmt::{self, Write};
 
 /// Names an address: the function, with an offset after it if there is one.
@@ -26,7 +26,7 @@ pub struct Json<'a, 'm>(pub &'a Module<'m>, pub &'a Finding<'m>, pub &'a Names<'
 
 /// An address as it is shown: `0x1234`, or in an unlinked object `.text.f+0x12`, where the names of its
 /// sections stand for their addresses.
-pub struct Place<'a, 'm>(pub &'a Module<'m>, pub u64);
+pub struct ShownAddress<'a, 'm>(pub &'a Module<'m>, pub u64);
 
 /// A string of JSON, with its quotes.
 pub struct Quoted<'a>(pub &'a str);
@@ -44,7 +44,7 @@ impl fmt::Display for Sum<'_> {
     }
 }
 
-impl fmt::Display for Place<'_, '_> {
+impl fmt::Display for ShownAddress<'_, '_> {
     fn fmt(&self, f: &mut fmt::Formatter<'_>) -> fmt::Result {
         match self.0.section_of(self.1) {
             Some((name, offset)) => write!(f, "{}+{:#x}", name, offset),
@@ -88,7 +88,7 @@ impl Finding<'_> {
             Some(WrongCfa::Clobbered) => "the register of the row's CFA has been overwritten".to_string(),
             Some(WrongCfa::Restored) => "the register of the row's CFA has the caller's value".to_string(),
             Some(WrongCfa::Number) => "the row's CFA is a number".to_string(),
-            None if self.kind == Kind::ReturnAddressSigning => match self.mark.truth.return_address {
+            None if self.kind == Kind::ReturnAddressSigning => match self.mark.correct_row.return_address {
                 Some((_, true)) => "the row says that the return address isn't signed".to_string(),
                 _ => "the row says that the return address is signed".to_string(),
             },
@@ -97,9 +97,9 @@ impl Finding<'_> {
     }
 
     /// What the code says.
-    pub fn truth(&self, machine: &Machine) -> String {
+    pub fn correct_row(&self, machine: &Machine) -> String {
         if self.mark.verdict.wrong.has(Facts::CFA) {
-            return match self.mark.truth.cfa {
+            return match self.mark.correct_row.cfa {
                 Some((register, offset)) => format!("cfa={}", Sum(machine, register, offset)),
                 None => "no register has a known distance from the CFA".to_string(),
             };
@@ -109,13 +109,13 @@ impl Finding<'_> {
             Some(Location::Slot(offset)) => format!("{}=[c{:+}]", machine.name(register), offset),
             None => format!("{} is lost", machine.name(register)),
         };
-        let truth = &self.mark.truth;
-        let kept = machine.kept.iter().zip(&truth.kept).enumerate();
-        let wrong = kept.filter(|(index, _)| self.wrong.has(Facts::kept(*index)));
+        let correct_row = &self.mark.correct_row;
+        let callee_saved = machine.callee_saved.iter().zip(&correct_row.callee_saved).enumerate();
+        let wrong = callee_saved.filter(|(index, _)| self.wrong.has(Facts::callee_saved(*index)));
         let mut places: Vec<_> = wrong.map(|(_, (register, location))| place(*register, *location)).collect();
         if self.mark.verdict.wrong.has(Facts::RETURN_ADDRESS) {
-            let text = place(machine.return_address, truth.return_address.map(|(location, _)| location));
-            let is_signed = truth.return_address.map_or(false, |(_, is_signed)| is_signed);
+            let text = place(machine.return_address, correct_row.return_address.map(|(location, _)| location));
+            let is_signed = correct_row.return_address.map_or(false, |(_, is_signed)| is_signed);
             places.insert(0, if is_signed { text + " signed" } else { text });
         }
         places.join(" ")
@@ -131,7 +131,7 @@ impl Finding<'_> {
         if self.is_assumed() {
             return None;
         }
-        match (self.mark.row.cfa, self.mark.truth.cfa) {
+        match (self.mark.row.cfa, self.mark.correct_row.cfa) {
             (Cfa::RegisterOffset { register, .. }, Some((other, offset)))
                 if self.mark.verdict.wrong.has(Facts::CFA) =>
             {
@@ -152,7 +152,7 @@ impl fmt::Display for Text<'_, '_> {
         let (machine, mark) = (module.machine, &finding.mark);
         let address = mark.address;
         let name = names(address).unwrap_or_else(|| "a function without a name".to_string());
-        let place = |address| Place(module, address);
+        let place = |address| ShownAddress(module, address);
         write!(f, "{} at {} ({}): {}: ", finding.kind, name, place(address), finding.severity)?;
         f.write_str(&finding.what(machine))?;
         let count = |count, one, many| if count == 1 { one } else { many };
@@ -167,7 +167,7 @@ impl fmt::Display for Text<'_, '_> {
         }
         write!(f, "\n    at {}: {}", place(address), text(address))?;
         write!(f, "\n    row: {}", RowText(machine, &mark.row))?;
-        write!(f, "\n    code: {}", finding.truth(machine))?;
+        write!(f, "\n    code: {}", finding.correct_row(machine))?;
         if let Some(directive) = finding.directive() {
             write!(f, "; right would be: {}", directive)?;
         }
@@ -201,7 +201,7 @@ impl fmt::Display for Json<'_, '_> {
         write!(f, ",\"instruction\":{}", Quoted(&text(mark.address)))?;
         write!(f, ",\"row\":{}", Quoted(&RowText(machine, &mark.row).to_string()))?;
         write!(f, ",\"what\":{}", Quoted(&finding.what(machine)))?;
-        write!(f, ",\"code\":{}", Quoted(&finding.truth(machine)))?;
+        write!(f, ",\"code\":{}", Quoted(&finding.correct_row(machine)))?;
         if let Some(directive) = finding.directive() {
             write!(f, ",\"directive\":{}", Quoted(&directive))?;
         }

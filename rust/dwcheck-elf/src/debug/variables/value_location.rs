@@ -1,6 +1,6 @@
 //! Where a variable is in a frame, and the bytes that are there.
 
-use crate::debug::lists::Hole;
+use crate::debug::lists::Unsupported;
 use dwcheck::{Block, Registers};
 use dwcheck_types::target::{Order, Target};
 use std::fmt;
@@ -11,7 +11,7 @@ pub enum Missing {
     /// It has no location at the address, or one that only the caller may have known.
     OptimizedOut,
     /// Its expression has an operation that isn't evaluated.
-    NotEvaluated(Hole),
+    NotEvaluated(Unsupported),
     /// A register, such as `r3`, or memory isn't known.
     Unreadable(String),
     /// Its expression divides by zero.
@@ -24,7 +24,7 @@ pub enum Missing {
 
 /// Where a variable is.
 #[derive(Clone, Debug, PartialEq, Eq)]
-pub enum Place {
+pub enum ValueLocation {
     /// At an address of the process.
     Memory(u64),
     /// In a register, by its DWARF number.
@@ -34,7 +34,7 @@ pub enum Place {
     /// Nowhere, but these bytes are its value.
     Bytes(Vec<u8>),
     /// In pieces, each with its size in bytes. Some pieces may be missing.
-    Pieces(Vec<(Result<Place, Missing>, usize)>),
+    Pieces(Vec<(Result<ValueLocation, Missing>, usize)>),
     /// Nowhere, but it points into a variable that may have no address.
     ImplicitPointer(Pointee),
 }
@@ -53,10 +53,10 @@ pub struct Pointee {
 impl Missing {
     /// Why an expression with an operation that isn't evaluated has no value. A value that only the caller may have
     /// known is gone, as gdb takes it.
-    pub(super) fn by_hole(hole: Hole) -> Missing {
-        match hole {
-            Hole::EntryValue | Hole::ParameterRef => Missing::OptimizedOut,
-            hole => Missing::NotEvaluated(hole),
+    pub(super) fn by_hole(unsupported: Unsupported) -> Missing {
+        match unsupported {
+            Unsupported::EntryValue | Unsupported::ParameterRef => Missing::OptimizedOut,
+            unsupported => Missing::NotEvaluated(unsupported),
         }
     }
 }
@@ -102,27 +102,29 @@ impl Machine<'_> {
     }
 
     /// `length` bytes from an offset on of a variable of `size` bytes that is at a place.
-    pub fn bytes(&self, place: &Place, size: usize, offset: usize, length: usize) -> Result<Vec<u8>, Missing> {
+    pub fn bytes(&self, place: &ValueLocation, size: usize, offset: usize, length: usize) -> Result<Vec<u8>, Missing> {
         let part = |bytes: &[u8]| {
             let part = offset.checked_add(length).and_then(|end| bytes.get(offset..end));
             part.map(<[u8]>::to_vec).ok_or(Missing::Unsupported("it is larger than its location"))
         };
         match place {
-            Place::Memory(address) => self.memory(self.target.wrap(address.wrapping_add(offset as u64)), length),
-            Place::Register(number) => {
+            ValueLocation::Memory(address) => {
+                self.memory(self.target.wrap(address.wrapping_add(offset as u64)), length)
+            }
+            ValueLocation::Register(number) => {
                 let value = self.registers.get(*number);
                 part(&self.low(value.ok_or_else(|| Missing::Unreadable(format!("r{}", number)))?, size))
             }
-            Place::Value(value) => part(&self.low(*value, size)),
-            Place::Bytes(bytes) => part(bytes),
-            Place::Pieces(pieces) => self.of_pieces(pieces, offset, length),
-            Place::ImplicitPointer(..) => Err(Missing::NotEvaluated(Hole::ImplicitPointer)),
+            ValueLocation::Value(value) => part(&self.low(*value, size)),
+            ValueLocation::Bytes(bytes) => part(bytes),
+            ValueLocation::Pieces(pieces) => self.of_pieces(pieces, offset, length),
+            ValueLocation::ImplicitPointer(..) => Err(Missing::NotEvaluated(Unsupported::ImplicitPointer)),
         }
     }
 
     fn of_pieces(
         &self,
-        pieces: &[(Result<Place, Missing>, usize)],
+        pieces: &[(Result<ValueLocation, Missing>, usize)],
         offset: usize,
         length: usize,
     ) -> Result<Vec<u8>, Missing> {
@@ -150,7 +152,7 @@ impl fmt::Display for Missing {
     fn fmt(&self, f: &mut fmt::Formatter<'_>) -> fmt::Result {
         match self {
             Missing::OptimizedOut => f.write_str("optimized out"),
-            Missing::NotEvaluated(hole) => write!(f, "not evaluated: {}", hole),
+            Missing::NotEvaluated(unsupported) => write!(f, "not evaluated: {}", unsupported),
             Missing::Unreadable(what) => write!(f, "unreadable: {}", what),
             Missing::DivisionByZero => f.write_str("division by zero"),
             Missing::Refused(fault) => write!(f, "refused: {}", fault),
@@ -159,15 +161,15 @@ impl fmt::Display for Missing {
     }
 }
 
-impl fmt::Display for Place {
+impl fmt::Display for ValueLocation {
     fn fmt(&self, f: &mut fmt::Formatter<'_>) -> fmt::Result {
         match self {
-            Place::Memory(address) => write!(f, "at {:#x}", address),
-            Place::Register(number) => write!(f, "r{}", number),
-            Place::Value(_) => f.write_str("value"),
-            Place::Bytes(_) => f.write_str("constant"),
-            Place::Pieces(_) => f.write_str("pieces"),
-            Place::ImplicitPointer(pointee) => write!(f, "points to {}", pointee),
+            ValueLocation::Memory(address) => write!(f, "at {:#x}", address),
+            ValueLocation::Register(number) => write!(f, "r{}", number),
+            ValueLocation::Value(_) => f.write_str("value"),
+            ValueLocation::Bytes(_) => f.write_str("constant"),
+            ValueLocation::Pieces(_) => f.write_str("pieces"),
+            ValueLocation::ImplicitPointer(pointee) => write!(f, "points to {}", pointee),
         }
     }
 }

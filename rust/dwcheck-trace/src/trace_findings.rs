@@ -1,18 +1,18 @@
 //! Makes findings of what was wrong, and counts what was seen.
 
 use super::files::ModuleFile;
-use super::registers::{KEPT, KEPT_NUMBERS};
+use super::registers::{CALLEE_SAVED, SAVED_COUNT};
 use super::rules::RuleCounts;
-use super::site::{Places, Site, Wrong};
+use super::site::{Locations, Site, Wrong};
 use super::tracer::Tracer;
-use dwcheck_elf::text::Plain;
+use dwcheck_elf::text::Escaped;
+use dwcheck_lint::correct_row::{CorrectRow, Location};
 use dwcheck_lint::finding::{findings, grouped, Finding, Severity};
 use dwcheck_lint::judge::{Facts, Verdict};
 use dwcheck_lint::judging::{Mark, Way};
 use dwcheck_lint::lint::Outcome;
 use dwcheck_lint::register::Register;
 use dwcheck_lint::table::{Cfa, Fde, Row};
-use dwcheck_lint::truth::{Location, Truth};
 use std::collections::BTreeMap;
 use std::path::Path;
 use std::time::Duration;
@@ -108,7 +108,7 @@ impl Counts {
         // Registers are compared only where the CFA and the return address are right.
         let is_frame_wrong = verdict.wrong.has_frame();
         let has_caller = verdict.cfa.is_none();
-        self.compared += 1 + u64::from(has_caller) + if is_frame_wrong { 0 } else { KEPT as u64 };
+        self.compared += 1 + u64::from(has_caller) + if is_frame_wrong { 0 } else { SAVED_COUNT as u64 };
     }
 
     /// Each count with its name.
@@ -243,14 +243,14 @@ fn with_walk(mut finding: Finding<'_>, breaks_walk: bool) -> Finding<'_> {
 }
 
 fn said(path: &Path, why: &dyn std::fmt::Display) -> String {
-    format!("{}: {}", Plain(&path.to_string_lossy()), why)
+    format!("{}: {}", Escaped(&path.to_string_lossy()), why)
 }
 
 /// The registers that a function didn't give back.
-fn lost(is_lost: &[bool; KEPT]) -> Facts {
+fn lost(is_lost: &[bool; SAVED_COUNT]) -> Facts {
     let mut lost = Facts::NONE;
-    let places = is_lost.iter().enumerate().filter(|(_, is_lost)| **is_lost);
-    places.for_each(|(index, _)| lost.add(Facts::kept(index)));
+    let locations = is_lost.iter().enumerate().filter(|(_, is_lost)| **is_lost);
+    locations.for_each(|(index, _)| lost.add(Facts::callee_saved(index)));
     lost
 }
 
@@ -264,14 +264,14 @@ fn mark<'t>(file: &'t ModuleFile<'_>, site: &Site, wrong: &Wrong) -> Option<Mark
         before: wrong.before,
         way: Way::Here,
         verdict: wrong.verdict,
-        truth: truth(&row, &wrong.places),
+        correct_row: correct_row(&row, &wrong.locations),
         is_assumed: false,
         row,
     })
 }
 
 /// What is true where a row is wrong.
-fn truth(row: &Row<'_>, places: &Places) -> Truth {
+fn correct_row(row: &Row<'_>, locations: &Locations) -> CorrectRow {
     let of_row = match row.cfa {
         Cfa::RegisterOffset { register: Register(number), .. } => Some(usize::from(number)),
         Cfa::Expression(_) => None,
@@ -279,16 +279,16 @@ fn truth(row: &Row<'_>, places: &Places) -> Truth {
     let usual = [7, 6];
     let order = of_row.into_iter().chain(usual).chain(0..16);
     let distance = |number: usize| {
-        let distance = (*places.distances.get(number)?)?;
+        let distance = (*locations.distances.get(number)?)?;
         (distance.abs() < FARTHEST).then_some((Register(number as u8), distance))
     };
-    let mut truth = Truth { cfa: order.filter_map(distance).next(), ..Truth::default() };
-    truth.return_address = Some((Location::Slot(-8), false));
-    for (index, kept) in truth.kept.iter_mut().enumerate().take(KEPT) {
-        let own = places.in_registers[index].iter().find(|number| **number == KEPT_NUMBERS[index]);
-        let register = own.or_else(|| places.in_registers[index].first());
+    let mut correct_row = CorrectRow { cfa: order.filter_map(distance).next(), ..CorrectRow::default() };
+    correct_row.return_address = Some((Location::Slot(-8), false));
+    for (index, callee_saved) in correct_row.callee_saved.iter_mut().enumerate().take(SAVED_COUNT) {
+        let own = locations.in_registers[index].iter().find(|number| **number == CALLEE_SAVED[index]);
+        let register = own.or_else(|| locations.in_registers[index].first());
         let in_register = register.map(|number| Location::Register(Register(*number as u8)));
-        *kept = in_register.or_else(|| places.in_slots[index].first().map(|offset| Location::Slot(*offset)));
+        *callee_saved = in_register.or_else(|| locations.in_slots[index].first().map(|offset| Location::Slot(*offset)));
     }
-    truth
+    correct_row
 }

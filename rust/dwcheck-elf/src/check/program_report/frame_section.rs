@@ -14,7 +14,7 @@ pub struct Section {
     /// The number of its bytes in the file, decompressed.
     pub bytes: usize,
     /// Whether it is accepted.
-    pub standing: Standing,
+    pub status: SectionStatus,
     /// What it holds without what is refused. `None` if it can't be read or checked.
     pub held: Option<Held>,
     /// What it has that isn't a rule, what was read in another way, and how the sorted table of `.eh_frame_hdr`
@@ -24,7 +24,7 @@ pub struct Section {
 
 /// Whether a section is accepted.
 #[derive(Clone, Debug, PartialEq, Eq)]
-pub enum Standing {
+pub enum SectionStatus {
     /// It is.
     Accepted,
     /// It isn't: how many faults it has, and how many of its records are left out.
@@ -51,24 +51,24 @@ pub struct Held {
 impl Section {
     /// A section that was checked.
     pub(super) fn of(inspected: &Inspected<'_>, program: &Program<'_>) -> Self {
-        let (standing, held) = match &inspected.verdict {
+        let (status, held) = match &inspected.verdict {
             Verdict::Refused(defects) => match inspected.rest() {
                 Ok(Some(rest)) => {
-                    let standing = Standing::Refused(defects.len(), Some(rest.left_out()));
-                    (standing, Some(Held::of(&rest.agreement, &rest.frames)))
+                    let status = SectionStatus::Refused(defects.len(), Some(rest.left_out()));
+                    (status, Some(Held::of(&rest.agreement, &rest.frames)))
                 }
-                Ok(None) => (Standing::Refused(defects.len(), None), None),
-                Err(error) => (Standing::Unread(error.to_string()), None),
+                Ok(None) => (SectionStatus::Refused(defects.len(), None), None),
+                Err(error) => (SectionStatus::Unread(error.to_string()), None),
             },
-            Verdict::Unread(error) => (Standing::Unread(error.to_string()), None),
+            Verdict::Unread(error) => (SectionStatus::Unread(error.to_string()), None),
             Verdict::Frames(agreement) => {
                 let held = inspected.frames.as_ref().map(|frames| Held::of(agreement, frames));
-                (Standing::Accepted, held)
+                (SectionStatus::Accepted, held)
             }
-            Verdict::Lists(_) | Verdict::FoundLists => (Standing::Accepted, None),
+            Verdict::Lists(_) | Verdict::FoundLists => (SectionStatus::Accepted, None),
         };
         let notes = inspected.frames.as_ref().map_or_else(Vec::new, |frames| notes(frames, program));
-        Section { name: inspected.name, bytes: inspected.bytes, standing, held, notes }
+        Section { name: inspected.name, bytes: inspected.bytes, status, held, notes }
     }
 }
 
@@ -89,9 +89,9 @@ impl Held {
     }
 }
 
-impl Standing {
+impl SectionStatus {
     /// Whether the section, or what isn't refused of it, was checked.
     pub fn is_read(&self) -> bool {
-        !matches!(self, Standing::Unread(_))
+        !matches!(self, SectionStatus::Unread(_))
     }
 }

@@ -2,7 +2,7 @@
 //! refused, and a search for functions, whose rows are shown beside their instructions.
 
 use super::details::Details;
-use super::{Difference, Function, GapKind, Refusal, Report, Section, Standing};
+use super::{Difference, Function, GapKind, Refusal, Report, Section, SectionStatus};
 use crate::check::page::{self, separated};
 use serde_json::{json, Value};
 use std::io::{self, Write};
@@ -128,20 +128,20 @@ fn function(report: &Report<'_>, function: &Function) -> Value {
 }
 
 fn section(section: &Section) -> Value {
-    let (standing, text) = match &section.standing {
-        Standing::Accepted => ("accepted", String::new()),
-        Standing::Refused(_, left_out) => ("refused", left_out.map_or_else(String::new, |rest| rest.to_string())),
-        Standing::Unread(why) => ("not checked", why.clone()),
+    let (status, text) = match &section.status {
+        SectionStatus::Accepted => ("accepted", String::new()),
+        SectionStatus::Refused(_, left_out) => ("refused", left_out.map_or_else(String::new, |rest| rest.to_string())),
+        SectionStatus::Unread(why) => ("not checked", why.clone()),
     };
-    let faults = match section.standing {
-        Standing::Refused(count, _) => count,
+    let faults = match section.status {
+        SectionStatus::Refused(count, _) => count,
         _ => 0,
     };
     let held = section.held.map(|held| {
         json!({ "cies": held.cies, "fdes": held.fdes, "rows": held.rows, "expressions": held.expressions,
             "signalFrames": held.signal_frames })
     });
-    json!({ "name": section.name.to_string(), "bytes": section.bytes, "standing": standing, "text": text,
+    json!({ "name": section.name.to_string(), "bytes": section.bytes, "standing": status, "text": text,
         "faults": faults, "held": held, "notes": section.notes })
 }
 

@@ -1,10 +1,10 @@
 //! Writes the stacks of all threads, as text or as JSON.
 
-use crate::arguments::StackWords;
+use crate::arguments::StackArguments;
 use crate::end::Failure;
 use dwcheck_elf::core_file::{CoreFile, Signal, Thread};
 use dwcheck_elf::stack::{Instruction, Listed, Stack, Stacks, Stop, WalkOptions};
-use dwcheck_elf::text::{Address, Plain};
+use dwcheck_elf::text::{Address, Escaped};
 use serde_json::{json, Value};
 use std::collections::HashMap;
 use std::io::{self, Write};
@@ -12,7 +12,7 @@ use std::time::Duration;
 
 /// The stacks of a process, and what of them is to be written.
 pub struct Report<'r, 'a> {
-    pub words: &'r StackWords,
+    pub arguments: &'r StackArguments,
     pub core: &'r CoreFile<'r>,
     pub stacks: &'r Stacks<'a>,
     /// For a process that runs: the longest time for which a thread was stopped.
@@ -34,7 +34,7 @@ impl<'r, 'a> Report<'r, 'a> {
     /// Writes everything. Appends what isn't used to `warnings`, which a document of JSON has too.
     pub fn write(&self, out: &mut impl Write, warnings: &mut Vec<String>) -> Result<(), Failure> {
         self.write_head(out)?;
-        if self.words.group {
+        if self.arguments.group {
             for (number, group) in self.groups()?.iter().enumerate() {
                 self.write_group(out, number, group)?;
             }
@@ -45,13 +45,14 @@ impl<'r, 'a> Report<'r, 'a> {
             }
         }
         let missing = self.stacks.missing();
-        warnings.splice(..0, missing.iter().map(|(path, why)| format!("{}: {}", Plain(&path.to_string_lossy()), why)));
+        warnings
+            .splice(..0, missing.iter().map(|(path, why)| format!("{}: {}", Escaped(&path.to_string_lossy()), why)));
         let modules = self.stacks.modules();
-        if self.words.json {
+        if self.arguments.json {
             let modules: Vec<_> = modules.iter().map(Listed::json).collect();
             write!(out, "],\"modules\":{},", Value::from(modules))?;
             writeln!(out, "\"warnings\":{}}}", Value::from(warnings.clone()))?;
-        } else if self.words.modules {
+        } else if self.arguments.modules {
             modules.iter().try_for_each(|module| writeln!(out, "{}", module))?;
         }
         Ok(())
@@ -60,7 +61,7 @@ impl<'r, 'a> Report<'r, 'a> {
     /// The threads that are to be shown.
     fn threads(&self) -> Result<Vec<&'r Thread>, Failure> {
         let all = self.core.threads();
-        let tids = &self.words.tid;
+        let tids = &self.arguments.tid;
         match tids.iter().find(|tid| !all.iter().any(|thread| thread.id == **tid)) {
             Some(tid) => Err(Failure::Argument(format!("there is no thread {}", tid))),
             None => Ok(all.iter().filter(|thread| tids.is_empty() || tids.contains(&thread.id)).collect()),
@@ -69,9 +70,9 @@ impl<'r, 'a> Report<'r, 'a> {
 
     fn walk(&self, thread: &Thread) -> Result<Stack<'r, 'a>, Failure> {
         let options = WalkOptions {
-            limit: self.words.limit,
-            is_strict: self.words.strict,
-            keeps_registers: self.words.registers || self.words.vars,
+            limit: self.arguments.limit,
+            is_strict: self.arguments.strict,
+            keeps_registers: self.arguments.registers || self.arguments.vars,
             outermost: if self.overflowed == Some(thread.id) { OUTERMOST } else { 0 },
         };
         self.stacks.walk(thread, options).map_err(|error| Failure::File(format!("thread {}: {}", thread.id, error)))
@@ -96,7 +97,7 @@ impl<'r, 'a> Report<'r, 'a> {
     }
 
     fn write_head(&self, out: &mut impl Write) -> io::Result<()> {
-        if self.words.json {
+        if self.arguments.json {
             return self.write_json_head(out);
         }
         let signal = match self.core.signal() {
@@ -122,7 +123,7 @@ impl<'r, 'a> Report<'r, 'a> {
             writeln!(out, "sent by process {} of user {}", sender.pid, sender.uid)?;
         }
         if let Some(message) = self.stacks.abort_message() {
-            writeln!(out, "abort message: {}", Plain(&message))?;
+            writeln!(out, "abort message: {}", Escaped(&message))?;
         }
         self.stacks.instruction().map_or(Ok(()), |instruction| self.write_instruction(out, &instruction))
     }
@@ -171,7 +172,7 @@ impl<'r, 'a> Report<'r, 'a> {
     }
 
     fn write_group(&self, out: &mut impl Write, number: usize, group: &Group<'r, 'a>) -> io::Result<()> {
-        if self.words.json {
+        if self.arguments.json {
             let comma = if number > 0 { "," } else { "" };
             writeln!(out, "{}", comma)?;
             return self.write_json_group(out, group);

@@ -7,7 +7,7 @@ use super::{Frame, Profile};
 use dwcheck_elf::debug_files::DebugFiles;
 use dwcheck_elf::internal::{short_name, Names as ModuleNames};
 use dwcheck_elf::stack;
-use dwcheck_elf::text::Plain;
+use dwcheck_elf::text::Escaped;
 use rayon::prelude::*;
 use rustc_hash::FxHashMap;
 use std::path::{Path, PathBuf};
@@ -73,7 +73,7 @@ impl Texts {
             return *id;
         }
         if text.contains(char::is_control) {
-            return self.id(&Plain(text).to_string());
+            return self.id(&Escaped(text).to_string());
         }
         let id = self.all.len() as TextId;
         self.all.push(text.to_string());
@@ -181,7 +181,7 @@ fn of_object(
         Kind::File => of_file(profile, object, frames, options),
         Kind::Kernel => {
             let listed = options.kernel.as_ref().and_then(|path| Kernel::of_file(path, profile.kernel_start).ok());
-            let own = || Kernel::of_recording(&profile.features, &profile.places, profile.kernel_start);
+            let own = || Kernel::of_recording(&profile.features, &profile.search_paths, profile.kernel_start);
             let kernel = listed.unwrap_or_else(own);
             let named = frames.into_iter().filter_map(|frame| {
                 let (name, module, offset) = kernel.at(address(&frame))?;
@@ -191,7 +191,7 @@ fn of_object(
         }
         Kind::Memory(pid) | Kind::MemoryFile(pid) => {
             let dump = profile.dumps.get(&pid).map(PathBuf::as_path);
-            let memory = Memory::of_process(pid, &profile.places.root, dump);
+            let memory = Memory::of_process(pid, &profile.search_paths.root, dump);
             let named = frames.into_iter().filter_map(|frame| {
                 let (name, offset) = memory.at(address(&frame))?;
                 let name = name.chars().filter(|c| !c.is_control()).collect();
@@ -221,7 +221,7 @@ fn of_file(
         Some(bytes) => bytes,
         None => return Default::default(),
     };
-    let debug_files = DebugFiles::new(&profile.places.root);
+    let debug_files = DebugFiles::new(&profile.search_paths.root);
     let wanted = stack::NameOptions { inlined: options.inlined, source: options.lines, raw: true };
     let address = |frame: u32| profile.frames[frame as usize].place.address;
     frames.sort_unstable_by_key(|frame| address(*frame));
@@ -234,8 +234,9 @@ fn of_file(
         false => ModuleNames::read(path, bytes, &debug_files, wanted),
     };
     let mut shown = Shown::default();
-    let named =
-        frames.into_iter().map(|frame| (frame, shown.functions(names.place(address(frame), address(frame), wanted))));
+    let named = frames
+        .into_iter()
+        .map(|frame| (frame, shown.functions(names.position(address(frame), address(frame), wanted))));
     let named = named.collect();
     let problems = names.problems.iter().map(|(path, why)| (path.to_string_lossy().into_owned(), why.clone()));
     (named, problems.collect())
@@ -256,7 +257,7 @@ impl Shown {
     }
 
     /// The functions of a place, the innermost first.
-    fn functions(&mut self, place: stack::Place) -> Vec<Found> {
+    fn functions(&mut self, place: stack::Position) -> Vec<Found> {
         let offset = place.offset.unwrap_or(0);
         let line = |source: Option<stack::SourceLine>| {
             source.map(|source| {

@@ -6,25 +6,25 @@
 mod compare;
 mod coverage;
 mod details;
+mod frame_section;
 mod instructions;
 pub mod page;
 mod refusal;
-mod section;
 
 pub use compare::Difference;
 pub use coverage::{Coverage, Gap, GapKind, Totals};
+pub use frame_section::{Held, Section, SectionStatus};
 pub use refusal::Refusal;
-pub use section::{Held, Section, Standing};
 
-use crate::cfi::alone::accepted;
 use crate::cfi::frames::{Frames, Kind, Name};
+use crate::cfi::one_by_one::accepted;
 use crate::cfi::row::Row;
 use crate::cfi::validate::{DwcheckRows, RowSource};
 use crate::check::inspect::{inspect_frame_sections, Check, Inspected};
 use crate::check::lint::LintError;
 use crate::elf::covered::Covered;
+use crate::elf::demangle::{raw_name, shown_name};
 use crate::elf::functions::Functions;
-use crate::elf::names::{raw_name, shown_name};
 use crate::elf::program::Program;
 use dwcheck::Process;
 use dwcheck_lint::machine::Machine;
@@ -107,7 +107,7 @@ impl<'data> Report<'data> {
         refused: &mut Covered,
     ) {
         let section = Section::of(inspected, program);
-        let is_read = section.standing.is_read();
+        let is_read = section.status.is_read();
         self.sections.push(section);
         self.refusals.extend(Refusal::all(inspected, &self.memory));
         let frames = inspected.frames.as_ref().filter(|_| is_read);

@@ -5,9 +5,9 @@ use std::fmt;
 /// A text of the input, such as the name of a file. Control characters, which could change what a
 /// terminal shows, are written as escapes.
 #[derive(Clone, Copy, Debug)]
-pub struct Plain<'a>(pub &'a str);
+pub struct Escaped<'a>(pub &'a str);
 
-impl fmt::Display for Plain<'_> {
+impl fmt::Display for Escaped<'_> {
     fn fmt(&self, f: &mut fmt::Formatter<'_>) -> fmt::Result {
         use fmt::Write;
         self.0

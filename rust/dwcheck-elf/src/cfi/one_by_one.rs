@@ -1,14 +1,14 @@
 //! Checks the CIEs and FDEs of a frame section one by one, after the library has refused the section
 //! as a whole.
 
-use crate::cfi::frames::{body, Format, Frames, Kind, Record, Standing};
-use crate::cfi::pieces::Pieces;
+use crate::cfi::fde_ranges::FdeRanges;
+use crate::cfi::frames::{body, Format, Frames, Kind, Record, RecordStatus};
 use dwcheck::{Error, Fault, FaultKind, Process, Section};
 use std::collections::{HashMap, HashSet};
 
 /// A section that has only one FDE and its CIE, or only one CIE.
 #[derive(Clone, Debug)]
-pub(crate) struct Alone {
+pub(crate) struct OwnSection {
     /// The bytes of the CIE, followed by those of the FDE.
     pub bytes: Vec<u8>,
     /// What has to be known to read them. The record that the section is made for has the address that it
@@ -18,11 +18,11 @@ pub(crate) struct Alone {
     pub records: Vec<Record>,
 }
 
-impl Alone {
+impl OwnSection {
     /// A section that has only this CIE of a section with these bytes.
     pub fn cie(format: &Format, bytes: &[u8], cie: &Record) -> Option<Self> {
         let records = vec![cie.at(0)];
-        Some(Alone { bytes: bytes.get(cie.range())?.to_vec(), format: format.moved(cie.offset), records })
+        Some(OwnSection { bytes: bytes.get(cie.range())?.to_vec(), format: format.moved(cie.offset), records })
     }
 
     /// A section that has only this FDE of a section with these bytes, and its CIE. The FDE's pointer to the CIE
@@ -41,7 +41,7 @@ impl Alone {
         }
         alone.get_mut(pointer..pointer + written.len())?.copy_from_slice(&written);
         let records = vec![cie.at(0), fde.at(start as u64)];
-        Some(Alone { bytes: alone, format: format.moved(fde.offset.wrapping_sub(start as u64)), records })
+        Some(OwnSection { bytes: alone, format: format.moved(fde.offset.wrapping_sub(start as u64)), records })
     }
 
     /// The first fault, if it is refused, with its offset in the whole section, where the last record is at
@@ -117,7 +117,7 @@ pub(crate) fn accepted(frames: Frames<'_>) -> Result<(Frames<'_>, Process, Optio
         Err(error) => return Err(format!("{}: {}", name, error)),
     };
     let reason = fault.or_else(|| Some("Unresolved").filter(|_| !frames.unresolved().is_empty()));
-    let left_out = frames.count(Standing::LeftOut);
+    let left_out = frames.count(RecordStatus::LeftOut);
     let problem = reason.map(|reason| format!("{}: {}: {} of its records aren't used", name, reason, left_out));
     Ok((frames, process, problem))
 }
@@ -129,12 +129,12 @@ struct Judge<'a> {
 
 impl Judge<'_> {
     fn cie(&self, cie: &Record) -> Option<Fault> {
-        Alone::cie(self.frames.format(), self.frames.whole(), cie)?.fault(cie.offset)
+        OwnSection::cie(self.frames.format(), self.frames.whole(), cie)?.fault(cie.offset)
     }
 
     /// The first fault of a section that has only this CIE and this FDE.
     fn fde(&self, cie: &Record, fde: &Record) -> Option<Fault> {
-        Alone::fde(self.frames.format(), self.frames.whole(), cie, fde)?.fault(fde.offset)
+        OwnSection::fde(self.frames.format(), self.frames.whole(), cie, fde)?.fault(fde.offset)
     }
 
     /// The fault of an FDE whose CIE pointer leads to an offset where there is no CIE that can be used. If there
@@ -188,7 +188,7 @@ impl Shared {
     pub fn of(frames: &Frames<'_>) -> Self {
         let fdes: Vec<&Record> = frames.used().collect();
         let ranges: Vec<_> = fdes.iter().map(|record| record.addresses().unwrap_or(0..0)).collect();
-        let all = Pieces::of(ranges.iter().cloned()).first_in(&ranges);
+        let all = FdeRanges::of(ranges.iter().cloned()).first_in(&ranges);
         let earlier =
             all.into_iter().enumerate().filter_map(|(own, first)| Some((own, first.filter(|first| *first < own)?)));
         let pair = |(own, first): (usize, usize)| Some((fdes.get(own)?.offset, **fdes.get(first)?));

@@ -2,9 +2,9 @@
 
 use super::instructions::Memory;
 use crate::elf::covered::Covered;
+use crate::elf::function_offset::FunctionOffset;
 use crate::elf::functions::Functions;
 use crate::elf::program::Program;
-use crate::elf::spot::Spot;
 use std::ops::Range;
 
 /// Code without rows may be padding only if it has at most this many bytes.
@@ -100,7 +100,7 @@ impl Totals {
 
 impl Gap {
     fn named(addresses: Range<u64>, kind: GapKind, functions: &Functions<'_>) -> Self {
-        let symbol = Spot::at(functions, addresses.start).map(|spot| spot.to_string());
+        let symbol = FunctionOffset::at(functions, addresses.start).map(|spot| spot.to_string());
         Gap { addresses, kind, symbol }
     }
 

@@ -1,5 +1,5 @@
-//! What the instructions of a stretch make of the registers and the stack: it follows from what a thread has where
-//! the stretch begins.
+//! What the instructions of a batch make of the registers and the stack: it follows from what a thread has where
+//! the batch begins.
 
 use super::judge::Below;
 use super::registers::Registers;
@@ -12,22 +12,22 @@ pub(super) const STACK: Register = Register(7);
 /// The register that functions use as a frame pointer, rbp.
 const FRAME: Register = Register(6);
 
-/// A stack pointer that moves by this or more isn't foreseen: it may be on another stack then.
+/// A stack pointer that moves by this or more isn't predicted: it may be on another stack then.
 const FAR: u64 = 1 << 16;
 
-/// What a thread will have at an instruction. Registers that were written since the stretch began in a way that
+/// What a thread will have at an instruction. Registers that were written since the batch began in a way that
 /// isn't followed have their values from before; whoever asks for them has to know which these are.
 #[derive(Clone, Debug)]
-pub(super) struct Foreseen {
+pub(super) struct Predicted {
     pub registers: Registers,
     /// The memory below the CFA. `None` if it isn't known.
     pub below: Option<Below>,
 }
 
-impl Foreseen {
+impl Predicted {
     /// The same after an instruction that changes the stack or the frame pointer, where the registers in `written`
-    /// aren't known. `None` if what it does isn't foreseen.
-    pub fn after(&self, effect: &Effect, written: Set) -> Option<Foreseen> {
+    /// aren't known. `None` if what it does isn't predicted.
+    pub fn after(&self, effect: &Effect, written: Set) -> Option<Predicted> {
         let known = |register: Register| self.registers.get(register.0.into()).filter(|_| !written.contains(register));
         let mut next = self.clone();
         match *effect {

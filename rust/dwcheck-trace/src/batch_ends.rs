@@ -1,4 +1,4 @@
-//! The breakpoints that end a stretch: traps in the code, or breakpoints of the processor.
+//! The breakpoints that end a batch: traps in the code, or breakpoints of the processor.
 //!
 //! The kernel has less to do for a trap. But a trap stops each thread that comes there, so it is for a thread that
 //! has its memory alone. The breakpoints of the processor are those of one thread.
@@ -7,7 +7,7 @@ use super::breakpoints::TRAP;
 use super::ptrace::{self, Tid};
 use super::space::Space;
 
-/// At how many places a stretch may end: the processor has as many breakpoints.
+/// At how many places a batch may end: the processor has as many breakpoints.
 pub(super) const MOST_ENDS: usize = 4;
 
 /// The debug register that says which breakpoints stop a thread.
@@ -16,7 +16,7 @@ const CONTROL: usize = 7;
 /// Traps that are nearer to each other than this, in bytes, are set at once: all code between is read and written.
 const WIDEST: u64 = 4096;
 
-/// Traps that are in the code, for one stretch.
+/// Traps that are in the code, for one batch.
 #[derive(Clone, Debug, Default)]
 pub(super) struct Traps(Vec<Part>);
 

@@ -4,10 +4,10 @@ use crate::debug::inlined;
 use crate::debug::lines::{At, Lines, SourceLine};
 use crate::debug::variables::Called;
 use crate::elf::debug_files::{hex, DebugFiles};
+use crate::elf::demangle::{raw_name, shown_name, STUB};
+use crate::elf::function_offset::FunctionOffset;
 use crate::elf::functions::Functions;
-use crate::elf::names::{raw_name, shown_name, STUB};
 use crate::elf::program::Program;
-use crate::elf::spot::Spot;
 use rustc_hash::FxHashMap;
 use std::path::{Path, PathBuf};
 
@@ -53,7 +53,7 @@ pub struct Inlined {
 
 /// What is known of where a frame is.
 #[derive(Clone, Debug, Default, PartialEq, Eq)]
-pub struct Place {
+pub struct Position {
     /// The file whose code it is in.
     pub module: Option<PathBuf>,
     /// The file's build id, in hex digits.
@@ -209,12 +209,18 @@ impl<'a> Names<'a> {
 
     /// Where an address in the file is. `looked_up` is `address`, or the byte before it if `address`
     /// follows a call.
-    pub fn place(&self, address: u64, looked_up: u64, options: NameOptions) -> Place {
-        self.place_of(address, looked_up, self.debug.functions(looked_up), options)
+    pub fn position(&self, address: u64, looked_up: u64, options: NameOptions) -> Position {
+        self.position_of(address, looked_up, self.debug.functions(looked_up), options)
     }
 
     /// The same, with the functions that a file of its own has there, the outermost first.
-    pub(crate) fn place_in(&self, address: u64, looked_up: u64, called: Vec<Called>, options: NameOptions) -> Place {
+    pub(crate) fn position_in(
+        &self,
+        address: u64,
+        looked_up: u64,
+        called: Vec<Called>,
+        options: NameOptions,
+    ) -> Position {
         let line = match &self.debug {
             Debug::Lines(lines) => lines.line(looked_up),
             _ => None,
@@ -223,7 +229,7 @@ impl<'a> Names<'a> {
         let mut found: Vec<_> =
             called.iter().zip(calls).map(|(one, source)| At { name: one.name.clone(), source }).collect();
         found.reverse();
-        self.place_of(address, looked_up, found, options)
+        self.position_of(address, looked_up, found, options)
     }
 
     /// The name of the function at whose first address a call leads, if what it reached is in another function. `None`
@@ -243,22 +249,22 @@ impl<'a> Names<'a> {
         is_left.then(|| options.shown(without_version(&from.name)))
     }
 
-    fn place_of(&self, address: u64, looked_up: u64, mut found: Vec<At>, options: NameOptions) -> Place {
-        let mut place = Place::default();
-        if let Some(spot) = Spot::at(&self.functions, looked_up) {
-            place.function = Some(options.shown(without_version(spot.name)));
-            place.offset = Some(spot.offset.saturating_add(address.wrapping_sub(looked_up)));
+    fn position_of(&self, address: u64, looked_up: u64, mut found: Vec<At>, options: NameOptions) -> Position {
+        let mut position = Position::default();
+        if let Some(spot) = FunctionOffset::at(&self.functions, looked_up) {
+            position.function = Some(options.shown(without_version(spot.name)));
+            position.offset = Some(spot.offset.saturating_add(address.wrapping_sub(looked_up)));
         }
         if let Some(At { name, source }) = found.pop() {
-            place.source = source.filter(|_| options.source);
-            place.function = place.function.or_else(|| name.map(|name| options.shown(&name)));
+            position.source = source.filter(|_| options.source);
+            position.function = position.function.or_else(|| name.map(|name| options.shown(&name)));
         }
         let inlined = found.into_iter().filter(|_| options.inlined).map(|At { name, source }| Inlined {
             name: name.map_or_else(String::new, |name| options.shown(&name)),
             source: source.filter(|_| options.source),
         });
-        place.inlined = inlined.collect();
-        place
+        position.inlined = inlined.collect();
+        position
     }
 }
 

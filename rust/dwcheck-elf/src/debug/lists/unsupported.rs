@@ -9,7 +9,7 @@ use std::fmt;
 
 /// What an operation is that `dwcheck` doesn't know.
 #[derive(Clone, Copy, Debug, PartialEq, Eq, PartialOrd, Ord, Hash)]
-pub enum Hole {
+pub enum Unsupported {
     /// `DW_OP_entry_value`: a value when the function was entered.
     EntryValue,
     /// `DW_OP_implicit_pointer`: a pointer to an object that has no address.
@@ -42,9 +42,9 @@ pub enum Hole {
 
 /// A hole of an expression that was rewritten.
 #[derive(Clone, Copy, Debug, PartialEq, Eq)]
-pub struct Spot {
+pub struct UnsupportedAt {
     /// What is there in the original.
-    pub hole: Hole,
+    pub unsupported: Unsupported,
     /// The offset of the operation in the original expression.
     pub original: usize,
     /// The offset in the rewritten expression of the operation that is unreadable.
@@ -58,31 +58,31 @@ pub(crate) const UNREADABLE: [u8; 3] = [op::CONST1S, 0xff, op::DEREF];
 /// The offset in [`UNREADABLE`] of the operation that has no result.
 pub(crate) const DEREF: usize = 2;
 
-impl Hole {
+impl Unsupported {
     /// Whether it isn't known what the operation does to the stack, so that a hole replaces the
     /// whole expression, which is then not checked.
     pub fn is_whole(self) -> bool {
-        matches!(self, Hole::Call | Hole::Vendor(_) | Hole::LongBranch)
+        matches!(self, Unsupported::Call | Unsupported::Vendor(_) | Unsupported::LongBranch)
     }
 }
 
-impl fmt::Display for Hole {
+impl fmt::Display for Unsupported {
     fn fmt(&self, f: &mut fmt::Formatter<'_>) -> fmt::Result {
         f.write_str(match self {
-            Hole::EntryValue => "entry_value",
-            Hole::ImplicitPointer => "implicit_pointer",
-            Hole::ConstType => "const_type",
-            Hole::RegvalType => "regval_type",
-            Hole::DerefType => "deref_type",
-            Hole::Convert => "convert",
-            Hole::Reinterpret => "reinterpret",
-            Hole::Xderef => "xderef",
-            Hole::FormTlsAddress => "form_tls_address",
-            Hole::ParameterRef => "GNU_parameter_ref",
-            Hole::VariableValue => "GNU_variable_value",
-            Hole::Call => "call",
-            Hole::Vendor(code) => return write!(f, "operation-{:#04x}", code),
-            Hole::LongBranch => "long-branch",
+            Unsupported::EntryValue => "entry_value",
+            Unsupported::ImplicitPointer => "implicit_pointer",
+            Unsupported::ConstType => "const_type",
+            Unsupported::RegvalType => "regval_type",
+            Unsupported::DerefType => "deref_type",
+            Unsupported::Convert => "convert",
+            Unsupported::Reinterpret => "reinterpret",
+            Unsupported::Xderef => "xderef",
+            Unsupported::FormTlsAddress => "form_tls_address",
+            Unsupported::ParameterRef => "GNU_parameter_ref",
+            Unsupported::VariableValue => "GNU_variable_value",
+            Unsupported::Call => "call",
+            Unsupported::Vendor(code) => return write!(f, "operation-{:#04x}", code),
+            Unsupported::LongBranch => "long-branch",
         })
     }
 }

@@ -54,8 +54,11 @@ impl<'a> Section<'a> {
         self.contents.units += 1;
         self.contents.lists += lists.lists.len();
         self.contents.entries += lists.entries.len();
-        self.contents.with_holes += lists.with_holes;
-        lists.holes.iter().for_each(|(hole, count)| *self.contents.holes.entry(*hole).or_default() += count);
+        self.contents.with_unsupported += lists.with_unsupported;
+        lists
+            .all_unsupported
+            .iter()
+            .for_each(|(unsupported, count)| *self.contents.all_unsupported.entry(*unsupported).or_default() += count);
     }
 
     /// Counts the entries of a unit's lists that are most likely mistakes, and keeps them if they are asked for.

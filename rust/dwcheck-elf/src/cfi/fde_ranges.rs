@@ -6,7 +6,7 @@ use std::ops::Range;
 
 /// A range of addresses, and the index of the FDE that counts there.
 #[derive(Clone, Debug, PartialEq, Eq)]
-pub struct Piece {
+pub struct FdeRange {
     /// The addresses.
     pub range: Range<u64>,
     /// The index of the FDE.
@@ -15,17 +15,17 @@ pub struct Piece {
 
 /// Ranges that share no address, ascending.
 #[derive(Clone, Debug, Default)]
-pub(crate) struct Pieces(Vec<Piece>);
+pub(crate) struct FdeRanges(Vec<FdeRange>);
 
-impl Pieces {
+impl FdeRanges {
     /// The pieces of FDEs with these ranges. Where several FDEs cover an address, the first of them
     /// counts. This takes O(n log n) time for n FDEs, and there are at most 2 n pieces.
     pub fn of(ranges: impl Iterator<Item = Range<u64>>) -> Self {
-        let pieces = ranges.enumerate().map(|(fde, range)| Piece { range, fde });
+        let pieces = ranges.enumerate().map(|(fde, range)| FdeRange { range, fde });
         let mut pieces: Vec<_> = pieces.filter(|piece| piece.range.start < piece.range.end).collect();
         pieces.sort_by_key(|piece| piece.range.start);
         let overlap = pieces.windows(2).any(|pair| pair[1].range.start < pair[0].range.end);
-        Pieces(if overlap { swept(&pieces) } else { pieces })
+        FdeRanges(if overlap { swept(&pieces) } else { pieces })
     }
 
     /// For each of these ranges, the first FDE that shares an address with it. `None` for a range
@@ -42,7 +42,7 @@ impl Pieces {
     }
 
     /// The piece that has an address.
-    pub fn find(&self, address: u64) -> Option<&Piece> {
+    pub fn find(&self, address: u64) -> Option<&FdeRange> {
         let next = self.0.partition_point(|piece| piece.range.start <= address);
         let before = self.0.get(next.checked_sub(1)?)?;
         Some(before).filter(|piece| piece.range.contains(&address))
@@ -50,14 +50,14 @@ impl Pieces {
 }
 
 /// Cuts ranges that overlap into pieces. `all` is in ascending order of the first address.
-fn swept(all: &[Piece]) -> Vec<Piece> {
+fn swept(all: &[FdeRange]) -> Vec<FdeRange> {
     let mut bounds: Vec<u64> = all.iter().flat_map(|piece| [piece.range.start, piece.range.end]).collect();
     bounds.sort_unstable();
     bounds.dedup();
     let mut begun = all.iter().peekable();
     // The FDEs that have begun, the first one on top, each with its end.
     let mut open: BinaryHeap<Reverse<(usize, u64)>> = BinaryHeap::new();
-    let mut pieces: Vec<Piece> = Vec::new();
+    let mut pieces: Vec<FdeRange> = Vec::new();
     for pair in bounds.windows(2) {
         while let Some(piece) = begun.next_if(|piece| piece.range.start <= pair[0]) {
             open.push(Reverse((piece.fde, piece.range.end)));
@@ -68,7 +68,7 @@ fn swept(all: &[Piece]) -> Vec<Piece> {
         if let Some(Reverse((fde, _))) = open.peek() {
             match pieces.last_mut().filter(|last| last.fde == *fde && last.range.end == pair[0]) {
                 Some(last) => last.range.end = pair[1],
-                None => pieces.push(Piece { range: pair[0]..pair[1], fde: *fde }),
+                None => pieces.push(FdeRange { range: pair[0]..pair[1], fde: *fde }),
             }
         }
     }
@@ -111,14 +111,14 @@ impl Least {
 
 #[cfg(test)]
 mod tests {
-    use super::Pieces;
+    use super::FdeRanges;
     use std::ops::Range;
 
     /// Compared with a search through all ranges.
     #[test]
     fn the_first_fde_counts() {
         let ranges = [10..20, 15..30, 40..50, 12..14, 5..60, 60..60, 0..3, 40..50];
-        let pieces = Pieces::of(ranges.iter().cloned());
+        let pieces = FdeRanges::of(ranges.iter().cloned());
         for address in 0..70 {
             let first = ranges.iter().position(|range| range.contains(&address));
             assert_eq!(pieces.find(address).map(|piece| piece.fde), first, "{}", address);
@@ -129,7 +129,7 @@ mod tests {
     #[test]
     fn the_first_fde_that_shares_an_address() {
         let ranges: Vec<Range<u64>> = (0..200).map(|n| n * 7919 % 101..(n * 7919 % 101 + n * 31 % 23)).collect();
-        let pieces = Pieces::of(ranges.iter().cloned());
+        let pieces = FdeRanges::of(ranges.iter().cloned());
         let shares = |one: &Range<u64>, other: &Range<u64>| one.start.max(other.start) < one.end.min(other.end);
         for (range, first) in ranges.iter().zip(pieces.first_in(&ranges)) {
             assert_eq!(first, ranges.iter().position(|other| shares(range, other)), "{:?}", range);
