@@ -13,7 +13,7 @@ pub enum End {
     Complete,
     /// The caller is past the end of the copy of the stack.
     EndOfCopy,
-    /// No table covers the last frame, and its frame pointer leads to no code.
+    /// No row covers the last frame, and no other rule finds its caller.
     NoTable,
     /// The return address isn't in code.
     NotCode,
