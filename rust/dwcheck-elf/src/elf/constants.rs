@@ -13,8 +13,11 @@ pub type Constants<'data> = Vec<(u64, Cow<'data, [u8]>)>;
 
 /// A linked file that is loaded in a process.
 pub(crate) struct Loaded<'file, 'data> {
+    /// The file.
     pub file: &'file object::File<'data>,
+    /// The machine's number (`e_machine`).
     pub machine: u16,
+    /// The byte order and the address size.
     pub target: Target,
     /// What is added to addresses of the file to get those in the process.
     pub load: u64,

@@ -65,9 +65,13 @@ struct CoreSegment<'data> {
 
 /// What was copied of a process that runs.
 pub(crate) struct Copied<'data> {
+    /// What `/proc` has of it.
     pub process: &'data Process,
+    /// The byte order and the address size.
     pub target: Target,
+    /// The calling convention.
     pub abi: &'static Abi,
+    /// The threads, with their registers.
     pub threads: &'data [Thread],
     /// Memory: its addresses and bytes. Where two blocks have an address, the first one counts.
     pub memory: [&'data [(u64, Vec<u8>)]; 2],

@@ -13,7 +13,9 @@ const IDLE: [&str; 3] = ["nop", "xchg %ax, %ax", "int3"];
 
 /// The code and data of a program, with the decoder of its instructions if there is one.
 pub(super) struct Memory<'data> {
+    /// The code and data.
     pub image: Image<'data>,
+    /// The decoder.
     pub machine: Option<&'static Machine>,
 }
 

@@ -139,6 +139,7 @@ pub(super) struct Reader<'r, 's> {
 }
 
 impl<'r, 's> Reader<'r, 's> {
+    /// A reader that has read no unit yet.
     pub fn new(search: &'r Search<'s>) -> Self {
         Reader { search, units: FxHashMap::default() }
     }

@@ -37,7 +37,9 @@ pub(crate) enum Bounds {
 /// An expression, and its offset in the section.
 #[derive(Clone, Copy, Debug, PartialEq, Eq)]
 pub(crate) struct Expression<'a> {
+    /// The offset in the section of its first byte.
     pub offset: usize,
+    /// Its bytes.
     pub bytes: &'a [u8],
 }
 

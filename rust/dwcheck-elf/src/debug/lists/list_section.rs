@@ -35,6 +35,7 @@ pub(crate) struct Section<'a> {
 }
 
 impl<'a> Section<'a> {
+    /// A section of whose lists nothing was read yet.
     pub fn new(name: Name, bytes: &'a [u8]) -> Self {
         let left = bytes.len().saturating_mul(MAX_SHARING);
         let (contents, coverage) = (Contents::default(), Coverage::default());

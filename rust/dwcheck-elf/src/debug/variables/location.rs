@@ -22,9 +22,11 @@ const MAX_KNOWN: usize = 1 << 14;
 
 /// Looks up where the variables of a frame are.
 pub(super) struct Locator<'v, 'a> {
+    /// The debug information.
     pub variables: &'v Variables<'a>,
     /// The function of the frame, not inlined.
     pub function: Die<'v, 'a>,
+    /// The frame, with its callers.
     pub frame: Frame<'v>,
     /// The registers and the memory of the frame.
     pub machine: Machine<'v>,
@@ -38,6 +40,7 @@ pub(super) struct Locator<'v, 'a> {
 }
 
 impl<'v, 'a> Locator<'v, 'a> {
+    /// A locator for a frame of a function, of which nothing was looked up yet.
     pub fn new(variables: &'v Variables<'a>, function: Die<'v, 'a>, frame: Frame<'v>, machine: Machine<'v>) -> Self {
         Locator::with(variables, function, frame, machine, Rc::new(Cell::new(MAX_KNOWN)))
     }

@@ -21,7 +21,9 @@ pub(super) struct Scope<'u, 'a> {
 /// A variable or a parameter.
 #[derive(Clone)]
 pub(super) struct Variable<'u, 'a> {
+    /// Its entry of debug information.
     pub die: Die<'u, 'a>,
+    /// Whether it is a parameter.
     pub is_parameter: bool,
     /// Whether only the abstract instance of the function has it: nothing says where it is.
     pub is_abstract: bool,

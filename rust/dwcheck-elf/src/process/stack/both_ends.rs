@@ -18,12 +18,16 @@ pub(super) struct BothEnds {
 
 /// A walk that has ended.
 pub(super) struct Walked {
+    /// The frames, the innermost first.
     pub frames: Vec<Frame>,
+    /// Those that are left out of `frames`.
     pub left_out: Option<LeftOut>,
+    /// Why there are no more frames.
     pub stop: Stop,
 }
 
 impl BothEnds {
+    /// No frames yet.
     pub fn new(options: WalkOptions) -> Self {
         BothEnds { options, frames: Vec::new(), outermost: VecDeque::new(), count: 0 }
     }
@@ -34,6 +38,7 @@ impl BothEnds {
         self.count >= self.options.limit.max(most)
     }
 
+    /// Adds the next frame.
     pub fn push(&mut self, frame: Frame) {
         self.count += 1;
         if self.frames.len() < self.options.limit {
@@ -45,6 +50,7 @@ impl BothEnds {
         self.outermost.push_back(frame);
     }
 
+    /// The frames, of which there are no more.
     pub fn end(mut self, stop: Stop) -> Walked {
         let after = self.frames.len();
         let count = self.count - after - self.outermost.len();

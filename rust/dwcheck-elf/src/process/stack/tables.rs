@@ -66,6 +66,7 @@ struct Compiled {
 
 /// The caller of a frame that a row was found for.
 pub(super) struct Found {
+    /// The caller.
     pub caller: Caller,
     /// Whether the frame is a signal frame, whose caller was interrupted and didn't call.
     pub is_signal_frame: bool,

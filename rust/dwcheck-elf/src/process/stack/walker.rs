@@ -8,11 +8,15 @@ use dwcheck::{Abi, Answer, Block, Error, Registers, State};
 
 /// A walk up the stack of a thread.
 pub(super) struct Walker<'w, 'a> {
+    /// The process.
     pub stacks: &'w Stacks<'a>,
+    /// Its memory.
     pub blocks: &'w [Block<'a>],
+    /// How to walk.
     pub options: WalkOptions,
     /// The bits of a return address that may have its signature.
     pub signed_bits: u64,
+    /// The frames' CFAs.
     pub growth: Growth,
 }
 
