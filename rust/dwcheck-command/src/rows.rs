@@ -72,7 +72,7 @@ fn write_section(
 
 fn write_rows(out: &mut impl Write, frames: &Frames<'_>, mut rows: DwcheckRows<'_>) -> Result<(), Failure> {
     let mut row = Row::default();
-    while rows.next_row(&mut row).map_err(Failure::File)? {
+    while rows.next_row(&mut row).map_err(|error| Failure::File(error.to_string()))? {
         writeln!(out, "{}", RowLine(frames.target(), &row))?;
     }
     Ok(())
@@ -95,7 +95,7 @@ pub fn row(arguments: &RowArguments, out: &mut impl Write) -> Result<Done, Failu
             let mut row = Row::default();
             let end = linked.saturating_add(1);
             let found = DwcheckRows::whole(&process, linked, end).next_row(&mut row);
-            found.map_err(Failure::File)?;
+            found.map_err(|error| Failure::File(error.to_string()))?;
             writeln!(out, "section {}", frames.name())?;
             writeln!(out, "{}{}", RowLine(target, &row), named(&functions, linked))?;
             opened.note_refused(&arguments.program, false);

@@ -13,12 +13,13 @@ use dwcheck_elf::frames::{Name, Notes};
 use dwcheck_elf::inspect::{inspect, inspect_frame_sections, Check, Inspected, Verdict};
 use dwcheck_elf::lines::{Lines, SourceLine};
 use dwcheck_elf::lists;
-use dwcheck_elf::program::Program;
+use dwcheck_elf::program::{Program, ProgramError};
 use dwcheck_elf::validate::Agreement;
 use files::{content, Files};
 use indicatif::{ProgressBar, ProgressStyle};
 use rayon::prelude::*;
 use std::collections::HashMap;
+use std::fmt;
 use std::io::{self, Write};
 use std::path::PathBuf;
 use std::sync::mpsc::{self, Receiver};
@@ -34,7 +35,25 @@ pub struct Surveyed {
     path: PathBuf,
     /// The machine's number (`e_machine`), if the file's headers can be read.
     machine: Option<u16>,
-    outcome: Result<Vec<Section>, String>,
+    outcome: Result<Vec<Section>, Unread>,
+}
+
+/// Why a file can't be checked.
+#[derive(Debug)]
+pub enum Unread {
+    /// It can't be read.
+    File(io::Error),
+    /// It isn't an ELF file that can be read.
+    Program(ProgramError),
+}
+
+impl fmt::Display for Unread {
+    fn fmt(&self, f: &mut fmt::Formatter<'_>) -> fmt::Result {
+        match self {
+            Unread::File(error) => write!(f, "cannot read: {}", error),
+            Unread::Program(error) => error.fmt(f),
+        }
+    }
 }
 
 /// The result of checking a section.
@@ -175,14 +194,14 @@ struct Asked {
 fn inspected(path: PathBuf, asked: Asked) -> Surveyed {
     match content(&path) {
         Ok(data) => inspected_bytes(path, &data, asked),
-        Err(error) => Surveyed { path, machine: None, outcome: Err(format!("cannot read: {}", error)) },
+        Err(error) => Surveyed { path, machine: None, outcome: Err(Unread::File(error)) },
     }
 }
 
 fn inspected_bytes(path: PathBuf, data: &[u8], asked: Asked) -> Surveyed {
     let program = match Program::read(data) {
         Ok(program) => program,
-        Err(error) => return Surveyed { path, machine: None, outcome: Err(error.to_string()) },
+        Err(error) => return Surveyed { path, machine: None, outcome: Err(Unread::Program(error)) },
     };
     let inspected = match asked.has_lists {
         true => inspect(&program, asked.check),

@@ -13,6 +13,7 @@ mod cfi;
 mod check;
 mod debug;
 mod elf;
+mod error;
 #[cfg(test)]
 mod layers;
 mod process;
@@ -22,6 +23,7 @@ pub use check::{fault, inspect, lint, program_report};
 pub use debug::{expression, lines, loclists, variables};
 pub use dwcheck_types::{abi, target};
 pub use elf::{debug_files, functions, image, mapped, other_file, program, relocate};
+pub use error::Error;
 pub use process::{core_file, live, modules, stack, state_file};
 
 /// The location lists of a program.

@@ -1,6 +1,7 @@
 //! Shows a function's instructions, with its rows and what the code says side by side.
 
 use crate::correct_row::{CorrectRow, Location};
+use crate::error::Error;
 use crate::finding_text::{RowText, ShownAddress, Sum};
 use crate::flow::Flow;
 use crate::judge::{Facts, Verdict};
@@ -28,7 +29,7 @@ pub struct Line {
 struct Listing(Vec<Line>);
 
 /// Explains the FDE that contains an address.
-pub fn explain(lint: &mut Lint<'_>, address: u64) -> Result<Vec<Line>, String> {
+pub fn explain(lint: &mut Lint<'_>, address: u64) -> Result<Vec<Line>, Error> {
     let mut flow = lint.flow(address)?;
     let mut listing = Listing(Vec::new());
     for leader in flow.reached_leaders() {

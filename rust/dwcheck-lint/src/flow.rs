@@ -3,6 +3,7 @@
 use crate::assume::{assumed, entered, unsaved};
 use crate::callees::{leads_elsewhere, Callees};
 use crate::code::{Code, Lists, USUAL_BYTES};
+use crate::error::Error;
 use crate::follow::{Follow, Tally};
 use crate::instruction::Effect;
 use crate::judge::{unjudged, Judge, Said, Verdict};
@@ -121,9 +122,9 @@ impl<'m, 'c> Flow<'m, 'c> {
         callees: &'c mut Callees,
         room: &'c mut Room,
         fde: &'m Fde,
-    ) -> Result<Self, String> {
+    ) -> Result<Self, Error> {
         let bytes = usize::try_from(fde.end - fde.begin).ok().and_then(|size| module.bytes_at(fde.begin).get(..size));
-        let bytes = bytes.filter(|bytes| bytes.len() <= MOST_BYTES).ok_or("the code isn't in the file, or too long")?;
+        let bytes = bytes.filter(|bytes| bytes.len() <= MOST_BYTES).ok_or(Error::Code)?;
         let rows = module.rows.rows(fde)?;
         let code = Code::decode(module.machine, fde, bytes, &rows, std::mem::take(&mut room.code));
         let mut blocks = std::mem::take(&mut room.blocks);

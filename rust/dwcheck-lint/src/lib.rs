@@ -12,7 +12,8 @@
 //! - [`landings`] reads where calls go on that throw.
 //! - [`rules`] says which ways through the code aren't taken.
 //! - [`judge`], [`expression`], [`verdicts`], [`follow`], [`judging`] and [`correct_row`] compare rows with what is known.
-//! - [`kinds`], [`finding`], [`coverage`], [`finding_text`] and [`explain`] say what was found.
+//! - [`kinds`], [`finding`], [`coverage`], [`finding_text`] and [`explain`] say what was found, and [`error`] why an
+//!   FDE can't be judged.
 
 #![warn(missing_docs)]
 #![deny(unsafe_op_in_unsafe_fn)]
@@ -24,6 +25,7 @@ pub mod code;
 pub mod correct_row;
 pub mod coverage;
 pub mod crossing;
+pub mod error;
 pub mod explain;
 pub mod expression;
 pub mod finding;

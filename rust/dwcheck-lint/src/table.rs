@@ -1,5 +1,6 @@
 //! Unwind tables, as the lint takes them.
 
+use crate::error::Error;
 use crate::register::Register;
 use dwcheck_types::row;
 use std::ops::Range;
@@ -46,8 +47,12 @@ pub type Rule<'a> = row::Rule<&'a [u8], Register>;
 
 /// Gives the rows of a module.
 pub trait Rows {
-    /// The rows of an FDE, ascending, without gaps. The reason if they can't be read.
-    fn rows(&self, fde: &Fde) -> Result<Vec<Row<'_>>, String>;
+    /// The rows of an FDE, ascending, without gaps.
+    ///
+    /// # Errors
+    ///
+    /// If they can't be read.
+    fn rows(&self, fde: &Fde) -> Result<Vec<Row<'_>>, Error>;
 
     /// The row of an address.
     fn row(&self, address: u64) -> Option<Row<'_>>;

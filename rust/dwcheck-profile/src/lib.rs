@@ -17,6 +17,7 @@
 mod batch;
 pub mod calls;
 mod collect;
+mod error;
 pub mod firefox;
 pub mod folded;
 mod frame_names;

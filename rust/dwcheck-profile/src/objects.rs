@@ -1,6 +1,7 @@
 //! The files whose code samples pass, and other code that has an owner: the kernel, and code that a
 //! compiler made at run time.
 
+use super::error::Error;
 use super::jitdump::is_dump;
 use super::recording::{BuildId, Features, Mapped};
 use super::tables::Tables;
@@ -310,7 +311,7 @@ impl Object {
             other => match (cached(), other) {
                 (Some(bytes), _) => Loaded::of(bytes),
                 (None, Ok(_)) => Loaded::problem("isn't the file that was recorded: its build id is another".into()),
-                (None, Err(why)) => Loaded::problem(why),
+                (None, Err(why)) => Loaded::problem(why.to_string()),
             },
         }
     }
@@ -338,13 +339,13 @@ impl Object {
 }
 
 /// The bytes of a regular file.
-fn content(path: &Path) -> Result<Bytes, String> {
-    let metadata = path.metadata().map_err(|error| format!("can't be read: {}", error))?;
+fn content(path: &Path) -> Result<Bytes, Error> {
+    let metadata = path.metadata().map_err(Error::Read)?;
     if !metadata.is_file() {
-        return Err("isn't a regular file".into());
+        return Err(Error::NotRegular);
     }
-    let file = File::open(path).map_err(|error| format!("can't be read: {}", error))?;
-    Bytes::of_file(&file, metadata.len()).map_err(|error| format!("can't be read: {}", error))
+    let file = File::open(path).map_err(Error::Read)?;
+    Bytes::of_file(&file, metadata.len()).map_err(Error::Read)
 }
 
 /// The vDSO of this program.

@@ -3,6 +3,7 @@
 //! There is one table for each FDE, at the addresses as linked, wherever and however often processes mapped the
 //! file. An FDE is checked and compiled when a frame first needs it, by whichever thread walks there first.
 
+use super::error::Error;
 use dwcheck::Process;
 use dwcheck_elf::internal::{add as add_fde, SectionTable};
 use dwcheck_types::target::Target;
@@ -19,7 +20,7 @@ pub(super) struct TableId {
 #[derive(Debug)]
 struct Compiled {
     /// Its table, or why it is refused.
-    table: Result<Process, String>,
+    table: Result<Process, Error>,
     /// The number of the round of walks that needed it first.
     round: u32,
 }
@@ -73,7 +74,7 @@ impl Tables {
             let refused = section.compiled.iter().enumerate();
             refused.filter_map(move |(fde, compiled)| {
                 let why = compiled.get()?.table.as_ref().err()?;
-                Some(section.table.problem(fde, why))
+                Some(section.table.problem(fde, &why.to_string()))
             })
         })
     }
@@ -89,12 +90,12 @@ impl Section {
     }
 
     /// Checks and compiles an FDE.
-    fn compile(&self, fde: usize) -> Result<Process, String> {
-        let one = self.table.one(fde)?;
+    fn compile(&self, fde: usize) -> Result<Process, Error> {
+        let one = self.table.one(fde).map_err(Error::Fde)?;
         let mut process = Process::new(one.format.target);
         let addresses = self.table.addresses(fde);
         let module = one.format.module(&one.bytes, 0).range(addresses.start..=addresses.end.saturating_sub(1));
-        add_fde(&mut process, &one, &module, addresses.start).map_err(|error| error.to_string())?;
+        add_fde(&mut process, &one, &module, addresses.start).map_err(Error::Library)?;
         Ok(process)
     }
 }

@@ -343,4 +343,12 @@ impl fmt::Display for FileError {
     }
 }
 
-impl std::error::Error for FileError {}
+impl std::error::Error for FileError {
+    fn source(&self) -> Option<&(dyn std::error::Error + 'static)> {
+        match self {
+            FileError::Unread(error) => Some(error),
+            FileError::Program(error) => Some(error),
+            FileError::Code(error) => Some(error),
+        }
+    }
+}

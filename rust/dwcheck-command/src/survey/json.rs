@@ -38,7 +38,7 @@ fn file(one: &Surveyed) -> Value {
     }
     match outcome {
         Ok(sections) => object["sections"] = sections.iter().map(section).collect(),
-        Err(error) => object["error"] = json!(error),
+        Err(error) => object["error"] = json!(error.to_string()),
     }
     object
 }

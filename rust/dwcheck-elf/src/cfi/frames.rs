@@ -296,4 +296,11 @@ impl fmt::Display for FramesError {
     }
 }
 
-impl std::error::Error for FramesError {}
+impl std::error::Error for FramesError {
+    fn source(&self) -> Option<&(dyn std::error::Error + 'static)> {
+        match self {
+            FramesError::Program(_, error) => Some(error),
+            _ => None,
+        }
+    }
+}

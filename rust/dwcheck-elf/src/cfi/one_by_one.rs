@@ -2,9 +2,10 @@
 //! as a whole.
 
 use crate::cfi::fde_ranges::FdeRanges;
-use crate::cfi::frames::{body, Format, Frames, Kind, Record, RecordStatus};
+use crate::cfi::frames::{body, Format, Frames, Kind, Name, Record, RecordStatus};
 use dwcheck::{Error, Fault, FaultKind, Process, Section};
 use std::collections::{HashMap, HashSet};
+use std::fmt;
 
 /// A section that has only one FDE and its CIE, or only one CIE.
 #[derive(Clone, Debug)]
@@ -103,18 +104,45 @@ pub fn accepted_part<'data>(frames: &Frames<'data>, faults: &[Found]) -> Frames<
     frames.without(&refused)
 }
 
+/// Why nothing of a section is used.
+#[derive(Clone, Debug, PartialEq, Eq)]
+pub(crate) enum NotUsed {
+    /// The section has this fault, and what is left of it without what is refused is refused too.
+    Refused(Name, Fault),
+    /// The library has returned this error.
+    Library(Name, Error),
+}
+
+impl fmt::Display for NotUsed {
+    fn fmt(&self, f: &mut fmt::Formatter<'_>) -> fmt::Result {
+        match self {
+            NotUsed::Refused(name, fault) => write!(f, "{}: {}: not used", name, fault.name()),
+            NotUsed::Library(name, error) => write!(f, "{}: {}", name, error),
+        }
+    }
+}
+
+impl std::error::Error for NotUsed {
+    fn source(&self) -> Option<&(dyn std::error::Error + 'static)> {
+        match self {
+            NotUsed::Refused(..) => None,
+            NotUsed::Library(_, error) => Some(error),
+        }
+    }
+}
+
 /// A section without the CIEs and FDEs that are refused, and its rows. If there are such, the last part of the
 /// result says how many.
-pub(crate) fn accepted(frames: Frames<'_>) -> Result<(Frames<'_>, Process, Option<String>), String> {
+pub(crate) fn accepted(frames: Frames<'_>) -> Result<(Frames<'_>, Process, Option<String>), NotUsed> {
     let name = frames.name();
     let (frames, process, fault) = match frames.process(0) {
         Ok(process) => (frames, process, None),
         Err(Error::Refused(fault)) => {
             let rest = accepted_part(&frames, &every_fault(&frames, fault));
-            let process = rest.process(0).map_err(|_| format!("{}: {}: not used", name, fault.name()))?;
+            let process = rest.process(0).map_err(|_| NotUsed::Refused(name, fault))?;
             (rest, process, Some(fault.name()))
         }
-        Err(error) => return Err(format!("{}: {}", name, error)),
+        Err(error) => return Err(NotUsed::Library(name, error)),
     };
     let reason = fault.or_else(|| Some("Unresolved").filter(|_| !frames.unresolved().is_empty()));
     let left_out = frames.count(RecordStatus::LeftOut);

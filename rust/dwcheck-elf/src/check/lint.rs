@@ -10,6 +10,7 @@ use crate::elf::functions::Functions;
 use crate::elf::image::{Image, Part};
 use crate::elf::program::Program;
 use dwcheck::{CfaRule, Process};
+use dwcheck_lint::error::Error;
 use dwcheck_lint::landings::landings;
 use dwcheck_lint::machine::Machine;
 use dwcheck_lint::module::{Convention, Module, Segment};
@@ -45,13 +46,13 @@ impl<'data> Sections<'data> {
     pub fn read(program: &Program<'data>) -> Self {
         let mut sections = Sections { all: Vec::new(), image: program.image(), unused: Vec::new() };
         for frames in Frames::all(program) {
-            let used = frames.map_err(|error| error.to_string()).and_then(accepted);
-            match used {
-                Ok((frames, process, problem)) => {
+            match frames.map(accepted) {
+                Ok(Ok((frames, process, problem))) => {
                     sections.all.push((frames, process));
                     sections.unused.extend(problem);
                 }
-                Err(problem) => sections.unused.push(problem),
+                Ok(Err(error)) => sections.unused.push(error.to_string()),
+                Err(error) => sections.unused.push(error.to_string()),
             }
         }
         sections.all.sort_by_key(|(frames, _)| frames.name() != Name::EhFrame);
@@ -230,11 +231,11 @@ impl<'a> SectionRows<'a> {
 }
 
 impl Rows for SectionRows<'_> {
-    fn rows(&self, fde: &Fde) -> Result<Vec<Row<'_>>, String> {
+    fn rows(&self, fde: &Fde) -> Result<Vec<Row<'_>>, Error> {
         let (mut rows, mut next) = (Vec::new(), fde.begin);
         while next < fde.end {
             let row = self.row(next).filter(|row| row.end > next);
-            let row = row.ok_or_else(|| format!("no row for {:#x}", next))?;
+            let row = row.ok_or(Error::NoRow(next))?;
             next = row.end;
             rows.push(row);
         }

@@ -124,4 +124,13 @@ impl fmt::Display for InspectError {
     }
 }
 
-impl std::error::Error for InspectError {}
+impl std::error::Error for InspectError {
+    fn source(&self) -> Option<&(dyn std::error::Error + 'static)> {
+        match self {
+            InspectError::Program(error) => Some(error),
+            InspectError::Difference(error) => Some(error),
+            InspectError::Dwcheck(_, error) => Some(error),
+            _ => None,
+        }
+    }
+}

@@ -250,7 +250,14 @@ impl fmt::Display for VariablesError {
     }
 }
 
-impl std::error::Error for VariablesError {}
+impl std::error::Error for VariablesError {
+    fn source(&self) -> Option<&(dyn std::error::Error + 'static)> {
+        match self {
+            VariablesError::Program(error) => Some(error),
+            _ => None,
+        }
+    }
+}
 
 impl fmt::Debug for Variables<'_> {
     fn fmt(&self, f: &mut fmt::Formatter<'_>) -> fmt::Result {

@@ -482,4 +482,11 @@ impl fmt::Display for ProgramError {
     }
 }
 
-impl std::error::Error for ProgramError {}
+impl std::error::Error for ProgramError {
+    fn source(&self) -> Option<&(dyn std::error::Error + 'static)> {
+        match self {
+            ProgramError::Relocation(_, _, error) => Some(error),
+            _ => None,
+        }
+    }
+}

@@ -285,3 +285,5 @@ impl fmt::Display for RelocationError {
         }
     }
 }
+
+impl std::error::Error for RelocationError {}

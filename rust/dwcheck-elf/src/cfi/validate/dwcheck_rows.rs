@@ -2,7 +2,7 @@
 
 use super::comparable::comparable;
 use super::gimli_rows::{Bounded, Bytes, GimliRows};
-use super::{compare_rows, next_record, Agreement, Difference, RowSource, What};
+use super::{compare_rows, next_record, Agreement, Difference, RowError, RowSource, What};
 use crate::cfi::frames::{Frames, Kind, Name, Record, RecordStatus};
 use crate::cfi::row::{Cfa, Row, Rule};
 use dwcheck::{CfaRule, Process, Rows};
@@ -56,12 +56,12 @@ impl<'a> DwcheckRows<'a> {
 }
 
 /// The bytes of the expression of a rule: of a register's, or of the CFA's.
-fn expression(process: &Process, address: u64, register: Option<u16>) -> Result<Cow<'static, [u8]>, String> {
+fn expression(process: &Process, address: u64, register: Option<u16>) -> Result<Cow<'static, [u8]>, RowError> {
     let bytes = process.rule_bytes(address, register).map(Cow::Owned);
-    bytes.ok_or_else(|| format!("the row of {:#x} has no such expression", address))
+    bytes.ok_or(RowError::NoExpression(address))
 }
 
-fn rule_of(process: &Process, at: u64, register: u16, rule: dwcheck::Rule) -> Result<Rule<'static>, String> {
+fn rule_of(process: &Process, at: u64, register: u16, rule: dwcheck::Rule) -> Result<Rule<'static>, RowError> {
     Ok(match rule {
         dwcheck::Rule::Undefined => Rule::Undefined,
         dwcheck::Rule::SameValue => Rule::SameValue,
@@ -70,27 +70,27 @@ fn rule_of(process: &Process, at: u64, register: u16, rule: dwcheck::Rule) -> Re
         dwcheck::Rule::Register(register) => Rule::Register(register),
         dwcheck::Rule::Expression(_) => Rule::Expression(expression(process, at, Some(register))?),
         dwcheck::Rule::ValExpression(_) => Rule::ValExpression(expression(process, at, Some(register))?),
-        other => return Err(format!("a rule that isn't known: {:?}", other)),
+        other => return Err(RowError::Rule(other)),
     })
 }
 
-fn cfa_of(process: &Process, at: u64, rule: CfaRule) -> Result<Cfa<'static>, String> {
+fn cfa_of(process: &Process, at: u64, rule: CfaRule) -> Result<Cfa<'static>, RowError> {
     match rule {
         CfaRule::RegisterAndOffset { register, offset } => Ok(Cfa::RegisterOffset { register, offset }),
         CfaRule::Expression(_) => expression(process, at, None).map(Cfa::Expression),
-        other => Err(format!("a rule that isn't known: {:?}", other)),
+        other => Err(RowError::CfaRule(other)),
     }
 }
 
 impl<'r> RowSource<'r> for DwcheckRows<'_> {
-    fn next_row(&mut self, row: &mut Row<'r>) -> Result<bool, String> {
+    fn next_row(&mut self, row: &mut Row<'r>) -> Result<bool, RowError> {
         let DwcheckRows { process, rows, next, end, .. } = self;
         if *next >= *end {
             return Ok(false);
         }
-        let found = rows.row(*next).ok_or_else(|| format!("no row for {:#x}", next))?;
+        let found = rows.row(*next).ok_or(RowError::NoRow(*next))?;
         if found.addresses.end <= *next {
-            return Err(format!("a row that ends at {:#x}", found.addresses.end));
+            return Err(RowError::EndsAt(found.addresses.end));
         }
         row.begin = found.addresses.start;
         row.end = found.addresses.end;

@@ -142,7 +142,7 @@ impl<'p, 'a> Files<'p, 'a> {
         match debug_files.shared(path, source) {
             Ok(shared) => shared.and_then(|bytes| Program::read(bytes).ok()),
             Err(why) => {
-                self.problems.push((self.path.to_path_buf(), why));
+                self.problems.push((self.path.to_path_buf(), why.to_string()));
                 None
             }
         }
