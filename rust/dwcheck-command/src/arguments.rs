@@ -109,6 +109,9 @@ pub struct CheckArguments {
     /// Leave location lists out
     #[arg(long)]
     pub no_lists: bool,
+    /// Compare the rows of .eh_frame with gimli's, too
+    #[arg(long)]
+    pub compare: bool,
     #[command(flatten)]
     pub notes: Notes,
 }
@@ -281,6 +284,9 @@ pub struct SurveyArguments {
     /// Check location lists too
     #[arg(long)]
     pub lists: bool,
+    /// Compare the rows of .eh_frame with gimli's, too
+    #[arg(long)]
+    pub compare: bool,
     /// Check this many files at once, instead of one for each processor
     #[arg(long, value_name = "N")]
     pub jobs: Option<usize>,

@@ -6,13 +6,12 @@ use crate::opened::{note, program, read, write_defect};
 use dwcheck::{CheckedExpression, Report};
 use dwcheck_elf::debug_files::DebugFiles;
 use dwcheck_elf::eh_frame_hdr::mismatches;
-use dwcheck_elf::frames::{Frames, Measured, Name, Notes};
+use dwcheck_elf::frames::{Counts, Frames, Measured, Name, Notes};
 use dwcheck_elf::inspect::{inspect_frame_sections, inspect_lists_of_file, Check, Inspected, Verdict};
 use dwcheck_elf::lists::{self, Bytes as ListBytes};
 use dwcheck_elf::mapped::Bytes;
 use dwcheck_elf::program::Program;
 use dwcheck_elf::text::Offset;
-use dwcheck_elf::validate::Agreement;
 use std::io::{self, Write};
 use std::path::{Path, PathBuf};
 
@@ -45,7 +44,8 @@ fn read_program(path: &Path) -> Result<Bytes, Failure> {
 fn check_one(arguments: &CheckArguments, path: &Path, out: &mut impl Write) -> Result<Done, Failure> {
     let data = read_program(path)?;
     let program = program(path, &data)?;
-    let check = Check { all: arguments.all, doubtful: arguments.doubtful };
+    let CheckArguments { all, doubtful, compare, .. } = *arguments;
+    let check = Check { all, doubtful, compare, counts_only: false };
     let mut sections = inspect_frame_sections(&program, check);
     let mut done = Done::Accepted;
     let mut separate = None;
@@ -188,7 +188,7 @@ fn write_rest(out: &mut impl Write, path: &Path, section: &Inspected<'_>) -> io:
     match section.rest() {
         Ok(Some(rest)) => {
             writeln!(out, "{}: {}: {}", shown(path), section.name, rest.left_out())?;
-            write_frames(out, &rest.agreement, &rest.frames)?;
+            write_frames(out, &rest.counts, &rest.frames)?;
             Ok(Done::Refused)
         }
         Ok(None) => Ok(Done::Refused),
@@ -200,8 +200,8 @@ fn write_rest(out: &mut impl Write, path: &Path, section: &Inspected<'_>) -> io:
     }
 }
 
-fn write_frames(out: &mut impl Write, agreement: &Agreement, frames: &Frames<'_>) -> io::Result<()> {
-    let Agreement { cies, fdes, rows, .. } = agreement;
+fn write_frames(out: &mut impl Write, agreement: &Counts, frames: &Frames<'_>) -> io::Result<()> {
+    let Counts { cies, fdes, rows, .. } = agreement;
     // Accepted expressions are refused again only if memory runs out.
     let expressions = frames.measured().map_err(|_| io::ErrorKind::OutOfMemory)?;
     writeln!(out, "cies {} fdes {} rows {} expressions {}", cies, fdes, rows, expressions.len())?;

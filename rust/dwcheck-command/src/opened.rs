@@ -47,8 +47,7 @@ pub struct Opened<'data> {
 }
 
 impl<'data> Opened<'data> {
-    /// Checks the frame sections of a program. The rows of `.eh_frame`, and of a section that had to be changed,
-    /// are also compared with gimli's, and a difference is a failure. A `.debug_frame` that can't be read is left out, if there is an `.eh_frame`, and a note on standard
+    /// Checks the frame sections of a program. A `.debug_frame` that can't be read is left out, if there is an `.eh_frame`, and a note on standard
     /// error says so.
     pub fn read(path: &Path, program: &Program<'data>) -> Result<Self, Failure> {
         let mut opened = Opened { frames: Vec::new(), refused: Vec::new() };

@@ -9,12 +9,11 @@ use crate::arguments::SurveyArguments;
 use crate::end::{shown, Done, Failure};
 use crate::opened::{note, write_defect};
 use dwcheck_elf::fault::Defect;
-use dwcheck_elf::frames::{Name, Notes};
+use dwcheck_elf::frames::{Counts, Name, Notes};
 use dwcheck_elf::inspect::{inspect, inspect_frame_sections, Check, Inspected, Verdict};
 use dwcheck_elf::lines::{Lines, SourceLine};
 use dwcheck_elf::lists;
 use dwcheck_elf::program::{Program, ProgramError};
-use dwcheck_elf::validate::Agreement;
 use files::{content, Files};
 use indicatif::{ProgressBar, ProgressStyle};
 use rayon::prelude::*;
@@ -95,8 +94,10 @@ pub fn survey(arguments: &SurveyArguments, out: &mut impl Write) -> Result<Done,
     let pool = pool.build().map_err(|error| Failure::File(format!("no threads: {}", error)))?;
     let files = pool.install(|| Files::once_each(&arguments.paths));
     let bar = progress(files.paths.len() as u64);
+    // Notes are also in the documents of JSON and SARIF.
+    let counts_only = !(arguments.notes.notes || arguments.json || arguments.sarif);
     let asked = Asked {
-        check: Check { all: arguments.all, ..Check::default() },
+        check: Check { all: arguments.all, compare: arguments.compare, counts_only, ..Check::default() },
         has_lists: arguments.lists,
         has_lines: arguments.sarif,
     };
@@ -240,7 +241,7 @@ impl Section {
         let notes = frames.as_ref().map(Notes::of).unwrap_or_default();
         let mut error = None;
         let (held, defects) = match verdict {
-            Verdict::Frames(Agreement { cies, fdes, rows, .. }) => (Held::Frames { cies, fdes, rows }, Vec::new()),
+            Verdict::Frames(Counts { cies, fdes, rows, .. }) => (Held::Frames { cies, fdes, rows }, Vec::new()),
             Verdict::Lists(found) => {
                 (Held::Lists { lists: found.lists as usize, expressions: found.expressions.len() }, Vec::new())
             }

@@ -4,12 +4,14 @@
 //! is left out, is changed in place; `edits` has the list.
 
 mod copies;
+mod counts;
 mod edits;
 mod expressions;
 mod notes;
 mod records;
 mod signing;
 
+pub use counts::Counts;
 pub use edits::Changes;
 pub use expressions::{Expression, Measured};
 pub use notes::Notes;
@@ -79,6 +81,12 @@ impl<'data> FrameSection<'data> {
     pub fn into_owned(self) -> FrameSection<'static> {
         let source = Section { bytes: Cow::Owned(self.source.bytes.into_owned()), ..self.source };
         FrameSection { source, ..self }
+    }
+
+    /// What the section has, if the library accepts it as it is in the file, and the address of each FDE is known.
+    pub(crate) fn accepted_counts(&self) -> Option<Counts> {
+        let checked = self.source.unresolved.is_empty().then(|| self.format.section(&self.source.bytes).check());
+        checked?.ok().map(Counts::of)
     }
 
     /// All records of the section, in order. It has to have less than 2^32 bytes.
@@ -251,6 +259,15 @@ impl<'data> Frames<'data> {
             .filter(|record| record.next > end)
             .for_each(|record| record.status = RecordStatus::LeftOut);
         rest
+    }
+
+    /// Checks the section, and counts what it has. No rows are compiled.
+    ///
+    /// # Errors
+    ///
+    /// [`Error::Refused`] with the first fault; or [`Error::NoMemory`].
+    pub fn check(&self) -> Result<Counts, Error> {
+        self.section.format.section(self.bytes()).check().map(Counts::of)
     }
 
     /// Makes a process with this section as its only module, which is loaded at `load` and answers

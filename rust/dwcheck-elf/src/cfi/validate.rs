@@ -16,16 +16,6 @@ pub(crate) use comparable::comparable;
 pub use dwcheck_rows::{validate_rows, DwcheckRows};
 pub use gimli_rows::GimliRows;
 
-/// How much was compared and found to be equal.
-#[derive(Clone, Copy, Debug, Default, PartialEq, Eq)]
-pub struct Agreement {
-    /// Common information entries.
-    pub cies: usize,
-    /// Frame description entries.
-    pub fdes: usize,
-    /// Rows that are equal. Rows that cover no address aren't counted.
-    pub rows: usize,
-}
 
 /// The first difference between what gimli reads and what the library reads.
 #[derive(Clone, Debug, PartialEq, Eq)]

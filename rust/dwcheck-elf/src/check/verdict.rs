@@ -1,8 +1,8 @@
 //! What a check of sections is asked for, and what it finds.
 
 use crate::cfi::defect::Defect;
-use crate::cfi::frames::Frames;
-use crate::cfi::validate::{Agreement, Difference};
+use crate::cfi::frames::{Counts, Frames};
+use crate::cfi::validate::Difference;
 use crate::debug::lists;
 use crate::elf::escaped::Escaped;
 use crate::elf::format::Name;
@@ -27,6 +27,11 @@ pub struct Check {
     /// Whether to list the entries of location lists that are most likely mistakes
     /// ([`lists::Contents::doubtful`]).
     pub doubtful: bool,
+    /// Whether the rows of an accepted frame section are compared with gimli's too.
+    pub compare: bool,
+    /// Whether the records of a frame section are read only if it isn't accepted as it is in the file. Then
+    /// [`Inspected::frames`] of an accepted section may be `None`, and the check takes less time.
+    pub counts_only: bool,
 }
 
 /// The result of checking a section.
@@ -39,7 +44,8 @@ pub struct Inspected<'data> {
     pub file: Option<PathBuf>,
     /// The number of bytes of the section in the file, decompressed. 0 if it couldn't be read.
     pub bytes: usize,
-    /// The frame section. `None` for location lists, and for a frame section that couldn't be read.
+    /// The frame section. `None` for location lists, for a frame section that couldn't be read, and for an accepted
+    /// one of which only counts are wanted ([`Check::counts_only`]).
     pub frames: Option<Frames<'data>>,
     /// What location lists have that were found by `.debug_info`. `None` for any other section.
     pub lists: Option<lists::Contents>,
@@ -50,9 +56,9 @@ pub struct Inspected<'data> {
 /// Whether a section was accepted.
 #[derive(Debug)]
 pub enum Verdict {
-    /// A well-formed frame section. If it is `.eh_frame`, or had to be changed, the library's rows are equal to
-    /// the rows that gimli finds in the file's section.
-    Frames(Agreement),
+    /// A well-formed frame section, and what it has. With [`Check::compare`] the rows of `.eh_frame`, and of a
+    /// section that had to be changed, are equal to those that gimli finds in the file's section.
+    Frames(Counts),
     /// Well-formed location lists of a file without `.debug_info`, in which the whole section is checked.
     Lists(Report),
     /// Well-formed location lists, but for what [`lists::Contents::not_checked`] says.

@@ -2,8 +2,8 @@
 
 use super::comparable::comparable;
 use super::gimli_rows::{Bounded, Bytes, GimliRows};
-use super::{compare_rows, next_record, Agreement, Difference, RowError, RowSource, What};
-use crate::cfi::frames::{Frames, Kind, Name, Record, RecordStatus};
+use super::{compare_rows, next_record, Difference, RowError, RowSource, What};
+use crate::cfi::frames::{Counts, Frames, Kind, Name, Record, RecordStatus};
 use crate::cfi::row::{Cfa, Row, Rule};
 use dwcheck::{CfaRule, Process, Rows};
 use dwcheck_types::cursor::Cursor;
@@ -116,7 +116,7 @@ impl<'r> RowSource<'r> for DwcheckRows<'_> {
 /// # Errors
 ///
 /// The first difference. A row that gimli refuses is a difference, too.
-pub fn validate_rows(frames: &Frames<'_>, process: &Process) -> Result<Agreement, Difference> {
+pub fn validate_rows(frames: &Frames<'_>, process: &Process) -> Result<Counts, Difference> {
     let comparable = comparable(frames);
     let (order, address_size) = (frames.target().gimli_order(), frames.target().address_size.bytes());
     let has_gaps = frames.count(RecordStatus::LeftOut) > 0;
@@ -157,14 +157,14 @@ where
     S: UnwindSection<Bytes<'a>>,
     S::Offset: UnwindOffset<usize>,
 {
-    fn run(&self) -> Result<Agreement, Difference> {
+    fn run(&self) -> Result<Counts, Difference> {
         let mut room = Room {
             context: Box::new(UnwindContext::new_in()),
             found: self.process.rows(),
             ours: DwcheckRows::new(self.process, 0, 0),
             rows: Default::default(),
         };
-        let mut agreement = Agreement::default();
+        let mut agreement = Counts::default();
         let mut cursor = Cursor::new(&self.frames.source().bytes, self.frames.target());
         let mut records = self.frames.records().iter().filter(|record| record.kind != Kind::Empty);
         while let Some(offset) = next_record(&mut cursor) {
@@ -177,7 +177,7 @@ where
     }
 
     /// Compares a record, unless it is left out, and counts it, unless it is a copy.
-    fn record(&self, record: &Record, agreement: &mut Agreement, room: &mut Room<'a>) -> Result<(), What> {
+    fn record(&self, record: &Record, agreement: &mut Counts, room: &mut Room<'a>) -> Result<(), What> {
         match (record.status, record.kind) {
             (RecordStatus::LeftOut, _) | (_, Kind::Empty | Kind::Unread(_)) => {}
             // A copy's rows are those of the FDE that it is a copy of, which may be left out.

@@ -1,8 +1,7 @@
 //! What a frame section holds.
 
 use crate::cfi::eh_frame_hdr::mismatches;
-use crate::cfi::frames::{Frames, Name, Notes};
-use crate::cfi::validate::Agreement;
+use crate::cfi::frames::{Counts, Frames, Name, Notes};
 use crate::check::inspect::{Inspected, LeftOut, Verdict};
 use crate::elf::program::Program;
 
@@ -55,7 +54,7 @@ impl Section {
             Verdict::Refused(defects) => match inspected.rest() {
                 Ok(Some(rest)) => {
                     let status = SectionStatus::Refused(defects.len(), Some(rest.left_out()));
-                    (status, Some(Held::of(&rest.agreement, &rest.frames)))
+                    (status, Some(Held::of(&rest.counts, &rest.frames)))
                 }
                 Ok(None) => (SectionStatus::Refused(defects.len(), None), None),
                 Err(error) => (SectionStatus::Unread(error.to_string()), None),
@@ -82,8 +81,8 @@ fn notes(frames: &Frames<'_>, program: &Program<'_>) -> Vec<String> {
 }
 
 impl Held {
-    fn of(agreement: &Agreement, frames: &Frames<'_>) -> Self {
-        let Agreement { cies, fdes, rows, .. } = *agreement;
+    fn of(agreement: &Counts, frames: &Frames<'_>) -> Self {
+        let Counts { cies, fdes, rows, .. } = *agreement;
         let signal_frames = Notes::of(frames).signal_frames;
         Held { cies, fdes, rows, expressions: frames.expressions().count(), signal_frames }
     }
