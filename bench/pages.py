@@ -4,8 +4,8 @@
     bench/pages.py DWCHECK [--elf DWCHECK_ELF] [--slow] [--write] [PAGE]..
 
 A PAGE is a Markdown file. If none is given, all pages with sessions are taken from the top of the
-repository, docs/, rust/dwcheck-elf/ and tools/. A session is an indented block with lines that
-begin with `$ `, which are commands; a command that ends with a backslash continues in the next
+repository, docs/, man/, rust/dwcheck-elf/ and tools/. A session is an indented block with lines
+that begin with `$ `, which are commands; a command that ends with a backslash continues in the next
 line. All sessions of a page run in one shell, in a folder that is empty at first. DWCHECK and
 DWCHECK_ELF are on the PATH as dwcheck and dwcheck-elf, and $REPO is the path of this repository.
 All differences are shown, and if there are any, the exit status is 1. Without --slow this takes
@@ -257,7 +257,8 @@ class Page:
 
 
 def all_pages():
-    folders = [TOP, os.path.join(TOP, "docs"), os.path.join(TOP, "rust", "dwcheck-elf"), os.path.join(TOP, "tools")]
+    folders = [TOP, os.path.join(TOP, "docs"), os.path.join(TOP, "man"), os.path.join(TOP, "rust", "dwcheck-elf"),
+               os.path.join(TOP, "tools")]
     for folder in folders:
         for name in sorted(os.listdir(folder)) if os.path.isdir(folder) else []:
             if name.endswith(".md"):

@@ -220,6 +220,7 @@ class Abi:
     stack_pointer: Optional[int]
 
 
+# The registers are those of rust/dwcheck-types/src/abi.rs. aarch64 has the lower halves of v8 to v15 too.
 X86_64 = Abi((3, 6, 12, 13, 14, 15), 7)
 I386 = Abi((3, 5, 6, 7), 4)
 AARCH64 = Abi(tuple(range(19, 31)) + tuple(range(72, 80)), 31)

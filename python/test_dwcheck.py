@@ -1,5 +1,7 @@
 """Tests of dwcheck.py. They need libdwcheck.so (DWCHECK_LIBRARY) and Debian's python3-pyelftools, whose
 tables of /bin/ls are compared with the library's rows."""
+import pathlib
+import re
 import unittest
 
 from elftools.dwarf.callframe import FDE
@@ -78,6 +80,16 @@ class Rows(unittest.TestCase):
         saved = {number: rule.arg for number, rule in theirs.items() if isinstance(number, int) and rule.type == "OFFSET"}
         self.assertEqual({number: rule.offset for number, rule in ours.rules.items() if rule.kind == "offset"}, saved)
         return 1
+
+
+class Abis(unittest.TestCase):
+    def test_callee_saved_registers_are_those_of_rust(self):
+        source = (pathlib.Path(__file__).parent.parent / "rust/dwcheck-types/src/abi.rs").read_text(encoding="utf-8")
+        lists = dict(re.findall(r"pub const (\w+): \[u16; \d+\] = \[([\d, ]+)\];", source))
+        in_rust = {name: tuple(map(int, numbers.split(","))) for name, numbers in lists.items()}
+        self.assertEqual(dwcheck.X86_64.kept, in_rust["X86_64"])
+        self.assertEqual(dwcheck.I386.kept, in_rust["I386"])
+        self.assertEqual(dwcheck.AARCH64.kept, in_rust["AARCH64"] + tuple(range(72, 80)))
 
 
 class Walks(unittest.TestCase):

@@ -131,7 +131,7 @@ STAGES = [
           progress="^ok (.*?): ", after=()),
     Stage("lint", "clippy, rustfmt, the heads of files, the manual pages", "nice -n 10 rust/lint.sh; tools/files.py --check; tools/man.py --check",
           counted_lines, progress="^(ok .*)", after=(), environment=RUST),
-    Stage("code", "rust/dwcheck-lint", "cd rust/dwcheck-lint && nice -n 10 ../cargo.sh test --no-fail-fast", counted_by_cargo,
+    Stage("code", "rust/dwcheck-lint and dwcheck-types", "cd rust && nice -n 10 ./cargo.sh test --no-fail-fast -p dwcheck-lint -p dwcheck-types", counted_by_cargo,
           after=(), environment=RUST),
     Stage("archive", "the library for C, which is proved while it is built", "tools/build.sh archive && echo 'ok archive' || echo 'FAILED archive'",
           counted_lines, after=("below",)),

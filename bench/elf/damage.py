@@ -152,7 +152,7 @@ def elf_files(program, made_elf, work, seed, count):
         if changed_bytes[:4] == b"\x7fELF":
             expected.add(changed_bytes)
     problems, came = [], Counter()
-    ran, wrong = run([program, "survey", "--all", "--lists", "--notes", "--json", "--jobs", "1", "."], folder, (0, 1, 3))
+    ran, wrong = run([program, "survey", "--compare", "--all", "--lists", "--notes", "--json", "--jobs", "1", "."], folder, (0, 1, 3))
     lines = [json.loads(line) for line in ran.stdout.splitlines()] if ran else []
     if wrong or len(lines) != len(expected) + 1:
         problems.append(f"seed {seed}: survey: {wrong or f'{len(lines)} lines of {len(expected) + 1}'}")

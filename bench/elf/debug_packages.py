@@ -7,7 +7,7 @@ For example: bench/elf/debug_packages.py build/dwcheck-elf libc6-dbg python3.11-
 
 Each PACKAGE is a name, which `apt-get download` fetches, or a .deb file, or a folder with files. The
 packages are read one after another. Their files are written to a temporary folder, at most 1 GB of them
-at once, checked by `dwcheck-elf survey --lists`, and deleted. A file that is a copy of an earlier one is
+at once, checked by `dwcheck-elf survey --compare --lists`, and deleted. A file that is a copy of an earlier one is
 checked once. With --minutes, no package is begun after that time. An interrupt (SIGINT) ends a run, which then
 prints what it found until then. Only files with .debug_loc or .debug_loclists count. Each of them is counted once:
 
@@ -78,7 +78,7 @@ class Survey:
     def check(self):
         """Checks the files that wait, and deletes them."""
         folder = os.path.join(self.folder, "files")
-        words = [self.program, "survey", "--lists", "--all", "--json", "--jobs", str(self.jobs), folder]
+        words = [self.program, "survey", "--compare", "--lists", "--all", "--json", "--jobs", str(self.jobs), folder]
         if self.waiting:
             lines = [json.loads(line) for line in self.run(words, b"", (0, 1, 3))]
             if not lines or "totals" not in lines[-1]:

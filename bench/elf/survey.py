@@ -21,7 +21,7 @@ MACHINES = {
 
 def main():
     program, paths = sys.argv[1], sys.argv[2:]
-    ran = subprocess.run([program, "survey", "--all", "--json", *paths], stdout=subprocess.PIPE)
+    ran = subprocess.run([program, "survey", "--compare", "--all", "--json", *paths], stdout=subprocess.PIPE)
     machines = defaultdict(Counter)
     refused = []
     for line in ran.stdout.decode().splitlines():

@@ -208,6 +208,12 @@ static int follows_call(uint64_t address) {
     return 0;
 }
 
+/* Where no row says who the caller is, this library has a policy of its own: it guesses only after a wild call. The tools
+   in Rust (rust/dwcheck-elf/src/process/without_row.rs) also guess by frame pointers, by return addresses of code without
+   rows and by the code to which signal handlers return, and mark each such frame. Addresses that this library writes can
+   have no mark, so its users would take a guess for a frame. It also runs in signal handlers, where it can neither list
+   which memory is code nor read files. */
+
 /* Whether a thread was interrupted where it has called what is no function: a null pointer, or any other address where
    nothing can be executed. The call has pushed its return address, and done nothing else. Then goes back to the frame
    that made the call. In place of a call there may have been a return to a wrong address: so the address must follow a

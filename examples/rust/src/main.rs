@@ -10,7 +10,7 @@
 use dwcheck_elf::core_file::{CoreFile, Files};
 use dwcheck_elf::mapped::Bytes;
 use dwcheck_elf::stack::{Stacks, WalkOptions};
-use std::error::Error;
+use dwcheck_elf::Error;
 use std::path::Path;
 use std::process::exit;
 
@@ -29,7 +29,7 @@ fn main() {
     }
 }
 
-fn show(core: &Path) -> Result<(), Box<dyn Error>> {
+fn show(core: &Path) -> Result<(), Error> {
     let bytes = Bytes::of_elf(core)?;
     let core = CoreFile::read(&bytes)?;
     let files = Files::read(&core, Path::new("/"));

@@ -111,7 +111,7 @@ fn read(bytes: &[u8], addresses: &[u64]) -> &'static str {
         Ok(program) => program,
         Err(_) => return "no ELF file",
     };
-    let sections = inspect_lists(&program, None, None, Check { all: true, doubtful: true });
+    let sections = inspect_lists(&program, None, None, Check { all: true, doubtful: true, ..Check::default() });
     let files = DebugFiles::default();
     if let Ok(variables) = Variables::read(&program, None, &files) {
         addresses.iter().for_each(|address| look_up(&program, &variables, *address));

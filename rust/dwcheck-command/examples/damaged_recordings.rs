@@ -11,7 +11,7 @@
 use dwcheck_elf::mapped::Bytes;
 use dwcheck_profile::script::{self, ScriptOptions};
 use dwcheck_profile::{firefox, folded, html, pprof, speedscope, top, Damage};
-use dwcheck_profile::{Names, Options, Places, Profile, Recording};
+use dwcheck_profile::{Names, Options, Profile, Recording, SearchPaths};
 use std::alloc::{GlobalAlloc, Layout, System};
 use std::fs::File;
 use std::io::{self, Write};
@@ -165,8 +165,8 @@ fn profile(bytes: &[u8], root: &Path, number: usize) -> Result {
         Ok(recording) => recording,
         Err(_) => return Result::default(),
     };
-    let places = Places { root: root.to_path_buf(), cache: None };
-    let profile = Profile::read(&mut recording, &Options { places, ..Options::default() }, |_| true);
+    let search_paths = SearchPaths { root: root.to_path_buf(), cache: None };
+    let profile = Profile::read(&mut recording, &Options { search_paths, ..Options::default() }, |_| true);
     let names = Names::read(&profile, &Default::default());
     let event = profile.sampled_events().first().copied().unwrap_or(0);
     let out = &mut io::sink();

@@ -7,7 +7,7 @@ use std::path::PathBuf;
 /// Check the unwind tables of ELF programs, unwind by them, and print the stacks of core files.
 #[derive(Debug, Parser)]
 #[command(name = "dwcheck-elf", version, after_help = STATUS)]
-pub struct Words {
+pub struct Arguments {
     /// What to do.
     #[command(subcommand)]
     pub command: Command,
@@ -21,50 +21,50 @@ const STATUS: &str =
 pub enum Command {
     /// Check the frame sections and location lists of programs
     #[command(after_help = "Example: dwcheck-elf check --all /bin/ls")]
-    Check(CheckWords),
+    Check(CheckArguments),
     /// Show each FDE, and the rows of its unwind table
     #[command(after_help = "Example: dwcheck-elf rows /bin/ls")]
-    Rows(RowsWords),
+    Rows(RowsArguments),
     /// Show the row of an address
     #[command(after_help = "Example: dwcheck-elf row ./program main+4")]
-    Row(RowWords),
+    Row(RowArguments),
     /// Show the caller of the frame at an address
     #[command(after_help = "Example: dwcheck-elf unwind ./program main+4 state")]
-    Unwind(UnwindWords),
+    Unwind(UnwindArguments),
     /// Show the frames of a stack, from the frame at an address up
     #[command(after_help = "Example: dwcheck-elf backtrace --load 0x555555554000 ./program 0x555555555139 state 64")]
-    Backtrace(BacktraceWords),
+    Backtrace(BacktraceArguments),
     /// Show where a variable is at an address, by a location list
     #[command(after_help = "Example: dwcheck-elf locs ./program 0xc main main+4")]
-    Locs(LocsWords),
+    Locs(LocsArguments),
     /// Print the stack of each thread of a core file
     #[command(after_help = "Example: dwcheck-elf stack ./program core")]
-    Stack(StackWords),
+    Stack(StackArguments),
     /// Show the variables that are in scope at an address, where they are, and their values
     #[command(after_help = "Example: dwcheck-elf vars --core core --frame 2")]
-    Vars(VarsWords),
+    Vars(VarsArguments),
     /// Check all ELF files in folders
     #[command(after_help = "Example: dwcheck-elf survey /usr/bin /usr/lib")]
-    Survey(SurveyWords),
+    Survey(SurveyArguments),
     /// Compare the rows of unwind tables with the code that they describe (x86-64, aarch64)
     #[command(after_help = LINT_STATUS)]
-    Lint(LintWords),
+    Lint(LintArguments),
     /// Run a program, and compare rows with what is so meanwhile (x86-64)
     #[command(after_help = TRACE_STATUS)]
-    Trace(TraceWords),
+    Trace(TraceArguments),
     /// Write the stacks that perf recorded, as folded stacks or in another format
     #[command(after_help = PROFILE_EXAMPLE)]
-    Profile(ProfileWords),
+    Profile(ProfileArguments),
     /// Write one page about the frame sections of programs, or about how those of two builds differ
     #[command(after_help = REPORT_EXAMPLES)]
-    Report(ReportWords),
+    Report(ReportArguments),
     /// Print the completions of a shell, for its folder of completions
-    Completions(CompletionsWords),
+    Completions(CompletionsArguments),
 }
 
 /// The arguments of `completions`.
 #[derive(Args, Debug)]
-pub struct CompletionsWords {
+pub struct CompletionsArguments {
     /// The shell: bash, elvish, fish, powershell or zsh
     #[arg(value_enum)]
     pub shell: clap_complete::Shell,
@@ -95,7 +95,7 @@ pub struct Notes {
 }
 
 #[derive(Args, Debug)]
-pub struct CheckWords {
+pub struct CheckArguments {
     /// ELF files: programs, libraries, unlinked objects, kernel modules
     #[arg(required = true)]
     pub programs: Vec<PathBuf>,
@@ -109,12 +109,15 @@ pub struct CheckWords {
     /// Leave location lists out
     #[arg(long)]
     pub no_lists: bool,
+    /// Compare the rows of .eh_frame with gimli's, too
+    #[arg(long)]
+    pub compare: bool,
     #[command(flatten)]
     pub notes: Notes,
 }
 
 #[derive(Args, Debug)]
-pub struct RowsWords {
+pub struct RowsArguments {
     /// An ELF file
     pub program: PathBuf,
     #[command(flatten)]
@@ -122,7 +125,7 @@ pub struct RowsWords {
 }
 
 #[derive(Args, Debug)]
-pub struct RowWords {
+pub struct RowArguments {
     /// An ELF file
     pub program: PathBuf,
     /// An address, such as 0x1130, or a function, such as main, main+4 or 'twice(int)+4'
@@ -144,7 +147,7 @@ pub struct Modules {
 }
 
 #[derive(Args, Debug)]
-pub struct UnwindWords {
+pub struct UnwindArguments {
     /// An ELF file
     pub program: PathBuf,
     /// An address, such as 0x1130, or a function, such as main, main+4 or 'twice(int)+4'
@@ -156,15 +159,15 @@ pub struct UnwindWords {
 }
 
 #[derive(Args, Debug)]
-pub struct BacktraceWords {
+pub struct BacktraceArguments {
     #[command(flatten)]
-    pub frame: UnwindWords,
+    pub frame: UnwindArguments,
     /// Print at most this many frames, up to 65535
     pub limit: String,
 }
 
 #[derive(Args, Debug)]
-pub struct LocsWords {
+pub struct LocsArguments {
     /// An ELF file
     pub program: PathBuf,
     /// The offset of the list in .debug_loclists, such as 0xc
@@ -179,7 +182,7 @@ pub struct LocsWords {
 }
 
 #[derive(Args, Debug)]
-pub struct StackWords {
+pub struct StackArguments {
     /// A core file of x86-64, i386 or aarch64; before it, the program, if it isn't where the core file says
     #[arg(value_name = "[PROGRAM] CORE", num_args = 1..=2, required_unless_present = "pid")]
     pub files: Vec<PathBuf>,
@@ -229,7 +232,7 @@ pub struct StackWords {
 }
 
 #[derive(Args, Debug)]
-pub struct VarsWords {
+pub struct VarsArguments {
     /// An ELF file
     #[arg(required_unless_present_any = ["core", "pid"], requires = "address")]
     pub program: Option<PathBuf>,
@@ -265,7 +268,7 @@ pub struct VarsWords {
 }
 
 #[derive(Args, Debug)]
-pub struct SurveyWords {
+pub struct SurveyArguments {
     /// Folders and files
     #[arg(required = true)]
     pub paths: Vec<PathBuf>,
@@ -281,6 +284,9 @@ pub struct SurveyWords {
     /// Check location lists too
     #[arg(long)]
     pub lists: bool,
+    /// Compare the rows of .eh_frame with gimli's, too
+    #[arg(long)]
+    pub compare: bool,
     /// Check this many files at once, instead of one for each processor
     #[arg(long, value_name = "N")]
     pub jobs: Option<usize>,
@@ -289,7 +295,7 @@ pub struct SurveyWords {
 }
 
 #[derive(Args, Debug)]
-pub struct LintWords {
+pub struct LintArguments {
     /// Programs, libraries, unlinked objects, and folders of them
     #[arg(required_unless_present = "confirm")]
     pub paths: Vec<PathBuf>,
@@ -325,7 +331,7 @@ pub struct LintWords {
 }
 
 #[derive(Args, Debug)]
-pub struct TraceWords {
+pub struct TraceArguments {
     /// The program, and its arguments
     #[arg(last = true, required_unless_present = "pid", value_name = "PROGRAM ARGUMENTS")]
     pub program: Vec<OsString>,
@@ -368,7 +374,7 @@ pub struct TraceWords {
 }
 
 #[derive(Args, Debug)]
-pub struct ReportWords {
+pub struct ReportArguments {
     /// ELF files: programs, libraries, unlinked objects, kernel modules
     #[arg(required = true)]
     pub programs: Vec<PathBuf>,
@@ -407,7 +413,7 @@ pub enum Format {
 }
 
 #[derive(Args, Debug)]
-pub struct ProfileWords {
+pub struct ProfileArguments {
     /// What perf recorded; - for what `perf record -o -` writes to a pipe
     #[arg(default_value = "perf.data")]
     pub recording: PathBuf,

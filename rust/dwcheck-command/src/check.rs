@@ -1,29 +1,28 @@
 //! The command `check`: checks the frame sections and the location lists of programs.
 
-use crate::arguments::CheckWords;
+use crate::arguments::CheckArguments;
 use crate::end::{shown, Done, Failure};
 use crate::opened::{note, program, read, write_defect};
 use dwcheck::{CheckedExpression, Report};
 use dwcheck_elf::debug_files::DebugFiles;
 use dwcheck_elf::eh_frame_hdr::mismatches;
-use dwcheck_elf::frames::{Frames, Measured, Name, Notes};
+use dwcheck_elf::frames::{Counts, Frames, Measured, Name, Notes};
 use dwcheck_elf::inspect::{inspect_frame_sections, inspect_lists_of_file, Check, Inspected, Verdict};
 use dwcheck_elf::lists::{self, Bytes as ListBytes};
 use dwcheck_elf::mapped::Bytes;
 use dwcheck_elf::program::Program;
 use dwcheck_elf::text::Offset;
-use dwcheck_elf::validate::Agreement;
 use std::io::{self, Write};
 use std::path::{Path, PathBuf};
 
 /// Checks each program in turn. If there are several and one can't be read or checked, the others
 /// are still checked.
-pub fn check(words: &CheckWords, out: &mut impl Write) -> Result<Done, Failure> {
+pub fn check(arguments: &CheckArguments, out: &mut impl Write) -> Result<Done, Failure> {
     let mut done = Done::Accepted;
-    for path in &words.programs {
-        match check_one(words, path, out) {
+    for path in &arguments.programs {
+        match check_one(arguments, path, out) {
             Ok(one) => done = done.max(one),
-            Err(failure @ Failure::File(_)) if words.programs.len() > 1 => {
+            Err(failure @ Failure::File(_)) if arguments.programs.len() > 1 => {
                 out.flush()?;
                 let _ = writeln!(io::stderr(), "dwcheck-elf: {}", failure);
                 done = Done::Unread;
@@ -42,15 +41,16 @@ fn read_program(path: &Path) -> Result<Bytes, Failure> {
     })
 }
 
-fn check_one(words: &CheckWords, path: &Path, out: &mut impl Write) -> Result<Done, Failure> {
+fn check_one(arguments: &CheckArguments, path: &Path, out: &mut impl Write) -> Result<Done, Failure> {
     let data = read_program(path)?;
     let program = program(path, &data)?;
-    let check = Check { all: words.all, doubtful: words.doubtful };
+    let CheckArguments { all, doubtful, compare, .. } = *arguments;
+    let check = Check { all, doubtful, compare, counts_only: false };
     let mut sections = inspect_frame_sections(&program, check);
     let mut done = Done::Accepted;
     let mut separate = None;
     let mut names = ".debug_frame or .eh_frame";
-    if !words.no_lists {
+    if !arguments.no_lists {
         names = ".debug_frame, .eh_frame, .debug_loc or .debug_loclists";
         separate = add_lists(&mut sections, path, &program, check);
     }
@@ -66,7 +66,7 @@ fn check_one(words: &CheckWords, path: &Path, out: &mut impl Write) -> Result<Do
         write_doubtful(out, file.unwrap_or(path), section)?;
         if let Some(frames) = &section.frames {
             write_header(out, path, &program, frames)?;
-            if words.notes.notes {
+            if arguments.notes.notes {
                 write_notes(out, frames)?;
             }
         }
@@ -167,9 +167,10 @@ fn write_found(out: &mut impl Write, lists: &lists::Contents) -> io::Result<()> 
     writeln!(out, "units {} lists {} entries {}", units, lists.lists, entries)?;
     let ListBytes { headers, views, unused, gaps, .. } = bytes;
     writeln!(out, "bytes headers {} lists {} views {} unused {} gaps {}", headers, bytes.lists, views, unused, gaps)?;
-    if lists.with_holes > 0 {
-        let kinds: Vec<_> = lists.holes.iter().map(|(hole, count)| format!(" {} {}", hole, count)).collect();
-        writeln!(out, "not evaluated {}:{}", lists.with_holes, kinds.concat())?;
+    if lists.with_unsupported > 0 {
+        let kinds: Vec<_> =
+            lists.all_unsupported.iter().map(|(unsupported, count)| format!(" {} {}", unsupported, count)).collect();
+        writeln!(out, "not evaluated {}:{}", lists.with_unsupported, kinds.concat())?;
     }
     let lints = lists.lints.all().filter(|(_, count)| *count > 0);
     let lints: Vec<_> = lints.map(|(lint, count)| format!(" {} {}", lint, count)).collect();
@@ -187,7 +188,7 @@ fn write_rest(out: &mut impl Write, path: &Path, section: &Inspected<'_>) -> io:
     match section.rest() {
         Ok(Some(rest)) => {
             writeln!(out, "{}: {}: {}", shown(path), section.name, rest.left_out())?;
-            write_frames(out, &rest.agreement, &rest.frames)?;
+            write_frames(out, &rest.counts, &rest.frames)?;
             Ok(Done::Refused)
         }
         Ok(None) => Ok(Done::Refused),
@@ -199,8 +200,8 @@ fn write_rest(out: &mut impl Write, path: &Path, section: &Inspected<'_>) -> io:
     }
 }
 
-fn write_frames(out: &mut impl Write, agreement: &Agreement, frames: &Frames<'_>) -> io::Result<()> {
-    let Agreement { cies, fdes, rows, .. } = agreement;
+fn write_frames(out: &mut impl Write, agreement: &Counts, frames: &Frames<'_>) -> io::Result<()> {
+    let Counts { cies, fdes, rows, .. } = agreement;
     // Accepted expressions are refused again only if memory runs out.
     let expressions = frames.measured().map_err(|_| io::ErrorKind::OutOfMemory)?;
     writeln!(out, "cies {} fdes {} rows {} expressions {}", cies, fdes, rows, expressions.len())?;

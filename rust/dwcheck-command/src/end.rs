@@ -1,7 +1,7 @@
 //! How a run of the program ends, and its exit status.
 
 use dwcheck_elf::inspect::InspectError;
-use dwcheck_elf::text::Plain;
+use dwcheck_elf::text::Escaped;
 use std::fmt;
 use std::io::{self, Write};
 use std::path::Path;
@@ -108,5 +108,5 @@ impl fmt::Display for Failure {
 
 /// A path as it is shown: with escapes for control characters, which a hostile name may have.
 pub fn shown(path: &Path) -> String {
-    Plain(&path.to_string_lossy()).to_string()
+    Escaped(&path.to_string_lossy()).to_string()
 }

@@ -4,7 +4,7 @@ mod known;
 mod linted;
 mod sarif;
 
-use crate::arguments::LintWords;
+use crate::arguments::LintArguments;
 use crate::end::{shown, Done, Failure};
 use crate::survey::files::Files;
 use crate::survey::{note_unread, progress, STACK};
@@ -34,14 +34,14 @@ struct Totals {
 }
 
 /// Lints all files, and writes what is found, as text or as JSON.
-pub fn lint(words: &LintWords, out: &mut impl Write) -> Result<Done, Failure> {
-    let kinds = words.kind.iter().map(|name| kind(name)).collect::<Result<Vec<_>, _>>()?;
-    let known = words.known.as_deref().map_or(Ok(Known::default()), Known::read)?;
-    let pool = rayon::ThreadPoolBuilder::new().num_threads(words.jobs.unwrap_or(0)).stack_size(STACK);
+pub fn lint(arguments: &LintArguments, out: &mut impl Write) -> Result<Done, Failure> {
+    let kinds = arguments.kind.iter().map(|name| kind(name)).collect::<Result<Vec<_>, _>>()?;
+    let known = arguments.known.as_deref().map_or(Ok(Known::default()), Known::read)?;
+    let pool = rayon::ThreadPoolBuilder::new().num_threads(arguments.jobs.unwrap_or(0)).stack_size(STACK);
     let pool = pool.build().map_err(|error| Failure::File(format!("no threads: {}", error)))?;
-    let files = pool.install(|| Files::once_each(&words.paths));
+    let files = pool.install(|| Files::once_each(&arguments.paths));
     let bar = progress(files.paths.len() as u64);
-    let (private, explain, json, sarif) = (words.private, words.explain, words.json, words.sarif);
+    let (private, explain, json, sarif) = (arguments.private, arguments.explain, arguments.json, arguments.sarif);
     let shown = Shown { private, explain, json, sarif, kinds };
     let all: Vec<_> = pool.install(|| {
         let each = files.paths.par_iter().with_max_len(1).map(|path| {
@@ -55,9 +55,9 @@ pub fn lint(words: &LintWords, out: &mut impl Write) -> Result<Done, Failure> {
     note_unread(&files);
     let mut totals = Totals { unread: files.unread.len(), ..Totals::default() };
     for one in all {
-        totals.write(out, one, words, &known)?;
+        totals.write(out, one, arguments, &known)?;
     }
-    totals.write_last(out, words)?;
+    totals.write_last(out, arguments)?;
     Ok(totals.done())
 }
 
@@ -83,13 +83,13 @@ fn is_empty(coverage: &Coverage) -> bool {
 
 impl Totals {
     /// Writes what was found in a file, and counts it.
-    fn write(&mut self, out: &mut impl Write, one: Linted, words: &LintWords, known: &Known) -> io::Result<()> {
+    fn write(&mut self, out: &mut impl Write, one: Linted, arguments: &LintArguments, known: &Known) -> io::Result<()> {
         let Linted { path, outcome } = one;
         match outcome {
             Outcome::Judged { findings, coverage, unused, text } => {
                 self.files += 1;
                 self.coverage.add(&coverage);
-                if is_empty(&coverage) && unused.is_empty() && words.paths.contains(&path) {
+                if is_empty(&coverage) && unused.is_empty() && arguments.paths.contains(&path) {
                     self.unread += 1;
                     say(&path, &"no FDEs, so no rows to compare");
                 }
@@ -106,12 +106,12 @@ impl Totals {
                         None => writeln!(out, "{}", finding.text)?,
                     }
                 }
-                if words.sarif {
+                if arguments.sarif {
                     return Ok(());
                 }
                 writeln!(out, "{}", text)
             }
-            Outcome::Other(error) if words.paths.contains(&path) => {
+            Outcome::Other(error) if arguments.paths.contains(&path) => {
                 self.unread += 1;
                 say(&path, &error);
                 Ok(())
@@ -141,8 +141,8 @@ impl Totals {
     }
 
     /// Writes the totals, unless there is only one file; or all findings as SARIF.
-    fn write_last(&mut self, out: &mut impl Write, words: &LintWords) -> io::Result<()> {
-        if words.sarif {
+    fn write_last(&mut self, out: &mut impl Write, arguments: &LintArguments) -> io::Result<()> {
+        if arguments.sarif {
             let document = sarif::document(std::mem::take(&mut self.results), &self.coverage);
             return writeln!(out, "{:#}", document);
         }
@@ -156,7 +156,7 @@ impl Totals {
             ("private", self.private),
             ("known", self.known),
         ];
-        if words.json {
+        if arguments.json {
             let counts = counts.iter().map(|(name, count)| format!("\"{}\":{}", name, count));
             let judged = self.coverage.named();
             let judged = judged.iter().map(|(name, count)| format!("\"{}\":{}", name, count));

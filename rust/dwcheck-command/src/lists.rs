@@ -1,6 +1,6 @@
 //! The command `locs`: looks up an address in a location list.
 
-use crate::arguments::LocsWords;
+use crate::arguments::LocsArguments;
 use crate::end::{shown, Done, Failure};
 use crate::opened::{address, number_argument, program, read, write_defect};
 use crate::walks::state_file;
@@ -14,27 +14,27 @@ use std::io::Write;
 
 /// Shows each expression that the list has for the address, and the result of the expression. Shows
 /// `none` if there is no such expression, and `no list` if no list begins at the offset.
-pub fn locs(words: &LocsWords, out: &mut impl Write) -> Result<Done, Failure> {
-    let data = read(&words.program)?;
-    let program = program(&words.program, &data)?;
+pub fn locs(arguments: &LocsArguments, out: &mut impl Write) -> Result<Done, Failure> {
+    let data = read(&arguments.program)?;
+    let program = program(&arguments.program, &data)?;
     let target = program.target();
     let functions = program.functions();
-    let list = number_argument("LIST", &words.list, target)?;
+    let list = number_argument("LIST", &arguments.list, target)?;
     let list =
         u32::try_from(list).map_err(|_| Failure::Argument("bad argument: LIST is past 0xffffffff".to_string()))?;
-    let base = address("BASE", &words.base, target, &functions, 0)?;
-    let address = address("ADDRESS", &words.address, target, &functions, 0)?;
-    let state = words.state.as_ref().map_or(Ok(StateFile::default()), |path| state_file(path, target))?;
+    let base = address("BASE", &arguments.base, target, &functions, 0)?;
+    let address = address("ADDRESS", &arguments.address, target, &functions, 0)?;
+    let state = arguments.state.as_ref().map_or(Ok(StateFile::default()), |path| state_file(path, target))?;
     let lists =
-        program.debug_loclists().map_err(|error| Failure::File(format!("{}: {}", shown(&words.program), error)))?;
+        program.debug_loclists().map_err(|error| Failure::File(format!("{}: {}", shown(&arguments.program), error)))?;
     let bytes = lists.as_ref().map_or(&[][..], |lists| &lists.bytes);
-    let found = match locations(bytes, target.into(), &Lookup { list, base, address }) {
+    let found = match locations(bytes, target, &Lookup { list, base, address }) {
         Ok(found) => found,
         Err(Error::Refused(fault)) => {
-            write_defect(out, &words.program, &Defect::of_lists(bytes, fault, target))?;
+            write_defect(out, &arguments.program, &Defect::of_lists(bytes, fault, target))?;
             return Ok(Done::Refused);
         }
-        Err(error) => return Err(Failure::File(format!("{}: .debug_loclists: {}", shown(&words.program), error))),
+        Err(error) => return Err(Failure::File(format!("{}: .debug_loclists: {}", shown(&arguments.program), error))),
     };
     match found.as_deref() {
         None => writeln!(out, "no list")?,
@@ -57,7 +57,7 @@ fn write_outcome(
 ) -> Result<(), Failure> {
     let expression = span.of(lists).unwrap_or(&[]);
     let blocks = file.blocks();
-    let evaluation = evaluate(expression, ExpressionKind::Location, target.into(), &file.context, &file.state(&blocks));
+    let evaluation = evaluate(expression, ExpressionKind::Location, target, &file.context, &file.state(&blocks));
     let evaluation = evaluation.map_err(|error| Failure::File(error.to_string()))?;
     let depth = Measure::of(expression, 0, target).depth;
     writeln!(out, "expr {}", Offset(span.offset))?;

@@ -18,15 +18,15 @@ mod trace;
 mod vars;
 mod walks;
 
-use arguments::{Command, Words};
+use arguments::{Arguments, Command};
 use clap::{CommandFactory, Parser};
 use end::{Done, Failure};
 use std::io::{self, BufWriter, Write};
 use std::process::ExitCode;
 
 fn main() -> ExitCode {
-    let words = match Words::try_parse() {
-        Ok(words) => words,
+    let arguments = match Arguments::try_parse() {
+        Ok(arguments) => arguments,
         Err(error) => {
             // If standard error is closed, nobody can read the message, so it doesn't matter that
             // this fails.
@@ -39,7 +39,7 @@ fn main() -> ExitCode {
         }
     };
     let mut out = BufWriter::new(io::stdout().lock());
-    let ended = run(words.command, &mut out).and_then(|done| {
+    let ended = run(arguments.command, &mut out).and_then(|done| {
         out.flush()?;
         Ok(done)
     });
@@ -51,24 +51,24 @@ fn main() -> ExitCode {
 
 fn run(command: Command, out: &mut impl Write) -> Result<Done, Failure> {
     match command {
-        Command::Check(words) => check::check(&words, out),
-        Command::Rows(words) => rows::rows(&words, out),
-        Command::Row(words) => rows::row(&words, out),
-        Command::Unwind(words) => walks::unwind(&words, out),
-        Command::Backtrace(words) => walks::backtrace(&words, out),
-        Command::Locs(words) => lists::locs(&words, out),
-        Command::Stack(words) => stack::stack(&words, out),
-        Command::Vars(words) => vars::vars(&words, out),
-        Command::Survey(words) => survey::survey(&words, out),
-        Command::Lint(words) if words.confirm => trace::confirm(&words, out),
-        Command::Lint(words) => lint::lint(&words, out),
-        Command::Trace(words) => trace::trace(&words),
-        Command::Profile(words) => profile::profile(&words, out),
-        Command::Report(words) => report::report(&words, out),
-        Command::Completions(words) => {
+        Command::Check(arguments) => check::check(&arguments, out),
+        Command::Rows(arguments) => rows::rows(&arguments, out),
+        Command::Row(arguments) => rows::row(&arguments, out),
+        Command::Unwind(arguments) => walks::unwind(&arguments, out),
+        Command::Backtrace(arguments) => walks::backtrace(&arguments, out),
+        Command::Locs(arguments) => lists::locs(&arguments, out),
+        Command::Stack(arguments) => stack::stack(&arguments, out),
+        Command::Vars(arguments) => vars::vars(&arguments, out),
+        Command::Survey(arguments) => survey::survey(&arguments, out),
+        Command::Lint(arguments) if arguments.confirm => trace::confirm(&arguments, out),
+        Command::Lint(arguments) => lint::lint(&arguments, out),
+        Command::Trace(arguments) => trace::trace(&arguments),
+        Command::Profile(arguments) => profile::profile(&arguments, out),
+        Command::Report(arguments) => report::report(&arguments, out),
+        Command::Completions(arguments) => {
             // It panics if it can't write.
             let mut text = Vec::new();
-            clap_complete::generate(words.shell, &mut Words::command(), "dwcheck-elf", &mut text);
+            clap_complete::generate(arguments.shell, &mut Arguments::command(), "dwcheck-elf", &mut text);
             out.write_all(&text)?;
             Ok(Done::Accepted)
         }

@@ -8,11 +8,11 @@ use dwcheck_elf::frames::{Frames, Name};
 use dwcheck_elf::functions::Functions;
 use dwcheck_elf::inspect::{inspect_frame_sections, Check, InspectError, LeftOut, Rest, Verdict};
 use dwcheck_elf::mapped::Bytes;
-use dwcheck_elf::names::Spot;
+use dwcheck_elf::names::FunctionOffset;
 use dwcheck_elf::program::Program;
 use dwcheck_elf::state_file::address as number;
 use dwcheck_elf::target::Target;
-use dwcheck_elf::text::Plain;
+use dwcheck_elf::text::Escaped;
 use std::fmt;
 use std::fs::File;
 use std::io::{self, Read, Write};
@@ -47,8 +47,7 @@ pub struct Opened<'data> {
 }
 
 impl<'data> Opened<'data> {
-    /// Checks the frame sections of a program. The rows of `.eh_frame`, and of a section that had to be changed,
-    /// are also compared with gimli's, and a difference is a failure. A `.debug_frame` that can't be read is left out, if there is an `.eh_frame`, and a note on standard
+    /// Checks the frame sections of a program. A `.debug_frame` that can't be read is left out, if there is an `.eh_frame`, and a note on standard
     /// error says so.
     pub fn read(path: &Path, program: &Program<'data>) -> Result<Self, Failure> {
         let mut opened = Opened { frames: Vec::new(), refused: Vec::new() };
@@ -127,12 +126,12 @@ pub fn note(path: &Path, text: impl fmt::Display) {
 /// The name of the function that contains an address, in parentheses after a space. Empty if the
 /// program has no name for the address.
 pub fn named(functions: &Functions<'_>, address: u64) -> String {
-    Spot::at(functions, address).map_or_else(String::new, |spot| format!(" ({})", spot))
+    FunctionOffset::at(functions, address).map_or_else(String::new, |spot| format!(" ({})", spot))
 }
 
 /// Reads the argument with this name that is a number, such as `0x1130`.
 pub fn number_argument(name: &str, text: &str, target: Target) -> Result<u64, Failure> {
-    let bad = || format!("bad argument: {} is {}, which isn't an address as 0x1130", name, Plain(text));
+    let bad = || format!("bad argument: {} is {}, which isn't an address as 0x1130", name, Escaped(text));
     number(text, target).ok_or_else(|| Failure::Argument(bad()))
 }
 

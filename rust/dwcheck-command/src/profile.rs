@@ -2,14 +2,14 @@
 
 mod summary;
 
-use crate::arguments::{Format, ProfileWords};
+use crate::arguments::{Format, ProfileArguments};
 use crate::end::{shown, Done, Failure};
 use crate::output::{check_apart, Output};
 use crate::survey::STACK;
-use dwcheck_elf::text::Plain;
+use dwcheck_elf::text::Escaped;
 use dwcheck_profile::script::ScriptOptions;
 use dwcheck_profile::{firefox, folded, html, pprof, script, speedscope, top};
-use dwcheck_profile::{Damage, Event, NameOptions, Names, Options, Places, Profile, Recording};
+use dwcheck_profile::{Damage, Event, NameOptions, Names, Options, Profile, Recording, SearchPaths};
 use indicatif::{ProgressBar, ProgressStyle};
 use std::fs::File;
 use std::io::Write;
@@ -17,23 +17,23 @@ use std::ops::RangeInclusive;
 use std::path::Path;
 
 /// Writes the profile of a recording on `out` or to a file, and a summary on standard error.
-pub fn profile(words: &ProfileWords, out: &mut impl Write) -> Result<Done, Failure> {
-    if let Some(output) = &words.output {
-        check_apart(output, words.kallsyms.as_deref().into_iter().chain([opened(&words.recording)]))?;
+pub fn profile(arguments: &ProfileArguments, out: &mut impl Write) -> Result<Done, Failure> {
+    if let Some(output) = &arguments.output {
+        check_apart(output, arguments.kallsyms.as_deref().into_iter().chain([opened(&arguments.recording)]))?;
     }
-    start_threads(words)?;
-    let (profile, names) = read(words)?;
-    check_event(words, &profile.events)?;
-    match &words.output {
-        None => write(words, &profile, &names, out)?,
+    start_threads(arguments)?;
+    let (profile, names) = read(arguments)?;
+    check_event(arguments, &profile.events)?;
+    match &arguments.output {
+        None => write(arguments, &profile, &names, out)?,
         Some(path) => {
             let mut output = Output::create(path)?;
-            write(words, &profile, &names, output.writer())?;
+            write(arguments, &profile, &names, output.writer())?;
             output.finish()?;
         }
     }
     out.flush()?;
-    summary::write(words, &profile, &names);
+    summary::write(arguments, &profile, &names);
     let done = if profile.damage.is_some() { Done::Unread } else { Done::Accepted };
     // The program ends now. To free each table and each text before that would only take time.
     std::mem::forget((profile, names));
@@ -41,20 +41,20 @@ pub fn profile(words: &ProfileWords, out: &mut impl Write) -> Result<Done, Failu
 }
 
 /// Starts as many threads as are asked for.
-fn start_threads(words: &ProfileWords) -> Result<(), Failure> {
-    let threads = rayon::ThreadPoolBuilder::new().num_threads(words.jobs.unwrap_or(0)).stack_size(STACK);
+fn start_threads(arguments: &ProfileArguments) -> Result<(), Failure> {
+    let threads = rayon::ThreadPoolBuilder::new().num_threads(arguments.jobs.unwrap_or(0)).stack_size(STACK);
     threads.build_global().map_err(|error| Failure::File(format!("no threads: {}", error)))
 }
 
 /// Reads the recording.
-fn read(words: &ProfileWords) -> Result<(Profile, Names), Failure> {
-    let options = options(words)?;
-    let kernel = words.kallsyms.clone();
+fn read(arguments: &ProfileArguments) -> Result<(Profile, Names), Failure> {
+    let options = options(arguments)?;
+    let kernel = arguments.kallsyms.clone();
     if let Some(path) = &kernel {
         File::open(path).map_err(|error| Failure::reading(path, &error))?;
     }
-    let mut recording = open(&words.recording)?;
-    check_event(words, recording.about().events())?;
+    let mut recording = open(&arguments.recording)?;
+    check_event(arguments, recording.about().events())?;
     let bar = bar(recording.size());
     // This runs in one of the threads, which have stacks of the size that is asked for.
     Ok(rayon::scope(|_| {
@@ -63,41 +63,42 @@ fn read(words: &ProfileWords) -> Result<(Profile, Names), Failure> {
             true
         });
         bar.finish_and_clear();
-        let names = Names::read(&profile, &NameOptions { inlined: !words.no_inline, lines: words.lines, kernel });
+        let names =
+            Names::read(&profile, &NameOptions { inlined: !arguments.no_inline, lines: arguments.lines, kernel });
         (profile, names)
     }))
 }
 
 /// Refuses an event that wasn't recorded. A recording that comes through a pipe has no events until it is read.
-fn check_event(words: &ProfileWords, events: &[Event]) -> Result<(), Failure> {
-    let name = match words.event.as_ref() {
+fn check_event(arguments: &ProfileArguments, events: &[Event]) -> Result<(), Failure> {
+    let name = match arguments.event.as_ref() {
         Some(name) if !events.is_empty() && events.iter().all(|event| event.name != *name) => name,
         _ => return Ok(()),
     };
-    let mut known: Vec<_> = events.iter().map(|event| Plain(&event.name).to_string()).collect();
+    let mut known: Vec<_> = events.iter().map(|event| Escaped(&event.name).to_string()).collect();
     known.dedup();
-    let (name, recording, known) = (Plain(name), shown(&words.recording), known.join(", "));
+    let (name, recording, known) = (Escaped(name), shown(&arguments.recording), known.join(", "));
     Err(Failure::Argument(format!("bad argument: --event {}: {} has no such event; it has {}", name, recording, known)))
 }
 
-fn write(words: &ProfileWords, profile: &Profile, names: &Names, out: &mut impl Write) -> Result<(), Failure> {
+fn write(arguments: &ProfileArguments, profile: &Profile, names: &Names, out: &mut impl Write) -> Result<(), Failure> {
     let event = profile.sampled_events().first().copied().unwrap_or(0);
-    match words.format {
+    match arguments.format {
         Format::Folded => folded::write(profile, names, event, out)?,
-        Format::Script => script::write(profile, names, ScriptOptions { stops: words.stops }, out)?,
-        Format::Html => html::write(profile, names, event, &title(words, profile), out)?,
+        Format::Script => script::write(profile, names, ScriptOptions { stops: arguments.stops }, out)?,
+        Format::Html => html::write(profile, names, event, &title(arguments, profile), out)?,
         Format::Speedscope => speedscope::write(profile, names, event, out)?,
         Format::Pprof => pprof::write(profile, names, out)?,
-        Format::Firefox => firefox::write(profile, names, event, &title(words, profile), out)?,
-        Format::Top => top::write(profile, names, event, words.rows, out)?,
+        Format::Firefox => firefox::write(profile, names, event, &title(arguments, profile), out)?,
+        Format::Top => top::write(profile, names, event, arguments.rows, out)?,
     }
     Ok(())
 }
 
 /// What was recorded: perf's command line, or else the recording's name.
-fn title(words: &ProfileWords, profile: &Profile) -> String {
+fn title(arguments: &ProfileArguments, profile: &Profile) -> String {
     match profile.features.command.as_slice() {
-        [] => shown(&words.recording),
+        [] => shown(&arguments.recording),
         command => command.join(" "),
     }
 }
@@ -148,16 +149,16 @@ fn bar(size: Option<u64>) -> ProgressBar {
     }
 }
 
-fn options(words: &ProfileWords) -> Result<Options, Failure> {
-    let times = words.time.as_deref().map_or(Ok(0..=u64::MAX), times)?;
+fn options(arguments: &ProfileArguments) -> Result<Options, Failure> {
+    let times = arguments.time.as_deref().map_or(Ok(0..=u64::MAX), times)?;
     Ok(Options {
-        comms: words.comm.clone(),
-        pids: words.pid.clone(),
-        tids: words.tid.clone(),
+        comms: arguments.comm.clone(),
+        pids: arguments.pid.clone(),
+        tids: arguments.tid.clone(),
         times,
-        event: words.event.clone(),
-        limit: words.max_stack,
-        places: Places { root: words.root.clone(), ..Places::default() },
+        event: arguments.event.clone(),
+        limit: arguments.max_stack,
+        search_paths: SearchPaths { root: arguments.root.clone(), ..SearchPaths::default() },
     })
 }
 

@@ -1,34 +1,34 @@
 //! The command `report`: writes one page about the frame sections of programs.
 
-use crate::arguments::ReportWords;
+use crate::arguments::ReportArguments;
 use crate::end::{shown, Done, Failure};
 use crate::opened::{note, program, read};
 use crate::output::{check_apart, Output};
-use dwcheck_elf::report::page::{self, Contents, ROOM};
-use dwcheck_elf::report::{Difference, Report, Standing};
+use dwcheck_elf::program_report::page::{self, Contents, ROOM};
+use dwcheck_elf::program_report::{Difference, Report, SectionStatus};
 use std::io::Write;
 use std::path::PathBuf;
 
 /// Writes the page on `out` or to a file.
-pub fn report(words: &ReportWords, out: &mut impl Write) -> Result<Done, Failure> {
-    if words.compare && words.programs.len() != 2 {
+pub fn report(arguments: &ReportArguments, out: &mut impl Write) -> Result<Done, Failure> {
+    if arguments.compare && arguments.programs.len() != 2 {
         return Err(Failure::Argument("bad argument: --compare takes two programs, the old one first".to_string()));
     }
-    if let Some(output) = &words.output {
-        check_apart(output, words.programs.iter().map(PathBuf::as_path))?;
+    if let Some(output) = &arguments.output {
+        check_apart(output, arguments.programs.iter().map(PathBuf::as_path))?;
     }
-    let files = words.programs.iter().map(|path| Ok((path, read(path)?))).collect::<Result<Vec<_>, Failure>>()?;
+    let files = arguments.programs.iter().map(|path| Ok((path, read(path)?))).collect::<Result<Vec<_>, Failure>>()?;
     let read = files.iter().map(|(path, data)| {
         let program = program(path, data)?;
         Ok(Report::read(shown(path), &program))
     });
     let reports = read.collect::<Result<Vec<_>, Failure>>()?;
     let difference = match reports.as_slice() {
-        [old, new] if words.compare => Some(Difference::of(old, new)),
+        [old, new] if arguments.compare => Some(Difference::of(old, new)),
         _ => None,
     };
-    let contents = Contents { only: only(&words.function, &reports)?, difference, reports: &reports, room: ROOM };
-    match &words.output {
+    let contents = Contents { only: only(&arguments.function, &reports)?, difference, reports: &reports, room: ROOM };
+    match &arguments.output {
         None => page::write(&contents, out)?,
         Some(path) => {
             let mut output = Output::create(path)?;
@@ -52,13 +52,13 @@ fn only(names: &[String], reports: &[Report<'_>]) -> Result<Option<Vec<Vec<usize
 
 /// Whether all sections of a program are accepted. Says on standard error why one can't be checked.
 fn done(path: &std::path::Path, report: &Report<'_>) -> Done {
-    let of_section = |standing: &Standing| match standing {
-        Standing::Accepted => Done::Accepted,
-        Standing::Refused(..) => Done::Refused,
-        Standing::Unread(why) => {
+    let of_section = |status: &SectionStatus| match status {
+        SectionStatus::Accepted => Done::Accepted,
+        SectionStatus::Refused(..) => Done::Refused,
+        SectionStatus::Unread(why) => {
             note(path, why);
             Done::Unread
         }
     };
-    report.sections.iter().map(|section| of_section(&section.standing)).max().unwrap_or(Done::Accepted)
+    report.sections.iter().map(|section| of_section(&section.status)).max().unwrap_or(Done::Accepted)
 }

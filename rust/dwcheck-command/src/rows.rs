@@ -1,6 +1,6 @@
 //! The commands `rows` and `row`: show the rows of unwind tables.
 
-use crate::arguments::{RowWords, RowsWords};
+use crate::arguments::{RowArguments, RowsArguments};
 use crate::check::write_notes;
 use crate::end::{shown, Done, Failure};
 use crate::opened::{self, address, named, number_argument, process, read, write_defect, Opened};
@@ -16,24 +16,24 @@ use std::path::Path;
 
 /// Shows all FDEs and rows of a program, but those of FDEs that are refused, whose faults are shown on
 /// standard error.
-pub fn rows(words: &RowsWords, out: &mut impl Write) -> Result<Done, Failure> {
-    let data = read(&words.program)?;
-    let program = opened::program(&words.program, &data)?;
-    let opened = Opened::read(&words.program, &program)?;
+pub fn rows(arguments: &RowsArguments, out: &mut impl Write) -> Result<Done, Failure> {
+    let data = read(&arguments.program)?;
+    let program = opened::program(&arguments.program, &data)?;
+    let opened = Opened::read(&arguments.program, &program)?;
     if opened.frames.is_empty() && opened.refused.is_empty() {
-        return Err(no_rows(&words.program, program.kind()));
+        return Err(no_rows(&arguments.program, program.kind()));
     }
     let functions = program.functions();
     for frames in &opened.frames {
-        let process = process(&words.program, frames)?;
+        let process = process(&arguments.program, frames)?;
         writeln!(out, "section {}", frames.name())?;
         write_section(out, frames, &process, &functions)?;
-        if words.notes.notes {
+        if arguments.notes.notes {
             write_notes(out, frames)?;
         }
     }
     out.flush()?;
-    opened.note_refused(&words.program, true);
+    opened.note_refused(&arguments.program, true);
     Ok(opened.done())
 }
 
@@ -72,7 +72,7 @@ fn write_section(
 
 fn write_rows(out: &mut impl Write, frames: &Frames<'_>, mut rows: DwcheckRows<'_>) -> Result<(), Failure> {
     let mut row = Row::default();
-    while rows.next_row(&mut row).map_err(Failure::File)? {
+    while rows.next_row(&mut row).map_err(|error| Failure::File(error.to_string()))? {
         writeln!(out, "{}", RowLine(frames.target(), &row))?;
     }
     Ok(())
@@ -80,32 +80,32 @@ fn write_rows(out: &mut impl Write, frames: &Frames<'_>, mut rows: DwcheckRows<'
 
 /// Shows the row of an address, from the first section that has such a row. If no section has one,
 /// shows the fault of the FDE that covers the address and is refused, or `none`.
-pub fn row(words: &RowWords, out: &mut impl Write) -> Result<Done, Failure> {
-    let data = read(&words.program)?;
-    let program = opened::program(&words.program, &data)?;
+pub fn row(arguments: &RowArguments, out: &mut impl Write) -> Result<Done, Failure> {
+    let data = read(&arguments.program)?;
+    let program = opened::program(&arguments.program, &data)?;
     let functions = program.functions();
     let target = program.target();
-    let load = number_argument("--load", &words.load, target)?;
-    let loaded = address("ADDRESS", &words.address, target, &functions, load)?;
+    let load = number_argument("--load", &arguments.load, target)?;
+    let loaded = address("ADDRESS", &arguments.address, target, &functions, load)?;
     let linked = target.wrap(loaded.wrapping_sub(load));
-    let opened = Opened::read(&words.program, &program)?;
+    let opened = Opened::read(&arguments.program, &program)?;
     for frames in &opened.frames {
-        let process = process(&words.program, frames)?;
+        let process = process(&arguments.program, frames)?;
         if process.row(linked).is_some() {
             let mut row = Row::default();
             let end = linked.saturating_add(1);
             let found = DwcheckRows::whole(&process, linked, end).next_row(&mut row);
-            found.map_err(Failure::File)?;
+            found.map_err(|error| Failure::File(error.to_string()))?;
             writeln!(out, "section {}", frames.name())?;
             writeln!(out, "{}{}", RowLine(target, &row), named(&functions, linked))?;
-            opened.note_refused(&words.program, false);
+            opened.note_refused(&arguments.program, false);
             return Ok(opened.done());
         }
     }
     match opened.refused_at(linked) {
-        Some(defect) => write_defect(out, &words.program, defect)?,
+        Some(defect) => write_defect(out, &arguments.program, defect)?,
         None => {
-            opened.note_refused(&words.program, false);
+            opened.note_refused(&arguments.program, false);
             writeln!(out, "none")?;
         }
     }

@@ -1,8 +1,8 @@
 //! The command `stack`: prints the stack of each thread of a core file or of a process.
 
-mod report;
+mod threads;
 
-use crate::arguments::StackWords;
+use crate::arguments::StackArguments;
 use crate::end::{shown, Done, Failure};
 use crate::opened::read;
 use dwcheck_elf::core_file::{CoreError, CoreFile, Files, MappedFile};
@@ -10,21 +10,21 @@ use dwcheck_elf::live::Snapshot;
 use dwcheck_elf::mapped::Bytes;
 use dwcheck_elf::stack::{NameOptions, Stacks};
 use dwcheck_elf::variables::Shape;
-use report::Report;
 use std::ffi::OsStr;
 use std::io::{self, Write};
 use std::os::unix::ffi::OsStrExt;
 use std::path::{Path, PathBuf};
 use std::time::Duration;
+use threads::Report;
 
 /// Prints the stacks on `out`, and warnings on standard error.
-pub fn stack(words: &StackWords, out: &mut impl Write) -> Result<Done, Failure> {
-    if let Some(pid) = words.pid {
-        return of_process(words, pid, out);
+pub fn stack(arguments: &StackArguments, out: &mut impl Write) -> Result<Done, Failure> {
+    if let Some(pid) = arguments.pid {
+        return of_process(arguments, pid, out);
     }
-    match words.files.as_slice() {
-        [core] => of_core(words, None, core, out),
-        [program, core] => of_core(words, Some(program), core, out),
+    match arguments.files.as_slice() {
+        [core] => of_core(arguments, None, core, out),
+        [program, core] => of_core(arguments, Some(program), core, out),
         _ => Err(Failure::Argument("give [PROGRAM] CORE, or --pid".to_string())),
     }
 }
@@ -35,10 +35,15 @@ struct Given {
     bytes: Bytes,
 }
 
-fn of_core(words: &StackWords, program: Option<&PathBuf>, path: &Path, out: &mut impl Write) -> Result<Done, Failure> {
+fn of_core(
+    arguments: &StackArguments,
+    program: Option<&PathBuf>,
+    path: &Path,
+    out: &mut impl Write,
+) -> Result<Done, Failure> {
     let bytes = read(path)?;
     let core = CoreFile::read(&bytes).map_err(|error| unread(path, &error))?;
-    let mut files = Files::read(&core, &words.root);
+    let mut files = Files::read(&core, &arguments.root);
     let given = match program {
         Some(program) => Some(given(program)?),
         None if core.mappings().is_empty() => {
@@ -53,7 +58,7 @@ fn of_core(words: &StackWords, program: Option<&PathBuf>, path: &Path, out: &mut
     }
     let mut warnings = Vec::new();
     match &given {
-        Some(given) if !is_used && !has_program(&stacks, &given.path, &words.root) => {
+        Some(given) if !is_used && !has_program(&stacks, &given.path, &arguments.root) => {
             warnings.push(other_program(program.unwrap_or(&given.path), files.program(&core)));
         }
         None if core.mappings().is_empty() => {
@@ -64,38 +69,42 @@ fn of_core(words: &StackWords, program: Option<&PathBuf>, path: &Path, out: &mut
     if core.is_cut() {
         warnings.push(format!("{} ends before the memory that it should hold", shown(path)));
     }
-    print(words, &core, (&mut stacks, None), warnings, out)
+    print(arguments, &core, (&mut stacks, None), warnings, out)
 }
 
-fn of_process(words: &StackWords, pid: u32, out: &mut impl Write) -> Result<Done, Failure> {
-    let copy = if words.vars { Snapshot::take_with_data(pid, &words.tid) } else { Snapshot::take(pid, &words.tid) };
+fn of_process(arguments: &StackArguments, pid: u32, out: &mut impl Write) -> Result<Done, Failure> {
+    let copy = if arguments.vars {
+        Snapshot::take_with_data(pid, &arguments.tid)
+    } else {
+        Snapshot::take(pid, &arguments.tid)
+    };
     let copy = copy.map_err(|error| Failure::File(format!("process {}: {}", pid, error)))?;
     let core = copy.core();
     let files = Files::of_live(&core, pid);
     let mut stacks = Stacks::of(&core, &files);
     let warnings = copy.skipped().map(|(tid, why)| format!("thread {}: {}", tid, why)).collect();
-    print(words, &core, (&mut stacks, Some(copy.longest_stop())), warnings, out)
+    print(arguments, &core, (&mut stacks, Some(copy.longest_stop())), warnings, out)
 }
 
 /// Walks the stacks, prints them, and then the warnings. For a process that runs, `longest_stop` is
 /// the longest time for which a thread was stopped.
 fn print(
-    words: &StackWords,
+    arguments: &StackArguments,
     core: &CoreFile<'_>,
     (stacks, longest_stop): (&mut Stacks<'_>, Option<Duration>),
     mut warnings: Vec<String>,
     out: &mut impl Write,
 ) -> Result<Done, Failure> {
-    let (inlined, source, raw) = (!words.no_inline, !words.no_source, words.raw_names);
+    let (inlined, source, raw) = (!arguments.no_inline, !arguments.no_source, arguments.raw_names);
     stacks.show_names(NameOptions { inlined, source, raw });
-    if words.vars {
-        stacks.show_variables(Shape { depth: words.depth, ..Shape::default() }, words.registers);
+    if arguments.vars {
+        stacks.show_variables(Shape { depth: arguments.depth, ..Shape::default() }, arguments.registers);
     }
-    if words.modules {
+    if arguments.modules {
         stacks.show_modules();
     }
     let overflowed = stacks.overflowed();
-    let report = Report { words, core, stacks, longest_stop, overflowed };
+    let report = Report { arguments, core, stacks, longest_stop, overflowed };
     report.write(out, &mut warnings)?;
     out.flush()?;
     for warning in warnings {

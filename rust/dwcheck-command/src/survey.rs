@@ -5,20 +5,20 @@ mod json;
 mod sarif;
 mod totals;
 
-use crate::arguments::SurveyWords;
+use crate::arguments::SurveyArguments;
 use crate::end::{shown, Done, Failure};
 use crate::opened::{note, write_defect};
 use dwcheck_elf::fault::Defect;
-use dwcheck_elf::frames::{Name, Notes};
+use dwcheck_elf::frames::{Counts, Name, Notes};
 use dwcheck_elf::inspect::{inspect, inspect_frame_sections, Check, Inspected, Verdict};
 use dwcheck_elf::lines::{Lines, SourceLine};
 use dwcheck_elf::lists;
-use dwcheck_elf::program::Program;
-use dwcheck_elf::validate::Agreement;
+use dwcheck_elf::program::{Program, ProgramError};
 use files::{content, Files};
 use indicatif::{ProgressBar, ProgressStyle};
 use rayon::prelude::*;
 use std::collections::HashMap;
+use std::fmt;
 use std::io::{self, Write};
 use std::path::PathBuf;
 use std::sync::mpsc::{self, Receiver};
@@ -34,7 +34,25 @@ pub struct Surveyed {
     path: PathBuf,
     /// The machine's number (`e_machine`), if the file's headers can be read.
     machine: Option<u16>,
-    outcome: Result<Vec<Section>, String>,
+    outcome: Result<Vec<Section>, Unread>,
+}
+
+/// Why a file can't be checked.
+#[derive(Debug)]
+pub enum Unread {
+    /// It can't be read.
+    File(io::Error),
+    /// It isn't an ELF file that can be read.
+    Program(ProgramError),
+}
+
+impl fmt::Display for Unread {
+    fn fmt(&self, f: &mut fmt::Formatter<'_>) -> fmt::Result {
+        match self {
+            Unread::File(error) => write!(f, "cannot read: {}", error),
+            Unread::Program(error) => error.fmt(f),
+        }
+    }
 }
 
 /// The result of checking a section.
@@ -71,16 +89,21 @@ pub enum Held {
 }
 
 /// Checks all files, and writes their faults and the totals, as text, as JSON or as SARIF.
-pub fn survey(words: &SurveyWords, out: &mut impl Write) -> Result<Done, Failure> {
-    let pool = rayon::ThreadPoolBuilder::new().num_threads(words.jobs.unwrap_or(0)).stack_size(STACK);
+pub fn survey(arguments: &SurveyArguments, out: &mut impl Write) -> Result<Done, Failure> {
+    let pool = rayon::ThreadPoolBuilder::new().num_threads(arguments.jobs.unwrap_or(0)).stack_size(STACK);
     let pool = pool.build().map_err(|error| Failure::File(format!("no threads: {}", error)))?;
-    let files = pool.install(|| Files::once_each(&words.paths));
+    let files = pool.install(|| Files::once_each(&arguments.paths));
     let bar = progress(files.paths.len() as u64);
-    let asked =
-        Asked { check: Check { all: words.all, ..Check::default() }, has_lists: words.lists, has_lines: words.sarif };
+    // Notes are also in the documents of JSON and SARIF.
+    let counts_only = !(arguments.notes.notes || arguments.json || arguments.sarif);
+    let asked = Asked {
+        check: Check { all: arguments.all, compare: arguments.compare, counts_only, ..Check::default() },
+        has_lists: arguments.lists,
+        has_lines: arguments.sarif,
+    };
     let mut totals = Totals::of(&files);
     let mut results = sarif::Results::default();
-    if words.json {
+    if arguments.json {
         json::write_unread(out, &files)?;
     } else {
         note_unread(&files);
@@ -97,22 +120,22 @@ pub fn survey(words: &SurveyWords, out: &mut impl Write) -> Result<Done, Failure
         in_order(surveyed, |one| {
             bar.inc(1);
             totals.count(&one);
-            bar.suspend(|| write_one(out, words, &one, &mut results))
+            bar.suspend(|| write_one(out, arguments, &one, &mut results))
         })
     })?;
     bar.finish_and_clear();
-    write_totals(out, words, &totals, results)?;
+    write_totals(out, arguments, &totals, results)?;
     Ok(totals.done())
 }
 
 /// Writes what was found in a file, or keeps it for the document of SARIF.
 fn write_one(
     out: &mut impl Write,
-    words: &SurveyWords,
+    arguments: &SurveyArguments,
     one: &Surveyed,
     results: &mut sarif::Results,
 ) -> io::Result<()> {
-    match (words.json, words.sarif) {
+    match (arguments.json, arguments.sarif) {
         (true, _) => json::write_file(out, one),
         (false, true) => {
             results.add(one);
@@ -124,11 +147,16 @@ fn write_one(
 }
 
 /// Writes the totals, and the document of SARIF that has them.
-fn write_totals(out: &mut impl Write, words: &SurveyWords, totals: &Totals, results: sarif::Results) -> io::Result<()> {
-    match (words.json, words.sarif) {
+fn write_totals(
+    out: &mut impl Write,
+    arguments: &SurveyArguments,
+    totals: &Totals,
+    results: sarif::Results,
+) -> io::Result<()> {
+    match (arguments.json, arguments.sarif) {
         (true, _) => json::write_totals(out, totals),
         (false, true) => results.write(out, json::totals(totals)),
-        (false, false) => totals.write(out, words.notes.notes),
+        (false, false) => totals.write(out, arguments.notes.notes),
     }
 }
 
@@ -167,14 +195,14 @@ struct Asked {
 fn inspected(path: PathBuf, asked: Asked) -> Surveyed {
     match content(&path) {
         Ok(data) => inspected_bytes(path, &data, asked),
-        Err(error) => Surveyed { path, machine: None, outcome: Err(format!("cannot read: {}", error)) },
+        Err(error) => Surveyed { path, machine: None, outcome: Err(Unread::File(error)) },
     }
 }
 
 fn inspected_bytes(path: PathBuf, data: &[u8], asked: Asked) -> Surveyed {
     let program = match Program::read(data) {
         Ok(program) => program,
-        Err(error) => return Surveyed { path, machine: None, outcome: Err(error.to_string()) },
+        Err(error) => return Surveyed { path, machine: None, outcome: Err(Unread::Program(error)) },
     };
     let inspected = match asked.has_lists {
         true => inspect(&program, asked.check),
@@ -213,7 +241,7 @@ impl Section {
         let notes = frames.as_ref().map(Notes::of).unwrap_or_default();
         let mut error = None;
         let (held, defects) = match verdict {
-            Verdict::Frames(Agreement { cies, fdes, rows, .. }) => (Held::Frames { cies, fdes, rows }, Vec::new()),
+            Verdict::Frames(Counts { cies, fdes, rows, .. }) => (Held::Frames { cies, fdes, rows }, Vec::new()),
             Verdict::Lists(found) => {
                 (Held::Lists { lists: found.lists as usize, expressions: found.expressions.len() }, Vec::new())
             }

@@ -1,7 +1,7 @@
 //! The command `vars`: shows the variables that are in scope at an address, where they are, and their values
 //! as far as they are known.
 
-use crate::arguments::VarsWords;
+use crate::arguments::VarsArguments;
 use crate::end::{shown, Done, Failure};
 use crate::opened::{address, note, number_argument, program, read, Opened};
 use crate::walks::state_file;
@@ -15,7 +15,7 @@ use dwcheck_elf::modules::Modules;
 use dwcheck_elf::program::Program;
 use dwcheck_elf::stack::{Stacks, WalkOptions};
 use dwcheck_elf::state_file::StateFile;
-use dwcheck_elf::text::Plain;
+use dwcheck_elf::text::Escaped;
 use dwcheck_elf::variables::{Frame, Function, Loaded, Shape, Step, Variables};
 use serde_json::json;
 use std::io::Write;
@@ -25,16 +25,16 @@ use std::path::{Path, PathBuf};
 const MAX_CALLERS: usize = 16;
 
 /// Writes the functions at the address with their variables, the innermost first.
-pub fn vars(words: &VarsWords, out: &mut impl Write) -> Result<Done, Failure> {
-    let shape = Shape { depth: words.depth, ..Shape::default() };
+pub fn vars(arguments: &VarsArguments, out: &mut impl Write) -> Result<Done, Failure> {
+    let shape = Shape { depth: arguments.depth, ..Shape::default() };
     let mut done = Done::Accepted;
-    let functions = match (words.pid, &words.core, &words.program, &words.address) {
-        (Some(pid), None, None, None) => of_process(words, pid, shape)?,
-        (None, Some(core), None, None) => of_core(words, core, shape)?,
-        (None, None, Some(program), Some(address)) => of_program(words, program, address, shape, &mut done)?,
+    let functions = match (arguments.pid, &arguments.core, &arguments.program, &arguments.address) {
+        (Some(pid), None, None, None) => of_process(arguments, pid, shape)?,
+        (None, Some(core), None, None) => of_core(arguments, core, shape)?,
+        (None, None, Some(program), Some(address)) => of_program(arguments, program, address, shape, &mut done)?,
         _ => return Err(Failure::Argument("give PROGRAM ADDRESS, --core or --pid".to_string())),
     };
-    if words.json {
+    if arguments.json {
         let functions: Vec<_> = functions.iter().rev().map(Function::json).collect();
         writeln!(out, "{}", json!({ "functions": functions }))?;
         return Ok(done);
@@ -46,19 +46,19 @@ pub fn vars(words: &VarsWords, out: &mut impl Write) -> Result<Done, Failure> {
     Ok(done)
 }
 
-fn of_core(words: &VarsWords, path: &Path, shape: Shape) -> Result<Vec<Function>, Failure> {
+fn of_core(arguments: &VarsArguments, path: &Path, shape: Shape) -> Result<Vec<Function>, Failure> {
     let bytes = read(path)?;
     let core = CoreFile::read(&bytes).map_err(|error| Failure::File(format!("{}: {}", shown(path), error)))?;
-    of_frame(words, &core, &Files::read(&core, &words.root), shape)
+    of_frame(arguments, &core, &Files::read(&core, &arguments.root), shape)
 }
 
 /// The process goes on once the thread's registers and the memory are copied.
-fn of_process(words: &VarsWords, pid: u32, shape: Shape) -> Result<Vec<Function>, Failure> {
-    let tid = words.thread.unwrap_or(pid);
+fn of_process(arguments: &VarsArguments, pid: u32, shape: Shape) -> Result<Vec<Function>, Failure> {
+    let tid = arguments.thread.unwrap_or(pid);
     let failed = |why: String| Failure::File(format!("process {}: {}", pid, why));
     let copy = Snapshot::take_with_data(pid, &[tid]).map_err(|error| failed(error.to_string()))?;
     let core = copy.core();
-    of_frame(words, &core, &Files::of_live(&core, pid), shape)
+    of_frame(arguments, &core, &Files::of_live(&core, pid), shape)
 }
 
 /// The failure for a thread that isn't there, or for a core file without threads.
@@ -75,22 +75,27 @@ fn no_thread(wanted: Option<u32>, core: &CoreFile<'_>) -> Failure {
 }
 
 /// The functions of the frame that is asked for.
-fn of_frame(words: &VarsWords, core: &CoreFile<'_>, files: &Files, shape: Shape) -> Result<Vec<Function>, Failure> {
+fn of_frame(
+    arguments: &VarsArguments,
+    core: &CoreFile<'_>,
+    files: &Files,
+    shape: Shape,
+) -> Result<Vec<Function>, Failure> {
     let stacks = Stacks::of(core, files);
-    let is_wanted = |tid: u32| words.thread.map_or(true, |wanted| wanted == tid);
+    let is_wanted = |tid: u32| arguments.thread.map_or(true, |wanted| wanted == tid);
     let thread = core.threads().iter().find(|thread| is_wanted(thread.id));
-    let thread = thread.ok_or_else(|| no_thread(words.thread, core))?;
-    let limit = words.frame.saturating_add(1 + MAX_CALLERS);
+    let thread = thread.ok_or_else(|| no_thread(arguments.thread, core))?;
+    let limit = arguments.frame.saturating_add(1 + MAX_CALLERS);
     let options = WalkOptions { limit, keeps_registers: true, ..WalkOptions::default() };
     let stack = stacks.walk(thread, options).map_err(|error| Failure::File(error.to_string()))?;
-    if words.frame >= stack.frames.len() {
+    if arguments.frame >= stack.frames.len() {
         let count = stack.frames.len();
         return Err(Failure::Argument(format!(
             "bad argument: --frame is {}, and the stack has {} frames, counted from 0",
-            words.frame, count
+            arguments.frame, count
         )));
     }
-    let functions = stacks.variables(&stack, words.frame, shape);
+    let functions = stacks.variables(&stack, arguments.frame, shape);
     for (file, why) in stacks.missing() {
         note(&file, why);
     }
@@ -99,7 +104,7 @@ fn of_frame(words: &VarsWords, core: &CoreFile<'_>, files: &Files, shape: Shape)
 
 /// `done` is set to how the run ends.
 fn of_program(
-    words: &VarsWords,
+    arguments: &VarsArguments,
     path: &Path,
     at: &str,
     shape: Shape,
@@ -108,12 +113,12 @@ fn of_program(
     let data = read(path)?;
     let program = program(path, &data)?;
     let target = program.target();
-    let load = number_argument("--load", &words.load, target)?;
+    let load = number_argument("--load", &arguments.load, target)?;
     let address = address("ADDRESS", at, target, &program.functions(), load)?;
-    let state = words.state.as_ref().map_or(Ok(StateFile::default()), |path| state_file(path, target))?;
+    let state = arguments.state.as_ref().map_or(Ok(StateFile::default()), |path| state_file(path, target))?;
     let files = DebugFiles::default();
     let variables = variables(path, &program, &files)?;
-    let process = match &words.state {
+    let process = match &arguments.state {
         Some(_) => unwinder(path, &program, load, done)?,
         None => Modules::new(target),
     };
@@ -131,7 +136,7 @@ fn of_program(
     let missing = if functions.is_empty() { variables.missing_file(&frame) } else { None };
     match missing {
         Some(name) => {
-            let why = format!("its debug information is in another file, {}, which isn't there", Plain(&name));
+            let why = format!("its debug information is in another file, {}, which isn't there", Escaped(&name));
             Err(Failure::File(format!("{}: {}", shown(path), why)))
         }
         None => Ok(functions),

@@ -1,7 +1,7 @@
 //! The commands `unwind` and `backtrace`: find the callers of frames, from the registers and the
 //! memory in a state file.
 
-use crate::arguments::{BacktraceWords, UnwindWords};
+use crate::arguments::{BacktraceArguments, UnwindArguments};
 use crate::end::{shown, Done, Failure};
 use crate::opened::{address, note, number_argument, program, read, read_text, write_defect, Opened};
 use dwcheck::{Answer, Error, Frame};
@@ -9,11 +9,11 @@ use dwcheck_elf::fault::Defect;
 use dwcheck_elf::functions::Functions;
 use dwcheck_elf::mapped::Bytes;
 use dwcheck_elf::modules::Modules;
-use dwcheck_elf::names::Spot;
+use dwcheck_elf::names::FunctionOffset;
 use dwcheck_elf::program::Program;
 use dwcheck_elf::state_file::{short, StateFile};
 use dwcheck_elf::target::Target;
-use dwcheck_elf::text::{Address, Known, Plain};
+use dwcheck_elf::text::{Address, Escaped, Known};
 use std::ffi::OsStr;
 use std::io::Write;
 use std::os::unix::ffi::OsStrExt;
@@ -55,9 +55,9 @@ impl<'a> Loaded<'a> {
         let spot = self.functions.iter().find_map(|(functions, load)| {
             let linked = self.target.wrap(address.wrapping_sub(*load));
             if is_after_call {
-                Spot::after_call(functions, linked)
+                FunctionOffset::after_call(functions, linked)
             } else {
-                Spot::at(functions, linked)
+                FunctionOffset::at(functions, linked)
             }
         });
         spot.map_or_else(String::new, |spot| format!(" ({})", spot))
@@ -66,10 +66,10 @@ impl<'a> Loaded<'a> {
 
 /// Lists the modules that the command line names: first the program, whose bytes are `data`, then
 /// the further modules, whose files are read here.
-fn given(words: &UnwindWords, target: Target, data: Bytes) -> Result<Vec<Given>, Failure> {
-    let load = number_argument("--load", &words.modules.load, target)?;
-    let mut all = vec![Given { path: words.program.clone(), load, data }];
-    for module in &words.modules.module {
+fn given(arguments: &UnwindArguments, target: Target, data: Bytes) -> Result<Vec<Given>, Failure> {
+    let load = number_argument("--load", &arguments.modules.load, target)?;
+    let mut all = vec![Given { path: arguments.program.clone(), load, data }];
+    for module in &arguments.modules.module {
         let bytes = module.as_bytes();
         let bad = || {
             Failure::Argument(format!("bad argument: --module is {}, which isn't LOAD=FILE", module.to_string_lossy()))
@@ -116,18 +116,19 @@ fn loaded(given: &[Given], target: Target) -> Result<Loaded<'_>, Failure> {
 /// What `unwind` and `backtrace` share: reads and checks all files, and calls `ask`, which writes
 /// the answer.
 fn run<W: Write>(
-    words: &UnwindWords,
+    arguments: &UnwindArguments,
     out: &mut W,
     ask: impl FnOnce(&Loaded<'_>, u64, &StateFile, &mut W) -> Result<(), Failure>,
 ) -> Result<Done, Failure> {
-    let data = read(&words.program)?;
-    let target =
-        Program::read(&data).map_err(|error| Failure::File(format!("{}: {}", shown(&words.program), error)))?.target();
-    let given = given(words, target, data)?;
-    let state = state_file(&words.state, target)?;
+    let data = read(&arguments.program)?;
+    let target = Program::read(&data)
+        .map_err(|error| Failure::File(format!("{}: {}", shown(&arguments.program), error)))?
+        .target();
+    let given = given(arguments, target, data)?;
+    let state = state_file(&arguments.state, target)?;
     let loaded = loaded(&given, target)?;
     let (functions, load) = &loaded.functions[0];
-    let address = address("ADDRESS", &words.address, target, functions, *load)?;
+    let address = address("ADDRESS", &arguments.address, target, functions, *load)?;
     ask(&loaded, address, &state, out)?;
     Ok(loaded.opened.iter().map(|(.., opened)| opened.done()).max().unwrap_or(Done::Accepted))
 }
@@ -138,7 +139,7 @@ pub fn state_file(path: &Path, target: Target) -> Result<StateFile, Failure> {
     StateFile::parse(&text, target).map_err(|number| {
         let line = text.split(|byte| *byte == b'\n').nth((number - 1) as usize).unwrap_or(&[]);
         let line = String::from_utf8_lossy(&line[..line.len().min(LONGEST_LINE)]);
-        Failure::Argument(format!("{}: state line {}: {}", shown(path), number, Plain(&line)))
+        Failure::Argument(format!("{}: state line {}: {}", shown(path), number, Escaped(&line)))
     })
 }
 
@@ -148,8 +149,8 @@ fn no_answer(error: Error) -> Failure {
 
 /// Shows the caller of the frame at an address. If no module has a row for the address, shows the fault of
 /// the FDE that covers the address and is refused, or `none`.
-pub fn unwind(words: &UnwindWords, out: &mut impl Write) -> Result<Done, Failure> {
-    run(words, out, |loaded, address, file, out| {
+pub fn unwind(arguments: &UnwindArguments, out: &mut impl Write) -> Result<Done, Failure> {
+    run(arguments, out, |loaded, address, file, out| {
         let blocks = file.blocks();
         let target = loaded.target;
         match loaded.modules.process().unwind(address, &file.state(&blocks)).map_err(no_answer)? {
@@ -174,12 +175,15 @@ pub fn unwind(words: &UnwindWords, out: &mut impl Write) -> Result<Done, Failure
 }
 
 /// Shows the frames of a stack.
-pub fn backtrace(words: &BacktraceWords, out: &mut impl Write) -> Result<Done, Failure> {
+pub fn backtrace(arguments: &BacktraceArguments, out: &mut impl Write) -> Result<Done, Failure> {
     let bad = || {
-        Failure::Argument(format!("bad argument: LIMIT is {}, which isn't a count of frames up to 65535", words.limit))
+        Failure::Argument(format!(
+            "bad argument: LIMIT is {}, which isn't a count of frames up to 65535",
+            arguments.limit
+        ))
     };
-    let limit = short(&words.limit).ok_or_else(bad)?;
-    run(&words.frame, out, |loaded, address, file, out| {
+    let limit = short(&arguments.limit).ok_or_else(bad)?;
+    run(&arguments.frame, out, |loaded, address, file, out| {
         let blocks = file.blocks();
         let walk =
             loaded.modules.process().backtrace(address, &file.state(&blocks), usize::from(limit)).map_err(no_answer)?;

@@ -134,7 +134,7 @@ fn the_readme_lists_what_is_public() {
 
 #[test]
 fn the_modules_that_a_line_uses() {
-    assert_eq!(used("use crate::elf::target::{Order, Target};", "cfi"), ["elf::target"]);
+    assert_eq!(used("use crate::elf::format::{Format, Name};", "cfi"), ["elf::format"]);
     assert_eq!(used("    let one = crate::cfi::row::Row::default(); // crate::elf::plt", ""), ["cfi::row"]);
     assert_eq!(used("pub use super::maps::Map;", "process"), ["process::maps"]);
     assert_eq!(used("    use super::maps::Map;", "process"), [""; 0]);

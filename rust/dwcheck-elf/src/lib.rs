@@ -13,26 +13,31 @@ mod cfi;
 mod check;
 mod debug;
 mod elf;
+mod error;
 #[cfg(test)]
 mod layers;
 mod process;
 
-pub use cfi::{alone, eh_frame_hdr, frames, row, text, validate};
-pub use check::{fault, inspect, lint, report};
+pub use cfi::{eh_frame_hdr, frames, one_by_one, row, text, validate};
+pub use check::{fault, inspect, lint, program_report};
 pub use debug::{expression, lines, loclists, variables};
-pub use elf::{abi, debug_files, functions, image, mapped, other_file, program, relocate, target};
+pub use dwcheck_types::{abi, target};
+pub use elf::{debug_files, functions, image, mapped, other_file, program, relocate};
+pub use error::Error;
 pub use process::{core_file, live, modules, stack, state_file};
 
 /// The location lists of a program.
 pub mod lists {
     pub use crate::check::lists::{compare_look_ups, inspect_lists};
-    pub use crate::debug::lists::{Bytes, Contents, Difference, Doubtful, Hole, Limit, Lint, Lints, LookUps, Spot};
+    pub use crate::debug::lists::{
+        Bytes, Contents, Difference, Doubtful, Limit, Lint, Lints, LookUps, Unsupported, UnsupportedAt,
+    };
 }
 
 /// Shows names of functions as they are in the source code, and addresses as functions and offsets.
 pub mod names {
-    pub use crate::elf::names::demangled;
-    pub use crate::elf::spot::Spot;
+    pub use crate::elf::demangle::demangled;
+    pub use crate::elf::function_offset::FunctionOffset;
 }
 
 /// What the crates `dwcheck-profile` and `dwcheck-trace` use beside the public modules. It is no part of the interface.
@@ -40,9 +45,9 @@ pub mod names {
 pub mod internal {
     pub use crate::cfi::section_table::{add, OneFde, SectionTable};
     pub use crate::check::page;
-    pub use crate::elf::bytes::{Cursor, ReadError};
-    pub use crate::elf::names::short_name;
+    pub use crate::elf::demangle::short_name;
     pub use crate::process::maps::Process;
-    pub use crate::process::stack::guess::ends_with_call;
-    pub use crate::process::stack::names::Names;
+    pub use crate::process::stack::frame_names::Names;
+    pub use crate::process::without_row;
+    pub use dwcheck_types::cursor::{Cursor, ReadError};
 }

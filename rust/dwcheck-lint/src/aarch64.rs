@@ -10,6 +10,7 @@ mod text;
 use crate::instruction::{Condition, Effect, Instruction, Scale, Target};
 use crate::machine::Machine;
 use crate::register::{Register, Registers};
+use dwcheck_types::abi::{self, callee_saved};
 
 const NAMES: [&str; 40] = [
     "x0", "x1", "x2", "x3", "x4", "x5", "x6", "x7", "x8", "x9", "x10", "x11", "x12", "x13", "x14", "x15", "x16", "x17",
@@ -19,22 +20,24 @@ const NAMES: [&str; 40] = [
 
 /// The register of the return address.
 const LINK: Register = Register(30);
-const SP: Register = Register(31);
+const SP: Register = Register(abi::AARCH64.stack_pointer as u8);
 
 /// The callee-saved registers: x19 to x29, and d8 to d15.
-const KEPT: [Register; 19] = {
-    let mut kept = [Register(0); 19];
+const CALLEE_SAVED: [Register; 19] = {
+    let mut callee_saved = [Register(0); 19];
     let mut index = 0;
     while index < 19 {
-        kept[index] = Register(if index < 11 { 19 + index as u8 } else { 21 + index as u8 });
+        // x30, the last one of the general registers, isn't given back.
+        let is_general = index < callee_saved::AARCH64.len() - 1;
+        callee_saved[index] = Register(if is_general { callee_saved::AARCH64[index] as u8 } else { 21 + index as u8 });
         index += 1;
     }
-    kept
+    callee_saved
 };
 
 /// aarch64 with the calling convention of Arm's AAPCS64.
 pub static AARCH64: Machine = Machine {
-    number: 183,
+    number: abi::AARCH64.machine,
     names: &NAMES,
     followed: 40,
     // The lower halves of v8 to v15 have the DWARF numbers 72 to 79.
@@ -44,10 +47,10 @@ pub static AARCH64: Machine = Machine {
         _ => Register(u8::MAX),
     },
     stack_pointer: SP,
-    frame_pointer: Register(29),
+    frame_pointer: Register(abi::AARCH64.frame_pointer as u8),
     return_address: LINK,
-    kept: &KEPT,
-    kept_if_said: Registers::of(&[32, 33, 34, 35, 36, 37, 38, 39]),
+    callee_saved: &CALLEE_SAVED,
+    callee_saved_if_named: Registers::of(&[32, 33, 34, 35, 36, 37, 38, 39]),
     stack_alignment: 16,
     // LLVM up to 14 writes such.
     has_rows_for_calls: true,
@@ -204,9 +207,9 @@ impl Word {
     fn move_wide(self) -> Effect {
         let shift = 16 * self.bits(22, 21);
         let field = i64::from(self.bits(20, 5)) << shift;
-        let kept = if self.is_wide() { -1 } else { 0xffff_ffff };
+        let all = if self.is_wide() { -1 } else { 0xffff_ffff };
         match (self.general(0), self.bits(30, 29)) {
-            (Some(to), 0b00) => Effect::Set { to, number: !field & kept },
+            (Some(to), 0b00) => Effect::Set { to, number: !field & all },
             (Some(to), 0b10) => Effect::Set { to, number: field },
             (Some(to), 0b11) => Effect::Insert { to, mask: 0xffff << shift, number: field },
             (to, _) => written(to),

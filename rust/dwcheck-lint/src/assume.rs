@@ -17,7 +17,7 @@ const MOST_RULES: usize = 20;
 /// The offsets from the CFA at which rows say that registers are saved, below the stack pointer at the entry of a
 /// function that is called. Nothing is saved there yet at the entry.
 pub fn unsaved(machine: &Machine, rows: &[Row<'_>]) -> Vec<i64> {
-    let is_judged = |register| machine.kept.contains(register) || *register == machine.return_address;
+    let is_judged = |register| machine.callee_saved.contains(register) || *register == machine.return_address;
     let rules = rows.iter().flat_map(|row| &row.rules).filter(|(register, _)| is_judged(register));
     let mut offsets = Vec::new();
     for (_, rule) in rules {
@@ -39,8 +39,8 @@ pub fn entered(machine: &Machine, row: &Row<'_>, unsaved: &[i64]) -> State {
     let mut state = State::unknown(false);
     unsaved.iter().for_each(|offset| state.put(Base::CFA, *offset, Value::Clobbered));
     for register in machine.followed() {
-        let is_kept = machine.kept.contains(&register);
-        state.set(register, if is_kept { Value::Entry(register) } else { Value::Clobbered });
+        let is_callee_saved = machine.callee_saved.contains(&register);
+        state.set(register, if is_callee_saved { Value::Entry(register) } else { Value::Clobbered });
     }
     state.set(machine.stack_pointer, Value::from_cfa(-machine.entry_offset));
     match machine.return_slot {
@@ -86,7 +86,9 @@ impl Assumption<'_> {
 
     fn assume_cfa(&mut self, row: &Row<'_>, address: u64) {
         match row.cfa {
-            Cfa::Offset(register, offset) => self.state.set(register, Value::from_cfa(offset.wrapping_neg())),
+            Cfa::RegisterOffset { register, offset } => {
+                self.state.set(register, Value::from_cfa(offset.wrapping_neg()))
+            }
             Cfa::Expression(expression) => match simple(expression) {
                 Some(found) if found.is_loaded => {
                     let (base, offset) = self.base_of(found.register);
@@ -113,12 +115,12 @@ impl Assumption<'_> {
     }
 
     fn assume_registers(&mut self, row: &Row<'_>, is_signed: bool) {
-        let kept = self.machine.kept.iter().copied();
-        for register in kept.chain([self.machine.return_address]) {
+        let callee_saved = self.machine.callee_saved.iter().copied();
+        for register in callee_saved.chain([self.machine.return_address]) {
             let is_return_address = register == self.machine.return_address;
             let value = if is_signed && is_return_address { Value::SIGNED_BY_CFA } else { Value::Entry(register) };
             match row.rule(register) {
-                None | Some(Rule::Same) => {
+                None | Some(Rule::SameValue) => {
                     let is_free = self.state.get(register) == Value::Unknown;
                     if is_free && self.machine.is_followed(register) {
                         self.state.set(register, value);
@@ -132,7 +134,7 @@ impl Assumption<'_> {
                         self.state.put(base, offset.wrapping_add(found.offset).wrapping_add(found.added), value);
                     }
                 }
-                Some(Rule::Undefined | Rule::Value) => {}
+                Some(Rule::Undefined | Rule::ValOffset(_) | Rule::ValExpression(_) | Rule::Architectural) => {}
             }
         }
     }

@@ -1,11 +1,12 @@
 //! Shows a function's instructions, with its rows and what the code says side by side.
 
+use crate::correct_row::{CorrectRow, Location};
+use crate::error::Error;
+use crate::finding_text::{RowText, ShownAddress, Sum};
 use crate::flow::Flow;
 use crate::judge::{Facts, Verdict};
 use crate::lint::Lint;
-use crate::report::{Place, RowText, Sum};
 use crate::state::State;
-use crate::truth::{Location, Truth};
 use crate::walk::{Edge, Exit, Here, Visitor};
 
 /// A line of the explanation.
@@ -28,7 +29,7 @@ pub struct Line {
 struct Listing(Vec<Line>);
 
 /// Explains the FDE that contains an address.
-pub fn explain(lint: &mut Lint<'_>, address: u64) -> Result<Vec<Line>, String> {
+pub fn explain(lint: &mut Lint<'_>, address: u64) -> Result<Vec<Line>, Error> {
     let mut flow = lint.flow(address)?;
     let mut listing = Listing(Vec::new());
     for leader in flow.reached_leaders() {
@@ -45,13 +46,13 @@ impl<'m> Visitor<'m> for Listing {
         let instruction = (machine.text)(flow.module.bytes_at(address), address);
         let (row, code, verdict) = match flow.row(address) {
             Some(row) => {
-                let code = code_text(flow, &Truth::of(machine, row, state));
+                let code = code_text(flow, &CorrectRow::of(machine, row, state));
                 (RowText(machine, row).to_string(), code, flow.disagreement(row, state, address))
             }
             None => ("no row".to_string(), String::new(), Verdict::default()),
         };
         let code = if state.is_assumed { format!("{} (assumed)", code) } else { code };
-        let place = Place(flow.module, address).to_string();
+        let place = ShownAddress(flow.module, address).to_string();
         self.0.push(Line { address, place, instruction, row, code, is_wrong: verdict.wrong != Facts::NONE });
     }
 
@@ -61,12 +62,13 @@ impl<'m> Visitor<'m> for Listing {
 }
 
 /// What the code says, in the form of a row.
-fn code_text(flow: &Flow<'_, '_>, truth: &Truth) -> String {
+fn code_text(flow: &Flow<'_, '_>, correct_row: &CorrectRow) -> String {
     let machine = flow.module.machine;
-    let cfa =
-        truth.cfa.map_or("cfa=?".to_string(), |(register, offset)| format!("cfa={}", Sum(machine, register, offset)));
-    let kept = machine.kept.iter().zip(&truth.kept);
-    let places = kept.filter_map(|(register, location)| match location {
+    let cfa = correct_row
+        .cfa
+        .map_or("cfa=?".to_string(), |(register, offset)| format!("cfa={}", Sum(machine, register, offset)));
+    let callee_saved = machine.callee_saved.iter().zip(&correct_row.callee_saved);
+    let places = callee_saved.filter_map(|(register, location)| match location {
         Some(Location::Register(other)) if other == register => None,
         Some(Location::Register(other)) => Some(format!(" {}={}", machine.name(*register), machine.name(*other))),
         Some(Location::Slot(offset)) => Some(format!(" {}=[c{:+}]", machine.name(*register), offset)),

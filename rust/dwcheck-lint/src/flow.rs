@@ -3,6 +3,7 @@
 use crate::assume::{assumed, entered, unsaved};
 use crate::callees::{leads_elsewhere, Callees};
 use crate::code::{Code, Lists, USUAL_BYTES};
+use crate::error::Error;
 use crate::follow::{Follow, Tally};
 use crate::instruction::Effect;
 use crate::judge::{unjudged, Judge, Said, Verdict};
@@ -111,7 +112,7 @@ impl Drop for Flow<'_, '_> {
 
 /// Whether a row is the one with which a function begins that is called.
 pub fn is_entry_row(module: &Module<'_>, row: &Row<'_>) -> bool {
-    row.cfa == Cfa::Offset(module.machine.stack_pointer, module.machine.entry_offset)
+    row.cfa == Cfa::RegisterOffset { register: module.machine.stack_pointer, offset: module.machine.entry_offset }
 }
 
 impl<'m, 'c> Flow<'m, 'c> {
@@ -121,9 +122,9 @@ impl<'m, 'c> Flow<'m, 'c> {
         callees: &'c mut Callees,
         room: &'c mut Room,
         fde: &'m Fde,
-    ) -> Result<Self, String> {
+    ) -> Result<Self, Error> {
         let bytes = usize::try_from(fde.end - fde.begin).ok().and_then(|size| module.bytes_at(fde.begin).get(..size));
-        let bytes = bytes.filter(|bytes| bytes.len() <= MOST_BYTES).ok_or("the code isn't in the file, or too long")?;
+        let bytes = bytes.filter(|bytes| bytes.len() <= MOST_BYTES).ok_or(Error::Code)?;
         let rows = module.rows.rows(fde)?;
         let code = Code::decode(module.machine, fde, bytes, &rows, std::mem::take(&mut room.code));
         let mut blocks = std::mem::take(&mut room.blocks);
@@ -157,7 +158,8 @@ impl<'m, 'c> Flow<'m, 'c> {
     /// Whether the CFA or the stack pointer is ever computed from a register that callees may change.
     fn frame_is_in_changeable_register(&self) -> bool {
         let (changeable, pointer) = (self.module.machine.changeable, self.module.machine.stack_pointer);
-        let in_rows = |row: &Row<'_>| matches!(row.cfa, Cfa::Offset(register, _) if changeable.contains(register));
+        let in_rows =
+            |row: &Row<'_>| matches!(row.cfa, Cfa::RegisterOffset { register, .. } if changeable.contains(register));
         let sets_pointer = |effect: &Effect| match *effect {
             Effect::Move { to, from } | Effect::Add { to, from, .. } => to == pointer && changeable.contains(from),
             Effect::SubtractRegister { to, from, by } => {

@@ -114,10 +114,10 @@ pub fn odd_return(flow: &Flow<'_, '_>, state: &State) -> u32 {
 /// The registers that hold something else where the function ends.
 pub fn lost(flow: &Flow<'_, '_>, state: &State) -> Facts {
     let mut lost = Facts::NONE;
-    for (index, register) in flow.module.machine.kept.iter().enumerate() {
+    for (index, register) in flow.module.machine.callee_saved.iter().enumerate() {
         let value = state.get(*register);
         if value != Value::Unknown && value != Value::Entry(*register) {
-            lost.add(Facts::kept(index));
+            lost.add(Facts::callee_saved(index));
         }
     }
     lost

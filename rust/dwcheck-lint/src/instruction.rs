@@ -16,7 +16,7 @@ pub struct Instruction {
 
 /// A place in memory: a register plus an offset.
 #[derive(Clone, Copy, Debug, PartialEq, Eq)]
-pub struct Place {
+pub struct MemoryOperand {
     /// The register.
     pub base: Register,
     /// The offset in bytes.
@@ -111,7 +111,7 @@ pub struct Transfer {
     /// part of it is transferred.
     pub is_whole: bool,
     /// Where the first one is.
-    pub place: Place,
+    pub place: MemoryOperand,
     /// What is added to the register of the place afterwards.
     pub added: i32,
 }
@@ -129,7 +129,7 @@ pub enum Effect {
         /// The registers.
         registers: Registers,
         /// The place in memory, if it is a register plus an offset, and the number of bytes.
-        stored: Option<(Place, NonZeroU8)>,
+        stored: Option<(MemoryOperand, NonZeroU8)>,
     },
     /// Perhaps writes values that aren't followed to registers.
     MayWrite {
@@ -176,20 +176,20 @@ pub enum Effect {
     /// Takes the signature off an address, if it has one.
     Strip { to: Register },
     /// Loads a whole register.
-    Load { to: Register, from: Place },
+    Load { to: Register, from: MemoryOperand },
     /// Loads an entry of a table: at `offset` plus the base, if there is one, plus an index times the
     /// size.
     LoadEntry { to: Register, base: Option<Register>, offset: i64, entry: Entry },
     /// Loads or stores several registers, or one and changes the register of the place.
     Transfer(Transfer),
     /// Stores a number of some bytes.
-    StoreNumber { to: Place, bytes: u8 },
+    StoreNumber { to: MemoryOperand, bytes: u8 },
     /// Stores a whole register. The place is `None` if it isn't a register plus an offset.
-    Store { from: Register, to: Option<Place> },
+    Store { from: Register, to: Option<MemoryOperand> },
     /// Pushes a register.
     Push { from: Register },
     /// Pushes what is in memory.
-    PushMemory { from: Place },
+    PushMemory { from: MemoryOperand },
     /// Pushes something that isn't followed.
     PushOther,
     /// Pushes the flags.
@@ -197,7 +197,7 @@ pub enum Effect {
     /// Pops a register.
     Pop { to: Register },
     /// Pops what isn't followed, or into memory.
-    PopOther { to: Option<Place> },
+    PopOther { to: Option<MemoryOperand> },
     /// Pops the flags.
     PopFlags,
     /// Begins a frame: the frame pointer is pushed and set to the stack pointer, which is then lowered by a number
@@ -271,10 +271,11 @@ impl FourRegisters {
 
 impl Transfer {
     /// The registers, each with its place.
-    pub fn each(&self) -> impl Iterator<Item = (Option<Register>, Place)> + '_ {
-        let Place { base, offset } = self.place;
+    pub fn each(&self) -> impl Iterator<Item = (Option<Register>, MemoryOperand)> + '_ {
+        let MemoryOperand { base, offset } = self.place;
         let bytes = i32::from(self.bytes);
-        let places = (0..i32::from(self.count)).map(move |index| Place { base, offset: offset + index * bytes });
+        let places =
+            (0..i32::from(self.count)).map(move |index| MemoryOperand { base, offset: offset + index * bytes });
         self.registers.iter().zip(places)
     }
 
@@ -292,7 +293,7 @@ impl Transfer {
 
 impl Effect {
     /// Writes values that aren't followed to registers, and to a number of bytes at a place.
-    pub fn write(registers: Registers, place: Place, bytes: u8) -> Effect {
+    pub fn write(registers: Registers, place: MemoryOperand, bytes: u8) -> Effect {
         Effect::Write { registers, stored: NonZeroU8::new(bytes).map(|bytes| (place, bytes)) }
     }
 

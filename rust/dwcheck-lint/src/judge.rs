@@ -1,7 +1,7 @@
 //! Compares a row with what is known.
 
 use crate::expression::Context;
-use crate::machine::{Machine, MOST_KEPT};
+use crate::machine::{Machine, MOST_CALLEE_SAVED};
 use crate::module::Convention;
 use crate::register::{Register, Registers};
 use crate::state::State;
@@ -23,8 +23,8 @@ impl Facts {
     pub const RETURN_ADDRESS: Facts = Facts(2);
     const FRAME: u32 = 3;
 
-    /// A register, by its index in [`Machine::kept`].
-    pub fn kept(index: usize) -> Facts {
+    /// A register, by its index in [`Machine::callee_saved`].
+    pub fn callee_saved(index: usize) -> Facts {
         Facts(4 << index)
     }
 
@@ -62,8 +62,10 @@ impl Facts {
 
     /// The registers among these, for a machine.
     pub fn names(self, machine: &Machine) -> impl Iterator<Item = &'static str> + '_ {
-        let kept = machine.kept.iter().enumerate();
-        kept.filter(move |(index, _)| self.has(Facts::kept(*index))).map(move |(_, register)| machine.name(*register))
+        let callee_saved = machine.callee_saved.iter().enumerate();
+        callee_saved
+            .filter(move |(index, _)| self.has(Facts::callee_saved(*index)))
+            .map(move |(_, register)| machine.name(*register))
     }
 }
 
@@ -110,7 +112,7 @@ pub struct Verdict {
     /// How the rule of the return address is wrong.
     pub return_address: Option<WrongRule>,
     /// How the rules of the registers are wrong.
-    pub rules: [Option<WrongRule>; MOST_KEPT],
+    pub rules: [Option<WrongRule>; MOST_CALLEE_SAVED],
 }
 
 /// Why a row isn't judged.
@@ -159,7 +161,7 @@ impl Said {
         let all = rows.iter().flat_map(|row| &row.rules).filter(|(register, _)| machine.is_followed(*register));
         all.for_each(|(register, _)| said.registers.insert(*register));
         let by_register = |row: &Row<'_>| match row.cfa {
-            Cfa::Offset(register, _) => Some(register),
+            Cfa::RegisterOffset { register, .. } => Some(register),
             Cfa::Expression(_) => None,
         };
         rows.iter().filter_map(by_register).for_each(|register| said.frame.insert(register));
@@ -203,8 +205,8 @@ impl Judge<'_> {
     /// The CFA of a row.
     fn cfa(&self, row: &Row<'_>, context: &Context<'_>) -> Value {
         match row.cfa {
-            Cfa::Offset(register, _) if !self.machine.is_followed(register) => Value::Unknown,
-            Cfa::Offset(register, offset) => match self.state.get(register) {
+            Cfa::RegisterOffset { register, .. } if !self.machine.is_followed(register) => Value::Unknown,
+            Cfa::RegisterOffset { register, offset } => match self.state.get(register) {
                 // A register that has the caller's value again isn't the function's frame any more.
                 entry @ Value::Entry(_) => entry,
                 value => value.plus(offset),
@@ -244,8 +246,8 @@ impl Judge<'_> {
         let known = match row.rule(register) {
             Some(Rule::Undefined) => return,
             None if !self.machine.is_followed(register) => return,
-            Some(Rule::Same) if !self.machine.is_followed(register) => Ok(None),
-            rule => self.judge_rule(register, rule.unwrap_or(Rule::Same), context),
+            Some(Rule::SameValue) if !self.machine.is_followed(register) => Ok(None),
+            rule => self.judge_rule(register, rule.unwrap_or(Rule::SameValue), context),
         };
         match known {
             Ok(Some(())) => {}
@@ -258,20 +260,20 @@ impl Judge<'_> {
     }
 
     fn judge_registers(&self, row: &Row<'_>, context: &Context<'_>, verdict: &mut Verdict) {
-        let silent = self.machine.kept_if_said.without(self.said.registers);
-        for (index, register) in self.machine.kept.iter().enumerate() {
+        let silent = self.machine.callee_saved_if_named.without(self.said.registers);
+        for (index, register) in self.machine.callee_saved.iter().enumerate() {
             let is_silent = silent.contains(*register);
             let known = match row.rule(*register) {
                 Some(Rule::Undefined) => continue,
                 // Rule "registers that rows speak of": most code for aarch64 leaves vector registers out.
                 None if is_silent => continue,
-                rule => self.judge_rule(*register, rule.unwrap_or(Rule::Same), context),
+                rule => self.judge_rule(*register, rule.unwrap_or(Rule::SameValue), context),
             };
             match known {
                 Ok(Some(())) => {}
-                Ok(None) => verdict.unknown.add(Facts::kept(index)),
+                Ok(None) => verdict.unknown.add(Facts::callee_saved(index)),
                 Err(wrong) => {
-                    verdict.wrong.add(Facts::kept(index));
+                    verdict.wrong.add(Facts::callee_saved(index));
                     verdict.rules[index] = Some(wrong);
                 }
             }
@@ -281,14 +283,14 @@ impl Judge<'_> {
     /// Whether a rule gives a register's entry value. `Ok(None)` if that isn't known.
     fn judge_rule(&self, register: Register, rule: Rule<'_>, context: &Context<'_>) -> Result<Option<()>, WrongRule> {
         match rule {
-            Rule::Same => self.is_entry(self.state.get(register), register, WrongRule::Changed),
+            Rule::SameValue => self.is_entry(self.state.get(register), register, WrongRule::Changed),
             Rule::Register(other) => self.is_entry(self.state.get(other), register, WrongRule::Elsewhere),
             Rule::Offset(offset) => self.judge_slot(Value::from_cfa(offset), register),
             Rule::Expression(expression) => {
                 let cfa = Value::from_cfa(0);
                 self.judge_slot(context.evaluate(expression, Some(cfa)), register)
             }
-            Rule::Undefined | Rule::Value => Ok(None),
+            Rule::Undefined | Rule::ValOffset(_) | Rule::ValExpression(_) | Rule::Architectural => Ok(None),
         }
     }
 

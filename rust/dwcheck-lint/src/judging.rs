@@ -1,5 +1,6 @@
 //! Judges each instruction and each edge of the blocks that weren't judged while the flow was followed.
 
+use crate::correct_row::CorrectRow;
 use crate::coverage::Coverage;
 use crate::crossing::Crossing;
 use crate::flow::{is_entry_row, Flow};
@@ -10,7 +11,6 @@ use crate::register::Register;
 use crate::rules::is_unreachable_end;
 use crate::state::State;
 use crate::table::{row_at, Row};
-use crate::truth::Truth;
 use crate::verdicts::{unknown_cfa, Judged, Verdicts};
 use crate::walk::{Edge, EdgeKind, Exit, Here, Visitor};
 use std::collections::HashSet;
@@ -46,7 +46,7 @@ pub struct Mark<'m> {
     /// What is wrong.
     pub verdict: Verdict,
     /// What the code says.
-    pub truth: Truth,
+    pub correct_row: CorrectRow,
     /// Whether the state was taken from a row.
     pub is_assumed: bool,
     /// The row.
@@ -87,9 +87,9 @@ impl<'m, 'x> Judging<'m, 'x> {
         // it is right for another one.
         let is_landing = |mark: &Mark<'_>| mark.way == Way::Edge(EdgeKind::Landing);
         self.marks.retain(|mark| !is_landing(mark) || !self.fitting_pads.contains(&mark.address));
-        let kept = flow.module.machine.kept.iter().enumerate();
-        let never_saved = kept.filter(|(_, register)| !flow.stores.saved.contains(**register));
-        never_saved.for_each(|(index, _)| self.lost.add(Facts::kept(index)));
+        let callee_saved = flow.module.machine.callee_saved.iter().enumerate();
+        let never_saved = callee_saved.filter(|(_, register)| !flow.stores.saved.contains(**register));
+        never_saved.for_each(|(index, _)| self.lost.add(Facts::callee_saved(index)));
     }
 
     fn add(&mut self, tally: &Tally) {
@@ -136,8 +136,8 @@ impl<'m, 'x> Judging<'m, 'x> {
             let before = Some((flow.code.address(at), *flow.code.effect(at)));
             let (way, is_assumed) = (Way::Leaving, state.is_assumed);
             let (address, next, effect) = (target, target, Effect::Invalid);
-            let truth = Truth::of(flow.module.machine, &row, state);
-            self.marks.push(Mark { address, next, effect, before, way, verdict, truth, is_assumed, row });
+            let correct_row = CorrectRow::of(flow.module.machine, &row, state);
+            self.marks.push(Mark { address, next, effect, before, way, verdict, correct_row, is_assumed, row });
         }
     }
 
@@ -158,8 +158,8 @@ impl<'m, 'x> Judging<'m, 'x> {
         if let Some(row) = flow.row(address).cloned() {
             let before = before.map(|before| (flow.code.address(before), *flow.code.effect(before)));
             let (next, effect) = (flow.code.address(flow.code.next(at)), *flow.code.effect(at));
-            let truth = Truth::of(flow.module.machine, &row, found.1);
-            self.marks.push(Mark { address, next, effect, before, way, verdict, truth, is_assumed, row });
+            let correct_row = CorrectRow::of(flow.module.machine, &row, found.1);
+            self.marks.push(Mark { address, next, effect, before, way, verdict, correct_row, is_assumed, row });
         }
     }
 }

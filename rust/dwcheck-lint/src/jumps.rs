@@ -1,9 +1,10 @@
 //! Tables of jumps: where they end, and where they lead.
 
-use crate::bytes::Reader;
 use crate::code::Code;
 use crate::instruction::{Effect, Entry};
 use crate::module::Module;
+use dwcheck_types::cursor::Cursor;
+use dwcheck_types::target::Target;
 
 /// How far before a jump its comparison is looked for, in instructions.
 const FARTHEST: usize = 10;
@@ -70,10 +71,10 @@ impl Table {
     /// Where the entry at an address leads.
     fn target(&self, module: &Module<'_>, place: u64) -> Option<u64> {
         let Entry { bytes, is_signed, shift } = self.entry;
-        let mut reader = Reader::new(module.bytes_at(place));
+        let mut reader = Cursor::new(module.bytes_at(place), Target::LITTLE_64);
         let entry = match is_signed {
-            true => reader.fixed_signed(bytes.into())? as u64,
-            false => reader.fixed(bytes.into())?,
+            true => reader.signed(bytes).ok()?,
+            false => reader.number(bytes).ok()?,
         };
         Some(self.anchor.wrapping_add(entry << shift))
     }

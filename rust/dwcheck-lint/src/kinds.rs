@@ -159,8 +159,12 @@ impl Kind {
     fn of_registers(module: &Module<'_>, group: &Group<'_>) -> Kind {
         let (machine, mark) = (module.machine, &group.mark);
         let usual = [machine.stack_pointer, machine.frame_pointer];
-        let is_realigned = matches!(mark.row.cfa, Cfa::Offset(register, _) if !usual.contains(&register));
-        let wrong = machine.kept.iter().enumerate().filter(|(index, _)| mark.verdict.wrong.has(Facts::kept(*index)));
+        let is_realigned = matches!(mark.row.cfa, Cfa::RegisterOffset { register, .. } if !usual.contains(&register));
+        let wrong = machine
+            .callee_saved
+            .iter()
+            .enumerate()
+            .filter(|(index, _)| mark.verdict.wrong.has(Facts::callee_saved(*index)));
         let mut rules_of_wrong = wrong.map(|(_, register)| mark.row.rule(*register));
         let is_by_frame = rules_of_wrong.all(|rule| matches!(rule, Some(Rule::Expression(_))));
         let rules = mark.verdict.rules;
@@ -178,7 +182,7 @@ impl Kind {
 
 /// Whether a row computes the CFA from the stack pointer.
 fn is_by_stack_pointer(module: &Module<'_>, row: &Row<'_>) -> bool {
-    matches!(row.cfa, Cfa::Offset(register, _) if register == module.machine.stack_pointer)
+    matches!(row.cfa, Cfa::RegisterOffset { register, .. } if register == module.machine.stack_pointer)
 }
 
 /// Whether the FDE of an address is a part that was split off a function: it doesn't begin as a function
@@ -198,9 +202,11 @@ fn has_row(module: &Module<'_>, group: &Group<'_>) -> bool {
 /// Whether the row after a group is the one that would have been right in it.
 fn is_late(module: &Module<'_>, group: &Group<'_>) -> bool {
     match (group.mark.row.cfa, group.mark.verdict.cfa, module.rows.row(group.end).map(|row| row.cfa)) {
-        (Cfa::Offset(register, offset), Some(WrongCfa::OffBy(by)), Some(Cfa::Offset(after, then))) => {
-            register == after && offset.checked_sub(by) == Some(then)
-        }
+        (
+            Cfa::RegisterOffset { register, offset },
+            Some(WrongCfa::OffBy(by)),
+            Some(Cfa::RegisterOffset { register: after, offset: then }),
+        ) => register == after && offset.checked_sub(by) == Some(then),
         _ => false,
     }
 }

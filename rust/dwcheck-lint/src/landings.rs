@@ -1,19 +1,20 @@
 //! Reads where calls go on that throw: the call sites of a language-specific data area, in the form
 //! that the compilers of C++, Rust, Ada, Go and D write.
 
-use crate::bytes::Reader;
 use crate::table::Landing;
+use dwcheck_types::cursor::Cursor;
+use dwcheck_types::target::Target;
 
 /// No value is there.
 const OMITTED: u8 = 0xff;
 
 /// Reads an offset with an encoding that has no base.
-fn offset(reader: &mut Reader<'_>, encoding: u8) -> Option<u64> {
+fn offset(reader: &mut Cursor<'_>, encoding: u8) -> Option<u64> {
     match encoding & 0xf {
-        0x0 | 0x4 => reader.fixed(8),
-        0x1 => reader.unsigned(),
-        0x2 => reader.fixed(2),
-        0x3 => reader.fixed(4),
+        0x0 | 0x4 => reader.number(8).ok(),
+        0x1 => reader.uleb().ok(),
+        0x2 => reader.number(2).ok(),
+        0x3 => reader.number(4).ok(),
         _ => None,
     }
 }
@@ -21,25 +22,25 @@ fn offset(reader: &mut Reader<'_>, encoding: u8) -> Option<u64> {
 /// Reads the call sites that have a landing pad, of the function that begins at `function`. `area` are
 /// the bytes from the area's first one on. Call sites that can't be read are left out.
 pub fn landings(area: &[u8], function: u64) -> Vec<Landing> {
-    let mut reader = Reader::new(area);
+    let mut reader = Cursor::new(area, Target::LITTLE_64);
     let mut found = read(&mut reader, function).unwrap_or_default();
     found.sort_by_key(|landing| landing.begin);
     found
 }
 
-fn read(reader: &mut Reader<'_>, function: u64) -> Option<Vec<Landing>> {
+fn read(reader: &mut Cursor<'_>, function: u64) -> Option<Vec<Landing>> {
     // Where landing pads begin: compilers leave it out, so that it is the function.
-    if reader.byte()? != OMITTED {
+    if reader.byte().ok()? != OMITTED {
         return None;
     }
-    if reader.byte()? != OMITTED {
-        reader.unsigned()?;
+    if reader.byte().ok()? != OMITTED {
+        reader.uleb().ok()?;
     }
-    let encoding = reader.byte()?;
-    let length = usize::try_from(reader.unsigned()?).ok()?;
-    let after = reader.left().saturating_sub(length);
+    let encoding = reader.byte().ok()?;
+    let length = usize::try_from(reader.uleb().ok()?).ok()?;
+    let after = reader.rest().len().saturating_sub(length);
     let mut found = Vec::new();
-    while reader.left() > after {
+    while reader.rest().len() > after {
         match site(reader, encoding, function) {
             Some(Some(landing)) => found.push(landing),
             Some(None) => {}
@@ -50,10 +51,10 @@ fn read(reader: &mut Reader<'_>, function: u64) -> Option<Vec<Landing>> {
 }
 
 /// Reads a call site. `Some(None)` if it has no landing pad.
-fn site(reader: &mut Reader<'_>, encoding: u8, function: u64) -> Option<Option<Landing>> {
+fn site(reader: &mut Cursor<'_>, encoding: u8, function: u64) -> Option<Option<Landing>> {
     let (begin, length) = (offset(reader, encoding)?, offset(reader, encoding)?);
     let pad = offset(reader, encoding)?;
-    reader.unsigned()?;
+    reader.uleb().ok()?;
     let begin = function.wrapping_add(begin);
     let landing = Landing { begin, end: begin.wrapping_add(length), pad: function.wrapping_add(pad) };
     Some(Some(landing).filter(|_| pad != 0))

@@ -11,22 +11,25 @@
 //! - [`code`], [`walk`], [`flow`], [`jumps`], [`callees`], [`assume`] and [`crossing`] follow the flow.
 //! - [`landings`] reads where calls go on that throw.
 //! - [`rules`] says which ways through the code aren't taken.
-//! - [`judge`], [`expression`], [`verdicts`], [`follow`], [`judging`] and [`truth`] compare rows with what is known.
-//! - [`kinds`], [`finding`], [`coverage`], [`report`] and [`explain`] say what was found.
+//! - [`judge`], [`expression`], [`verdicts`], [`follow`], [`judging`] and [`correct_row`] compare rows with what is known.
+//! - [`kinds`], [`finding`], [`coverage`], [`finding_text`] and [`explain`] say what was found, and [`error`] why an
+//!   FDE can't be judged.
 
 #![warn(missing_docs)]
 #![deny(unsafe_op_in_unsafe_fn)]
 
 pub mod aarch64;
 pub mod assume;
-mod bytes;
 pub mod callees;
 pub mod code;
+pub mod correct_row;
 pub mod coverage;
 pub mod crossing;
+pub mod error;
 pub mod explain;
 pub mod expression;
 pub mod finding;
+pub mod finding_text;
 pub mod flow;
 pub mod follow;
 pub mod instruction;
@@ -40,13 +43,11 @@ pub mod lint;
 pub mod machine;
 pub mod module;
 pub mod register;
-pub mod report;
 pub mod rules;
 pub mod state;
 pub mod step;
 pub mod stores;
 pub mod table;
-pub mod truth;
 pub mod value;
 pub mod verdicts;
 pub mod walk;

@@ -4,6 +4,7 @@
 use crate::callees::Callees;
 use crate::coverage::Coverage;
 use crate::crossing::Crossing;
+use crate::error::Error;
 use crate::finding::{findings, grouped, Finding, Group};
 use crate::flow::{is_entry_row, Flow, Room};
 use crate::judge::Facts;
@@ -112,8 +113,8 @@ impl<'m> Lint<'m> {
     }
 
     /// The flow of the FDE that contains an address, with all that other FDEs bring.
-    pub fn flow(&mut self, address: u64) -> Result<Flow<'m, '_>, String> {
-        let index = self.module.fde_at(address).ok_or("no FDE has the address")?;
+    pub fn flow(&mut self, address: u64) -> Result<Flow<'m, '_>, Error> {
+        let index = self.module.fde_at(address).ok_or(Error::NoFde)?;
         let mut flow = Flow::new(self.module, &mut self.callees, &mut self.room, &self.module.fdes[index])?;
         flow.run(&self.crossing.brought);
         Ok(flow)

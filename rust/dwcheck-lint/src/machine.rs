@@ -19,10 +19,10 @@ pub struct Machine {
     pub frame_pointer: Register,
     /// The register of the return address in rows. It isn't followed if a call pushes the address.
     pub return_address: Register,
-    /// The registers that a function has to give back as it got them, at most [`MOST_KEPT`].
-    pub kept: &'static [Register],
+    /// The registers that a function has to give back as it got them, at most [`MOST_CALLEE_SAVED`].
+    pub callee_saved: &'static [Register],
     /// Those of them that are judged only in FDEs with a rule for them.
-    pub kept_if_said: Registers,
+    pub callee_saved_if_named: Registers,
     /// What the stack pointer is always a multiple of, by what the processor demands. 1 if it demands
     /// nothing.
     pub stack_alignment: i64,
@@ -51,7 +51,7 @@ pub struct Machine {
 }
 
 /// The most registers that a machine's functions give back as they got them.
-pub const MOST_KEPT: usize = 19;
+pub const MOST_CALLEE_SAVED: usize = 19;
 
 /// The most registers of a machine that are followed.
 pub const MOST_FOLLOWED: usize = 40;

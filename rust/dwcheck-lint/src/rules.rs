@@ -54,7 +54,7 @@ pub fn is_exit(flow: &Flow<'_, '_>, state: &State) -> bool {
 pub fn row_changes_after_call(flow: &Flow<'_, '_>, call: u32, state: &State) -> bool {
     let (before, after) = (flow.code.address(call), flow.code.address(flow.code.next(call)));
     match (flow.row(before), flow.row(after)) {
-        (Some(row), Some(next)) if row.begin != next.begin && !row.says_the_same(next) => {
+        (Some(row), Some(next)) if row.begin != next.begin && !row.has_rules_of(next) => {
             !flow.disagreement(next, state, after).wrong.is_empty()
         }
         _ => false,
@@ -65,7 +65,9 @@ pub fn row_changes_after_call(flow: &Flow<'_, '_>, call: u32, state: &State) -> 
 /// known has another offset from it. Then whoever wrote the row knew the number.
 pub fn row_follows(flow: &Flow<'_, '_>, at: u32) -> bool {
     let offset = |at| match flow.row(flow.code.address(at))?.cfa {
-        Cfa::Offset(register, offset) => Some(offset).filter(|_| register == flow.module.machine.stack_pointer),
+        Cfa::RegisterOffset { register, offset } => {
+            Some(offset).filter(|_| register == flow.module.machine.stack_pointer)
+        }
         Cfa::Expression(_) => None,
     };
     match (offset(at), offset(flow.code.next(at))) {

@@ -148,10 +148,10 @@ impl State {
     }
 
     /// Forgets the slots that aren't to be kept.
-    fn retain(&mut self, is_kept: impl Fn(&Slot) -> bool) {
-        if !self.slots.iter().all(&is_kept) {
+    fn retain(&mut self, is_callee_saved: impl Fn(&Slot) -> bool) {
+        if !self.slots.iter().all(&is_callee_saved) {
             self.changes.has_slots = true;
-            Rc::make_mut(&mut self.slots).retain(|slot| is_kept(slot));
+            Rc::make_mut(&mut self.slots).retain(|slot| is_callee_saved(slot));
         }
     }
 
@@ -252,20 +252,20 @@ impl State {
     /// Keeps the slots that both states have. Where both have one at the same distance from a register that
     /// gets a new base, the slot is known by that, too.
     fn merge_slots(&mut self, other: &State, at: u32, joins: &[Join]) -> bool {
-        let is_kept =
+        let is_callee_saved =
             |slot: &Slot| !slot.base.is_joined_at(at) && other.slot(slot.base, slot.offset) == Some(slot.value);
         if joins.is_empty() {
             let count = self.slots.len();
             // Mostly, both states have the same slots.
             if !self.has_same_slots(other) || self.slots.iter().any(|slot| slot.base.is_joined_at(at)) {
-                self.retain(is_kept);
+                self.retain(is_callee_saved);
             }
             return self.slots.len() < count;
         }
         let renamed = |join: &Join| self.slots.iter().filter_map(|slot| join.renamed(slot, other)).collect::<Vec<_>>();
         let renamed: Vec<_> = joins.iter().flat_map(renamed).collect();
         let slots: Slots =
-            self.slots.iter().filter(|slot| is_kept(slot)).copied().chain(renamed).take(MOST_SLOTS).collect();
+            self.slots.iter().filter(|slot| is_callee_saved(slot)).copied().chain(renamed).take(MOST_SLOTS).collect();
         let has_changed = *self.slots != slots;
         self.slots = Rc::new(slots);
         has_changed

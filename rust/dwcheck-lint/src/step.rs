@@ -1,6 +1,6 @@
 //! How an instruction changes what is known.
 
-use crate::instruction::{Effect, Entry, Place, Scale, Transfer};
+use crate::instruction::{Effect, Entry, MemoryOperand, Scale, Transfer};
 use crate::machine::Machine;
 use crate::register::{Register, Registers};
 use crate::state::State;
@@ -152,7 +152,7 @@ impl Step<'_> {
     }
 
     /// Stores a value in some bytes.
-    fn overwrite(&mut self, place: Place, bytes: u8, value: Value) {
+    fn overwrite(&mut self, place: MemoryOperand, bytes: u8, value: Value) {
         if let Value::Address { base, offset } = self.state.get(place.base) {
             let begin = offset.wrapping_add(place.offset.into());
             let value = self.stores.overwriting(Some(place), value);
@@ -160,7 +160,7 @@ impl Step<'_> {
         }
     }
 
-    fn write(&mut self, registers: Registers, stored: Option<(Place, NonZeroU8)>) {
+    fn write(&mut self, registers: Registers, stored: Option<(MemoryOperand, NonZeroU8)>) {
         if let Some((place, bytes)) = stored {
             self.overwrite(place, bytes.get(), Value::Unknown);
         }
@@ -302,19 +302,19 @@ impl Step<'_> {
         self.state.set(to, value);
     }
 
-    fn store(&mut self, to: Option<Place>, value: Value) {
+    fn store(&mut self, to: Option<MemoryOperand>, value: Value) {
         self.stores.store(self.state, self.machine, to, value);
     }
 
     fn push(&mut self, value: Value) {
         let pointer = self.machine.stack_pointer;
         self.state.set(pointer, self.state.get(pointer).plus(-WORD));
-        self.store(Some(Place { base: pointer, offset: 0 }), value);
+        self.store(Some(MemoryOperand { base: pointer, offset: 0 }), value);
     }
 
     fn pop(&mut self) -> Value {
         let pointer = self.machine.stack_pointer;
-        let value = self.stores.load(self.state, Place { base: pointer, offset: 0 });
+        let value = self.stores.load(self.state, MemoryOperand { base: pointer, offset: 0 });
         self.state.set(pointer, self.state.get(pointer).plus(WORD));
         value
     }

@@ -5,7 +5,7 @@
 //! it can't be followed. While the flow is followed, not all of this is known yet, so an answer may have been
 //! wrong: then [`Stores::is_outdated`] says that the flow has to be followed again.
 
-use crate::instruction::Place;
+use crate::instruction::MemoryOperand;
 use crate::machine::Machine;
 use crate::register::{Register, Registers};
 use crate::state::State;
@@ -108,7 +108,7 @@ impl Stores {
     }
 
     /// What a word of memory holds.
-    pub fn load(&mut self, state: &State, place: Place) -> Value {
+    pub fn load(&mut self, state: &State, place: MemoryOperand) -> Value {
         match state.get(place.base).plus_of_place(place) {
             Value::Address { base, offset } => match self.held(state, base, offset) {
                 Some(value) => {
@@ -135,11 +135,11 @@ impl Stores {
     }
 
     /// Stores a word.
-    pub fn store(&mut self, state: &mut State, machine: &Machine, place: Option<Place>, value: Value) {
+    pub fn store(&mut self, state: &mut State, machine: &Machine, place: Option<MemoryOperand>, value: Value) {
         self.note_copy(value);
         let address = place.map_or(Value::Clobbered, |place| state.get(place.base).plus_of_place(place));
         match address {
-            Value::Address { base, offset } if is_kept(value) => {
+            Value::Address { base, offset } if is_callee_saved(value) => {
                 state.put(base, offset, value);
                 self.add(base, offset);
                 if base != Base::CFA {
@@ -158,7 +158,7 @@ impl Stores {
     }
 
     /// What is known to be stored at a place: nothing if the register of the place isn't one of the frame.
-    pub fn overwriting(&self, place: Option<Place>, value: Value) -> Value {
+    pub fn overwriting(&self, place: Option<MemoryOperand>, value: Value) -> Value {
         match place.filter(|place| self.frame.contains(place.base)) {
             Some(_) => value,
             None => Value::Unknown,
@@ -188,7 +188,7 @@ impl Stores {
 }
 
 /// Whether a value is worth a slot.
-fn is_kept(value: Value) -> bool {
+fn is_callee_saved(value: Value) -> bool {
     matches!(value, Value::Entry(_) | Value::SignedReturn { .. })
         || value.cfa_offset().map_or(false, |offset| NEAR_CFA.contains(&offset))
 }
@@ -196,7 +196,7 @@ fn is_kept(value: Value) -> bool {
 impl Value {
     /// The address of a place whose base register holds this value. Anything but an address stays
     /// as it is.
-    fn plus_of_place(self, place: Place) -> Value {
+    fn plus_of_place(self, place: MemoryOperand) -> Value {
         match self {
             Value::Address { .. } => self.plus(place.offset.into()),
             other => other,

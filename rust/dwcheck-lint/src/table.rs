@@ -1,6 +1,8 @@
 //! Unwind tables, as the lint takes them.
 
+use crate::error::Error;
 use crate::register::Register;
+use dwcheck_types::row;
 use std::ops::Range;
 
 /// A frame description entry: a range of code that has rows.
@@ -34,64 +36,26 @@ pub struct Landing {
     pub pad: u64,
 }
 
-/// A row: the rules for a range of addresses.
-#[derive(Clone, Debug, PartialEq, Eq)]
-pub struct Row<'a> {
-    /// The first address.
-    pub begin: u64,
-    /// The address after the last one.
-    pub end: u64,
-    /// How the CFA is computed.
-    pub cfa: Cfa<'a>,
-    /// The rules of registers that have one, ascending.
-    pub rules: Vec<(Register, Rule<'a>)>,
-}
+/// A row: the rules for a range of addresses, with the bytes of expressions.
+pub type Row<'a> = row::Row<&'a [u8], Register>;
 
 /// How the CFA is computed.
-#[derive(Clone, Copy, Debug, PartialEq, Eq)]
-pub enum Cfa<'a> {
-    /// A register plus an offset.
-    Offset(Register, i64),
-    /// The value of an expression.
-    Expression(&'a [u8]),
-}
+pub type Cfa<'a> = row::Cfa<&'a [u8], Register>;
 
 /// Where the caller's value of a register is.
-#[derive(Clone, Copy, Debug, PartialEq, Eq)]
-pub enum Rule<'a> {
-    /// Nowhere.
-    Undefined,
-    /// In the register itself.
-    Same,
-    /// In memory, at the CFA plus an offset.
-    Offset(i64),
-    /// In another register.
-    Register(Register),
-    /// In memory, at the address that an expression gives.
-    Expression(&'a [u8]),
-    /// A value that is computed.
-    Value,
-}
+pub type Rule<'a> = row::Rule<&'a [u8], Register>;
 
 /// Gives the rows of a module.
 pub trait Rows {
-    /// The rows of an FDE, ascending, without gaps. The reason if they can't be read.
-    fn rows(&self, fde: &Fde) -> Result<Vec<Row<'_>>, String>;
+    /// The rows of an FDE, ascending, without gaps.
+    ///
+    /// # Errors
+    ///
+    /// If they can't be read.
+    fn rows(&self, fde: &Fde) -> Result<Vec<Row<'_>>, Error>;
 
     /// The row of an address.
     fn row(&self, address: u64) -> Option<Row<'_>>;
-}
-
-impl<'a> Row<'a> {
-    /// The rule of a register. `None` if it has none, so that it keeps its value.
-    pub fn rule(&self, register: Register) -> Option<Rule<'a>> {
-        self.rules.iter().find(|(other, _)| *other == register).map(|(_, rule)| *rule)
-    }
-
-    /// Whether two rows say the same.
-    pub fn says_the_same(&self, other: &Row<'_>) -> bool {
-        self.cfa == other.cfa && self.rules == other.rules
-    }
 }
 
 impl Fde {

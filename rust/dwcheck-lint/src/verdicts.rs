@@ -125,8 +125,8 @@ impl Verdicts {
 pub fn unknown_cfa(row: &Row<'_>, stack_pointer: Register) -> Reason {
     match row.cfa {
         Cfa::Expression(_) => Reason::Expression,
-        Cfa::Offset(register, _) if register == stack_pointer => Reason::StackPointer,
-        Cfa::Offset(..) => Reason::Register,
+        Cfa::RegisterOffset { register, .. } if register == stack_pointer => Reason::StackPointer,
+        Cfa::RegisterOffset { .. } => Reason::Register,
     }
 }
 
@@ -135,11 +135,11 @@ fn watched(flow: &Flow<'_, '_>, row: &Row<'_>) -> Option<Registers> {
     let machine = flow.module.machine;
     let mut watched = Registers::NONE;
     // A register with another rule than these isn't read.
-    let is_read = |register: &Register| matches!(row.rule(*register), None | Some(Rule::Same));
-    let judged = machine.kept.iter().copied().chain([machine.return_address]);
+    let is_read = |register: &Register| matches!(row.rule(*register), None | Some(Rule::SameValue));
+    let judged = machine.callee_saved.iter().copied().chain([machine.return_address]);
     judged.filter(is_read).for_each(|register| watched.insert(register));
     match row.cfa {
-        Cfa::Offset(register, _) => watched.insert(register),
+        Cfa::RegisterOffset { register, .. } => watched.insert(register),
         Cfa::Expression(_) => return None,
     }
     for (_, rule) in &row.rules {

@@ -3,11 +3,12 @@
 mod common;
 mod remembered;
 
-use crate::instruction::{Condition, Effect, Entry, Instruction, Operation, Place, Scale, Target};
+use crate::instruction::{Condition, Effect, Entry, Instruction, MemoryOperand, Operation, Scale, Target};
 use crate::machine::Machine;
 use crate::register::{Register, Registers};
 use crate::zydis::{decoded, text, Decoded, Mnemonic, Operand, OperandKind, NO_REGISTER, RIP};
 use common::common;
+use dwcheck_types::abi::{self, callee_saved};
 use remembered::remembered;
 
 const NAMES: [&str; 33] = [
@@ -24,20 +25,31 @@ const DWARF: [Register; 16] = {
     [r(0), r(2), r(1), r(3), r(7), r(6), r(4), r(5), r(8), r(9), r(10), r(11), r(12), r(13), r(14), r(15)]
 };
 
-const RBP: Register = Register(6);
-const RSP: Register = Register(7);
+const RBP: Register = Register(abi::X86_64.frame_pointer as u8);
+const RSP: Register = Register(abi::X86_64.stack_pointer as u8);
+
+/// The callee-saved registers.
+const CALLEE_SAVED: [Register; callee_saved::X86_64.len()] = {
+    let mut callee_saved = [Register(0); callee_saved::X86_64.len()];
+    let mut index = 0;
+    while index < callee_saved.len() {
+        callee_saved[index] = Register(callee_saved::X86_64[index] as u8);
+        index += 1;
+    }
+    callee_saved
+};
 
 /// x86-64 with the calling convention of System V.
 pub static X86_64: Machine = Machine {
-    number: 62,
+    number: abi::X86_64.machine,
     names: &NAMES,
     followed: 16,
     register: |number| Register(u8::try_from(number).unwrap_or(u8::MAX)),
     stack_pointer: RSP,
     frame_pointer: RBP,
-    return_address: Register(16),
-    kept: &[Register(3), RBP, Register(12), Register(13), Register(14), Register(15)],
-    kept_if_said: Registers::NONE,
+    return_address: Register(abi::X86_64.program_counter as u8),
+    callee_saved: &CALLEE_SAVED,
+    callee_saved_if_named: Registers::NONE,
     stack_alignment: 1,
     has_rows_for_calls: false,
     changeable: Registers::of(&[0, 1, 2, 4, 5, 8, 9, 10, 11]),
@@ -131,10 +143,10 @@ impl Operand {
     }
 
     /// Memory at a register plus an offset.
-    fn place(&self) -> Option<Place> {
+    fn place(&self) -> Option<MemoryOperand> {
         let is_simple = self.is_memory() && self.index == NO_REGISTER && !self.is_thread_local();
         let base = register(self.base).filter(|_| is_simple)?;
-        Some(Place { base, offset: i32::try_from(self.value).ok()? })
+        Some(MemoryOperand { base, offset: i32::try_from(self.value).ok()? })
     }
 
     /// An address that is known: relative to RIP, or without registers.
@@ -173,7 +185,7 @@ fn write(found: &Decoded) -> Effect {
     }
     match register(found.stored_base).filter(|_| found.stored_bytes > 0) {
         Some(base) => {
-            let (to, bytes) = (Place { base, offset: found.stored_offset }, found.stored_bytes);
+            let (to, bytes) = (MemoryOperand { base, offset: found.stored_offset }, found.stored_bytes);
             let is_number = found.mnemonic() == Mnemonic::Mov && found.operands[1].immediate().is_some();
             if is_number {
                 Effect::StoreNumber { to, bytes }
@@ -295,7 +307,7 @@ fn lea(first: &Operand, second: &Operand) -> Option<Effect> {
     if let Some(number) = second.known_address() {
         return Some(Effect::Set { to, number });
     }
-    if let Some(Place { base: from, offset: number }) = second.place() {
+    if let Some(MemoryOperand { base: from, offset: number }) = second.place() {
         return Some(Effect::Add { to, from, number: number.into() });
     }
     let from = register(second.base)?;

@@ -1,6 +1,6 @@
 //! The stacks of a profile by function: a node is a function with its callers.
 
-use super::names::{Names, TextId};
+use super::frame_names::{Names, TextId};
 use super::objects::Kind;
 use super::tree::{NodeId, Tree};
 use super::Profile;

@@ -7,7 +7,7 @@ use super::space::{Mapping, NameId, Processes};
 use super::tree::Tree;
 use super::walk::Shared;
 use super::{Counts, Options, Profile, Sample};
-use dwcheck_elf::target::Order;
+use dwcheck_types::target::Order;
 use std::collections::HashMap;
 
 /// The process of records of the kernel's own mappings.
@@ -31,7 +31,7 @@ impl<'o> Collector<'o> {
         Collector {
             options,
             processes: Processes::default(),
-            shared: Shared::new(Objects::new(options.places.clone()), options.limit, order),
+            shared: Shared::new(Objects::new(options.search_paths.clone()), options.limit, order),
             tree: Tree::default(),
             samples: Vec::new(),
             counts: Counts::default(),
@@ -187,7 +187,7 @@ impl<'o> Collector<'o> {
             problems,
             features: recording.about().features.clone(),
             damage: recording.damage().cloned(),
-            places: objects.places().clone(),
+            search_paths: objects.search_paths().clone(),
             kernel_start: self.kernel_start,
             dumps: objects.into_dumps(),
         }

@@ -2,7 +2,7 @@
 //! format, version 46, in which each thread has tables of its own, a column for each key.
 
 use super::calls::{Called, Calls, Code};
-use super::names::Names;
+use super::frame_names::Names;
 use super::recording::BuildId;
 use super::tree::Tree;
 use super::{Profile, Sample};

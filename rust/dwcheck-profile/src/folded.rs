@@ -2,7 +2,7 @@
 //! name and the functions, the outermost first, and what it weighs.
 
 use super::calls::{Called, Calls};
-use super::names::Names;
+use super::frame_names::Names;
 use super::Profile;
 use rayon::prelude::*;
 use rustc_hash::FxHashMap;
@@ -47,7 +47,7 @@ struct Texts {
 impl Texts {
     fn of(profile: &Profile, names: &Names, calls: &Calls) -> Texts {
         Texts {
-            comms: profile.comms.iter().map(|comm| plain(comm)).collect(),
+            comms: profile.comms.iter().map(|comm| one_line(comm)).collect(),
             functions: calls.functions.iter().map(|called| text(names, called)).collect(),
         }
     }
@@ -64,11 +64,11 @@ impl Texts {
 
 /// The text of a function, with a semicolon in front.
 fn text(names: &Names, called: &Called) -> String {
-    format!(";{}", plain(&called.shown(names)))
+    format!(";{}", one_line(&called.shown(names)))
 }
 
 /// A name without what separates names and lines.
-fn plain(name: &str) -> String {
+fn one_line(name: &str) -> String {
     let shown = name.chars().filter(|c| !c.is_control());
     shown.map(|c| if c == ';' { ':' } else { c }).collect()
 }

@@ -13,7 +13,7 @@ pub enum End {
     Complete,
     /// The caller is past the end of the copy of the stack.
     EndOfCopy,
-    /// No table covers the last frame, and its frame pointer leads to no code.
+    /// No row covers the last frame, and no other rule finds its caller.
     NoTable,
     /// The return address isn't in code.
     NotCode,
@@ -38,7 +38,7 @@ pub(super) type FrameId = u32;
 
 /// A place in code.
 #[derive(Clone, Copy, Debug, PartialEq, Eq, Hash)]
-pub struct Place {
+pub struct CodeAddress {
     /// The index of the object that has the code.
     pub object: ObjectId,
     /// The address: of a file as linked, of others as it is in memory. Of a caller it is that of the byte before
@@ -50,7 +50,7 @@ pub struct Place {
 #[derive(Clone, Copy, Debug, PartialEq, Eq)]
 pub struct Frame {
     /// The place.
-    pub place: Place,
+    pub place: CodeAddress,
     /// What perf shows as the frame's address: of a file the offset.
     pub shown: u64,
     /// Whether that is the return address, which is after the call, as perf shows frames of the kernel.
@@ -58,13 +58,22 @@ pub struct Frame {
     /// The table that covers it, if one does.
     pub(super) table: Option<TableId>,
     pub(super) is_signal_frame: bool,
+    /// Whether signal handlers return to the kernel by the code after the place, and no table says so.
+    pub(super) precedes_signal_return: bool,
 }
 
 impl Frame {
     /// A frame at a place without a row: in no file, or in a file that has no table for it.
-    pub(super) fn plain(object: ObjectId, address: u64, shown: u64) -> Frame {
-        let place = Place { object, address };
-        Frame { place, shown, is_return: shown != address, table: None, is_signal_frame: false }
+    pub(super) fn without_row(object: ObjectId, address: u64, shown: u64) -> Frame {
+        let place = CodeAddress { object, address };
+        Frame {
+            place,
+            shown,
+            is_return: shown != address,
+            table: None,
+            is_signal_frame: false,
+            precedes_signal_return: false,
+        }
     }
 }
 
@@ -72,7 +81,7 @@ impl Frame {
 #[derive(Debug, Default)]
 pub(super) struct Frames {
     all: Vec<Frame>,
-    ids: FxHashMap<Place, FrameId>,
+    ids: FxHashMap<CodeAddress, FrameId>,
 }
 
 impl Frames {
@@ -87,7 +96,7 @@ impl Frames {
     }
 
     /// The frame at a place, with its index.
-    pub fn at(&self, place: Place) -> Option<(FrameId, Frame)> {
+    pub fn at(&self, place: CodeAddress) -> Option<(FrameId, Frame)> {
         let id = *self.ids.get(&place)?;
         self.all.get(id as usize).map(|frame| (id, *frame))
     }

@@ -2,7 +2,7 @@
 //! functions, and threads and a time range can be selected.
 
 use super::calls::{Calls, Code};
-use super::names::Names;
+use super::frame_names::Names;
 use super::{Profile, Sample};
 use dwcheck_elf::internal::page::{self, separated};
 use std::collections::HashMap;

@@ -3,7 +3,7 @@
 //! Linux has its format in tools/perf/Documentation/jitdump-specification.txt. A process maps the file, so that the
 //! recording has its path.
 
-use dwcheck_elf::target::{AddressSize, Order, Target};
+use dwcheck_types::target::{AddressSize, Order, Target};
 use std::collections::HashMap;
 use std::fs::File;
 use std::io::{self, BufReader, Read, Seek, SeekFrom};

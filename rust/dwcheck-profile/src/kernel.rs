@@ -1,7 +1,7 @@
 //! The names of the kernel's functions: by a list that `/proc/kallsyms` or `System.map` is.
 
 use super::recording::{BuildId, Features};
-use super::Places;
+use super::SearchPaths;
 use std::fs;
 use std::path::Path;
 
@@ -24,9 +24,9 @@ pub(super) struct Kernel {
 impl Kernel {
     /// The functions of the kernel that was recorded: of the list that perf stored with it, or of the kernel that
     /// runs, if it is the same.
-    pub fn of_recording(features: &Features, places: &Places, start: Option<u64>) -> Kernel {
+    pub fn of_recording(features: &Features, search_paths: &SearchPaths, start: Option<u64>) -> Kernel {
         let id = features.build_id(NAME);
-        let cached = id.and_then(|id| fs::read(places.cached(id, "kallsyms")?).ok());
+        let cached = id.and_then(|id| fs::read(search_paths.cached(id, "kallsyms")?).ok());
         let own = || fs::read("/proc/kallsyms").ok().filter(|_| is_own(id, features));
         Kernel::of_list(cached.or_else(own).unwrap_or_default(), start)
     }

@@ -17,14 +17,15 @@
 mod batch;
 pub mod calls;
 mod collect;
+mod error;
 pub mod firefox;
 pub mod folded;
+mod frame_names;
 mod frames;
 pub mod html;
 mod jitdump;
 mod kernel;
 mod memory;
-mod names;
 mod objects;
 mod popped;
 pub mod pprof;
@@ -36,11 +37,12 @@ mod tables;
 mod task;
 pub mod top;
 mod tree;
+mod view;
 mod walk;
 
-pub use frames::{End, Frame, Place};
-pub use names::{Function, NameOptions, Names};
-pub use objects::{Kind, Object, Places};
+pub use frame_names::{Function, NameOptions, Names};
+pub use frames::{CodeAddress, End, Frame};
+pub use objects::{Kind, Object, SearchPaths};
 pub use recording::{BuildId, Damage, Event, Features, Recording};
 pub use tree::{Node, NodeId, Tree};
 
@@ -69,7 +71,7 @@ pub struct Options {
     /// The most frames of a task.
     pub limit: usize,
     /// Where files are looked for.
-    pub places: Places,
+    pub search_paths: SearchPaths,
 }
 
 impl Default for Options {
@@ -81,7 +83,7 @@ impl Default for Options {
             times: 0..=u64::MAX,
             event: None,
             limit: MOST_FRAMES,
-            places: Places::default(),
+            search_paths: SearchPaths::default(),
         }
     }
 }
@@ -158,7 +160,7 @@ pub struct Profile {
     pub features: Features,
     /// Why the recording ended early. `None` if it didn't.
     pub damage: Option<Damage>,
-    places: Places,
+    search_paths: SearchPaths,
     /// Where the kernel's text began.
     kernel_start: Option<u64>,
     /// The files in which processes list code that they have made.

@@ -1,14 +1,16 @@
 //! The files whose code samples pass, and other code that has an owner: the kernel, and code that a
 //! compiler made at run time.
 
+use super::error::Error;
 use super::jitdump::is_dump;
 use super::recording::{BuildId, Features, Mapped};
 use super::tables::Tables;
-use dwcheck_elf::abi::{abi, Abi};
+use dwcheck_elf::internal::without_row::{sigpanic, SignalReturn};
 use dwcheck_elf::internal::SectionTable;
 use dwcheck_elf::mapped::Bytes;
 use dwcheck_elf::program::{Program, Segment};
-use dwcheck_elf::target::Target;
+use dwcheck_types::abi::{abi, Abi};
+use dwcheck_types::target::Target;
 use once_cell::sync::OnceCell;
 use std::collections::HashMap;
 use std::ffi::OsStr;
@@ -56,7 +58,7 @@ pub(super) struct Loaded {
     code: Vec<Segment>,
     /// The tables of the frame sections, `.debug_frame` first. None if the machine isn't known.
     pub tables: Tables,
-    /// The addresses of signal frames, as linked.
+    /// The addresses of signal frames, as linked: those that tables mark, and those of Go's `sigpanic`.
     signals: Vec<Range<u64>>,
     /// What isn't used of the file, and why.
     pub problems: Vec<String>,
@@ -70,9 +72,16 @@ impl Loaded {
         Some(offset.wrapping_sub(segment.offset).wrapping_add(segment.address))
     }
 
-    /// Whether an address as linked is one to which a signal handler returns.
+    /// Whether the frames of code at an address as linked are signal frames, whose callers were interrupted.
     pub fn is_signal_frame(&self, address: u64) -> bool {
         self.signals.iter().any(|range| range.contains(&address))
+    }
+
+    /// Whether signal handlers return to the kernel by the code at an offset of the file.
+    pub fn is_signal_return(&self, offset: u64) -> bool {
+        let code = usize::try_from(offset).ok().and_then(|offset| self.bytes.as_ref()?.get(offset..));
+        let found = self.machine.zip(code).and_then(|((_, abi), code)| SignalReturn::of(abi.machine, code));
+        found.is_some()
     }
 
     fn of(bytes: Bytes) -> Loaded {
@@ -84,6 +93,8 @@ impl Loaded {
                 loaded.code = program.segments().into_iter().filter(|segment| segment.is_executable).collect();
                 let (sections, problems) = SectionTable::all(&program);
                 loaded.signals = sections.iter().flat_map(|section| section.signal_frames()).collect();
+                let sigpanic = sigpanic(&program).and_then(|begin| sections.iter().find_map(|one| one.find(begin)));
+                loaded.signals.extend(sigpanic.map(|piece| piece.range));
                 loaded.problems = problems;
                 if sections.is_empty() && loaded.problems.is_empty() {
                     loaded.problems.push("has no unwind table".into());
@@ -105,21 +116,21 @@ impl Loaded {
 
 /// Where files are looked for.
 #[derive(Clone, Debug)]
-pub struct Places {
+pub struct SearchPaths {
     /// The folder that stands for `/`.
     pub root: PathBuf,
     /// perf's cache of files by build id, such as `~/.debug`.
     pub cache: Option<PathBuf>,
 }
 
-impl Default for Places {
+impl Default for SearchPaths {
     fn default() -> Self {
         let home = std::env::var_os("HOME").filter(|home| !home.is_empty());
-        Places { root: PathBuf::from("/"), cache: home.map(|home| Path::new(&home).join(".debug")) }
+        SearchPaths { root: PathBuf::from("/"), cache: home.map(|home| Path::new(&home).join(".debug")) }
     }
 }
 
-impl Places {
+impl SearchPaths {
     /// A file of perf's cache: what the program, the vDSO or the kernel with this build id had.
     pub(super) fn cached(&self, id: &BuildId, name: &str) -> Option<PathBuf> {
         let digits: String = id.bytes().iter().map(|byte| format!("{:02x}", byte)).collect();
@@ -147,7 +158,7 @@ pub(super) struct Objects {
     kernel: Option<ObjectId>,
     /// The files in which processes list code that they have made.
     dumps: HashMap<u32, PathBuf>,
-    places: Places,
+    search_paths: SearchPaths,
 }
 
 /// What the kernel adds to the name of a file that was deleted.
@@ -157,16 +168,16 @@ const DELETED: &[u8] = b" (deleted)";
 const VDSO: &[u8] = b"[vdso]";
 
 impl Objects {
-    pub fn new(places: Places) -> Self {
-        Objects { places, ..Objects::default() }
+    pub fn new(search_paths: SearchPaths) -> Self {
+        Objects { search_paths, ..Objects::default() }
     }
 
     pub fn all(&self) -> &[Arc<Object>] {
         &self.all
     }
 
-    pub fn places(&self) -> &Places {
-        &self.places
+    pub fn search_paths(&self) -> &SearchPaths {
+        &self.search_paths
     }
 
     /// The files in which processes list code that they have made.
@@ -236,10 +247,10 @@ impl Objects {
     /// What a process mapped.
     pub fn mapped(&mut self, mapped: &Mapped<'_>, features: &Features) -> ObjectId {
         if is_dump(mapped.name) {
-            self.dumps.extend(self.places.inside(mapped.name).map(|path| (mapped.pid, path)));
+            self.dumps.extend(self.search_paths.inside(mapped.name).map(|path| (mapped.pid, path)));
         }
         let is_memory = is_anonymous(mapped.name) || mapped.name.starts_with(MEMORY_FILE);
-        let is_file = mapped.name == VDSO || self.places.inside(mapped.name).is_some() && !is_memory;
+        let is_file = mapped.name == VDSO || self.search_paths.inside(mapped.name).is_some() && !is_memory;
         if !is_file {
             return self.memory(mapped.pid, mapped.name);
         }
@@ -261,7 +272,7 @@ impl Objects {
     /// What is known of the file of an object, which is opened when this is first asked.
     pub fn loaded(&self, id: ObjectId) -> Option<&Loaded> {
         let object = self.get(id).filter(|object| object.kind == Kind::File)?;
-        Some(object.loaded.get_or_init(|| object.open(&self.places)))
+        Some(object.loaded.get_or_init(|| object.open(&self.search_paths)))
     }
 }
 
@@ -286,28 +297,28 @@ impl Object {
         self.loaded.get()
     }
 
-    fn open(&self, places: &Places) -> Loaded {
+    fn open(&self, search_paths: &SearchPaths) -> Loaded {
         if self.recorded == VDSO {
-            return self.open_vdso(places);
+            return self.open_vdso(search_paths);
         }
         let name = self.recorded.strip_suffix(DELETED).unwrap_or(&self.recorded);
         let cached = || {
-            let path = places.cached(self.build_id.as_ref()?, "elf")?;
+            let path = search_paths.cached(self.build_id.as_ref()?, "elf")?;
             content(&path).ok().filter(|bytes| self.is_same(bytes))
         };
-        match content(&places.inside(name).unwrap_or_default()) {
+        match content(&search_paths.inside(name).unwrap_or_default()) {
             Ok(bytes) if self.is_same(&bytes) => Loaded::of(bytes),
             other => match (cached(), other) {
                 (Some(bytes), _) => Loaded::of(bytes),
                 (None, Ok(_)) => Loaded::problem("isn't the file that was recorded: its build id is another".into()),
-                (None, Err(why)) => Loaded::problem(why),
+                (None, Err(why)) => Loaded::problem(why.to_string()),
             },
         }
     }
 
     /// The vDSO: that of perf's cache, or that of this program, which is the same if the kernel is.
-    fn open_vdso(&self, places: &Places) -> Loaded {
-        let cached = self.build_id.as_ref().and_then(|id| places.cached(id, "vdso"));
+    fn open_vdso(&self, search_paths: &SearchPaths) -> Loaded {
+        let cached = self.build_id.as_ref().and_then(|id| search_paths.cached(id, "vdso"));
         let cached = cached.and_then(|path| content(&path).ok());
         let bytes = cached.or_else(own_vdso).filter(|bytes| self.is_same(bytes));
         match bytes {
@@ -328,13 +339,13 @@ impl Object {
 }
 
 /// The bytes of a regular file.
-fn content(path: &Path) -> Result<Bytes, String> {
-    let metadata = path.metadata().map_err(|error| format!("can't be read: {}", error))?;
+fn content(path: &Path) -> Result<Bytes, Error> {
+    let metadata = path.metadata().map_err(Error::Read)?;
     if !metadata.is_file() {
-        return Err("isn't a regular file".into());
+        return Err(Error::NotRegular);
     }
-    let file = File::open(path).map_err(|error| format!("can't be read: {}", error))?;
-    Bytes::of_file(&file, metadata.len()).map_err(|error| format!("can't be read: {}", error))
+    let file = File::open(path).map_err(Error::Read)?;
+    Bytes::of_file(&file, metadata.len()).map_err(Error::Read)
 }
 
 /// The vDSO of this program.

@@ -29,7 +29,7 @@ pub(super) fn slots(process: &Process, address: u64, task: &Task<'_>, registers:
     let size = task.target.address_size.bytes();
     let slot = |(register, rule): &(u16, Rule)| {
         let offset = match rule {
-            Rule::Offset(offset) if task.abi.kept.contains(register) => *offset,
+            Rule::Offset(offset) if task.abi.callee_saved.contains(register) => *offset,
             _ => return None,
         };
         let address = task.target.wrap(cfa.wrapping_add(offset as u64));

@@ -1,6 +1,6 @@
 //! Writes pprof's profile (<https://github.com/google/pprof/blob/main/proto/profile.proto>), compressed by gzip.
 
-use super::names::Names;
+use super::frame_names::Names;
 use super::{Kind, Profile};
 use flate2::write::GzEncoder;
 use flate2::Compression;

@@ -23,9 +23,9 @@ pub use features::{BuildId, Features};
 pub use record::{Comm, Fork, Mapped, Record};
 pub use sample::{Mode, Sample, TaskRegisters};
 
-use dwcheck_elf::internal::{Cursor, ReadError};
 use dwcheck_elf::mapped::Bytes;
-use dwcheck_elf::target::{AddressSize, Order, Target};
+use dwcheck_types::cursor::{Cursor, ReadError};
+use dwcheck_types::target::{AddressSize, Order, Target};
 use event::Events;
 use folder::Part;
 use header::Header;

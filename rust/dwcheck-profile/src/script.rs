@@ -1,8 +1,8 @@
 //! Writes samples as `perf script` does, so that what reads its text goes on working.
 
-use super::names::{Function, Names};
+use super::frame_names::{Function, Names};
 use super::{Frame, Profile, Sample};
-use dwcheck_elf::text::Plain;
+use dwcheck_elf::text::Escaped;
 use rayon::prelude::*;
 use std::fmt::Write as _;
 use std::io::{self, Write};
@@ -56,13 +56,13 @@ impl<'p> Script<'p> {
             text
         });
         let width = profile.events.iter().map(|event| event.name.len()).max().unwrap_or(0).min(WIDEST);
-        let event = |name: &str| format!("{:>width$}", Plain(name).to_string(), width = width);
+        let event = |name: &str| format!("{:>width$}", Escaped(name).to_string(), width = width);
         Script {
             profile,
             options,
             lines: lines.collect(),
             events: profile.events.iter().map(|one| event(&one.name)).collect(),
-            comms: profile.comms.iter().map(|comm| Plain(comm).to_string()).collect(),
+            comms: profile.comms.iter().map(|comm| Escaped(comm).to_string()).collect(),
         }
     }
 

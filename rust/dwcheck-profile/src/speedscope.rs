@@ -2,7 +2,7 @@
 //! thread.
 
 use super::calls::Calls;
-use super::names::Names;
+use super::frame_names::Names;
 use super::{Profile, Sample};
 use dwcheck_elf::internal::page::separated;
 use serde_json::json;

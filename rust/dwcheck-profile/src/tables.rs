@@ -3,9 +3,10 @@
 //! There is one table for each FDE, at the addresses as linked, wherever and however often processes mapped the
 //! file. An FDE is checked and compiled when a frame first needs it, by whichever thread walks there first.
 
+use super::error::Error;
 use dwcheck::Process;
 use dwcheck_elf::internal::{add as add_fde, SectionTable};
-use dwcheck_elf::target::Target;
+use dwcheck_types::target::Target;
 use once_cell::sync::OnceCell;
 
 /// Where a table is among those of a file.
@@ -19,7 +20,7 @@ pub(super) struct TableId {
 #[derive(Debug)]
 struct Compiled {
     /// Its table, or why it is refused.
-    table: Result<Process, String>,
+    table: Result<Process, Error>,
     /// The number of the round of walks that needed it first.
     round: u32,
 }
@@ -55,10 +56,16 @@ impl Tables {
         })
     }
 
+    /// Whether the FDE of a table begins at an address.
+    pub fn begins_at(&self, id: TableId, address: u64) -> bool {
+        let section = self.0.get(id.section as usize);
+        section.map_or(false, |section| section.table.addresses(id.fde as usize).start == address)
+    }
+
     /// A table that was found, if its rows are for tasks of this kind.
     pub fn get(&self, id: TableId, target: Target) -> Option<&Process> {
         let compiled = self.0.get(id.section as usize)?.compiled.get(id.fde as usize)?.get()?;
-        compiled.table.as_ref().ok().filter(|process| process.target() == target.into())
+        compiled.table.as_ref().ok().filter(|process| process.target() == target)
     }
 
     /// What is refused of those FDEs that frames needed.
@@ -67,7 +74,7 @@ impl Tables {
             let refused = section.compiled.iter().enumerate();
             refused.filter_map(move |(fde, compiled)| {
                 let why = compiled.get()?.table.as_ref().err()?;
-                Some(section.table.problem(fde, why))
+                Some(section.table.problem(fde, &why.to_string()))
             })
         })
     }
@@ -83,12 +90,12 @@ impl Section {
     }
 
     /// Checks and compiles an FDE.
-    fn compile(&self, fde: usize) -> Result<Process, String> {
-        let one = self.table.one(fde)?;
-        let mut process = Process::new(one.format.target.into());
+    fn compile(&self, fde: usize) -> Result<Process, Error> {
+        let one = self.table.one(fde).map_err(Error::Fde)?;
+        let mut process = Process::new(one.format.target);
         let addresses = self.table.addresses(fde);
         let module = one.format.module(&one.bytes, 0).range(addresses.start..=addresses.end.saturating_sub(1));
-        add_fde(&mut process, &one, &module, addresses.start).map_err(|error| error.to_string())?;
+        add_fde(&mut process, &one, &module, addresses.start).map_err(Error::Library)?;
         Ok(process)
     }
 }

@@ -2,8 +2,9 @@
 
 use super::recording::{Features, Sample, TaskRegisters};
 use dwcheck::Registers;
-use dwcheck_elf::abi::{abi, Abi};
-use dwcheck_elf::target::{AddressSize, Order, Target};
+use dwcheck_elf::internal::without_row::signed_bits;
+use dwcheck_types::abi::{abi, Abi};
+use dwcheck_types::target::{AddressSize, Order, Target};
 use object::elf::{EM_386, EM_AARCH64, EM_X86_64};
 
 /// A processor that was recorded.
@@ -103,22 +104,23 @@ impl<'a> Task<'a> {
         })
     }
 
-    /// What the calling convention says. Where return addresses may be signed, the signature is in the bits
-    /// above those of addresses.
+    /// What the calling convention says.
     pub fn convention(&self) -> dwcheck::Abi<'static> {
-        const ADDRESS_BITS: u32 = 48;
-        let convention = dwcheck::Abi::new(self.abi.kept, Some(self.abi.stack_pointer));
-        match self.abi.machine {
-            EM_AARCH64 => convention.signed(u64::MAX << ADDRESS_BITS),
-            _ => convention,
+        dwcheck::Abi::new(self.abi.callee_saved, Some(self.abi.stack_pointer)).signed(self.signed_bits())
+    }
+
+    /// The bits of a return address that may have its signature. 0 for machines that sign no addresses.
+    pub fn signed_bits(&self) -> u64 {
+        match self.abi.link_register {
+            Some(_) => signed_bits(None, self.stack_pointer | self.program_counter),
+            None => 0,
         }
     }
 
-    /// The word at an address of the stack. `None` if the copy doesn't have it.
-    pub fn word(&self, address: u64) -> Option<u64> {
+    /// The bytes of the stack from an address on. `None` if the copy doesn't have the address.
+    pub fn stack_from(&self, address: u64) -> Option<&'a [u8]> {
         let at = usize::try_from(address.checked_sub(self.stack_pointer)?).ok()?;
-        let size = usize::from(self.target.address_size.bytes());
-        Some(self.target.number(self.stack.get(at..at.checked_add(size)?)?))
+        self.stack.get(at..).filter(|bytes| !bytes.is_empty())
     }
 
     /// Whether an address is after the copy of the stack.

@@ -1,9 +1,9 @@
 //! Writes a table of functions: what each weighs by itself, and with all that it calls.
 
 use super::calls::Calls;
-use super::names::Names;
+use super::frame_names::Names;
 use super::Profile;
-use dwcheck_elf::text::Plain;
+use dwcheck_elf::text::Escaped;
 use std::cmp::Reverse;
 use std::io::{self, Write};
 
@@ -22,7 +22,7 @@ pub fn write(profile: &Profile, names: &Names, event: usize, limit: usize, out: 
         (Reverse((weight.own, weight.total)), called.shown(names), called.object)
     });
     let percent = |part: u64| part as f64 * 100.0 / all.max(1) as f64;
-    writeln!(out, "   self   total  {} {}", Plain(profile.event_name(event)), all)?;
+    writeln!(out, "   self   total  {} {}", Escaped(profile.event_name(event)), all)?;
     for (called, weight) in functions.into_iter().take(limit).filter(|(_, weight)| weight.total > 0) {
         let object = names.text(called.object).rsplit('/').next().unwrap_or("");
         let (own, total) = (percent(weight.own), percent(weight.total));

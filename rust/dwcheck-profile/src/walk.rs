@@ -3,15 +3,17 @@
 //! Walks only read what they share, so that any number of threads may walk at once. A walk that needs something
 //! which isn't there yet says so and ends; it is done again when that was added.
 
-use super::frames::{End, Frame, FrameId, Frames, Place};
+use super::frames::{CodeAddress, End, Frame, FrameId, Frames};
 use super::objects::{Kind, ObjectId, Objects};
 use super::popped;
 use super::recording::{Features, Mode, Sample};
 use super::space::{Mapping, Space};
 use super::tables::TableId;
 use super::task::Task;
+use super::view::Sampled;
 use dwcheck::{Answer, Block, Cursor, Frame as Stepped, Process, Registers, State, Stop};
-use dwcheck_elf::target::Order;
+use dwcheck_elf::internal::without_row::{FoundBy, Growth, Guesser, NotGrowing, View};
+use dwcheck_types::target::Order;
 
 /// The marks in chains of addresses, which are the highest numbers (`PERF_CONTEXT_`).
 mod mark {
@@ -84,6 +86,7 @@ pub(super) struct Walker<'w> {
     /// How many of its frames were found by frame pointers.
     pub by_frame_pointer: u64,
     registers: Registers,
+    growth: Growth,
 }
 
 /// A frame of a walk, with its index, if it has one.
@@ -111,6 +114,7 @@ impl<'w> Walker<'w> {
             is_new: false,
             by_frame_pointer: 0,
             registers: Registers::new(),
+            growth: Growth::default(),
         }
     }
 
@@ -165,7 +169,7 @@ impl<'w> Walker<'w> {
         let kernel = self.shared.objects.of_kernel().ok_or(Missing::Kernel)?;
         for (place, address) in addresses.into_iter().enumerate() {
             let inside = address.wrapping_sub(u64::from(place > 0));
-            let frame = self.add(Frame::plain(kernel, inside, address));
+            let frame = self.add(Frame::without_row(kernel, inside, address));
             self.push(frame);
         }
         Ok(())
@@ -191,7 +195,7 @@ impl<'w> Walker<'w> {
                 Some(mapping) => self.at(mapping, inside, is_return),
                 None => {
                     let object = self.unmapped(sample.pid)?;
-                    self.add(Frame::plain(object, inside, *address))
+                    self.add(Frame::without_row(object, inside, *address))
                 }
             };
             self.push(frame);
@@ -209,19 +213,23 @@ impl<'w> Walker<'w> {
         let shown = if matches!(kind, Some(Kind::File | Kind::MemoryFile(_))) { offset } else { address };
         // A list that a process writes of its code has addresses.
         let unlinked = if kind == Some(Kind::File) { offset } else { address };
-        let place = Place { object: mapping.object, address: linked.unwrap_or(unlinked) };
+        let place = CodeAddress { object: mapping.object, address: linked.unwrap_or(unlinked) };
         if let Some((id, frame)) = self.frames.at(place) {
             return At { id: Some(id).filter(|_| !self.is_new), frame };
         }
-        let plain =
-            Frame { is_return, ..Frame::plain(place.object, place.address, shown.wrapping_add(u64::from(is_return))) };
+        let plain = Frame {
+            is_return,
+            ..Frame::without_row(place.object, place.address, shown.wrapping_add(u64::from(is_return)))
+        };
         let frame = match (self.shared.known.at(place), loaded, linked) {
             (Some((_, known)), _, _) => known,
             (None, Some(loaded), Some(linked)) => {
                 let table = loaded.tables.find(linked, self.shared.round);
                 self.is_new |= !table.map_or(false, |(_, was_needed)| was_needed);
                 let table = table.map(|(table, _)| table);
-                Frame { table, is_signal_frame: loaded.is_signal_frame(linked), ..plain }
+                let is_signal_frame = loaded.is_signal_frame(linked);
+                let precedes_signal_return = !is_signal_frame && loaded.is_signal_return(offset.wrapping_add(1));
+                Frame { table, is_signal_frame, precedes_signal_return, ..plain }
             }
             _ => plain,
         };
@@ -236,31 +244,32 @@ impl<'w> Walker<'w> {
             Ok(cursor) => cursor,
             Err(_) => return Ok(End::None),
         };
+        let shared = self.shared;
+        let view = Sampled { task, space, objects: &shared.objects, round: shared.round };
+        self.growth.begin(task.abi);
         let start = self.count();
-        let mut floor = None;
         let mut mapping: Option<&Mapping> = None;
         loop {
             let address = cursor.address();
             let inside = address.wrapping_sub(u64::from(!cursor.is_exact()));
-            match self.count() - start {
-                count if count >= self.shared.limit => return Ok(End::Limit),
-                count if count > 0 && address == 0 => return Ok(End::Complete),
-                _ => mapping = mapping.filter(|mapping| mapping.has(inside)).or_else(|| space.find(inside)),
+            let count = self.count() - start;
+            if count >= shared.limit {
+                return Ok(End::Limit);
             }
-            let at = match mapping.filter(|mapping| mapping.is_executable) {
-                Some(mapping) => self.at(mapping, inside, false),
-                None if self.count() == start => {
-                    let frame = Frame::plain(self.unmapped(pid)?, inside, inside);
-                    let frame = self.add(frame);
-                    self.push(frame);
-                    return Ok(End::NotCode);
-                }
+            if count > 0 && address == 0 {
+                return Ok(End::Complete);
+            }
+            mapping = mapping.filter(|mapping| mapping.has(inside)).or_else(|| space.find(inside));
+            let code = mapping.filter(|mapping| mapping.is_executable).or_else(|| view.code(address));
+            let (at, is_signal_return) = match code {
+                Some(mapping) => self.frame(mapping, &view, &mut cursor),
+                None if count == 0 => (self.add(Frame::without_row(self.unmapped(pid)?, inside, inside)), false),
                 None => return Ok(End::NotCode),
             };
             self.push(at);
-            let step = match at.frame.table {
-                Some(table) => self.step(at.frame, table, &mut cursor, &state, task, &mut floor),
-                None => self.by_frame_pointer(&mut cursor, task, space),
+            let step = match at.frame.table.filter(|_| !is_signal_return) {
+                Some(table) => self.step(at.frame, table, &mut cursor, &state, task),
+                None => self.by_guess(&mut cursor, &view, is_signal_return),
             };
             if let Step::End(end) = step {
                 return Ok(end);
@@ -268,16 +277,33 @@ impl<'w> Walker<'w> {
         }
     }
 
+    /// The frame that a cursor is at, and whether a signal handler has returned to it, by code for which no row says so.
+    /// Where a return address follows no call, the frame is looked up at the address itself, and the cursor says so.
+    fn frame(&mut self, mapping: &Mapping, view: &Sampled<'_>, cursor: &mut Cursor) -> (At, bool) {
+        let address = cursor.address();
+        if cursor.is_exact() {
+            return (self.at(mapping, address, false), false);
+        }
+        let at = self.at(mapping, address.wrapping_sub(1), false);
+        if at.frame.precedes_signal_return {
+            return (self.at(mapping, address, false), true);
+        }
+        let no_registers = Registers::new();
+        let guesser = Guesser { view, registers: &no_registers };
+        if at.frame.table.is_none() && !guesser.may_follow_call(address) {
+            let own = self.at(mapping, address, false);
+            let loaded = self.shared.objects.loaded(mapping.object);
+            let begins = |table| loaded.map_or(false, |loaded| loaded.tables.begins_at(table, own.frame.place.address));
+            if own.frame.table.map_or(false, begins) {
+                cursor.set_interrupted();
+                return (own, false);
+            }
+        }
+        (at, false)
+    }
+
     /// Moves the cursor from a frame with a row to its caller.
-    fn step(
-        &self,
-        frame: Frame,
-        table: TableId,
-        cursor: &mut Cursor,
-        state: &State<'_>,
-        task: &Task<'_>,
-        floor: &mut Option<u64>,
-    ) -> Step {
+    fn step(&mut self, frame: Frame, table: TableId, cursor: &mut Cursor, state: &State<'_>, task: &Task<'_>) -> Step {
         let loaded = self.shared.objects.loaded(frame.place.object);
         let process = match loaded.and_then(|loaded| loaded.tables.get(table, task.target)) {
             Some(process) => process,
@@ -300,47 +326,59 @@ impl<'w> Walker<'w> {
         }
         if frame.is_signal_frame {
             cursor.set_interrupted();
-            *floor = None;
-            return Step::Caller;
         }
-        // Where calls don't write to the stack, a frame may take nothing of it. But then it isn't its own caller.
-        let may_be_empty = task.abi.link_register.is_some() && cursor.address() != address;
-        match (floor.replace(cfa.unwrap_or(0)), cfa) {
-            (Some(floor), Some(cfa)) if cfa < floor || cfa == floor && !may_be_empty => Step::End(End::Unreadable),
-            _ => Step::Caller,
-        }
+        self.grow(address, cfa, frame.is_signal_frame)
     }
 
-    /// Moves the cursor from a frame without a row to its caller, by the frame pointer. It points to the caller's
-    /// frame pointer and the return address, which has to be in code.
-    fn by_frame_pointer(&mut self, cursor: &mut Cursor, task: &Task<'_>, space: &Space) -> Step {
-        let caller = || {
-            let size = u64::from(task.target.address_size.bytes());
-            let pointer = cursor.register(task.abi.frame_pointer)?;
-            let stack = cursor.register(task.abi.stack_pointer)?;
-            let saved = task.word(pointer).filter(|_| stack <= pointer && pointer % size == 0)?;
-            let held = task.word(pointer.checked_add(size)?)? & !task.convention().signed_bits;
-            let code = space.find(held.checked_sub(1)?)?;
-            let known = [
-                (task.abi.frame_pointer, saved),
-                (task.abi.stack_pointer, pointer.checked_add(2 * size)?),
-                (task.abi.program_counter, held),
-            ];
-            code.is_executable.then(|| (held, Registers::from(known)))
+    /// Moves the cursor from a frame without a row to its caller, which is a guess.
+    fn by_guess(&mut self, cursor: &mut Cursor, view: &Sampled<'_>, is_signal_return: bool) -> Step {
+        let (address, is_after_call, abi) = (cursor.address(), !cursor.is_exact(), view.task.abi);
+        // What has made a call has no other registers by which a caller is found.
+        let numbers =
+            if is_after_call { vec![abi.frame_pointer, abi.stack_pointer] } else { (0..MOST_REGISTERS).collect() };
+        let registers: Registers =
+            numbers.into_iter().filter_map(|number| Some((number, cursor.register(number)?))).collect();
+        let guesser = Guesser { view, registers: &registers };
+        let guess = match is_signal_return {
+            true => guesser.signal_return(address).and_then(|code| guesser.by_signal_return(code)),
+            false => guesser.caller(address, is_after_call).ok().flatten(),
         };
-        let (address, registers) = match caller() {
-            Some(caller) => caller,
-            None => return Step::End(End::NoTable),
+        let guess = match guess {
+            Some(guess) => guess,
+            None if view.is_in_code(address) => return Step::End(End::NoTable),
+            None => return Step::End(End::NotCode),
         };
-        let state = State { registers: &registers, memory: &[], abi: task.convention() };
-        match Cursor::at_caller(address, &state) {
+        let state = State { registers: &guess.registers, memory: &[], abi: view.task.convention() };
+        let caller = match is_signal_return {
+            true => Cursor::new(guess.address, &state),
+            false => Cursor::at_caller(guess.address, &state),
+        };
+        match caller {
             Ok(caller) => *cursor = caller,
             Err(_) => return Step::End(End::NoTable),
         }
-        self.by_frame_pointer += 1;
-        Step::Caller
+        self.by_frame_pointer += u64::from(guess.found_by == FoundBy::FramePointer);
+        self.grow(address, Some(guess.cfa), is_signal_return)
+    }
+
+    /// Goes on to the caller of a frame whose CFA this is, unless the stack doesn't lead upward there.
+    fn grow(&mut self, address: u64, cfa: Option<u64>, is_signal_frame: bool) -> Step {
+        match cfa.and_then(|cfa| self.growth.add(address, cfa, is_signal_frame)) {
+            None => Step::Caller,
+            Some(NotGrowing::Cfa) => Step::End(End::Unreadable),
+            // The frame is among those before it.
+            Some(NotGrowing::Loop) => {
+                if self.new.pop().is_none() {
+                    self.stack.pop();
+                }
+                Step::End(End::Unreadable)
+            }
+        }
     }
 }
+
+/// Cursors have no registers with higher numbers.
+const MOST_REGISTERS: u16 = 96;
 
 /// Steps from a frame that is at this address as linked. What the innermost one has popped is read as if the stack still
 /// had it.
@@ -351,7 +389,7 @@ fn stepped(process: &Process, linked: u64, cursor: &mut Cursor, state: &State<'_
     cursor.set_address(linked.wrapping_add(u64::from(!cursor.is_exact())));
     let stepped = process.step(cursor, state).ok()?;
     let is_lost = |register: &u16| cursor.register(*register).is_none() && state.registers.get(*register).is_some();
-    if !is_innermost || !task.abi.kept.iter().any(is_lost) {
+    if !is_innermost || !task.abi.callee_saved.iter().any(is_lost) {
         return stepped;
     }
     let slots = popped::slots(process, linked, task, state.registers);

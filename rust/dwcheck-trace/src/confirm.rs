@@ -3,12 +3,12 @@
 use super::site::Site;
 use super::tracer::Tracer;
 use dwcheck_elf::functions::Functions;
-use dwcheck_elf::names::Spot;
+use dwcheck_elf::names::FunctionOffset;
 use dwcheck_lint::finding::{Finding, Severity};
+use dwcheck_lint::finding_text::Text;
 use dwcheck_lint::judging::Way;
 use dwcheck_lint::lint::Lint;
 use dwcheck_lint::module::Module;
-use dwcheck_lint::report::Text;
 use std::fmt;
 use std::path::Path;
 
@@ -55,7 +55,7 @@ pub struct Confirmation<'a> {
 /// What the lint finds in a module, but for registers that functions never give back.
 pub(super) fn suspects(module: &Module<'_>, functions: &Functions<'_>) -> Vec<Suspect> {
     let report = Lint::run(module).report();
-    let names = |address| Spot::at(functions, address).map(|spot| spot.to_string());
+    let names = |address| FunctionOffset::at(functions, address).map(|spot| spot.to_string());
     let suspect = |finding: &Finding<'_>| Suspect {
         fde: finding.fde,
         address: finding.mark.address,

@@ -1,15 +1,15 @@
 //! The files whose code processes run: their FDEs, rows and functions.
 
 use super::confirm::{suspects, Suspect};
-use super::registers::{KEPT, KEPT_NUMBERS};
+use super::registers::{CALLEE_SAVED, SAVED_COUNT};
 use super::rules::Rule;
-use super::site::{Judged, Kept, Site};
+use super::site::{Judged, SavedAt, Site};
 use dwcheck::Process;
 use dwcheck_elf::functions::Functions;
 use dwcheck_elf::lint::{LintError, Sections};
 use dwcheck_elf::live::Map;
 use dwcheck_elf::mapped::Bytes;
-use dwcheck_elf::names::Spot;
+use dwcheck_elf::names::FunctionOffset;
 use dwcheck_elf::program::{Program, ProgramError, Segment};
 use dwcheck_lint::flow::is_entry_row;
 use dwcheck_lint::judge::unjudged;
@@ -227,7 +227,7 @@ impl<'s> ModuleFile<'s> {
 
     /// The name of an address: its function, with an offset after it if there is one.
     pub fn name(&self, address: u64) -> Option<String> {
-        Spot::at(&self.functions, address).map(|spot| spot.to_string())
+        FunctionOffset::at(&self.functions, address).map(|spot| spot.to_string())
     }
 
     /// What is added to an address in the file to get the one in a process that has mapped the file this
@@ -284,33 +284,33 @@ impl<'s> ModuleFile<'s> {
             unjudged(self.module.machine, row).map_or(Ok(()), |reason| Err(Rule::from(reason)))?;
         }
         let keeps = self.module.convention == Convention::KeepsRegisters;
-        let kept = KEPT_NUMBERS.map(|number| match row.rule(Register(number as u8)) {
-            _ if !keeps => Kept::Unknown,
-            Some(RowRule::Undefined) => Kept::Unknown,
-            None | Some(RowRule::Same) => Kept::InPlace,
-            Some(_) => Kept::Elsewhere,
+        let callee_saved = CALLEE_SAVED.map(|number| match row.rule(Register(number as u8)) {
+            _ if !keeps => SavedAt::Unknown,
+            Some(RowRule::Undefined) => SavedAt::Unknown,
+            None | Some(RowRule::SameValue) => SavedAt::InPlace,
+            Some(_) => SavedAt::Elsewhere,
         });
-        let reads = reads(self.module.machine, row, &kept);
-        Ok(Judged { section, kept, begin: row.begin, reads, lowest: lowest(row), is_signal })
+        let reads = reads(self.module.machine, row, &callee_saved);
+        Ok(Judged { section, callee_saved, begin: row.begin, reads, lowest: lowest(row), is_signal })
     }
 }
 
 /// The registers by which a row finds the CFA, the return address and the callee-saved registers. `None` if it has
 /// an expression for one of them.
-fn reads(machine: &Machine, row: &Row<'_>, kept: &[Kept; KEPT]) -> Option<Registers> {
+fn reads(machine: &Machine, row: &Row<'_>, callee_saved: &[SavedAt; SAVED_COUNT]) -> Option<Registers> {
     let mut reads = Registers::NONE;
     match row.cfa {
-        Cfa::Offset(register, _) => reads.insert(register),
+        Cfa::RegisterOffset { register, .. } => reads.insert(register),
         Cfa::Expression(_) => return None,
     }
-    let judged = KEPT_NUMBERS.iter().zip(kept).filter(|(_, kept)| **kept != Kept::Unknown);
+    let judged = CALLEE_SAVED.iter().zip(callee_saved).filter(|(_, callee_saved)| **callee_saved != SavedAt::Unknown);
     let judged = judged.map(|(number, _)| Register(*number as u8)).chain([machine.return_address]);
     for register in judged {
         match row.rule(register) {
-            None | Some(RowRule::Same) => reads.insert(register),
+            None | Some(RowRule::SameValue) => reads.insert(register),
             Some(RowRule::Register(other)) => reads.insert(other),
             Some(RowRule::Offset(_) | RowRule::Undefined) => {}
-            Some(RowRule::Expression(_) | RowRule::Value) => return None,
+            Some(_) => return None,
         }
     }
     Some(reads)
@@ -343,4 +343,12 @@ impl fmt::Display for FileError {
     }
 }
 
-impl std::error::Error for FileError {}
+impl std::error::Error for FileError {
+    fn source(&self) -> Option<&(dyn std::error::Error + 'static)> {
+        match self {
+            FileError::Unread(error) => Some(error),
+            FileError::Program(error) => Some(error),
+            FileError::Code(error) => Some(error),
+        }
+    }
+}

@@ -6,6 +6,7 @@ use super::shadow::{Frame, Origin};
 use super::space::Space;
 use super::thread::{Here, Thread};
 use super::tracer::Tracer;
+use dwcheck_elf::internal::without_row::SignalReturn;
 use dwcheck_lint::instruction::Effect;
 use dwcheck_lint::register::Register;
 use dwcheck_lint::table::Rule as RowRule;
@@ -14,9 +15,6 @@ use dwcheck_lint::x86_64::X86_64;
 /// A stack pointer that goes up or down by more than this by one instruction may be on another stack.
 const FAR_UP: u64 = 1 << 16;
 const FAR_DOWN: u64 = 1 << 20;
-
-/// The code to which signal handlers return: mov $15, %rax.
-const SIGNAL_RETURN: [u8; 7] = [0x48, 0xc7, 0xc0, 15, 0, 0, 0];
 
 /// How the frames changed with a step.
 #[derive(Clone, Copy, Debug, Default, PartialEq, Eq)]
@@ -91,10 +89,14 @@ impl Tracer<'_, '_> {
         if old.stack_pointer() == stack || old.program_counter() == new.program_counter() {
             return false;
         }
-        let mut code = [0; SIGNAL_RETURN.len()];
-        let return_address = match space.word(stack) {
-            Some(address) if space.read(address, &mut code) && code == SIGNAL_RETURN => address,
-            _ => return false,
+        let is_signal_return = |address: &u64| {
+            let mut code = [0; SignalReturn::LONGEST];
+            let count = space.read_code(*address, &mut code);
+            SignalReturn::of(X86_64.number, &code[..count]).is_some()
+        };
+        let return_address = match space.word(stack).filter(is_signal_return) {
+            Some(address) => address,
+            None => return false,
         };
         if !thread.shadow.is_on(stack) {
             thread.shadow.switch(space.stack_at(stack, &mut self.files));
@@ -162,9 +164,9 @@ impl Tracer<'_, '_> {
     /// Notes the registers that a function didn't give back.
     fn returned(&mut self, thread: &Thread, frame: &Frame, new: &Registers) {
         let lost: Vec<usize> = new
-            .kept()
+            .callee_saved()
             .iter()
-            .zip(&frame.kept)
+            .zip(&frame.callee_saved)
             .enumerate()
             .filter(|(_, (new, old))| new != old)
             .map(|(at, _)| at)

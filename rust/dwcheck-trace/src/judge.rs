@@ -1,9 +1,9 @@
 //! Compares a row with what is true of a frame.
 
-use super::registers::{Registers, COUNT, KEPT, KEPT_NUMBERS};
+use super::registers::{Registers, CALLEE_SAVED, COUNT, SAVED_COUNT};
 use super::rules::Rule;
 use super::shadow::{Frame, Origin};
-use super::site::{Judged, Kept, Places, Wrong};
+use super::site::{Judged, Locations, SavedAt, Wrong};
 use super::space::Space;
 use super::thread::{Mode, Thread};
 use super::tracer::Tracer;
@@ -41,7 +41,7 @@ pub(super) struct Unwound {
 #[derive(Clone, Copy, Debug, PartialEq, Eq)]
 pub(super) struct Caller {
     pub return_address: u64,
-    pub kept: [Option<u64>; KEPT],
+    pub callee_saved: [Option<u64>; SAVED_COUNT],
     /// All its registers, as far as they are known.
     pub registers: [Option<u64>; COUNT],
 }
@@ -125,7 +125,11 @@ impl Caller {
     fn of(cursor: &Cursor) -> Caller {
         let mut registers = [None; COUNT];
         (0..).zip(&mut registers).for_each(|(number, register)| *register = cursor.register(number));
-        Caller { return_address: cursor.address(), kept: KEPT_NUMBERS.map(|number| cursor.register(number)), registers }
+        Caller {
+            return_address: cursor.address(),
+            callee_saved: CALLEE_SAVED.map(|number| cursor.register(number)),
+            registers,
+        }
     }
 }
 
@@ -247,13 +251,15 @@ impl Tracer<'_, '_> {
     fn note_wrong(&mut self, thread: &Thread, space: &mut Space, verdict: Verdict) {
         let count = self.sites.at(thread.here.site).wrong.as_ref().map_or(0, |wrong| wrong.count);
         let breaks_walk = verdict.wrong.has_frame() || count < MOST_WALKS && self.is_walk_broken(thread, space);
-        let places = if count < MOST_LOOKS { places(thread, space, verdict) } else { None };
+        let locations = if count < MOST_LOOKS { locations(thread, space, verdict) } else { None };
         let before = Some((thread.before.address, thread.before.effect))
             .filter(|_| thread.mode == Mode::Stepping && thread.before.next == thread.here.address);
         let wrong = &mut self.sites.at_mut(thread.here.site).wrong;
-        match (wrong, places) {
-            (Some(wrong), places) => wrong.add(verdict, breaks_walk, places),
-            (none, Some(places)) => *none = Some(Box::new(Wrong { count: 1, verdict, breaks_walk, before, places })),
+        match (wrong, locations) {
+            (Some(wrong), locations) => wrong.add(verdict, breaks_walk, locations),
+            (none, Some(locations)) => {
+                *none = Some(Box::new(Wrong { count: 1, verdict, breaks_walk, before, locations }))
+            }
             (None, None) => {}
         }
     }
@@ -308,14 +314,14 @@ fn verdict(judged: Judged, unwound: &Unwound, frame: &Frame) -> Verdict {
             return verdict;
         }
     };
-    for (index, (value, kept)) in caller.kept.iter().zip(&frame.kept).enumerate() {
-        let wrong = match judged.kept[index] {
-            Kept::Unknown => continue,
-            Kept::InPlace => WrongRule::Changed,
-            Kept::Elsewhere => WrongRule::Elsewhere,
+    for (index, (value, callee_saved)) in caller.callee_saved.iter().zip(&frame.callee_saved).enumerate() {
+        let wrong = match judged.callee_saved[index] {
+            SavedAt::Unknown => continue,
+            SavedAt::InPlace => WrongRule::Changed,
+            SavedAt::Elsewhere => WrongRule::Elsewhere,
         };
-        if *value != Some(*kept) {
-            verdict.wrong.add(Facts::kept(index));
+        if *value != Some(*callee_saved) {
+            verdict.wrong.add(Facts::callee_saved(index));
             verdict.rules[index] = Some(wrong);
         }
     }
@@ -323,7 +329,7 @@ fn verdict(judged: Judged, unwound: &Unwound, frame: &Frame) -> Verdict {
 }
 
 /// Where things are, of which some are wrong.
-fn places(thread: &Thread, space: &Space, verdict: Verdict) -> Option<Places> {
+fn locations(thread: &Thread, space: &Space, verdict: Verdict) -> Option<Locations> {
     let frame = thread.shadow.frames.last()?;
     let mut distances = [None; 16];
     let all = distances.iter_mut().zip(thread.registers.iter());
@@ -336,18 +342,20 @@ fn places(thread: &Thread, space: &Space, verdict: Verdict) -> Option<Places> {
     let words = bytes.chunks_exact(8).map(|word| u64::from_le_bytes(word.try_into().unwrap_or_default()));
     let slots: Vec<(i64, u64)> =
         (0..).map(|n| begin.wrapping_add(8 * n).wrapping_sub(frame.cfa) as i64).zip(words).collect();
-    let (mut in_registers, mut in_slots) = <([Vec<u16>; KEPT], [Vec<i64>; KEPT])>::default();
-    for (index, value) in frame.kept.iter().enumerate().filter(|(index, _)| verdict.wrong.has(Facts::kept(*index))) {
+    let (mut in_registers, mut in_slots) = <([Vec<u16>; SAVED_COUNT], [Vec<i64>; SAVED_COUNT])>::default();
+    for (index, value) in
+        frame.callee_saved.iter().enumerate().filter(|(index, _)| verdict.wrong.has(Facts::callee_saved(*index)))
+    {
         let registers = thread.registers.iter().take(16).filter(|(_, found)| found == value);
         in_registers[index] = registers.map(|(number, _)| number).collect();
         in_slots[index] = slots.iter().filter(|(_, found)| found == value).map(|(offset, _)| *offset).collect();
     }
-    Some(Places { distances, in_registers, in_slots })
+    Some(Locations { distances, in_registers, in_slots })
 }
 
 impl Wrong {
     /// Adds another time.
-    fn add(&mut self, verdict: Verdict, breaks_walk: bool, places: Option<Places>) {
+    fn add(&mut self, verdict: Verdict, breaks_walk: bool, locations: Option<Locations>) {
         self.count += 1;
         self.breaks_walk |= breaks_walk;
         self.verdict.wrong.add(verdict.wrong);
@@ -358,8 +366,8 @@ impl Wrong {
         self.verdict.return_address = self.verdict.return_address.or(verdict.return_address);
         let rules = self.verdict.rules.iter_mut().zip(verdict.rules);
         rules.for_each(|(one, other)| *one = one.or(other));
-        if let Some(places) = places {
-            self.places.keep_common(&places);
+        if let Some(locations) = locations {
+            self.locations.keep_common(&locations);
         }
     }
 }

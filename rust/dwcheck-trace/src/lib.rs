@@ -9,8 +9,8 @@
 //! - [`files`] and [`space`] say which code is where, and [`breakpoints`] changes it.
 //! - [`shadow`] is what is true of a thread's frames, [`follow`] keeps it step by step, and [`judge`]
 //!   compares it with the rows, but for what [`rules`] leaves out.
-//! - [`tracer`] handles what threads report, [`windows`] decides what is stepped, [`stretch`]
-//!   what is run at once, up to [`ends`], by what is [`foreseen`], and [`release`] lets go.
+//! - [`tracer`] handles what threads report, [`windows`] decides what is stepped, [`batch`]
+//!   what is run at once, up to [`ends`], by what is [`predicted`], and [`release`] lets go.
 //! - [`sample`] steps a process that runs already, for which [`guard`] makes a process.
 //! - [`confirm`] says of each finding of the lint whether it is so.
 //! - [`report`] makes findings and counts of what was seen.
@@ -20,34 +20,34 @@
 #![warn(missing_docs)]
 
 mod alarm;
+mod batch;
+mod batch_ends;
 mod breakpoints;
 mod confirm;
-mod ends;
 mod files;
 mod follow;
-mod foreseen;
 mod guard;
 mod judge;
+mod predicted;
 mod ptrace;
 mod registers;
 mod release;
-mod report;
 mod rules;
 mod sample;
 mod shadow;
 mod site;
 mod space;
 mod start;
-mod stretch;
 mod thread;
+mod trace_findings;
 mod tracer;
 mod windows;
 
 pub use confirm::{Confirmation, Confirmed, Suspect};
 pub use files::{FileError, ModuleFile};
 pub use guard::guarded;
-pub use report::{Counts, Coverage, FdeCoverage, FileReport, Found};
 pub use rules::{Rule, RuleCounts};
+pub use trace_findings::{Counts, Coverage, FdeCoverage, FileReport, Found};
 pub use tracer::Tracer;
 
 use nix::errno::Errno;

@@ -1,18 +1,19 @@
 //! The registers of a stopped thread.
 
+use dwcheck_types::abi::{callee_saved, X86_64};
 use libc::user_regs_struct;
 
 /// How many registers are known: the general ones, and the instruction pointer.
 pub const COUNT: usize = 17;
 
 /// How many registers a function has to give back as it got them.
-pub const KEPT: usize = 6;
+pub const SAVED_COUNT: usize = CALLEE_SAVED.len();
 
 /// The DWARF numbers of these: rbx, rbp, r12 to r15.
-pub const KEPT_NUMBERS: [u16; KEPT] = [3, 6, 12, 13, 14, 15];
+pub const CALLEE_SAVED: [u16; 6] = callee_saved::X86_64;
 
-const STACK_POINTER: usize = 7;
-const PROGRAM_COUNTER: usize = 16;
+const STACK_POINTER: usize = X86_64.stack_pointer as usize;
+const PROGRAM_COUNTER: usize = X86_64.program_counter as usize;
 
 /// The registers of a stopped thread of x86-64, by their DWARF numbers.
 #[derive(Clone, Copy, Debug, Default, PartialEq, Eq)]
@@ -62,8 +63,8 @@ impl Registers {
     }
 
     /// The registers that a function has to give back.
-    pub fn kept(&self) -> [u64; KEPT] {
-        KEPT_NUMBERS.map(|number| self.0[usize::from(number)])
+    pub fn callee_saved(&self) -> [u64; SAVED_COUNT] {
+        CALLEE_SAVED.map(|number| self.0[usize::from(number)])
     }
 
     /// All registers, with their DWARF numbers.

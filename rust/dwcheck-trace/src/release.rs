@@ -22,7 +22,7 @@ impl Tracer<'_, '_> {
         let mut threads: Vec<Thread> = self.threads.drain().map(|(_, thread)| thread).collect();
         for thread in &mut threads {
             let mut space = thread.space.borrow_mut();
-            thread.stretch.take().iter().for_each(|stretch| stretch.lift(&space));
+            thread.batch.take().iter().for_each(|batch| batch.lift(&space));
             space.take_out();
         }
         for thread in threads.iter_mut().filter(|thread| thread.is_stopped) {
@@ -114,7 +114,7 @@ impl Tracer<'_, '_> {
 /// Sets a thread that has executed a breakpoint back to it. Returns false if the trap is the program's own.
 fn rewind(thread: &mut Thread) -> bool {
     let code = ptrace::signal_code(thread.tid).unwrap_or(BY_KERNEL);
-    let ends_stretch = thread.stretch.is_some() && code == BY_KERNEL;
+    let ends_stretch = thread.batch.is_some() && code == BY_KERNEL;
     if thread.mode != Mode::Running && code > 0 && !ends_stretch {
         return true;
     }
@@ -126,7 +126,7 @@ fn rewind(thread: &mut Thread) -> bool {
         Err(_) => return true,
     };
     let address = registers.program_counter().wrapping_sub(1);
-    if thread.stretch.as_ref().map_or(false, |stretch| stretch.has_trap_at(address)) {
+    if thread.batch.as_ref().map_or(false, |batch| batch.has_trap_at(address)) {
         ptrace::set_program_counter(thread.tid, address);
         return true;
     }

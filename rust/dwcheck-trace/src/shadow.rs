@@ -1,6 +1,6 @@
 //! The shadow stack: what is true of the frames of a thread, as its calls and returns show it.
 
-use super::registers::{Registers, KEPT};
+use super::registers::{Registers, SAVED_COUNT};
 use dwcheck_lint::judge::Facts;
 use std::collections::HashMap;
 use std::ops::Range;
@@ -19,7 +19,7 @@ pub struct Frame {
     /// Where the caller goes on.
     pub return_address: u64,
     /// The registers that the function has to give back.
-    pub kept: [u64; KEPT],
+    pub callee_saved: [u64; SAVED_COUNT],
     /// What began the frame.
     pub origin: Origin,
     /// The FDE of the function that was called. `None` if there is none.
@@ -73,7 +73,7 @@ impl Frame {
             slot,
             cfa: slot.wrapping_add(8),
             return_address,
-            kept: registers.kept(),
+            callee_saved: registers.callee_saved(),
             origin,
             entered,
             seen_in: entered,
@@ -91,7 +91,7 @@ impl Frame {
             slot: handler_stack.wrapping_add(8),
             cfa: registers.stack_pointer(),
             return_address: registers.program_counter(),
-            kept: registers.kept(),
+            callee_saved: registers.callee_saved(),
             origin: Origin::Signal,
             entered: None,
             seen_in: None,

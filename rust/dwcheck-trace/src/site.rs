@@ -1,6 +1,6 @@
 //! The instructions that were stepped, and what was seen at each.
 
-use super::registers::KEPT;
+use super::registers::SAVED_COUNT;
 use super::rules::Rule;
 use super::shadow::FdeId;
 use dwcheck_lint::instruction::{Effect, Instruction};
@@ -42,7 +42,7 @@ pub struct Judged {
     /// The index of its frame section.
     pub section: usize,
     /// Where it finds each callee-saved register.
-    pub kept: [Kept; KEPT],
+    pub callee_saved: [SavedAt; SAVED_COUNT],
     /// The first address of the row, in the file.
     pub begin: u64,
     /// The registers by which it finds the CFA, the return address and these registers. `None` if it has an
@@ -56,7 +56,7 @@ pub struct Judged {
 
 /// Where a row finds the caller's value of a register.
 #[derive(Clone, Copy, Debug, PartialEq, Eq)]
-pub enum Kept {
+pub enum SavedAt {
     /// In the register itself.
     InPlace,
     /// In memory or in another register.
@@ -84,18 +84,18 @@ pub struct Wrong {
     /// The instruction that was executed before, if it is next to this one: its address, and what it does.
     pub before: Option<(u64, Effect)>,
     /// Where things were each time when something was wrong.
-    pub places: Places,
+    pub locations: Locations,
 }
 
 /// Where things are in a frame.
 #[derive(Clone, Debug, PartialEq, Eq)]
-pub struct Places {
+pub struct Locations {
     /// The CFA minus each register, by the registers' DWARF numbers. `None` if it isn't always the same.
     pub distances: [Option<i64>; 16],
     /// For each callee-saved register, which registers have its entry value.
-    pub in_registers: [Vec<u16>; KEPT],
+    pub in_registers: [Vec<u16>; SAVED_COUNT],
     /// For each callee-saved register, at which offsets from the CFA its entry value is.
-    pub in_slots: [Vec<i64>; KEPT],
+    pub in_slots: [Vec<i64>; SAVED_COUNT],
 }
 
 /// How many addresses a block has.
@@ -134,9 +134,9 @@ impl Site {
     }
 }
 
-impl Places {
+impl Locations {
     /// Leaves only what is the same at another time.
-    pub fn keep_common(&mut self, other: &Places) {
+    pub fn keep_common(&mut self, other: &Locations) {
         for (distance, other) in self.distances.iter_mut().zip(&other.distances) {
             *distance = distance.filter(|distance| Some(*distance) == *other);
         }

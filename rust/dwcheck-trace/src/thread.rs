@@ -1,12 +1,12 @@
 //! The threads that are traced.
 
-use super::ends::Hardware;
+use super::batch::Batch;
+use super::batch_ends::Hardware;
 use super::judge::Below;
 use super::ptrace::{self, Tid};
 use super::registers::Registers;
 use super::shadow::{FdeId, Shadow};
 use super::space::Space;
-use super::stretch::Stretch;
 use dwcheck_lint::instruction::Effect;
 use std::cell::RefCell;
 use std::rc::Rc;
@@ -40,8 +40,8 @@ pub(super) struct Thread {
     pub is_right: bool,
     /// The memory below the CFA there.
     pub below: Option<Below>,
-    /// The stretch that it runs.
-    pub stretch: Option<Stretch>,
+    /// The batch that it runs.
+    pub batch: Option<Batch>,
     pub hardware: Hardware,
     /// Whether it stepped over an instruction that pops the flags. The kernel then takes the flag of stepping for the
     /// program's own, and leaves it set when the thread runs.
@@ -83,7 +83,7 @@ impl Thread {
             lifted: None,
             is_right: false,
             below: None,
-            stretch: None,
+            batch: None,
             hardware: Hardware::default(),
             popped_flags: false,
             got_signal: false,

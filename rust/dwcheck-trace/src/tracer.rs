@@ -1,17 +1,17 @@
 //! Handles what the threads report that are traced.
 
 use super::alarm::{Alarm, Asked};
+use super::batch::Batch;
 use super::breakpoints::TRAP;
 use super::files::{Files, Selection};
 use super::ptrace::{self, Creation, Report, Tid};
-use super::registers::{Registers, KEPT};
-use super::report::Counts;
+use super::registers::{Registers, SAVED_COUNT};
 use super::shadow::FdeId;
 use super::site::Sites;
 use super::space::Space;
 use super::start::start;
-use super::stretch::Stretch;
 use super::thread::{Mode, Thread};
+use super::trace_findings::Counts;
 use super::{End, Options, TraceError};
 use dwcheck_elf::internal::Process;
 use dwcheck_elf::lint::Sections;
@@ -42,7 +42,7 @@ pub struct Tracer<'b, 's> {
     pub(super) sites: Sites,
     pub(super) counts: Counts,
     /// The callee-saved registers, by their places, that functions didn't give back.
-    pub(super) lost: HashMap<FdeId, [bool; KEPT]>,
+    pub(super) lost: HashMap<FdeId, [bool; SAVED_COUNT]>,
     /// The registers of the frame that is unwound.
     pub(super) known: dwcheck::Registers,
     pub(super) threads: HashMap<Tid, Thread>,
@@ -165,8 +165,8 @@ impl Tracer<'_, '_> {
             None if self.is_let_go => return self.let_go_late(tid, report),
             None => return self.stopped_first(tid),
         };
-        if report == Report::Stop && thread.stretch.is_some() {
-            // Nothing is wanted of it. The trap that ends the stretch may be waiting.
+        if report == Report::Stop && thread.batch.is_some() {
+            // Nothing is wanted of it. The trap that ends the batch may be waiting.
             ptrace::run(tid, 0);
             self.threads.insert(tid, thread);
             return;
@@ -199,35 +199,35 @@ impl Tracer<'_, '_> {
         self.threads.insert(tid, thread);
     }
 
-    /// A thread stopped for another reason than a trap. If it ran a stretch, this ends that.
+    /// A thread stopped for another reason than a trap. If it ran a batch, this ends that.
     fn interrupted(&mut self, thread: &mut Thread) {
-        let stretch = match thread.stretch.take() {
-            Some(stretch) => stretch,
+        let batch = match thread.batch.take() {
+            Some(batch) => batch,
             None => return,
         };
         let space = Rc::clone(&thread.space);
-        stretch.lift(&space.borrow());
+        batch.lift(&space.borrow());
         if let Ok(registers) = ptrace::registers(thread.tid) {
-            self.arrived(thread, &mut space.borrow_mut(), &stretch, &registers);
+            self.arrived(thread, &mut space.borrow_mut(), &batch, &registers);
         }
     }
 
-    /// A thread that ran a stretch got the signal of a trap. Returns the signal that it gets, 0 if none.
-    fn ran(&mut self, thread: &mut Thread, space: &mut Space, stretch: &Stretch, registers: Registers) -> i32 {
-        stretch.lift(space);
+    /// A thread that ran a batch got the signal of a trap. Returns the signal that it gets, 0 if none.
+    fn ran(&mut self, thread: &mut Thread, space: &mut Space, batch: &Batch, registers: Registers) -> i32 {
+        batch.lift(space);
         let at_breakpoint = registers.program_counter().wrapping_sub(1);
         let code = ptrace::signal_code(thread.tid).unwrap_or(BY_KERNEL);
-        // A thread comes to where no instruction of the stretch is only by a trap, also if the signal of the trap was
+        // A thread comes to where no instruction of the batch is only by a trap, also if the signal of the trap was
         // dropped, because the same signal was sent to the thread just before.
-        let has_trapped = stretch.has_trap_at(at_breakpoint) && !stretch.has(registers.program_counter());
+        let has_trapped = batch.has_trap_at(at_breakpoint) && !batch.has(registers.program_counter());
         // Another thread may have set a breakpoint in the code meanwhile.
-        let is_trap = stretch.has_trap_at(at_breakpoint) || space.breakpoints.is_known(at_breakpoint);
+        let is_trap = batch.has_trap_at(at_breakpoint) || space.breakpoints.is_known(at_breakpoint);
         let is_rewound = has_trapped || code == BY_KERNEL && is_trap;
         let registers = if is_rewound { registers.at(at_breakpoint) } else { registers };
         if is_rewound {
             ptrace::set_program_counter(thread.tid, at_breakpoint);
         }
-        self.arrived(thread, space, stretch, &registers);
+        self.arrived(thread, space, batch, &registers);
         let is_own = code <= 0 || code == BY_KERNEL && !is_rewound;
         if is_own {
             libc::SIGTRAP
@@ -243,8 +243,8 @@ impl Tracer<'_, '_> {
         let mut space = space.borrow_mut();
         // The thread by which the memory was known may have ended.
         space.pid = thread.tid;
-        match thread.stretch.take() {
-            Some(stretch) => Some(self.ran(thread, &mut space, &stretch, registers)),
+        match thread.batch.take() {
+            Some(batch) => Some(self.ran(thread, &mut space, &batch, registers)),
             None => self.trapped_at(thread, &mut space, registers),
         }
     }

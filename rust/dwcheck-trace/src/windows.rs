@@ -10,7 +10,7 @@ use super::site::Site;
 use super::space::Space;
 use super::thread::{Here, Mode, Thread};
 use super::tracer::Tracer;
-use dwcheck_elf::internal::ends_with_call;
+use dwcheck_elf::internal::without_row::ends_with_call;
 use dwcheck_lint::instruction::{Effect, Target};
 use dwcheck_lint::register::Register;
 use std::rc::Rc;

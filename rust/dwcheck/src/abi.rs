@@ -1,5 +1,7 @@
 //! ABIs: which registers a call preserves, and which register is the stack pointer.
 
+use dwcheck_types::abi::callee_saved;
+
 /// What an ABI says about registers for which an unwind table has no rule.
 ///
 /// `kept` are the callee-saved registers. If the table has no rule for one of them, its value in
@@ -59,39 +61,32 @@ impl Abi<'static> {
     pub const NONE: Abi<'static> = Abi::new(&[], None);
 
     /// x86-64: rbx, rbp and r12 to r15. The stack pointer is rsp.
-    pub const X86_64: Abi<'static> = Abi::new(&[3, 6, 12, 13, 14, 15], Some(7));
+    pub const X86_64: Abi<'static> = Abi::new(&callee_saved::X86_64, Some(7));
 
     /// i386: ebx, ebp, esi and edi. The stack pointer is esp. (These are the DWARF numbers that ELF
     /// systems use.)
-    pub const I386: Abi<'static> = Abi::new(&[3, 5, 6, 7], Some(4));
+    pub const I386: Abi<'static> = Abi::new(&callee_saved::I386, Some(4));
 
     /// aarch64: x19 to x29, and x30 for the return address. The stack pointer is sp.
-    pub const AARCH64: Abi<'static> =
-        Abi::new(&[19, 20, 21, 22, 23, 24, 25, 26, 27, 28, 29, 30], Some(31));
+    pub const AARCH64: Abi<'static> = Abi::new(&callee_saved::AARCH64, Some(31));
 
     /// arm: r4 to r11, and r14 for the return address. The stack pointer is r13.
-    pub const ARM: Abi<'static> = Abi::new(&[4, 5, 6, 7, 8, 9, 10, 11, 14], Some(13));
+    pub const ARM: Abi<'static> = Abi::new(&callee_saved::ARM, Some(13));
 
     /// powerpc and powerpc64: r14 to r31, and the link register, 65, for the return address. The
     /// stack pointer is r1.
-    pub const POWERPC: Abi<'static> = Abi::new(
-        &[
-            14, 15, 16, 17, 18, 19, 20, 21, 22, 23, 24, 25, 26, 27, 28, 29, 30, 31, 65,
-        ],
-        Some(1),
-    );
+    pub const POWERPC: Abi<'static> = Abi::new(&callee_saved::POWERPC, Some(1));
 
     /// s390x: r6 to r13, r15, and r14 for the return address. The stack pointer is r15, but it is
     /// in `kept` and `stack_pointer` is `None`, because the CFA isn't the value of r15 in the
     /// caller: it is that value plus 160.
-    pub const S390X: Abi<'static> = Abi::new(&[6, 7, 8, 9, 10, 11, 12, 13, 15, 14], None);
+    pub const S390X: Abi<'static> = Abi::new(&callee_saved::S390X, None);
 
     /// riscv: s0 to s11 (8, 9 and 18 to 27), and ra (1) for the return address. The stack pointer
     /// is sp (2).
-    pub const RISCV: Abi<'static> =
-        Abi::new(&[8, 9, 18, 19, 20, 21, 22, 23, 24, 25, 26, 27, 1], Some(2));
+    pub const RISCV: Abi<'static> = Abi::new(&callee_saved::RISCV, Some(2));
 
     /// mips: s0 to s7 (16 to 23), s8 (30), and ra (31) for the return address. The stack pointer is
     /// sp (29).
-    pub const MIPS: Abi<'static> = Abi::new(&[16, 17, 18, 19, 20, 21, 22, 23, 30, 31], Some(29));
+    pub const MIPS: Abi<'static> = Abi::new(&callee_saved::MIPS, Some(29));
 }

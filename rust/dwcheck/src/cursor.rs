@@ -270,8 +270,8 @@ impl Process {
         let reader = ffi::Reader {
             read: Some(ask::<F>),
             data: (&mut asked as *mut Asked<F>).cast(),
-            order: target.order_number(),
-            address_size: target.address_bytes(),
+            order: ffi::order_number(target),
+            address_size: target.address_size.bytes().into(),
         };
         // SAFETY: the process is only read, the cursor is borrowed exclusively, the state's pointers
         // are those of slices that are only read, the others are to locals, and `ask` takes what

@@ -3,7 +3,7 @@
 use crate::fault::Error;
 use crate::ffi;
 use crate::state::State;
-use crate::target::Target;
+use dwcheck_types::target::Target;
 
 /// What an expression is used for. That decides what is on the stack at first, and which operations
 /// are allowed.
@@ -215,8 +215,8 @@ impl Run<'_> {
             ffi::dwcheck_evaluate(
                 self.expression.as_ptr(),
                 self.expression.len(),
-                self.target.order_number(),
-                self.target.address_bytes(),
+                ffi::order_number(self.target),
+                self.target.address_size.bytes().into(),
                 self.kind.number(),
                 &self.context,
                 &self.state.raw(),

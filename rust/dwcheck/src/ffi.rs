@@ -32,3 +32,13 @@
 //! for such values.
 
 pub(crate) use dwcheck_sys::*;
+
+use dwcheck_types::target::{Order, Target};
+
+/// The number that the C interface has for the byte order of a target.
+pub(crate) fn order_number(target: Target) -> u32 {
+    match target.order {
+        Order::Little => LITTLE,
+        Order::Big => BIG,
+    }
+}

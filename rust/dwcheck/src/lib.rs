@@ -49,40 +49,39 @@ mod cursor;
 mod expression;
 mod fault;
 mod ffi;
+mod frame_section;
 #[cfg(test)]
 mod layout;
 mod lists;
 mod module;
 mod process;
-mod report;
 mod row;
 mod rows;
-mod section;
+mod section_report;
 mod state;
 mod steps;
 #[cfg(test)]
-mod strange;
-mod target;
+mod unknown_numbers;
 mod walk;
 
 pub use abi::Abi;
 pub use cache::Cache;
 pub use caller::{Answer, Caller};
 pub use cursor::{Cursor, Frames};
+pub use dwcheck_types::target::{AddressSize, Order, Target};
 pub use expression::{
     evaluate, Context, Evaluation, ExpressionKind, Location, Outcome, Piece, PieceSize,
 };
 pub use fault::{Error, Fault, FaultKind, Section};
+pub use frame_section::{Contents, FrameSection, Record, RecordKind, Records};
 pub use lists::{list_locations, locations, Lookup};
 pub use module::{EhFrame, LoadedModule, Module, ModuleId};
 pub use process::Process;
-pub use report::{report, CheckedExpression, Report};
 pub use row::{CfaRule, Row, Rule, Span};
 pub use rows::Rows;
-pub use section::{Contents, FrameSection, Record, RecordKind, Records};
+pub use section_report::{report, CheckedExpression, Report};
 pub use state::{Block, Registers, State};
 pub use steps::{Step, Steps};
-pub use target::{AddressSize, Order, Target};
 pub use walk::{Backtrace, Frame, Stop};
 
 /// The bytes of a `.debug_frame` section. They may be empty.
@@ -112,8 +111,8 @@ pub fn check(frame: DebugFrame<'_>, lists: DebugLoclists<'_>, target: Target) ->
             frame.len(),
             lists.as_ptr(),
             lists.len(),
-            target.order_number(),
-            target.address_bytes(),
+            ffi::order_number(target),
+            target.address_size.bytes().into(),
             fault,
         )
     })

@@ -3,7 +3,7 @@
 use crate::fault::Error;
 use crate::ffi;
 use crate::row::Span;
-use crate::target::Target;
+use dwcheck_types::target::Target;
 
 /// The number of expressions for which the first look-up of [`locations`] has room.
 const FIRST_LOCATIONS: usize = 16;
@@ -144,8 +144,8 @@ fn look_up(
         call(
             lists.as_ptr(),
             lists.len(),
-            target.order_number(),
-            target.address_bytes(),
+            ffi::order_number(target),
+            target.address_size.bytes().into(),
             &lookup,
             Span::raw_slots(slots),
             length,

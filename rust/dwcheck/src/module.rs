@@ -1,7 +1,7 @@
 //! The modules of a process: what is said of one to add it, and what a process says of it.
 
 use crate::ffi;
-use crate::target::Target;
+use dwcheck_types::target::Target;
 use std::fmt;
 use std::num::NonZeroU64;
 use std::ops::RangeInclusive;
@@ -167,8 +167,8 @@ impl Module {
             last,
             cookie: self.cookie,
             room: self.room,
-            order: target.order_number(),
-            address_size: target.address_bytes(),
+            order: ffi::order_number(target),
+            address_size: target.address_size.bytes().into(),
             has_range: u32::from(self.range.is_some()),
             kind: match eh_frame {
                 None => ffi::DEBUG_FRAME,

@@ -6,15 +6,15 @@ use crate::survey::files::content;
 use dwcheck_elf::functions::Functions;
 use dwcheck_elf::lines::Lines;
 use dwcheck_elf::lint::{LintError, Sections};
-use dwcheck_elf::names::Spot;
+use dwcheck_elf::names::FunctionOffset;
 use dwcheck_elf::program::Program;
 use dwcheck_lint::coverage::Coverage;
 use dwcheck_lint::explain::{explain, Line};
 use dwcheck_lint::finding::{Finding, Severity};
+use dwcheck_lint::finding_text::{Json, Quoted, Text};
 use dwcheck_lint::kinds::Kind;
 use dwcheck_lint::lint::Lint;
 use dwcheck_lint::module::Module;
-use dwcheck_lint::report::{Json, Quoted, Text};
 use std::path::{Path, PathBuf};
 use typed_arena::Arena;
 
@@ -111,7 +111,7 @@ struct File<'a, 'm> {
 
 impl<'m> File<'_, 'm> {
     fn name(&self, address: u64) -> Option<String> {
-        Spot::at(self.functions, address).map(|spot| spot.to_string())
+        FunctionOffset::at(self.functions, address).map(|spot| spot.to_string())
     }
 
     fn written(&self, finding: &Finding<'m>, lint: &mut Lint<'m>, shown: &Shown) -> Written {

@@ -4,9 +4,9 @@ use crate::sarif::place;
 use dwcheck_elf::lines::SourceLine;
 use dwcheck_lint::coverage::Coverage;
 use dwcheck_lint::finding::{Finding, Severity};
+use dwcheck_lint::finding_text::ShownAddress;
 use dwcheck_lint::kinds::{Kind, KINDS};
 use dwcheck_lint::module::Module;
-use dwcheck_lint::report::Place;
 use serde_json::{json, Value};
 use std::path::Path;
 
@@ -21,7 +21,7 @@ pub fn result(
     line: Option<SourceLine>,
 ) -> Value {
     let address = finding.mark.address;
-    let logical = function.unwrap_or_else(|| Place(module, address).to_string());
+    let logical = function.unwrap_or_else(|| ShownAddress(module, address).to_string());
     let fingerprint = logical.rsplit_once("+0x").map_or(logical.as_str(), |(name, _)| name).to_string();
     let file = path.file_name().map_or_else(String::new, |name| name.to_string_lossy().into_owned());
     let place = place(path, Some(address), line.as_ref());
@@ -33,7 +33,7 @@ pub fn result(
         "partialFingerprints": { "kindAndFunction": format!("{}: {} at {}", file, finding.kind, fingerprint) },
         "properties": {
             "file": path.to_string_lossy(),
-            "place": Place(module, address).to_string(),
+            "place": ShownAddress(module, address).to_string(),
             "severity": finding.severity.to_string(),
             "directive": finding.directive(),
             "assumed": finding.is_assumed(),

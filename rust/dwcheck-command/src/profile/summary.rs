@@ -1,8 +1,8 @@
 //! The lines on standard error that say what was read, and what wasn't.
 
-use crate::arguments::{Format, ProfileWords};
+use crate::arguments::{Format, ProfileArguments};
 use crate::end::shown;
-use dwcheck_elf::text::Plain;
+use dwcheck_elf::text::Escaped;
 use dwcheck_profile::{End, Names, Profile};
 use std::collections::BTreeMap;
 use std::fmt::Write as _;
@@ -12,21 +12,21 @@ use std::io::{self, Write};
 const MOST_LINES: usize = 3;
 
 /// Writes the summary.
-pub fn write(words: &ProfileWords, profile: &Profile, names: &Names) {
+pub fn write(arguments: &ProfileArguments, profile: &Profile, names: &Names) {
     let mut text = String::new();
     problems(profile, names, &mut text);
-    if !words.quiet {
+    if !arguments.quiet {
         counts(profile, &mut text);
     }
-    if words.stops {
+    if arguments.stops {
         stops(profile, &mut text);
     }
-    events(words, profile, &mut text);
+    events(arguments, profile, &mut text);
     if let Some(damage) = &profile.damage {
-        let _ = writeln!(text, "dwcheck-elf: {}: {}", shown(&words.recording), damage);
+        let _ = writeln!(text, "dwcheck-elf: {}: {}", shown(&arguments.recording), damage);
     }
     if profile.samples.is_empty() {
-        let _ = writeln!(text, "dwcheck-elf: {}: no samples", shown(&words.recording));
+        let _ = writeln!(text, "dwcheck-elf: {}: no samples", shown(&arguments.recording));
     }
     // If standard error is closed, nobody can read it.
     let _ = io::stderr().write_all(text.as_bytes());
@@ -40,10 +40,10 @@ fn problems(profile: &Profile, names: &Names, text: &mut String) {
     }
     for (file, problems) in by_file {
         for problem in problems.iter().take(MOST_LINES) {
-            let _ = writeln!(text, "dwcheck-elf: {}: {}", Plain(file), Plain(problem));
+            let _ = writeln!(text, "dwcheck-elf: {}: {}", Escaped(file), Escaped(problem));
         }
         if problems.len() > MOST_LINES {
-            let _ = writeln!(text, "dwcheck-elf: {}: {} more like this", Plain(file), problems.len() - MOST_LINES);
+            let _ = writeln!(text, "dwcheck-elf: {}: {} more like this", Escaped(file), problems.len() - MOST_LINES);
         }
     }
 }
@@ -75,13 +75,13 @@ fn stops(profile: &Profile, text: &mut String) {
 }
 
 /// Which events aren't shown.
-fn events(words: &ProfileWords, profile: &Profile, text: &mut String) {
+fn events(arguments: &ProfileArguments, profile: &Profile, text: &mut String) {
     let sampled = profile.sampled_events();
-    if matches!(words.format, Format::Script | Format::Pprof) || sampled.len() < 2 {
+    if matches!(arguments.format, Format::Script | Format::Pprof) || sampled.len() < 2 {
         return;
     }
     let mut names = sampled.iter().map(|event| profile.event_name(*event));
     let first = names.next().unwrap_or("");
-    let others: Vec<_> = names.map(|name| Plain(name).to_string()).collect();
-    let _ = writeln!(text, "dwcheck-elf: shown is {}; give --event for {}", Plain(first), others.join(", "));
+    let others: Vec<_> = names.map(|name| Escaped(name).to_string()).collect();
+    let _ = writeln!(text, "dwcheck-elf: shown is {}; give --event for {}", Escaped(first), others.join(", "));
 }

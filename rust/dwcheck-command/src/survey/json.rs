@@ -38,7 +38,7 @@ fn file(one: &Surveyed) -> Value {
     }
     match outcome {
         Ok(sections) => object["sections"] = sections.iter().map(section).collect(),
-        Err(error) => object["error"] = json!(error),
+        Err(error) => object["error"] = json!(error.to_string()),
     }
     object
 }
@@ -72,13 +72,14 @@ fn add_lists(object: &mut Value, lists: &lists::Contents) {
     let numbers = [
         ("units", lists.units),
         ("entries", lists.entries),
-        ("not_evaluated", lists.with_holes),
+        ("not_evaluated", lists.with_unsupported),
         ("not_compared", lists.not_compared),
         ("unused", lists.bytes.unused),
         ("gaps", lists.bytes.gaps),
     ];
     numbers.iter().for_each(|(name, number)| object[*name] = json!(number));
-    object["holes"] = lists.holes.iter().map(|(hole, count)| (hole.to_string(), json!(count))).collect();
+    object["holes"] =
+        lists.all_unsupported.iter().map(|(unsupported, count)| (unsupported.to_string(), json!(count))).collect();
     object["limits"] = lists.limits.iter().map(|(limit, count)| (limit.to_string(), json!(count))).collect();
     object["doubtful"] = lists.lints.all().map(|(lint, count)| (lint.to_string(), json!(count))).collect();
 }

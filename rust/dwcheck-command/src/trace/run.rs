@@ -1,9 +1,9 @@
 //! Runs programs that are traced, and writes what is found.
 
-use crate::arguments::{LintWords, TraceWords};
+use crate::arguments::{LintArguments, TraceArguments};
 use crate::end::{shown, Done, Failure};
 use dwcheck_lint::finding::Severity;
-use dwcheck_lint::report::{Json, Quoted, Text};
+use dwcheck_lint::finding_text::{Json, Quoted, Text};
 use dwcheck_trace::{guarded, Confirmed, End, FdeCoverage, FileReport, Found, ModuleFile, Options};
 use dwcheck_trace::{TraceError, Tracer};
 use std::ffi::OsString;
@@ -28,11 +28,11 @@ struct Totals {
 }
 
 /// Runs a program, and writes what is found. A process that runs already is stepped by a process of its own.
-pub fn trace(words: &TraceWords) -> Result<Done, Failure> {
-    if words.pid.is_none() {
-        return traced(words);
+pub fn trace(arguments: &TraceArguments) -> Result<Done, Failure> {
+    if arguments.pid.is_none() {
+        return traced(arguments);
     }
-    let run = || match traced(words) {
+    let run = || match traced(arguments) {
         Ok(done) => done.status(),
         Err(failure) => {
             let _ = writeln!(io::stderr(), "dwcheck-elf: {}", failure);
@@ -43,38 +43,38 @@ pub fn trace(words: &TraceWords) -> Result<Done, Failure> {
     Ok(Done::Status(status))
 }
 
-fn traced(words: &TraceWords) -> Result<Done, Failure> {
-    let patterns = words.module.iter().map(|text| pattern(text)).collect::<Result<_, _>>()?;
-    let seconds = words.seconds.or_else(|| words.pid.map(|_| SAMPLED));
+fn traced(arguments: &TraceArguments) -> Result<Done, Failure> {
+    let patterns = arguments.module.iter().map(|text| pattern(text)).collect::<Result<_, _>>()?;
+    let seconds = arguments.seconds.or_else(|| arguments.pid.map(|_| SAMPLED));
     let options = Options {
         modules: patterns,
-        calls: words.calls,
-        all: words.all || words.pid.is_some(),
+        calls: arguments.calls,
+        all: arguments.all || arguments.pid.is_some(),
         time: seconds.map(Duration::from_secs),
-        idle: words.idle,
-        follows_forks: words.follow_fork,
+        idle: arguments.idle,
+        follows_forks: arguments.follow_fork,
         confirms: false,
     };
-    let mut out = output(words.output.as_deref())?;
+    let mut out = output(arguments.output.as_deref())?;
     let (bytes, sections) = (Arena::new(), Arena::new());
     let mut tracer = Tracer::new(options, &bytes, &sections);
-    let end = match words.pid {
+    let end = match arguments.pid {
         Some(pid) => tracer.sample(pid).map_err(|error| failure(&format!("process {}", pid), &error))?,
-        None => tracer.run(&words.program).map_err(|error| failure_of(&words.program, &error))?,
+        None => tracer.run(&arguments.program).map_err(|error| failure_of(&arguments.program, &error))?,
     };
     say_problems(&tracer);
     let mut totals = Totals::default();
     for report in tracer.files() {
-        write_file(&mut out, &report, words, &mut totals)?;
+        write_file(&mut out, &report, arguments, &mut totals)?;
     }
-    write_totals(&mut out, &tracer, end, &totals, words.json)?;
+    write_totals(&mut out, &tracer, end, &totals, arguments.json)?;
     out.flush()?;
-    Ok(if words.status || words.pid.is_some() { found(totals.all()) } else { own(end) })
+    Ok(if arguments.status || arguments.pid.is_some() { found(totals.all()) } else { own(end) })
 }
 
 /// Runs a program, and says of each finding of the lint whether it is so.
-pub fn confirm(words: &LintWords, out: &mut impl Write) -> Result<Done, Failure> {
-    let paths = words.paths.iter().map(|path| {
+pub fn confirm(arguments: &LintArguments, out: &mut impl Write) -> Result<Done, Failure> {
+    let paths = arguments.paths.iter().map(|path| {
         let path = path.canonicalize().map_err(|error| Failure::reading(path, &error))?;
         pattern(&glob::Pattern::escape(&path.to_string_lossy()))
     });
@@ -89,7 +89,7 @@ pub fn confirm(words: &LintWords, out: &mut impl Write) -> Result<Done, Failure>
     };
     let (bytes, sections) = (Arena::new(), Arena::new());
     let mut tracer = Tracer::new(options, &bytes, &sections);
-    tracer.run(&words.program).map_err(|error| failure_of(&words.program, &error))?;
+    tracer.run(&arguments.program).map_err(|error| failure_of(&arguments.program, &error))?;
     say_problems(&tracer);
     let (mut confirmed, mut refuted, mut not_reached) = (0, 0, 0);
     for found in tracer.confirmations() {
@@ -138,8 +138,8 @@ fn output(path: Option<&Path>) -> Result<Box<dyn Write>, Failure> {
     }
 }
 
-fn failure_of(words: &[OsString], error: &TraceError) -> Failure {
-    let name = words.first().map_or_else(String::new, |program| shown(Path::new(program)));
+fn failure_of(arguments: &[OsString], error: &TraceError) -> Failure {
+    let name = arguments.first().map_or_else(String::new, |program| shown(Path::new(program)));
     failure(&name, error)
 }
 
@@ -158,23 +158,23 @@ fn say_problems(tracer: &Tracer<'_, '_>) {
 fn write_file(
     out: &mut dyn Write,
     report: &FileReport<'_, '_>,
-    words: &TraceWords,
+    arguments: &TraceArguments,
     totals: &mut Totals,
 ) -> io::Result<()> {
     if !report.file.is_stepped {
         return Ok(());
     }
     let path = shown(&report.file.path);
-    let is_shown = |found: &&Found<'_>| words.private || found.finding.severity != Severity::Private;
+    let is_shown = |found: &&Found<'_>| arguments.private || found.finding.severity != Severity::Private;
     for found in report.found.iter().filter(is_shown) {
         totals.count(found.finding.severity);
-        write_found(out, report, found, words.json)?;
+        write_found(out, report, found, arguments.json)?;
     }
-    if words.functions {
-        report.fdes.iter().try_for_each(|fde| write_function(out, report.file, fde, words.json))?;
+    if arguments.functions {
+        report.fdes.iter().try_for_each(|fde| write_function(out, report.file, fde, arguments.json))?;
     }
     let counts = report.coverage.named();
-    if words.json {
+    if arguments.json {
         return writeln!(out, "{{\"file\":{},\"coverage\":{{{}}}}}", Quoted(&path), keyed(&counts));
     }
     writeln!(out, "{}: {}", path, counted(&counts))

@@ -2,16 +2,16 @@
 //! never end the process.
 
 use crate::common::{has, Folder, C, CXX};
-use dwcheck_elf::alone::{accepted_part, every_fault};
 use dwcheck_elf::core_file::{CoreFile, Files};
 use dwcheck_elf::frames::{FrameSection, Frames, Name};
 use dwcheck_elf::inspect::{inspect, Check, Inspected, Verdict};
 use dwcheck_elf::mapped::Bytes;
+use dwcheck_elf::one_by_one::{accepted_part, every_fault};
 use dwcheck_elf::program::{Program, Section};
 use dwcheck_elf::stack::{Stacks, WalkOptions};
 use dwcheck_elf::validate::{validate_rows, What};
 use dwcheck_profile::script::{self, ScriptOptions};
-use dwcheck_profile::{firefox, folded, html, pprof, speedscope, top, Names, Places, Profile, Recording};
+use dwcheck_profile::{firefox, folded, html, pprof, speedscope, top, Names, Profile, Recording, SearchPaths};
 use std::path::Path;
 
 /// Pseudorandom numbers, the same in each run (xorshift).
@@ -129,8 +129,8 @@ fn recording(bytes: &[u8], root: &Path) -> bool {
             return false;
         }
     };
-    let places = Places { root: root.to_path_buf(), cache: None };
-    let options = dwcheck_profile::Options { places, ..dwcheck_profile::Options::default() };
+    let search_paths = SearchPaths { root: root.to_path_buf(), cache: None };
+    let options = dwcheck_profile::Options { search_paths, ..dwcheck_profile::Options::default() };
     let profile = Profile::read(&mut recording, &options, |_| true);
     let names = Names::read(&profile, &Default::default());
     let event = profile.sampled_events().first().copied().unwrap_or(0);

@@ -2,8 +2,8 @@
 
 use crate::common::{place_of, Folder};
 use dwcheck::FaultKind;
-use dwcheck_elf::alone::{accepted_part, every_fault};
-use dwcheck_elf::frames::{Format, FrameSection, Frames, Kind, Name, Record, Standing};
+use dwcheck_elf::frames::{Format, FrameSection, Frames, Kind, Name, Record, RecordStatus};
+use dwcheck_elf::one_by_one::{accepted_part, every_fault};
 use dwcheck_elf::program::{Program, Section};
 use dwcheck_elf::target::{AddressSize, Order, Target};
 use dwcheck_elf::validate::{validate_rows, What};
@@ -61,7 +61,7 @@ fn rest(frames: &Frames<'_>, address: u64) -> (Option<i64>, usize) {
         dwcheck::CfaRule::RegisterAndOffset { offset, .. } => offset,
         other => panic!("{:?}", other),
     });
-    (offset, rest.count(Standing::LeftOut))
+    (offset, rest.count(RecordStatus::LeftOut))
 }
 
 /// For some machines GNU as begins CIEs with def_cfa_register, where the CFA has no rule yet. It may be all of
@@ -238,7 +238,7 @@ fn a_wrong_row_of_the_library_is_a_difference() {
     let mut changed = frames.bytes().to_vec();
     let place = place_of(&changed, &[0x0e, 16]);
     changed[place + 1] = 24;
-    let mut process = dwcheck::Process::new(frames.target().into());
+    let mut process = dwcheck::Process::new(frames.target());
     process.add(&changed, frames.format().module(&changed, 0)).unwrap();
     let difference = validate_rows(&frames, &process).unwrap_err();
     match &difference.what {

@@ -4,9 +4,9 @@
 use crate::common::frames::{records, Shown};
 use crate::common::run::dwcheck_elf;
 use crate::common::{has, Folder, C, CXX, MACHINES};
-use dwcheck_elf::frames::{Frames, Kind, Notes, Record};
+use dwcheck_elf::frames::{Counts, Frames, Kind, Notes, Record};
 use dwcheck_elf::program::Program;
-use dwcheck_elf::validate::{validate_rows, Agreement};
+use dwcheck_elf::validate::validate_rows;
 
 /// Compares the records of a linked file's section with what readelf shows: their offsets, the addresses of
 /// FDEs, and the counts.
@@ -184,7 +184,7 @@ fn last_fde(folder: &Folder) -> (u64, u64, usize) {
 }
 
 /// Reads the `.eh_frame` section of a file, and compares its rows with gimli's.
-fn validated(folder: &Folder, file: &str) -> (Vec<Record>, Notes, Agreement) {
+fn validated(folder: &Folder, file: &str) -> (Vec<Record>, Notes, Counts) {
     let bytes = folder.bytes(file);
     let program = Program::read(&bytes).unwrap();
     let frames = Frames::all(&program).last().unwrap().unwrap();

@@ -1,9 +1,9 @@
 //! Stacks of processes that run, beside those of eu-stack.
 
 use crate::common::run::{dwcheck_elf, Ran};
+use crate::common::waiting::Waiting;
 use crate::common::{has, may_trace, Folder};
-use std::io::Read;
-use std::process::{Child, Command, Stdio};
+use std::process::{Command, Stdio};
 
 const WAITS: &str = "
 #define _GNU_SOURCE
@@ -30,32 +30,6 @@ int main(void) {
     for (;;) pause();
 }
 ";
-
-/// A process that waits, which ends with the test.
-struct Waiting(Child);
-
-impl Waiting {
-    fn start(folder: &Folder) -> Waiting {
-        let mut child = Command::new(folder.file("waits")).stdout(Stdio::piped()).spawn().unwrap();
-        let mut said = [0; 6];
-        child.stdout.as_mut().unwrap().read_exact(&mut said).unwrap();
-        Waiting(child)
-    }
-
-    /// The letter that says what the process does, such as S if it sleeps.
-    fn state(&self) -> char {
-        let status = std::fs::read_to_string(format!("/proc/{}/status", self.0.id())).unwrap();
-        let state = status.lines().find_map(|line| line.strip_prefix("State:")).unwrap();
-        state.trim().chars().next().unwrap()
-    }
-}
-
-impl Drop for Waiting {
-    fn drop(&mut self) {
-        let _ = self.0.kill();
-        let _ = self.0.wait();
-    }
-}
 
 fn addresses(out: &str) -> Vec<String> {
     let words = out.lines().filter(|line| line.starts_with('#') || line.to_lowercase().starts_with('t'));
@@ -95,7 +69,7 @@ fn a_handler_on_another_stack() {
     for in_thread in 0..2 {
         folder.run(&format!("gcc -O1 -DIN_THREAD={} waits.c -o waits -pthread", in_thread));
         let process = Waiting::start(&folder);
-        let pid = process.0.id();
+        let pid = process.id();
         let ran = dwcheck_elf(&folder, &format!("stack --no-inline --no-source --pid {}", pid));
         let theirs = folder.run(&format!("eu-stack -p {} 2> /dev/null || true", pid));
         assert_eq!(addresses(&ran.out), addresses(&theirs), "{}{}", ran.out, theirs);
@@ -116,7 +90,7 @@ fn a_process_that_waits() {
     folder.write("waits.c", WAITS);
     folder.run("gcc -O1 -pthread waits.c -o waits");
     let process = Waiting::start(&folder);
-    let pid = process.0.id();
+    let pid = process.id();
     let ran = dwcheck_elf(&folder, &format!("stack --no-inline --no-source --pid {}", pid));
     assert_eq!((ran.status, ran.error.as_str(), process.state()), (0, "", 'S'), "{}", ran.out);
     let theirs = folder.run(&format!("eu-stack -p {} 2> /dev/null || true", pid));
@@ -210,7 +184,7 @@ fn variables_of_a_process() {
     folder.write("waits.c", CHANGES);
     folder.run("gcc -O0 -g waits.c -o waits -pthread");
     let process = Waiting::start(&folder);
-    let pid = process.0.id();
+    let pid = process.id();
     let frame = |ran: &Ran| {
         let line = ran.lines().into_iter().find(|line| line.contains(" work+")).unwrap_or_else(|| panic!("{:?}", ran));
         line[1..line.find(' ').unwrap()].to_string()

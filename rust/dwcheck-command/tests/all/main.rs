@@ -8,29 +8,28 @@
 mod common;
 
 mod commands;
+mod copies_and_marks;
 mod core_file;
 mod crash_files;
 mod crashes;
 mod damage;
 mod defects;
-mod edges;
+mod demangled_names;
 mod eh_frame;
-mod harmless;
-mod inputs;
+mod frame_names;
 mod lint;
 mod lists;
 mod live;
 mod modules;
-mod names;
 mod objects;
-mod places;
 mod profile;
 mod profile_formats;
 mod profile_made;
 mod profile_page;
 mod program;
 mod refusals;
-mod report;
+mod report_page;
+mod same_frames;
 mod stacks;
 mod surveys;
 #[cfg(all(target_os = "linux", target_arch = "x86_64"))]
@@ -39,6 +38,8 @@ mod trace_finds;
 mod trace_quiet;
 #[cfg(all(target_os = "linux", target_arch = "x86_64"))]
 mod trace_runs;
+mod unusual_files;
+mod unusual_stops;
 mod values;
 mod variables;
 mod variables_of_languages;

@@ -3,7 +3,7 @@
 use crate::common::run::dwcheck_elf;
 use crate::common::{has, hex, Folder, C};
 use dwcheck_elf::functions::NameError;
-use dwcheck_elf::names::Spot;
+use dwcheck_elf::names::FunctionOffset;
 use dwcheck_elf::program::{Kind, Program, ProgramError};
 use dwcheck_elf::target::{AddressSize, Order};
 
@@ -122,7 +122,7 @@ int main(int argc, char **) { return thrice(argc); }
         assert_eq!(functions.parse(name), Ok(begin), "{}", name);
         assert_eq!(functions.parse(&format!("{}+0x4", name)), Ok(begin + 4), "{}", name);
         assert_eq!(functions.parse(&format!("{} + 1", name)), Ok(begin + 1), "{}", name);
-        assert_eq!(Spot::at(&functions, begin + 1).unwrap().to_string(), format!("{}+0x1", name));
+        assert_eq!(FunctionOffset::at(&functions, begin + 1).unwrap().to_string(), format!("{}+0x1", name));
     }
     assert_eq!(functions.parse("_ZL5twicei+4"), Ok(address("twice(int)") + 4));
     for (unknown, similar) in [

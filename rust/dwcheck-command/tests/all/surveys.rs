@@ -35,6 +35,19 @@ fn each_file_is_taken_once() {
     assert_eq!(dwcheck_elf(&folder, "survey all/good all/object.o").status, 0);
 }
 
+/// With gimli's rows beside the library's, and with notes, for which the records are read, the same is found as without.
+#[test]
+fn the_counts_are_those_of_the_compared_rows() {
+    let folder = folder("survey-compare");
+    let counts = dwcheck_elf(&folder, "survey all").out;
+    let compared = dwcheck_elf(&folder, "survey --compare all");
+    assert_eq!((compared.status, compared.error.as_str(), &compared.out), (1, "", &counts));
+    let noted = dwcheck_elf(&folder, "survey --notes all");
+    assert!(noted.out.starts_with(&counts) && noted.lines().len() == 6, "{}", noted.out);
+    let check = dwcheck_elf(&folder, "check --compare all/good");
+    assert_eq!((check.status, &check.out), (0, &dwcheck_elf(&folder, "check all/good").out));
+}
+
 #[test]
 fn a_line_of_json_each() {
     let folder = folder("survey-json");

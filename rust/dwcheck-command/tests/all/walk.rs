@@ -61,7 +61,7 @@ fn module_word(folder: &Folder, number: usize, module: &Module<'_>) -> Option<St
 fn state(core: &CoreFile<'_>, memory: &Memory<'_>, thread: &Thread) -> String {
     let abi = core.abi();
     let mut state = String::new();
-    for number in abi.kept {
+    for number in abi.callee_saved {
         writeln!(state, "keep {}", number).unwrap();
     }
     writeln!(state, "sp {}", abi.stack_pointer).unwrap();

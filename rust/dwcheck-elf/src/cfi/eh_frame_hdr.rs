@@ -39,10 +39,10 @@ pub struct Mismatches {
 ///
 /// # Errors
 ///
-/// Why the table can't be read, in gimli's words.
-pub fn mismatches(program: &Program<'_>, frames: &Frames<'_>) -> Result<Vec<Mismatches>, String> {
+/// Why gimli can't read the table.
+pub fn mismatches(program: &Program<'_>, frames: &Frames<'_>) -> gimli::Result<Vec<Mismatches>> {
     let entries = match program.eh_frame_header().filter(|_| frames.name() == Name::EhFrame) {
-        Some((address, bytes)) => entries(address, bytes, frames).map_err(|error| error.to_string())?,
+        Some((address, bytes)) => entries(address, bytes, frames)?,
         None => None,
     };
     Ok(entries.map_or_else(Vec::new, |entries| compared(&entries, frames)))

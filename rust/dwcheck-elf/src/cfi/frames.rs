@@ -4,26 +4,28 @@
 //! is left out, is changed in place; `edits` has the list.
 
 mod copies;
+mod counts;
 mod edits;
 mod expressions;
 mod notes;
 mod records;
 mod signing;
 
+pub use counts::Counts;
 pub use edits::Changes;
 pub use expressions::{Expression, Measured};
 pub use notes::Notes;
-pub use records::{Kind, Record, Standing};
+pub use records::{Kind, Record, RecordStatus};
 
 pub(crate) use records::{body, find};
-pub(crate) use signing::signed;
+use signing::signed;
 
 pub use crate::elf::format::{Format, Name};
 
 use crate::elf::program::{Program, ProgramError, Section};
-use crate::elf::target::Target;
 use copies::mark_copies;
 use dwcheck::{Error, Fault, FaultKind, Process};
+use dwcheck_types::target::Target;
 use edits::{edited, Edited};
 use std::borrow::Cow;
 use std::collections::HashSet;
@@ -81,6 +83,12 @@ impl<'data> FrameSection<'data> {
         FrameSection { source, ..self }
     }
 
+    /// What the section has, if the library accepts it as it is in the file, and the address of each FDE is known.
+    pub(crate) fn accepted_counts(&self) -> Option<Counts> {
+        let checked = self.source.unresolved.is_empty().then(|| self.format.section(&self.source.bytes).check());
+        checked?.ok().map(Counts::of)
+    }
+
     /// All records of the section, in order. It has to have less than 2^32 bytes.
     pub(crate) fn records(&self) -> Vec<Record> {
         records::records(&self.format, &self.source.bytes)
@@ -88,7 +96,7 @@ impl<'data> FrameSection<'data> {
 }
 
 /// Changes what is harmless in these records of a section, or of a part of it.
-pub(crate) fn harmless<'a>(format: &Format, bytes: &'a [u8], records: &[Record]) -> Cow<'a, [u8]> {
+pub(crate) fn edited_bytes<'a>(format: &Format, bytes: &'a [u8], records: &[Record]) -> Cow<'a, [u8]> {
     edited(format, bytes, records).bytes
 }
 
@@ -186,8 +194,8 @@ impl<'data> Frames<'data> {
     }
 
     /// How many records have this standing.
-    pub fn count(&self, standing: Standing) -> usize {
-        self.records.iter().filter(|record| record.standing == standing).count()
+    pub fn count(&self, status: RecordStatus) -> usize {
+        self.records.iter().filter(|record| record.status == status).count()
     }
 
     /// The instructions that were changed.
@@ -241,7 +249,7 @@ impl<'data> Frames<'data> {
             let is_refused = refused.contains(&record.offset)
                 || matches!(record.kind, Kind::Fde { cie, .. } if refused.contains(&cie));
             if is_refused {
-                record.standing = Standing::LeftOut;
+                record.status = RecordStatus::LeftOut;
             }
         }
         let mut rest = rest.edited();
@@ -249,8 +257,17 @@ impl<'data> Frames<'data> {
         rest.records
             .iter_mut()
             .filter(|record| record.next > end)
-            .for_each(|record| record.standing = Standing::LeftOut);
+            .for_each(|record| record.status = RecordStatus::LeftOut);
         rest
+    }
+
+    /// Checks the section, and counts what it has. No rows are compiled.
+    ///
+    /// # Errors
+    ///
+    /// [`Error::Refused`] with the first fault; or [`Error::NoMemory`].
+    pub fn check(&self) -> Result<Counts, Error> {
+        self.section.format.section(self.bytes()).check().map(Counts::of)
     }
 
     /// Makes a process with this section as its only module, which is loaded at `load` and answers
@@ -261,7 +278,7 @@ impl<'data> Frames<'data> {
     /// [`Error::Refused`] with the first fault; [`Error::NoMemory`]; or [`Error::NoRoom`] if the
     /// rows may take more than 64 times the section's bytes and more than 64 MiB.
     pub fn process(&self, load: u64) -> Result<Process, Error> {
-        let mut process = Process::new(self.target().into());
+        let mut process = Process::new(self.target());
         let module = self.section.format.module(self.bytes(), load);
         process.add(self.bytes(), module.range(0..=self.target().address_size.highest()))?;
         Ok(process)
@@ -280,7 +297,7 @@ fn mark_unresolved(records: &mut [Record], format: &Format, source: &Section<'_>
     for record in records.iter_mut().filter(may_be_fde) {
         let place = body(&source.bytes, record.offset, format.target).map(|body| body.start as u64 + 4);
         if place.map_or(false, |place| source.unresolved.binary_search(&place).is_ok()) {
-            record.standing = Standing::LeftOut;
+            record.status = RecordStatus::LeftOut;
             marked.push(record.offset);
         }
     }
@@ -296,4 +313,11 @@ impl fmt::Display for FramesError {
     }
 }
 
-impl std::error::Error for FramesError {}
+impl std::error::Error for FramesError {
+    fn source(&self) -> Option<&(dyn std::error::Error + 'static)> {
+        match self {
+            FramesError::Program(_, error) => Some(error),
+            _ => None,
+        }
+    }
+}

@@ -4,8 +4,8 @@ mod each;
 
 pub(crate) use each::{instructions, Instruction};
 
-use crate::elf::bytes::{Cursor, ReadError};
-use crate::elf::target::Target;
+use dwcheck_types::cursor::{Cursor, ReadError};
+use dwcheck_types::target::Target;
 use gimli::constants as dw;
 use object::elf::EM_AARCH64;
 use std::borrow::Cow;

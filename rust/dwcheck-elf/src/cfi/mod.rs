@@ -2,12 +2,12 @@
 //!
 //! It uses `elf`.
 
-pub mod alone;
 pub mod defect;
 pub mod eh_frame_hdr;
+pub mod fde_ranges;
 pub mod frames;
 pub mod instructions;
-pub mod pieces;
+pub mod one_by_one;
 pub mod row;
 pub mod section_table;
 pub mod text;

@@ -1,9 +1,9 @@
 //! The FDEs of a frame section, each of which can be used alone.
 
-use crate::cfi::alone::Alone;
-use crate::cfi::frames::{find, harmless, signed, Format, FrameSection, Kind, Name, Record};
+use crate::cfi::fde_ranges::{FdeRange, FdeRanges};
+use crate::cfi::frames::{edited_bytes, find, Format, FrameSection, Kind, Name, Record};
 use crate::cfi::instructions::{instructions, with_nops, REMEMBER_STATE, RESTORE_STATE};
-use crate::cfi::pieces::{Piece, Pieces};
+use crate::cfi::one_by_one::OwnSection;
 use crate::elf::program::Program;
 use dwcheck::{Error, Fault, FaultKind, Process};
 use std::borrow::Cow;
@@ -15,7 +15,7 @@ pub struct SectionTable<'a> {
     section: FrameSection<'a>,
     records: Vec<Record>,
     /// Which record counts at which address.
-    pieces: Pieces,
+    pieces: FdeRanges,
 }
 
 /// An FDE with its CIE, as a section for the library.
@@ -27,8 +27,6 @@ pub struct OneFde {
     pub format: Format,
     /// Whether the frames of its code are signal frames.
     pub is_signal_frame: bool,
-    /// The addresses at which the return address is signed.
-    pub signed: Vec<Range<u64>>,
     /// The range of offsets of its instructions.
     program: Range<usize>,
 }
@@ -49,7 +47,7 @@ impl<'a> SectionTable<'a> {
 
     fn of(section: FrameSection<'a>) -> Self {
         let records = section.records();
-        let pieces = Pieces::of(records.iter().map(|record| record.addresses().unwrap_or(0..0)));
+        let pieces = FdeRanges::of(records.iter().map(|record| record.addresses().unwrap_or(0..0)));
         SectionTable { section, records, pieces }
     }
 
@@ -65,7 +63,7 @@ impl<'a> SectionTable<'a> {
     }
 
     /// The FDE that counts at an address, and the addresses around it at which it counts.
-    pub fn find(&self, address: u64) -> Option<Piece> {
+    pub fn find(&self, address: u64) -> Option<FdeRange> {
         self.pieces.find(address).cloned()
     }
 
@@ -87,12 +85,11 @@ impl<'a> SectionTable<'a> {
             Kind::Fde { cie, is_signal_frame, .. } => (find(&self.records, cie), is_signal_frame),
             _ => (None, false),
         };
-        let alone = cie.filter(|cie| cie.is_cie()).and_then(|cie| Alone::fde(format, &source.bytes, cie, fde));
-        let Alone { bytes, format, records } = alone.ok_or("its CIE can't be read")?;
-        let signed = if format.is_aarch64() { signed(&bytes, &records, format.target) } else { Vec::new() };
-        let bytes = harmless(&format, &bytes, &records).into_owned();
+        let alone = cie.filter(|cie| cie.is_cie()).and_then(|cie| OwnSection::fde(format, &source.bytes, cie, fde));
+        let OwnSection { bytes, format, records } = alone.ok_or("its CIE can't be read")?;
+        let bytes = edited_bytes(&format, &bytes, &records).into_owned();
         let program = records.last().map_or(0..0, Record::program);
-        Ok(OneFde { bytes, format, is_signal_frame, signed, program })
+        Ok(OneFde { bytes, format, is_signal_frame, program })
     }
 
     /// The line that says that an FDE can't be used.

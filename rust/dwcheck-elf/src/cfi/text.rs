@@ -4,11 +4,11 @@
 //! type here is a line or a part of a line, without a line feed. Addresses have 8 or 16 hexadecimal
 //! digits, by the address size; offsets have 8.
 
-pub use crate::elf::plain::Plain;
+pub use crate::elf::escaped::Escaped;
 
 use crate::cfi::row::Row;
-use crate::elf::target::{AddressSize, Target};
 use dwcheck::{Answer, Evaluation, Location, Outcome, PieceSize};
+use dwcheck_types::target::{AddressSize, Target};
 use std::fmt;
 
 /// An address, such as `0x000000000040116b`.

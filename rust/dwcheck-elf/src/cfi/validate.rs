@@ -9,23 +9,13 @@ mod gimli_rows;
 
 use crate::cfi::frames::Name;
 use crate::cfi::row::Row;
-use crate::elf::bytes::Cursor;
+use dwcheck_types::cursor::Cursor;
 use std::fmt;
 
 pub(crate) use comparable::comparable;
 pub use dwcheck_rows::{validate_rows, DwcheckRows};
 pub use gimli_rows::GimliRows;
 
-/// How much was compared and found to be equal.
-#[derive(Clone, Copy, Debug, Default, PartialEq, Eq)]
-pub struct Agreement {
-    /// Common information entries.
-    pub cies: usize,
-    /// Frame description entries.
-    pub fdes: usize,
-    /// Rows that are equal. Rows that cover no address aren't counted.
-    pub rows: usize,
-}
 
 /// The first difference between what gimli reads and what the library reads.
 #[derive(Clone, Debug, PartialEq, Eq)]
@@ -67,6 +57,45 @@ pub enum What {
     },
 }
 
+/// Why a row can't be read.
+#[derive(Clone, Debug, PartialEq, Eq)]
+pub enum RowError {
+    /// No row covers this address.
+    NoRow(u64),
+    /// The row ends at this address, which isn't after the one that was looked up.
+    EndsAt(u64),
+    /// The row of this address lacks the expression of one of its rules.
+    NoExpression(u64),
+    /// A rule of a register isn't known.
+    Rule(dwcheck::Rule),
+    /// The rule of the CFA isn't known.
+    CfaRule(dwcheck::CfaRule),
+    /// gimli can't read it.
+    Gimli(gimli::Error),
+}
+
+impl fmt::Display for RowError {
+    fn fmt(&self, f: &mut fmt::Formatter<'_>) -> fmt::Result {
+        match self {
+            RowError::NoRow(address) => write!(f, "no row for {:#x}", address),
+            RowError::EndsAt(address) => write!(f, "a row that ends at {:#x}", address),
+            RowError::NoExpression(address) => write!(f, "the row of {:#x} has no such expression", address),
+            RowError::Rule(rule) => write!(f, "a rule that isn't known: {:?}", rule),
+            RowError::CfaRule(rule) => write!(f, "a rule that isn't known: {:?}", rule),
+            RowError::Gimli(error) => error.fmt(f),
+        }
+    }
+}
+
+impl std::error::Error for RowError {
+    fn source(&self) -> Option<&(dyn std::error::Error + 'static)> {
+        match self {
+            RowError::Gimli(error) => Some(error),
+            _ => None,
+        }
+    }
+}
+
 /// Gives the rows of an FDE one by one.
 ///
 /// A source that is compared with [`GimliRows`] has to leave out what is missing there: each
@@ -75,7 +104,7 @@ pub enum What {
 pub trait RowSource<'a> {
     /// Writes the next row to `row`. Returns false after the last row, or an error if no more rows
     /// can be read.
-    fn next_row(&mut self, row: &mut Row<'a>) -> Result<bool, String>;
+    fn next_row(&mut self, row: &mut Row<'a>) -> Result<bool, RowError>;
 }
 
 /// Compares the rows of two sources one by one. Returns the number of equal rows. If rows differ, or one of the
@@ -101,11 +130,11 @@ fn same<'r>(one: &Row<'r>, other: &Row<'r>) -> bool {
     one == other
 }
 
-fn shown(outcome: &Result<bool, String>, row: &Row<'_>) -> String {
+fn shown(outcome: &Result<bool, RowError>, row: &Row<'_>) -> String {
     match outcome {
         Ok(true) => row.to_string(),
         Ok(false) => "no more rows".to_string(),
-        Err(error) => error.clone(),
+        Err(error) => error.to_string(),
     }
 }
 

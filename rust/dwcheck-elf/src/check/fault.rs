@@ -3,14 +3,14 @@
 
 pub use crate::cfi::defect::{Defect, Within};
 
-use crate::cfi::alone::{Found, Shared};
 use crate::cfi::frames::{Frames, Kind, Name, Record};
 use crate::cfi::instructions::{instructions, Instruction};
+use crate::cfi::one_by_one::{Found, Shared};
 use crate::debug::expression;
+use crate::elf::function_offset::FunctionOffset;
 use crate::elf::functions::Functions;
-use crate::elf::spot::Spot;
-use crate::elf::target::Target;
 use dwcheck::{Fault, FaultKind};
+use dwcheck_types::target::Target;
 
 /// A frame section, with what is needed to describe its faults.
 pub struct Terms<'a> {
@@ -99,7 +99,7 @@ impl Within {
     /// name for the function.
     fn function(&self, functions: &Functions<'_>) -> Option<String> {
         match self {
-            Within::Fde(range) => Spot::at(functions, range.start).map(|spot| spot.to_string()),
+            Within::Fde(range) => FunctionOffset::at(functions, range.start).map(|spot| spot.to_string()),
             _ => None,
         }
     }

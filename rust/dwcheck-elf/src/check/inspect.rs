@@ -1,17 +1,16 @@
 //! Checks the frame sections and the location lists of a program.
 
 pub use super::verdict::{Check, InspectError, Inspected, Verdict};
-use crate::cfi::alone::{accepted_part, every_fault};
-use crate::cfi::frames::{body, Frames, FramesError, Kind, Name, Record, Standing};
+use crate::cfi::frames::{body, Counts, FrameSection, Frames, FramesError, Kind, Name, Record, RecordStatus};
+use crate::cfi::one_by_one::{accepted_part, every_fault};
 use crate::check::fault::{Defect, Terms};
 use crate::elf::debug_files::DebugFiles;
 
 use super::lists;
-use crate::cfi::row::Row;
-use crate::cfi::validate::{validate_rows, Agreement, DwcheckRows, RowSource};
+use crate::cfi::validate::validate_rows;
 use crate::elf::program::Program;
-use crate::elf::target::Target;
-use dwcheck::{DebugFrame, DebugLoclists, Error, Process};
+use dwcheck::{DebugFrame, DebugLoclists, Error};
+use dwcheck_types::target::Target;
 use std::fmt;
 use std::path::{Path, PathBuf};
 
@@ -84,11 +83,28 @@ pub fn inspect_lists_of_file<'data>(
 
 /// Checks the frame sections of a program that have bytes: `.debug_frame`, `.eh_frame`.
 pub fn inspect_frame_sections<'data>(program: &Program<'data>, check: Check) -> Vec<Inspected<'data>> {
-    let sections = Frames::all(program).map(|frames| match frames {
+    let section = |name| match FrameSection::read(program, name) {
+        Ok(section) => section.map(|section| inspect_frame_section(program, section, check)),
+        Err(error) => Some(unread_frames(FramesError::Program(name, error))),
+    };
+    [Name::DebugFrame, Name::EhFrame].into_iter().filter_map(section).collect()
+}
+
+fn inspect_frame_section<'data>(
+    program: &Program<'data>,
+    section: FrameSection<'data>,
+    check: Check,
+) -> Inspected<'data> {
+    if check.counts_only && !check.compare {
+        if let Some(counts) = section.accepted_counts() {
+            let (name, bytes) = (section.format.name, section.source.bytes.len());
+            return Inspected { name, file: None, bytes, frames: None, lists: None, verdict: Verdict::Frames(counts) };
+        }
+    }
+    match Frames::of(section) {
         Ok(frames) => inspect_frames(program, frames, check),
         Err(error) => unread_frames(error),
-    });
-    sections.collect()
+    }
 }
 
 /// The result for a frame section that [`Frames::all`] gives an error for: a section that is too long is
@@ -114,8 +130,8 @@ fn inspect_frames<'data>(program: &Program<'data>, frames: Frames<'data>, check:
 }
 
 fn verdict_on(program: &Program<'_>, frames: &Frames<'_>, check: Check) -> Result<Verdict, InspectError> {
-    let fault = match frames.process(0) {
-        Ok(process) if frames.unresolved().is_empty() => return agreement(frames, &process).map(Verdict::Frames),
+    let fault = match frames.check() {
+        Ok(counts) if frames.unresolved().is_empty() => return compared(frames, counts, check).map(Verdict::Frames),
         Ok(_) => None,
         Err(Error::Refused(fault)) => Some(fault),
         Err(error) => return Err(InspectError::Dwcheck(frames.name(), error)),
@@ -146,13 +162,14 @@ fn unresolved(frames: &Frames<'_>) -> Vec<Defect> {
     frames.unresolved().iter().map(defect).collect()
 }
 
-/// Counts what an accepted section has. The rows of `.eh_frame`, and of a section that had to be changed, are
-/// compared with gimli's.
-fn agreement(frames: &Frames<'_>, process: &Process) -> Result<Agreement, InspectError> {
-    match frames.name() == Name::EhFrame || frames.is_changed() {
-        true => validate_rows(frames, process).map_err(InspectError::Difference),
-        false => Ok(counted(frames, process)),
+/// What an accepted section has. If it was asked for, the rows of `.eh_frame`, and of a section that had to be
+/// changed, are compared with gimli's first.
+fn compared(frames: &Frames<'_>, counts: Counts, check: Check) -> Result<Counts, InspectError> {
+    if !check.compare || !(frames.name() == Name::EhFrame || frames.is_changed()) {
+        return Ok(counts);
     }
+    let process = frames.process(0).map_err(|error| InspectError::Dwcheck(frames.name(), error))?;
+    validate_rows(frames, &process).map_err(InspectError::Difference)
 }
 
 /// What is left of a refused frame section without what is refused.
@@ -161,7 +178,7 @@ pub struct Rest<'data> {
     /// The section without the CIEs and FDEs that are refused.
     pub frames: Frames<'data>,
     /// What it has.
-    pub agreement: Agreement,
+    pub counts: Counts,
 }
 
 /// How many of the CIEs and FDEs of a section are left out. Its text is such as `2 of 31 records left out`.
@@ -176,7 +193,7 @@ pub struct LeftOut {
 impl Rest<'_> {
     /// How much isn't in it.
     pub fn left_out(&self) -> LeftOut {
-        let is_counted = |record: &&Record| record.kind != Kind::Empty && record.standing != Standing::Copy;
+        let is_counted = |record: &&Record| record.kind != Kind::Empty && record.status != RecordStatus::Copy;
         let counted = self.frames.records().iter().filter(is_counted);
         let count = counted.clone().filter(|record| !record.is_used()).count();
         LeftOut { count, of: counted.count() }
@@ -192,41 +209,20 @@ impl<'data> Inspected<'data> {
             _ => return Ok(None),
         };
         let failed = |error| InspectError::Dwcheck(self.name, error);
-        let (frames, process) = match frames.process(0) {
+        let (frames, counts) = match frames.check() {
             Err(Error::Refused(fault)) => {
                 let rest = accepted_part(frames, &every_fault(frames, fault));
-                let process = rest.process(0).map_err(failed)?;
-                (rest, process)
+                let counts = rest.check().map_err(failed)?;
+                (rest, counts)
             }
-            process => (frames.clone(), process.map_err(failed)?),
+            counts => (frames.clone(), counts.map_err(failed)?),
         };
-        let agreement = agreement(&frames, &process)?;
-        Ok(Some(Rest { frames, agreement }))
+        Ok(Some(Rest { frames, counts }))
     }
-}
-
-/// Counts the CIEs, FDEs and rows of a section.
-fn counted(frames: &Frames<'_>, process: &Process) -> Agreement {
-    let mut agreement = Agreement::default();
-    let mut row = Row::default();
-    for record in frames.used() {
-        match record.kind {
-            Kind::Cie { .. } => agreement.cies += 1,
-            Kind::Fde { begin, end, .. } => {
-                agreement.fdes += 1;
-                let mut rows = DwcheckRows::new(process, begin, end);
-                while let Ok(true) = rows.next_row(&mut row) {
-                    agreement.rows += 1;
-                }
-            }
-            Kind::Empty | Kind::Unread(_) => {}
-        }
-    }
-    agreement
 }
 
 fn inspect_section_of_lists(lists: &[u8], target: Target) -> Result<Verdict, InspectError> {
-    match dwcheck::report(DebugFrame(&[]), DebugLoclists(lists), target.into()) {
+    match dwcheck::report(DebugFrame(&[]), DebugLoclists(lists), target) {
         Ok(report) => Ok(Verdict::Lists(report)),
         Err(Error::Refused(fault)) => Ok(Verdict::Refused(vec![Defect::of_lists(lists, fault, target)])),
         Err(error) => Err(InspectError::Dwcheck(Name::DebugLoclists, error)),

@@ -3,18 +3,19 @@
 //! [`Sections`] reads and checks the frame sections, and [`Sections::module`] makes a
 //! [`Module`](dwcheck_lint::module::Module), which [`dwcheck_lint::lint`] judges.
 
-use crate::cfi::alone::accepted;
 use crate::cfi::frames::{Frames, Kind, Name, Record};
+use crate::cfi::one_by_one::accepted;
 use crate::cfi::validate::comparable;
 use crate::elf::functions::Functions;
 use crate::elf::image::{Image, Part};
 use crate::elf::program::Program;
-use crate::elf::target::AddressSize;
 use dwcheck::{CfaRule, Process};
+use dwcheck_lint::error::Error;
 use dwcheck_lint::landings::landings;
 use dwcheck_lint::machine::Machine;
 use dwcheck_lint::module::{Convention, Module, Segment};
 use dwcheck_lint::table::{Cfa, Fde, Row, Rows, Rule};
+use dwcheck_types::target::AddressSize;
 use gimli::{CallFrameInstruction, EndianSlice, Pointer, RunTimeEndian, UnwindSection};
 use std::cell::RefCell;
 use std::collections::HashSet;
@@ -45,13 +46,13 @@ impl<'data> Sections<'data> {
     pub fn read(program: &Program<'data>) -> Self {
         let mut sections = Sections { all: Vec::new(), image: program.image(), unused: Vec::new() };
         for frames in Frames::all(program) {
-            let used = frames.map_err(|error| error.to_string()).and_then(accepted);
-            match used {
-                Ok((frames, process, problem)) => {
+            match frames.map(accepted) {
+                Ok(Ok((frames, process, problem))) => {
                     sections.all.push((frames, process));
                     sections.unused.extend(problem);
                 }
-                Err(problem) => sections.unused.push(problem),
+                Ok(Err(error)) => sections.unused.push(error.to_string()),
+                Err(error) => sections.unused.push(error.to_string()),
             }
         }
         sections.all.sort_by_key(|(frames, _)| frames.name() != Name::EhFrame);
@@ -230,11 +231,11 @@ impl<'a> SectionRows<'a> {
 }
 
 impl Rows for SectionRows<'_> {
-    fn rows(&self, fde: &Fde) -> Result<Vec<Row<'_>>, String> {
+    fn rows(&self, fde: &Fde) -> Result<Vec<Row<'_>>, Error> {
         let (mut rows, mut next) = (Vec::new(), fde.begin);
         while next < fde.end {
             let row = self.row(next).filter(|row| row.end > next);
-            let row = row.ok_or_else(|| format!("no row for {:#x}", next))?;
+            let row = row.ok_or(Error::NoRow(next))?;
             next = row.end;
             rows.push(row);
         }
@@ -257,18 +258,22 @@ impl<'a> OneSection<'a> {
     fn row_of(&self, machine: &Machine, row: &dwcheck::Row) -> Option<Row<'a>> {
         let (register, begin) = (machine.register, row.addresses.start);
         let cfa = match row.cfa {
-            CfaRule::RegisterAndOffset { register: number, offset } => Cfa::Offset(register(number), offset),
+            CfaRule::RegisterAndOffset { register: number, offset } => {
+                Cfa::RegisterOffset { register: register(number), offset }
+            }
             CfaRule::Expression(_) => Cfa::Expression(self.expression(begin, None)?),
             _ => return None,
         };
         let rule = |number: u16, rule| {
             Some(match rule {
                 dwcheck::Rule::Undefined => Rule::Undefined,
-                dwcheck::Rule::SameValue => Rule::Same,
+                dwcheck::Rule::SameValue => Rule::SameValue,
                 dwcheck::Rule::Offset(offset) => Rule::Offset(offset),
+                dwcheck::Rule::ValOffset(offset) => Rule::ValOffset(offset),
                 dwcheck::Rule::Register(number) => Rule::Register(register(number)),
                 dwcheck::Rule::Expression(_) => Rule::Expression(self.expression(begin, Some(number))?),
-                _ => Rule::Value,
+                dwcheck::Rule::ValExpression(_) => Rule::ValExpression(self.expression(begin, Some(number))?),
+                _ => return None,
             })
         };
         let rules = row.rules.iter().map(|(number, found)| Some((register(*number), rule(*number, *found)?)));

@@ -1,6 +1,6 @@
 //! Checks all location lists of a program.
 
-mod report;
+mod list_report;
 
 use crate::cfi::frames::Name;
 use crate::check::verdict::{Check, InspectError, Inspected};
@@ -11,9 +11,9 @@ use crate::debug::lists::{
 };
 use crate::elf::debug_files::DebugFiles;
 use crate::elf::program::Program;
-use crate::elf::target::Target;
+use dwcheck_types::target::Target;
 use gimli::{DebugAddrIndex, Dwarf, Reader, Section as _, SectionId, Unit, UnitHeader, UnitSectionOffset};
-use report::{report, units, NAMES};
+use list_report::{report, units, NAMES};
 use std::collections::HashMap;
 use std::rc::Rc;
 use typed_arena::Arena;

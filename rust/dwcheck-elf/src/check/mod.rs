@@ -8,5 +8,5 @@ pub mod inspect;
 pub mod lint;
 pub mod lists;
 pub mod page;
-pub mod report;
+pub mod program_report;
 pub mod verdict;

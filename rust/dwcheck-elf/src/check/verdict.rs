@@ -1,11 +1,11 @@
 //! What a check of sections is asked for, and what it finds.
 
 use crate::cfi::defect::Defect;
-use crate::cfi::frames::Frames;
-use crate::cfi::validate::{Agreement, Difference};
+use crate::cfi::frames::{Counts, Frames};
+use crate::cfi::validate::Difference;
 use crate::debug::lists;
+use crate::elf::escaped::Escaped;
 use crate::elf::format::Name;
-use crate::elf::plain::Plain;
 use crate::elf::program::ProgramError;
 use dwcheck::{Error, Report};
 use std::fmt;
@@ -22,11 +22,16 @@ use std::path::PathBuf;
 #[derive(Clone, Copy, Debug, Default, PartialEq, Eq)]
 pub struct Check {
     /// Whether to report every fault of a frame section, not only the first. See
-    /// [`crate::cfi::alone::every_fault`].
+    /// [`crate::cfi::one_by_one::every_fault`].
     pub all: bool,
     /// Whether to list the entries of location lists that are most likely mistakes
     /// ([`lists::Contents::doubtful`]).
     pub doubtful: bool,
+    /// Whether the rows of an accepted frame section are compared with gimli's too.
+    pub compare: bool,
+    /// Whether the records of a frame section are read only if it isn't accepted as it is in the file. Then
+    /// [`Inspected::frames`] of an accepted section may be `None`, and the check takes less time.
+    pub counts_only: bool,
 }
 
 /// The result of checking a section.
@@ -39,7 +44,8 @@ pub struct Inspected<'data> {
     pub file: Option<PathBuf>,
     /// The number of bytes of the section in the file, decompressed. 0 if it couldn't be read.
     pub bytes: usize,
-    /// The frame section. `None` for location lists, and for a frame section that couldn't be read.
+    /// The frame section. `None` for location lists, for a frame section that couldn't be read, and for an accepted
+    /// one of which only counts are wanted ([`Check::counts_only`]).
     pub frames: Option<Frames<'data>>,
     /// What location lists have that were found by `.debug_info`. `None` for any other section.
     pub lists: Option<lists::Contents>,
@@ -50,9 +56,9 @@ pub struct Inspected<'data> {
 /// Whether a section was accepted.
 #[derive(Debug)]
 pub enum Verdict {
-    /// A well-formed frame section. If it is `.eh_frame`, or had to be changed, the library's rows are equal to
-    /// the rows that gimli finds in the file's section.
-    Frames(Agreement),
+    /// A well-formed frame section, and what it has. With [`Check::compare`] the rows of `.eh_frame`, and of a
+    /// section that had to be changed, are equal to those that gimli finds in the file's section.
+    Frames(Counts),
     /// Well-formed location lists of a file without `.debug_info`, in which the whole section is checked.
     Lists(Report),
     /// Well-formed location lists, but for what [`lists::Contents::not_checked`] says.
@@ -106,13 +112,17 @@ impl fmt::Display for InspectError {
                 let name = name.as_deref().unwrap_or("without a name");
                 match count {
                     1 => {
-                        write!(f, "1 unit has its location lists in another file, {}, which can't be used", Plain(name))
+                        write!(
+                            f,
+                            "1 unit has its location lists in another file, {}, which can't be used",
+                            Escaped(name)
+                        )
                     }
                     _ => write!(
                         f,
                         "{} units have their location lists in other files, such as {}, which can't be used",
                         count,
-                        Plain(name)
+                        Escaped(name)
                     ),
                 }
             }
@@ -120,4 +130,13 @@ impl fmt::Display for InspectError {
     }
 }
 
-impl std::error::Error for InspectError {}
+impl std::error::Error for InspectError {
+    fn source(&self) -> Option<&(dyn std::error::Error + 'static)> {
+        match self {
+            InspectError::Program(error) => Some(error),
+            InspectError::Difference(error) => Some(error),
+            InspectError::Dwcheck(_, error) => Some(error),
+            _ => None,
+        }
+    }
+}

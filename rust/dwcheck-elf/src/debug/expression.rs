@@ -3,9 +3,9 @@
 //! `dwcheck` checks expressions. This module only helps to show an expression that `dwcheck` has
 //! accepted, or where `dwcheck` refuses one.
 
-use crate::debug::codes::op;
-use crate::elf::bytes::{Cursor, ReadError};
-use crate::elf::target::Target;
+use dwcheck_types::codes::op;
+use dwcheck_types::cursor::{Cursor, ReadError};
+use dwcheck_types::target::Target;
 
 /// The number of operations of an accepted expression, and the greatest height of its stack.
 ///

@@ -2,18 +2,18 @@
 //! program. Of the sections only what these addresses need is decompressed, and lines aren't read.
 
 mod covers;
-mod names;
 mod sections;
+mod unit_functions;
 
 use crate::debug::debug_info::Slice;
 use crate::elf::program::Program;
 use covers::Covers;
 use gimli::{Dwarf, UnitHeader, UnitSectionOffset, UnitType};
-use names::Reader;
 use rayon::prelude::*;
 use rustc_hash::FxHashMap;
 use sections::Sections;
 use std::sync::atomic::{AtomicBool, Ordering};
+use unit_functions::Reader;
 
 /// The names of the functions at an address, the innermost first. The last one is that of the function that isn't
 /// inlined. `None` where the debug information has no name.
@@ -106,7 +106,7 @@ impl<'s> Search<'s> {
     fn covers(&self, listed: &Covers) -> Covers {
         let others = self.info.headers.par_iter().filter(|header| is_program(header) && !listed.has(begin(header)));
         let said = others.flat_map_iter(|header| {
-            let unit = names::unit(&self.info.dwarf, *header).ok();
+            let unit = unit_functions::unit(&self.info.dwarf, *header).ok();
             let ranges = unit.and_then(|unit| self.info.dwarf.unit_ranges(&unit).ok());
             let ranges = ranges.map_or_else(Vec::new, crate::debug::debug_info::ranges_of);
             ranges.into_iter().map(move |range| (range, begin(header)))

@@ -1,7 +1,7 @@
 //! Finds the tables of a `.debug_loclists` section.
 
-use crate::elf::bytes::{Cursor, ReadError};
-use crate::elf::target::Target;
+use dwcheck_types::cursor::{Cursor, ReadError};
+use dwcheck_types::target::Target;
 
 fn initial_length(cursor: &mut Cursor<'_>) -> Result<(u64, u64), ReadError> {
     match cursor.number(4)? {

@@ -2,7 +2,6 @@
 //!
 //! It uses `elf` and `cfi`.
 
-pub mod codes;
 pub mod debug_info;
 pub mod expression;
 pub mod inlined;

@@ -8,25 +8,25 @@ mod call_sites;
 mod functions;
 mod json;
 mod location;
-mod place;
 mod scopes;
 mod split;
 mod text;
 mod thread_local;
 mod types;
 mod value;
+mod value_location;
 
-pub use place::{Machine, Missing, Place, Pointee};
 pub(crate) use split::Called;
 pub use text::Lines;
 pub use thread_local::Loaded;
 pub use value::{Shape, Value};
+pub use value_location::{Machine, Missing, Pointee, ValueLocation};
 
 use crate::debug::debug_info::{dwarf, section, Package, Units};
 use crate::elf::debug_files::DebugFiles;
 use crate::elf::program::{Program, ProgramError};
-use crate::elf::target::Target;
 use dwcheck::{Block, Registers};
+use dwcheck_types::target::Target;
 use functions::FunctionIndex;
 use gimli::SectionId;
 use location::Locator;
@@ -157,7 +157,7 @@ pub struct Variable {
     /// The name of its type.
     pub type_name: String,
     /// Where it is.
-    pub place: Result<Place, Missing>,
+    pub place: Result<ValueLocation, Missing>,
     /// Its value.
     pub value: Result<Value, Missing>,
 }
@@ -250,7 +250,14 @@ impl fmt::Display for VariablesError {
     }
 }
 
-impl std::error::Error for VariablesError {}
+impl std::error::Error for VariablesError {
+    fn source(&self) -> Option<&(dyn std::error::Error + 'static)> {
+        match self {
+            VariablesError::Program(error) => Some(error),
+            _ => None,
+        }
+    }
+}
 
 impl fmt::Debug for Variables<'_> {
     fn fmt(&self, f: &mut fmt::Formatter<'_>) -> fmt::Result {

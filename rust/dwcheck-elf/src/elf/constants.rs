@@ -1,7 +1,7 @@
 //! The memory of a loaded file that its process doesn't change: its read-only segments, and `.data.rel.ro`, where
 //! the dynamic linker stores addresses before it makes the section read-only.
 
-use crate::elf::target::Target;
+use dwcheck_types::target::Target;
 use object::elf::{self, PF_W};
 use object::read::{Object as _, ObjectSection, ObjectSegment, ObjectSymbol, ObjectSymbolTable, RelocationTarget};
 use object::{Relocation, RelocationKind, SegmentFlags};
@@ -13,8 +13,11 @@ pub type Constants<'data> = Vec<(u64, Cow<'data, [u8]>)>;
 
 /// A linked file that is loaded in a process.
 pub(crate) struct Loaded<'file, 'data> {
+    /// The file.
     pub file: &'file object::File<'data>,
+    /// The machine's number (`e_machine`).
     pub machine: u16,
+    /// The byte order and the address size.
     pub target: Target,
     /// What is added to addresses of the file to get those in the process.
     pub load: u64,

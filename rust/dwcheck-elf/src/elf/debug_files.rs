@@ -1,8 +1,8 @@
 //! Finds separate files of debug information: by build id in `/usr/lib/debug/.build-id`, or by the
 //! section `.gnu_debuglink`.
 
+use crate::elf::escaped::Escaped;
 use crate::elf::mapped::Bytes;
-use crate::elf::plain::Plain;
 use crate::elf::program::Program;
 use std::ffi::{OsStr, OsString};
 use std::fmt;
@@ -22,6 +22,10 @@ pub struct DebugFiles {
     files: Arena<Bytes>,
     unpacked: Arena<Vec<u8>>,
 }
+
+/// The file that has what several files of debug information share isn't there. It should have this name.
+#[derive(Clone, Debug, PartialEq, Eq)]
+pub struct NotShared(PathBuf);
 
 /// Why a file of debug information that was found isn't used.
 #[derive(Clone, Debug, PartialEq, Eq)]
@@ -102,7 +106,7 @@ impl DebugFiles {
 
     /// The file that `.gnu_debugaltlink` of the file `path` names, which has what several such files share: by its
     /// build id, or by its path, which may be relative to the folder of `path`. If it isn't there, the error says so.
-    pub fn shared(&self, path: &Path, program: &Program<'_>) -> Result<Option<&Bytes>, String> {
+    pub fn shared(&self, path: &Path, program: &Program<'_>) -> Result<Option<&Bytes>, NotShared> {
         let (name, id) = match program.debug_alt_link() {
             Some(found) => found,
             None => return Ok(None),
@@ -112,10 +116,7 @@ impl DebugFiles {
         let has_id = |bytes: &&Bytes| Program::read(bytes).map_or(false, |program| program.build_id() == Some(id));
         let mut found = std::iter::once(by_id).chain(self.named_by(path, name));
         let found = found.find_map(|file| self.open(&file).ok().flatten().filter(has_id));
-        found.map(Some).ok_or_else(|| {
-            let name = name.to_string_lossy();
-            format!("the file with debug information that it shares, {}, isn't there", Plain(&name))
-        })
+        found.map(Some).ok_or_else(|| NotShared(name.to_path_buf()))
     }
 
     /// The files that may have the debug information of units of a program whose file is `path` (`NAME.dwp`): next to
@@ -231,6 +232,17 @@ impl fmt::Debug for DebugFiles {
         f.debug_struct("DebugFiles").field("root", &self.root).finish_non_exhaustive()
     }
 }
+
+impl fmt::Display for NotShared {
+    fn fmt(&self, f: &mut fmt::Formatter<'_>) -> fmt::Result {
+        let name = self.0.to_string_lossy();
+        write!(f, "the file with debug information that it shares, {}, isn't there", Escaped(&name))
+    }
+}
+
+impl std::error::Error for NotShared {}
+
+impl std::error::Error for NotUsed {}
 
 impl fmt::Display for NotUsed {
     fn fmt(&self, f: &mut fmt::Formatter<'_>) -> fmt::Result {

@@ -1,7 +1,7 @@
 //! The sections that are checked, and what has to be known of a frame section, besides its bytes, to read it.
 
-use crate::elf::target::Target;
 use dwcheck::{EhFrame, FrameSection, Module};
+use dwcheck_types::target::Target;
 use gimli::BaseAddresses;
 use object::elf::EM_AARCH64;
 use std::fmt;
@@ -65,8 +65,8 @@ impl Format {
     /// The section with these bytes, as the library takes it to check it or to read its records.
     pub fn section<'a>(&self, bytes: &'a [u8]) -> FrameSection<'a> {
         match self.eh_frame() {
-            Some(section) => FrameSection::eh_frame(bytes, section, self.target.into()),
-            None => FrameSection::debug_frame(bytes, self.target.into()),
+            Some(section) => FrameSection::eh_frame(bytes, section, self.target),
+            None => FrameSection::debug_frame(bytes, self.target),
         }
     }
 

@@ -1,9 +1,9 @@
 //! Looks up the functions of an ELF file, by address or by name.
 
+use crate::elf::demangle::{is_shown_as, similar, STUB};
 use crate::elf::layout::Layout;
-use crate::elf::names::{is_shown_as, similar, STUB};
 use crate::elf::plt::stubs;
-use crate::elf::target::Target;
+use dwcheck_types::target::Target;
 use object::elf;
 use object::read::{Object, ObjectSection, ObjectSymbol, SymbolSection};
 use object::{SectionFlags, SymbolFlags};
@@ -138,7 +138,7 @@ impl<'data> Functions<'data> {
     }
 
     /// The address of the function with exactly this name: the name in the file, or else the
-    /// demangled name, as [`Spot`](crate::elf::spot::Spot) shows it. If several symbols have the name,
+    /// demangled name, as [`FunctionOffset`](crate::elf::function_offset::FunctionOffset) shows it. If several symbols have the name,
     /// functions are preferred to labels; after that, global symbols to weak ones, and weak ones to
     /// local ones. It is an error if the preferred symbols have different addresses.
     pub fn address_of(&self, name: &str) -> Result<u64, NameError> {

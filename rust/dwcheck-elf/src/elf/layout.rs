@@ -1,6 +1,6 @@
 //! The address of each section of a file in memory.
 
-use crate::elf::target::Target;
+use dwcheck_types::target::Target;
 use object::elf::{ET_REL, SHF_ALLOC, SHF_EXECINSTR};
 use object::read::{Object, ObjectSection, SectionIndex};
 use object::SectionFlags;

@@ -1,23 +1,20 @@
 //! ELF files and what they hold: sections, symbols, segments, relocations, separate files of debug information; and
-//! the words that all other parts use: targets, ABIs, numbers, names.
+//! what all other parts use: formats and names.
 //!
 //! It uses no other part.
 
-pub mod abi;
-pub mod bytes;
 pub mod constants;
 pub mod covered;
 pub mod debug_files;
+pub mod demangle;
+pub mod escaped;
 pub mod format;
+pub mod function_offset;
 pub mod functions;
 pub mod image;
 pub mod layout;
 pub mod mapped;
-pub mod names;
 pub mod other_file;
-pub mod plain;
 pub mod plt;
 pub mod program;
 pub mod relocate;
-pub mod spot;
-pub mod target;

@@ -14,7 +14,9 @@ const LONGEST: u64 = 24;
 /// A stub, and the name of the function that it jumps to.
 #[derive(Clone, Debug, PartialEq, Eq)]
 pub(crate) struct Stub<'data> {
+    /// The addresses of its code.
     pub range: Range<u64>,
+    /// The function's name.
     pub function: &'data str,
 }
 

@@ -9,7 +9,7 @@ use crate::elf::image::Image;
 use crate::elf::layout::{is_loaded, Layout};
 use crate::elf::other_file::OtherFile;
 use crate::elf::relocate::{self, RelocationError};
-use crate::elf::target::{AddressSize, Order, Target};
+use dwcheck_types::target::{AddressSize, Order, Target};
 use flate2::{Decompress, FlushDecompress};
 use object::elf;
 use object::read::{CompressionFormat, Object, ObjectSection, ObjectSegment, ObjectSymbol};
@@ -482,4 +482,11 @@ impl fmt::Display for ProgramError {
     }
 }
 
-impl std::error::Error for ProgramError {}
+impl std::error::Error for ProgramError {
+    fn source(&self) -> Option<&(dyn std::error::Error + 'static)> {
+        match self {
+            ProgramError::Relocation(_, _, error) => Some(error),
+            _ => None,
+        }
+    }
+}

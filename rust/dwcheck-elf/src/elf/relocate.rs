@@ -3,7 +3,7 @@
 mod aarch64;
 
 use crate::elf::layout::Layout;
-use crate::elf::target::Target;
+use dwcheck_types::target::Target;
 use object::elf;
 use object::read::{Object as _, ObjectSection, ObjectSymbol, RelocationTarget, SymbolSection};
 use object::{Relocation, RelocationKind, SymbolIndex};
@@ -52,6 +52,7 @@ struct Step {
 /// pointers in the global offset table. They are after all sections.
 #[derive(Clone, Copy, Debug)]
 pub(crate) struct Outside {
+    /// The first of these addresses.
     pub base: u64,
 }
 
@@ -70,9 +71,13 @@ impl Outside {
 /// An unlinked object whose relocations are applied.
 #[derive(Clone, Copy)]
 pub(crate) struct Object<'file, 'data> {
+    /// The file.
     pub file: &'file object::File<'data>,
+    /// Where its sections are.
     pub layout: &'file Layout,
+    /// The machine's number (`e_machine`).
     pub machine: u16,
+    /// The byte order and the address size.
     pub target: Target,
 }
 
@@ -280,3 +285,5 @@ impl fmt::Display for RelocationError {
         }
     }
 }
+
+impl std::error::Error for RelocationError {}

@@ -16,10 +16,11 @@ pub use notes::{Mapping, ProcessInfo};
 pub use registers::Thread;
 pub use signal::{Sender, Signal};
 
-use crate::elf::abi::{abi, Abi};
 use crate::elf::other_file::OtherFile;
-use crate::elf::target::{AddressSize, Order, Target};
 use crate::process::maps::{can_differ, Process};
+use crate::process::without_row::signed_bits;
+use dwcheck_types::abi::{abi, Abi};
+use dwcheck_types::target::{AddressSize, Order, Target};
 use notes::Notes;
 use object::elf::{self, FileHeader32, FileHeader64, ELFMAG, ET_CORE, PF_W, PF_X, PT_LOAD};
 use object::read::elf::{FileHeader, ProgramHeader};
@@ -64,9 +65,13 @@ struct CoreSegment<'data> {
 
 /// What was copied of a process that runs.
 pub(crate) struct Copied<'data> {
+    /// What `/proc` has of it.
     pub process: &'data Process,
+    /// The byte order and the address size.
     pub target: Target,
+    /// The calling convention.
     pub abi: &'static Abi,
+    /// The threads, with their registers.
     pub threads: &'data [Thread],
     /// Memory: its addresses and bytes. Where two blocks have an address, the first one counts.
     pub memory: [&'data [(u64, Vec<u8>)]; 2],
@@ -222,12 +227,16 @@ impl<'data> CoreFile<'data> {
         &self.mappings
     }
 
-    /// A signed return address without its authentication code (aarch64). The core's note says which
-    /// bits hold the code. Without the note, they are the bits above those that addresses have.
-    pub fn without_code(&self, address: u64) -> u64 {
-        let is_wide = self.segments.iter().any(|segment| segment.address >> 48 != 0);
-        let unused = if is_wide { u64::MAX << 52 } else { u64::MAX << 48 };
-        address & !self.pac_mask.unwrap_or(unused)
+    /// The bits of a return address that may have its signature (aarch64). The core's note says which ones. Without the
+    /// note, they are the bits above those that addresses have. 0 for machines that sign no addresses.
+    pub fn signed_bits(&self) -> u64 {
+        match self.abi.link_register {
+            Some(_) => {
+                let highest = self.segments.iter().map(|segment| segment.address).max();
+                signed_bits(self.pac_mask, highest.unwrap_or(0))
+            }
+            None => 0,
+        }
     }
 
     /// Whether the core file is cut off: its headers list memory that would be past the end of the

@@ -10,10 +10,10 @@ mod trace;
 pub use super::maps::{LiveError, Map};
 pub use data::DATA_LIMIT;
 
-use crate::elf::abi::Abi;
-use crate::elf::target::Target;
 use crate::process::core_file::{Copied, CoreFile, Thread};
 use crate::process::maps::Process;
+use dwcheck_types::abi::Abi;
+use dwcheck_types::target::Target;
 use std::time::Duration;
 use trace::{Stopped, TraceError};
 

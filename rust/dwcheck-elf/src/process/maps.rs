@@ -1,8 +1,8 @@
 //! What `/proc` says about a process.
 
-use crate::elf::abi::{abi, Abi};
 use crate::elf::program::Program;
-use crate::elf::target::Target;
+use dwcheck_types::abi::{abi, Abi};
+use dwcheck_types::target::Target;
 use nix::sys::uio::{process_vm_readv, RemoteIoVec};
 use nix::unistd::Pid;
 use std::fmt;

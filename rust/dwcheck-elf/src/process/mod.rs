@@ -8,3 +8,4 @@ pub mod maps;
 pub mod modules;
 pub mod stack;
 pub mod state_file;
+pub mod without_row;

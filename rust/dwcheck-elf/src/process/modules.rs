@@ -4,8 +4,8 @@ mod parts;
 
 use crate::cfi::frames::Frames;
 use crate::elf::program::Program;
-use crate::elf::target::Target;
 use dwcheck::{Error, ModuleId, Process};
+use dwcheck_types::target::Target;
 use parts::{Fdes, Part, MOST_PARTS};
 use std::fmt;
 use std::ops::RangeInclusive;
@@ -51,7 +51,7 @@ impl Lost {
 impl Modules {
     /// No modules.
     pub fn new(target: Target) -> Self {
-        Modules { process: Process::new(target.into()), target, paths: Vec::new() }
+        Modules { process: Process::new(target), target, paths: Vec::new() }
     }
 
     /// The process to look up and walk with.

@@ -6,35 +6,35 @@
 //! another rule; such a caller is a guess, and marked with the rule ([`FoundBy`]).
 
 mod abort;
-pub(crate) mod guess;
+mod both_ends;
+pub(crate) mod frame_names;
 mod instruction;
 mod json;
-mod kept;
 mod listed;
-pub(crate) mod names;
 mod overflow;
 mod per_file;
-mod signal_return;
-mod stub;
 mod tables;
 mod tail_calls;
 mod text;
 mod variables;
+mod view;
 mod walker;
 
 pub use crate::debug::lines::SourceLine;
+pub use crate::process::without_row::FoundBy;
+pub(crate) use frame_names::Names;
+pub use frame_names::{Inlined, NameOptions, Position};
 pub use instruction::Instruction;
 pub use listed::Listed;
-pub(crate) use names::Names;
-pub use names::{Inlined, NameOptions, Place};
 pub use text::Lines;
 
 use crate::debug::variables::{Shape, Variables};
 use crate::process::core_file::{CoreFile, Files, Memory, Module, Thread};
+use crate::process::without_row::Growth;
+use both_ends::Walked;
 use dwcheck::{Block, Registers};
-use kept::Walked;
 use std::cell::RefCell;
-use std::collections::{BTreeMap, BTreeSet, HashMap, HashSet};
+use std::collections::{BTreeMap, BTreeSet, HashMap};
 use std::fmt;
 use std::path::{Path, PathBuf};
 use tables::Tables;
@@ -104,25 +104,6 @@ pub struct LeftOut {
     pub after: usize,
     /// How many they are.
     pub count: usize,
-}
-
-/// How a frame was found.
-#[derive(Clone, Copy, Debug, PartialEq, Eq)]
-pub enum FoundBy {
-    /// It is the frame that the thread was in.
-    Thread,
-    /// By a row of an unwind table.
-    Row,
-    /// A guess: the frame that it called isn't at an executable address, so a call led there. On
-    /// x86, the return address is at the stack pointer, and on aarch64 it is in x30. On x86 also: no row
-    /// covers the frame that it called, and the word at the stack pointer follows a call, or that above what a
-    /// stub of a procedure linkage table has pushed.
-    Call,
-    /// A guess: no row covers the frame that it called, whose frame pointer leads to the caller.
-    FramePointer,
-    /// A guess: a signal interrupted it, and the code to which the handler returns has no row that says
-    /// so, but is that by which handlers return to the kernel.
-    SignalReturn,
 }
 
 /// A frame of a stack.
@@ -208,13 +189,6 @@ pub enum StackError {
 impl Default for WalkOptions {
     fn default() -> Self {
         WalkOptions { limit: MOST_FRAMES, is_strict: false, keeps_registers: false, outermost: 0 }
-    }
-}
-
-impl FoundBy {
-    /// Whether the frame is a guess.
-    pub fn is_guess(self) -> bool {
-        matches!(self, FoundBy::Call | FoundBy::FramePointer | FoundBy::SignalReturn)
     }
 }
 
@@ -319,13 +293,11 @@ impl<'a> Stacks<'a> {
         let address = thread.register(abi.program_counter).ok_or(StackError::NoInstructionPointer)?;
         let blocks = self.blocks(thread.register(abi.stack_pointer).unwrap_or(0));
         let walker = Walker {
-            core: self.core,
-            memory: &self.memory,
+            stacks: self,
             blocks: &blocks,
-            tables: &mut self.tables.borrow_mut(),
             options,
-            floor: None,
-            seen: HashSet::new(),
+            signed_bits: self.core.signed_bits(),
+            growth: Growth::default(),
         };
         let Walked { frames, left_out, stop } = walker.walk(address, registers).map_err(StackError::Dwcheck)?;
         Ok(Stack { stacks: self, thread: u64::from(thread.id), frames, left_out, stop })
@@ -340,13 +312,13 @@ impl<'a> Stacks<'a> {
 
     /// Where a frame is: its function, file and line. If the frame's address follows a call, these
     /// are those of the call.
-    pub fn place(&self, frame: &Frame) -> Place {
+    pub fn position(&self, frame: &Frame) -> Position {
         let tables = self.tables.borrow();
         let looked_up = frame.looked_up();
         let found = tables.module_at(looked_up);
         let (place, module) = match found.and_then(|place| Some((place, tables.modules().get(place)?))) {
             Some(found) => found,
-            None => return Place::default(),
+            None => return Position::default(),
         };
         let mut names = self.names.borrow_mut();
         let names = names.entry(place).or_insert_with(|| self.read_names(module));
@@ -354,27 +326,15 @@ impl<'a> Stacks<'a> {
         let (address, looked_up, options) = (linked(frame.address), linked(looked_up), self.name_options);
         let split = names.is_split(looked_up).then(|| self.split_functions(place, module, looked_up)).flatten();
         let found = match split {
-            Some(called) => names.place_in(address, looked_up, called, options),
-            None => names.place(address, looked_up, options),
+            Some(called) => names.position_in(address, looked_up, called, options),
+            None => names.position(address, looked_up, options),
         };
         let (build_id, address_in_module) = (names.build_id.clone(), Some(address));
-        Place { module: Some(module.path.clone()), build_id, address_in_module, ..found }
+        Position { module: Some(module.path.clone()), build_id, address_in_module, ..found }
     }
 
     fn read_names(&self, module: &Module<'a>) -> Names<'a> {
         Names::read(&module.path, module.image.bytes(), self.files.debug_files(), self.name_options)
-    }
-}
-
-impl fmt::Display for FoundBy {
-    fn fmt(&self, f: &mut fmt::Formatter<'_>) -> fmt::Result {
-        f.pad(match self {
-            FoundBy::Thread => "thread",
-            FoundBy::Row => "row",
-            FoundBy::Call => "call",
-            FoundBy::FramePointer => "frame pointer",
-            FoundBy::SignalReturn => "signal return",
-        })
     }
 }
 

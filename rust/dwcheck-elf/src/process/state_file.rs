@@ -4,8 +4,8 @@
 //! The program `dwcheck` reads the same files. Their lines are `reg N 0xV`, `mem 0xA HEX`, `cfa
 //! 0xV`, `frame 0xV`, `object 0xV`, `keep N` and `sp N`. docs/OUTPUT.md says what each line means.
 
-use crate::elf::target::Target;
 use dwcheck::{Abi, Block, Context, Registers, State};
+use dwcheck_types::target::Target;
 
 /// The most callee-saved registers that a state file may name.
 const MOST_KEPT: usize = 127;

@@ -1,7 +1,7 @@
 //! Loads and stores.
 
 use super::{vector, written, Word, SP};
-use crate::instruction::{Effect, Entry, Place, Transfer};
+use crate::instruction::{Effect, Entry, MemoryOperand, Transfer};
 use crate::register::{Register, Registers};
 
 /// How the address of a load or a store is made.
@@ -42,7 +42,7 @@ impl Word {
     /// A transfer with this offset.
     fn transfer(self, mode: Mode, offset: i32, transfer: Transfer) -> Effect {
         let base = self.general_or_sp(5);
-        let place = Place { base, offset: if mode == Mode::After { 0 } else { offset } };
+        let place = MemoryOperand { base, offset: if mode == Mode::After { 0 } else { offset } };
         let added = if mode == Mode::Offset { 0 } else { offset };
         if mode != Mode::Offset || transfer.count > 1 || self.bit(26) {
             return Effect::Transfer(Transfer { place, added, ..transfer });
@@ -70,7 +70,7 @@ impl Word {
             _ => Mode::Offset,
         };
         let registers = [self.moved(0), self.moved(10), None, None].into();
-        let place = Place { base: SP, offset: 0 };
+        let place = MemoryOperand { base: SP, offset: 0 };
         let transfer = Transfer { is_load, registers, count: 2, bytes, is_whole, place, added: 0 };
         self.transfer(mode, self.signed(21, 15) * i32::from(bytes), transfer)
     }
@@ -96,7 +96,7 @@ impl Word {
             (false, true, _) => return self.authenticated(),
         };
         let registers = [self.moved(0), None, None, None].into();
-        let place = Place { base: SP, offset: 0 };
+        let place = MemoryOperand { base: SP, offset: 0 };
         self.transfer(mode, offset, Transfer { is_load, registers, count: 1, bytes, is_whole, place, added: 0 })
     }
 
@@ -118,7 +118,7 @@ impl Word {
     fn atomic(self, bytes: u8) -> Effect {
         let mut registers = Registers::NONE;
         self.general(0).into_iter().for_each(|register| registers.insert(register));
-        let place = Place { base: self.general_or_sp(5), offset: 0 };
+        let place = MemoryOperand { base: self.general_or_sp(5), offset: 0 };
         Effect::write(registers, place, bytes)
     }
 
@@ -152,7 +152,7 @@ impl Word {
             (false, false) => {}
         }
         let bytes = 1 << (self.bits(31, 30) + u32::from(is_pair && !is_ordered));
-        let place = Place { base: self.general_or_sp(5), offset: 0 };
+        let place = MemoryOperand { base: self.general_or_sp(5), offset: 0 };
         match !is_load || is_pair {
             true => Effect::write(registers, place, bytes),
             false => Effect::Write { registers, stored: None },
@@ -161,7 +161,7 @@ impl Word {
 
     /// `ldapur` and `stlur`.
     fn ordered(self) -> Effect {
-        let place = Place { base: self.general_or_sp(5), offset: self.signed(20, 12) };
+        let place = MemoryOperand { base: self.general_or_sp(5), offset: self.signed(20, 12) };
         match (self.bits(23, 22) != 0, self.general(0)) {
             (true, to) => written(to),
             (false, Some(from)) if self.bits(31, 30) == 3 => Effect::Store { from, to: Some(place) },
@@ -210,7 +210,7 @@ impl Word {
             (false, 0b11) => 1 << self.bits(11, 10),
             (false, scale) => 1 << scale,
         };
-        let place = Place { base: self.general_or_sp(5), offset: 0 };
+        let place = MemoryOperand { base: self.general_or_sp(5), offset: 0 };
         // A register that isn't known is added, or the number of bytes.
         let is_by_register = is_after && self.bits(20, 16) != 31;
         let added = if is_after && !is_by_register { count as i32 * i32::from(bytes) } else { 0 };

@@ -3,8 +3,8 @@
 use crate::common::assembly::function;
 use crate::common::gimli_rows::module;
 use crate::common::{has, Folder};
+use dwcheck_lint::finding_text::{Json, Text};
 use dwcheck_lint::lint::lint;
-use dwcheck_lint::report::{Json, Text};
 
 /// Code whose address is taken, as a handler's, has a wrong row, and jumps to code that has a right one.
 const MISPLACED: &str = "sub $24, %rsp

@@ -3,8 +3,8 @@
 use crate::common::assembly::function;
 use crate::common::gimli_rows::module;
 use crate::common::{has, Folder};
+use dwcheck_lint::finding_text::Text;
 use dwcheck_lint::lint::lint;
-use dwcheck_lint::report::Text;
 
 /// A vector register has the value, and the row names it.
 const KEPT: &str = "movq %rbx, %xmm5

@@ -1,8 +1,8 @@
 //! The events that were recorded, and what each of their samples has.
 
 use super::Damage;
-use dwcheck_elf::internal::{Cursor, ReadError};
-use dwcheck_elf::target::Order;
+use dwcheck_types::cursor::{Cursor, ReadError};
+use dwcheck_types::target::Order;
 
 /// The parts that a sample may have (`PERF_SAMPLE_`), as far as they are read.
 pub(super) mod part {

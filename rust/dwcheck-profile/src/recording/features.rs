@@ -2,8 +2,8 @@
 
 use super::event::Events;
 use super::{Damage, Event, RecordHead};
-use dwcheck_elf::internal::Cursor;
-use dwcheck_elf::target::Target;
+use dwcheck_types::cursor::Cursor;
+use dwcheck_types::target::Target;
 use std::collections::HashMap;
 
 /// The numbers of features (`HEADER_`).

@@ -1,8 +1,8 @@
 //! The header of a recording, and what the file has beside its records.
 
 use super::{Damage, Event};
-use dwcheck_elf::internal::Cursor;
-use dwcheck_elf::target::{AddressSize, Order, Target};
+use dwcheck_types::cursor::Cursor;
+use dwcheck_types::target::{AddressSize, Order, Target};
 use std::io::{Read, Seek, SeekFrom};
 
 /// The first bytes where the byte order is little. Where it is big, they are reversed.

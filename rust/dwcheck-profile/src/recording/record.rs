@@ -4,8 +4,8 @@ use super::event::{part, Events};
 use super::features::{until_zero, BuildId};
 use super::sample::Sample;
 use super::RecordHead;
-use dwcheck_elf::internal::{Cursor, ReadError};
-use dwcheck_elf::target::Target;
+use dwcheck_types::cursor::{Cursor, ReadError};
+use dwcheck_types::target::Target;
 
 /// The numbers of records (`PERF_RECORD_`).
 mod kind {

@@ -2,8 +2,8 @@
 
 use super::event::{branch, part, Event, Events};
 use super::RecordHead;
-use dwcheck_elf::internal::{Cursor, ReadError};
-use dwcheck_elf::target::Target;
+use dwcheck_types::cursor::{Cursor, ReadError};
+use dwcheck_types::target::Target;
 
 /// The bits of `read_format`.
 mod format {

@@ -3,7 +3,7 @@
 use super::header::PIPE_SIZE;
 use super::{kind, Damage, RecordHead, HEAD};
 use dwcheck_elf::mapped::Bytes;
-use dwcheck_elf::target::Target;
+use dwcheck_types::target::Target;
 use dwcheck_zstd::Decoder;
 use std::fmt;
 use std::io::{self, BufRead, BufReader, Read};

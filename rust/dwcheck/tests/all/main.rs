@@ -5,10 +5,10 @@
 mod common;
 
 mod expressions;
+mod fault_names;
 mod hostile;
 mod lists;
 mod modules;
-mod names;
 mod reading;
 mod registers;
 mod rows;

@@ -6,6 +6,7 @@ pub mod recordings;
 pub mod run;
 #[cfg(all(target_os = "linux", target_arch = "x86_64"))]
 pub mod trace;
+pub mod waiting;
 
 use std::path::{Path, PathBuf};
 use std::process::Command;

@@ -3,7 +3,7 @@
 //! If several objects have the same inline function, the linker keeps one of the functions, but may
 //! keep all their FDEs. They then say the same about the same addresses.
 
-use super::records::{find, Kind, Record, Standing};
+use super::records::{find, Kind, Record, RecordStatus};
 use std::collections::{HashMap, HashSet};
 
 /// Marks each used FDE that is an exact copy of an earlier one. It is one if it covers an address, and the
@@ -27,7 +27,7 @@ pub(super) fn mark_copies(records: &mut [Record], bytes: &[u8], is_eh_frame: boo
         };
         match first.get(&begin) {
             Some(earlier) if is_copy(records, bytes, (earlier, &record), is_eh_frame) => {
-                records[number].standing = Standing::Copy;
+                records[number].status = RecordStatus::Copy;
             }
             Some(_) => {}
             None => {

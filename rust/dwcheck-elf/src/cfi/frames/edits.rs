@@ -2,7 +2,7 @@
 //!
 //! Nothing moves: every offset in the changed bytes is the offset in the file's section.
 
-use super::records::{body, Kind, Record, Standing};
+use super::records::{body, Kind, Record, RecordStatus};
 use super::Format;
 use crate::cfi::instructions::{
     instructions, Instruction, DEF_CFA_REGISTER, GNU_ARGS_SIZE, NEGATE_RA_STATE, NEGATE_RA_STATE_WITH_PC, NOP,
@@ -47,7 +47,7 @@ pub struct Changes {
 /// length 0 in `.eh_frame`, and in `.debug_frame` a part of the record before it, whose instructions go on with
 /// `DW_CFA_nop`. The section ends where neither can be done.
 pub(super) fn edited<'a>(format: &Format, bytes: &'a [u8], records: &[Record]) -> Edited<'a> {
-    let is_whole = records.iter().all(|record| record.standing != Standing::LeftOut);
+    let is_whole = records.iter().all(|record| record.status != RecordStatus::LeftOut);
     let mut length = bytes.len();
     let (bytes, changes) = (Cow::Borrowed(bytes), Changes::default());
     let mut edits = Edits { bytes, format, is_whole, changes, last: None };
@@ -82,18 +82,20 @@ impl Edits<'_, '_> {
     /// before the record.
     fn take(&mut self, record: &Record) -> bool {
         let is_eh_frame = self.format.is_eh_frame();
-        match (record.standing, record.kind) {
+        match (record.status, record.kind) {
             // The library itself takes exact copies in `.eh_frame` once, unless the original is left out.
-            (Standing::Copy, _) if is_eh_frame && self.is_whole => true,
-            (Standing::Copy | Standing::LeftOut, _) => self.blank(record.range()) || self.append(record.range()),
-            (Standing::Used, Kind::Empty) if is_eh_frame => true,
+            (RecordStatus::Copy, _) if is_eh_frame && self.is_whole => true,
+            (RecordStatus::Copy | RecordStatus::LeftOut, _) => {
+                self.blank(record.range()) || self.append(record.range())
+            }
+            (RecordStatus::Used, Kind::Empty) if is_eh_frame => true,
             // Without a record before it that can be read, the library refuses it.
-            (Standing::Used, Kind::Empty) => self.last.is_none() || self.append(record.range()),
-            (Standing::Used, Kind::Unread(_)) => {
+            (RecordStatus::Used, Kind::Empty) => self.last.is_none() || self.append(record.range()),
+            (RecordStatus::Used, Kind::Unread(_)) => {
                 self.last = None;
                 true
             }
-            (Standing::Used, Kind::Cie { .. } | Kind::Fde { .. }) => {
+            (RecordStatus::Used, Kind::Cie { .. } | Kind::Fde { .. }) => {
                 self.change(record);
                 self.last = Some(Last { offset: record.offset, program: record.program(), is_whole: None });
                 true

@@ -3,6 +3,7 @@
 use super::{Frames, Record};
 use crate::cfi::instructions::{instructions, DEF_CFA_EXPRESSION};
 use dwcheck::{report, DebugFrame, DebugLoclists, Error};
+use dwcheck_types::cursor::push_uleb;
 
 /// An expression of a record that is used.
 #[derive(Clone, Copy, Debug, PartialEq, Eq)]
@@ -54,7 +55,7 @@ impl Frames<'_> {
     pub fn measured(&self) -> Result<Vec<Measured>, Error> {
         let all: Vec<_> = self.expressions().collect();
         let made = self.section_of(&all);
-        let found = report(DebugFrame(&made), DebugLoclists(&[]), self.target().into())?.expressions;
+        let found = report(DebugFrame(&made), DebugLoclists(&[]), self.target())?.expressions;
         let measured = |(one, found): (&Expression<'_>, dwcheck::CheckedExpression)| Measured {
             offset: one.offset,
             is_cfa: one.code == DEF_CFA_EXPRESSION,
@@ -72,7 +73,7 @@ impl Frames<'_> {
         for one in expressions {
             program.push(one.code);
             program.extend((one.code != DEF_CFA_EXPRESSION).then_some(0));
-            push_uleb(&mut program, one.bytes.len());
+            push_uleb(&mut program, one.bytes.len() as u64);
             program.extend_from_slice(one.bytes);
         }
         let mut section = Vec::new();
@@ -89,12 +90,4 @@ impl Frames<'_> {
         section.extend(program);
         section
     }
-}
-
-fn push_uleb(bytes: &mut Vec<u8>, mut number: usize) {
-    while number > 0x7f {
-        bytes.push(number as u8 | 0x80);
-        number >>= 7;
-    }
-    bytes.push(number as u8);
 }

@@ -1,6 +1,6 @@
 //! Counts of what a frame section has besides rules.
 
-use super::{Frames, Kind, Standing};
+use super::{Frames, Kind, RecordStatus};
 use std::ops::AddAssign;
 
 /// How often a section has something that isn't a rule, or that was read in another way than it is written.
@@ -31,7 +31,7 @@ impl Notes {
             args_sizes: changes.args_sizes.len(),
             negated: changes.negated.len(),
             empty_records: frames.records().iter().filter(|record| record.kind == Kind::Empty).count(),
-            copies: frames.count(Standing::Copy),
+            copies: frames.count(RecordStatus::Copy),
             mended: changes.mended.len(),
         }
     }

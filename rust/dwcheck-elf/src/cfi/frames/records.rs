@@ -1,9 +1,9 @@
 //! The records of a frame section, as the library reads them one by one.
 
 use super::Format;
-use crate::elf::bytes::Cursor;
-use crate::elf::target::Target;
 use dwcheck::{Error, Fault, RecordKind};
+use dwcheck_types::cursor::Cursor;
+use dwcheck_types::target::Target;
 use std::ops::Range;
 
 /// A record of a frame section. All offsets are in the file's section, decompressed.
@@ -16,7 +16,7 @@ pub struct Record {
     /// Whether it is a CIE or an FDE, and what it then says.
     pub kind: Kind,
     /// Whether it is used.
-    pub standing: Standing,
+    pub status: RecordStatus,
 }
 
 /// What a record is.
@@ -54,7 +54,7 @@ pub enum Kind {
 
 /// Whether a record is used.
 #[derive(Clone, Copy, Debug, PartialEq, Eq)]
-pub enum Standing {
+pub enum RecordStatus {
     /// It is used.
     Used,
     /// It is an FDE that is an exact copy of an earlier one, and counts once.
@@ -92,7 +92,7 @@ impl Record {
 
     /// Whether it is used.
     pub fn is_used(&self) -> bool {
-        self.standing == Standing::Used
+        self.status == RecordStatus::Used
     }
 
     /// The same record in a section in which it begins at this offset.
@@ -117,7 +117,7 @@ impl Record {
             RecordKind::Empty => Kind::Empty,
             _ => return None,
         };
-        Some(Record { offset: read.offset, next: read.next, kind, standing: Standing::Used })
+        Some(Record { offset: read.offset, next: read.next, kind, status: RecordStatus::Used })
     }
 }
 
@@ -146,7 +146,7 @@ pub fn records(format: &Format, bytes: &[u8]) -> Vec<Record> {
 
 /// A record that the library can't read, by its length alone.
 fn unread(bytes: &[u8], offset: u64, fault: Fault, target: Target) -> Record {
-    let record = |next, kind| Record { offset, next, kind, standing: Standing::Used };
+    let record = |next, kind| Record { offset, next, kind, status: RecordStatus::Used };
     match body(bytes, offset, target) {
         Some(body) if body.is_empty() => record(body.end as u64, Kind::Empty),
         Some(body) => record(body.end as u64, Kind::Unread(fault)),

@@ -10,7 +10,7 @@ use crate::cfi::instructions::{
     instructions, ADVANCE_LOC1, ADVANCE_LOC2, ADVANCE_LOC4, NEGATE_RA_STATE, NEGATE_RA_STATE_WITH_PC, REMEMBER_STATE,
     RESTORE_STATE, SET_LOC,
 };
-use crate::elf::target::Target;
+use dwcheck_types::target::Target;
 use std::collections::HashMap;
 use std::ops::Range;
 
@@ -113,7 +113,7 @@ impl Signing {
 #[cfg(test)]
 mod tests {
     use super::Signing;
-    use crate::elf::target::{AddressSize, Order, Target};
+    use dwcheck_types::target::{AddressSize, Order, Target};
 
     /// paciasp; a conditional return with autiasp, around which the state is remembered; autiasp.
     #[test]

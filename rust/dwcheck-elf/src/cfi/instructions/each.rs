@@ -4,8 +4,8 @@
 //! shown.
 
 use super::{name_of, operands, skip};
-use crate::elf::bytes::Cursor;
-use crate::elf::target::Target;
+use dwcheck_types::cursor::Cursor;
+use dwcheck_types::target::Target;
 use std::iter::FusedIterator;
 use std::ops::Range;
 

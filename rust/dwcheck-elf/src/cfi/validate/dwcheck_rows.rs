@@ -2,11 +2,11 @@
 
 use super::comparable::comparable;
 use super::gimli_rows::{Bounded, Bytes, GimliRows};
-use super::{compare_rows, next_record, Agreement, Difference, RowSource, What};
-use crate::cfi::frames::{Frames, Kind, Name, Record, Standing};
+use super::{compare_rows, next_record, Difference, RowError, RowSource, What};
+use crate::cfi::frames::{Counts, Frames, Kind, Name, Record, RecordStatus};
 use crate::cfi::row::{Cfa, Row, Rule};
-use crate::elf::bytes::Cursor;
 use dwcheck::{CfaRule, Process, Rows};
+use dwcheck_types::cursor::Cursor;
 use gimli::{
     BaseAddresses, DebugFrame, Register, RegisterRule, UnwindContext, UnwindOffset, UnwindSection, UnwindTable,
     UnwindTableRow,
@@ -56,12 +56,12 @@ impl<'a> DwcheckRows<'a> {
 }
 
 /// The bytes of the expression of a rule: of a register's, or of the CFA's.
-fn expression(process: &Process, address: u64, register: Option<u16>) -> Result<Cow<'static, [u8]>, String> {
+fn expression(process: &Process, address: u64, register: Option<u16>) -> Result<Cow<'static, [u8]>, RowError> {
     let bytes = process.rule_bytes(address, register).map(Cow::Owned);
-    bytes.ok_or_else(|| format!("the row of {:#x} has no such expression", address))
+    bytes.ok_or(RowError::NoExpression(address))
 }
 
-fn rule_of(process: &Process, at: u64, register: u16, rule: dwcheck::Rule) -> Result<Rule<'static>, String> {
+fn rule_of(process: &Process, at: u64, register: u16, rule: dwcheck::Rule) -> Result<Rule<'static>, RowError> {
     Ok(match rule {
         dwcheck::Rule::Undefined => Rule::Undefined,
         dwcheck::Rule::SameValue => Rule::SameValue,
@@ -70,27 +70,27 @@ fn rule_of(process: &Process, at: u64, register: u16, rule: dwcheck::Rule) -> Re
         dwcheck::Rule::Register(register) => Rule::Register(register),
         dwcheck::Rule::Expression(_) => Rule::Expression(expression(process, at, Some(register))?),
         dwcheck::Rule::ValExpression(_) => Rule::ValExpression(expression(process, at, Some(register))?),
-        other => return Err(format!("a rule that isn't known: {:?}", other)),
+        other => return Err(RowError::Rule(other)),
     })
 }
 
-fn cfa_of(process: &Process, at: u64, rule: CfaRule) -> Result<Cfa<'static>, String> {
+fn cfa_of(process: &Process, at: u64, rule: CfaRule) -> Result<Cfa<'static>, RowError> {
     match rule {
         CfaRule::RegisterAndOffset { register, offset } => Ok(Cfa::RegisterOffset { register, offset }),
         CfaRule::Expression(_) => expression(process, at, None).map(Cfa::Expression),
-        other => Err(format!("a rule that isn't known: {:?}", other)),
+        other => Err(RowError::CfaRule(other)),
     }
 }
 
 impl<'r> RowSource<'r> for DwcheckRows<'_> {
-    fn next_row(&mut self, row: &mut Row<'r>) -> Result<bool, String> {
+    fn next_row(&mut self, row: &mut Row<'r>) -> Result<bool, RowError> {
         let DwcheckRows { process, rows, next, end, .. } = self;
         if *next >= *end {
             return Ok(false);
         }
-        let found = rows.row(*next).ok_or_else(|| format!("no row for {:#x}", next))?;
+        let found = rows.row(*next).ok_or(RowError::NoRow(*next))?;
         if found.addresses.end <= *next {
-            return Err(format!("a row that ends at {:#x}", found.addresses.end));
+            return Err(RowError::EndsAt(found.addresses.end));
         }
         row.begin = found.addresses.start;
         row.end = found.addresses.end;
@@ -111,15 +111,15 @@ impl<'r> RowSource<'r> for DwcheckRows<'_> {
 ///
 /// `process` has to be the result of [`Frames::process`] for the load address 0. If the library
 /// refuses the section, there is no such process, and only what is left of it without what is refused
-/// ([`accepted_part`](crate::cfi::alone::accepted_part)) can be compared.
+/// ([`accepted_part`](crate::cfi::one_by_one::accepted_part)) can be compared.
 ///
 /// # Errors
 ///
 /// The first difference. A row that gimli refuses is a difference, too.
-pub fn validate_rows(frames: &Frames<'_>, process: &Process) -> Result<Agreement, Difference> {
+pub fn validate_rows(frames: &Frames<'_>, process: &Process) -> Result<Counts, Difference> {
     let comparable = comparable(frames);
     let (order, address_size) = (frames.target().gimli_order(), frames.target().address_size.bytes());
-    let has_gaps = frames.count(Standing::LeftOut) > 0;
+    let has_gaps = frames.count(RecordStatus::LeftOut) > 0;
     match frames.name() {
         Name::EhFrame => {
             let mut section = gimli::EhFrame::new(&comparable, order);
@@ -157,14 +157,14 @@ where
     S: UnwindSection<Bytes<'a>>,
     S::Offset: UnwindOffset<usize>,
 {
-    fn run(&self) -> Result<Agreement, Difference> {
+    fn run(&self) -> Result<Counts, Difference> {
         let mut room = Room {
             context: Box::new(UnwindContext::new_in()),
             found: self.process.rows(),
             ours: DwcheckRows::new(self.process, 0, 0),
             rows: Default::default(),
         };
-        let mut agreement = Agreement::default();
+        let mut agreement = Counts::default();
         let mut cursor = Cursor::new(&self.frames.source().bytes, self.frames.target());
         let mut records = self.frames.records().iter().filter(|record| record.kind != Kind::Empty);
         while let Some(offset) = next_record(&mut cursor) {
@@ -177,14 +177,14 @@ where
     }
 
     /// Compares a record, unless it is left out, and counts it, unless it is a copy.
-    fn record(&self, record: &Record, agreement: &mut Agreement, room: &mut Room<'a>) -> Result<(), What> {
-        match (record.standing, record.kind) {
-            (Standing::LeftOut, _) | (_, Kind::Empty | Kind::Unread(_)) => {}
+    fn record(&self, record: &Record, agreement: &mut Counts, room: &mut Room<'a>) -> Result<(), What> {
+        match (record.status, record.kind) {
+            (RecordStatus::LeftOut, _) | (_, Kind::Empty | Kind::Unread(_)) => {}
             // A copy's rows are those of the FDE that it is a copy of, which may be left out.
-            (Standing::Copy, _) if self.has_gaps => {}
-            (standing, Kind::Fde { begin, end, .. }) => {
+            (RecordStatus::Copy, _) if self.has_gaps => {}
+            (status, Kind::Fde { begin, end, .. }) => {
                 let rows = self.compare(record.offset as usize, begin..end, room)?;
-                let is_counted = standing == Standing::Used;
+                let is_counted = status == RecordStatus::Used;
                 agreement.fdes += usize::from(is_counted);
                 agreement.rows += if is_counted { rows } else { 0 };
             }

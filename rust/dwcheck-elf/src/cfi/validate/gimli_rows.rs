@@ -1,8 +1,8 @@
 //! gimli's rows of a section.
 
-use super::RowSource;
+use super::{RowError, RowSource};
 use crate::cfi::row::{Cfa, Row, Rule};
-use crate::elf::target::Target;
+use dwcheck_types::target::Target;
 use gimli::{
     CfaRule, EndianSlice, Reader, Register, RegisterRule, RunTimeEndian, UnwindContextStorage, UnwindTable,
     UnwindTableRow,
@@ -27,8 +27,8 @@ pub struct GimliRows<'data, 'a, 'ctx> {
 }
 
 impl<'data> RowSource<'data> for GimliRows<'data, '_, '_> {
-    fn next_row(&mut self, row: &mut Row<'data>) -> Result<bool, String> {
-        while let Some(read) = self.table.next_row().map_err(|error| error.to_string())? {
+    fn next_row(&mut self, row: &mut Row<'data>) -> Result<bool, RowError> {
+        while let Some(read) = self.table.next_row().map_err(RowError::Gimli)? {
             row.begin = self.target.wrap(read.start_address());
             row.end = self.target.wrap(read.end_address());
             if row.begin != row.end {

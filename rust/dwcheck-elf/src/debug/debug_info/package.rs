@@ -2,7 +2,7 @@
 
 use super::{named, Slice};
 use crate::elf::program::{Program, ProgramError};
-use crate::elf::target::Target;
+use dwcheck_types::target::Target;
 use gimli::{DebugCuIndex, DwoId, EndianSlice, SectionId, UnitIndex, UnitIndexSection};
 use std::cell::RefCell;
 use std::collections::HashMap;

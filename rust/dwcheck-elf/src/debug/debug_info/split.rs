@@ -6,7 +6,7 @@ use super::units::{Die, Units};
 use super::{named, Slice};
 use crate::elf::debug_files::DebugFiles;
 use crate::elf::program::{Program, ProgramError};
-use crate::elf::target::Target;
+use dwcheck_types::target::Target;
 use gimli::{DebugAddr, DebugLineStr, DebugRanges, Dwarf, DwarfFileType, EndianSlice, RangeLists, SectionId, Unit};
 use std::path::{Path, PathBuf};
 use std::rc::Rc;

@@ -35,8 +35,11 @@ pub(crate) struct Units<'a> {
 /// An entry of debug information.
 #[derive(Clone)]
 pub(crate) struct Die<'u, 'a> {
+    /// The units among which its unit is.
     pub units: &'u Units<'a>,
+    /// Its unit.
     pub unit: Rc<Unit<Slice<'a>>>,
+    /// Its offset in the unit.
     pub offset: UnitOffset<usize>,
 }
 

@@ -1,11 +1,11 @@
 //! What the location lists of a section have.
 
 use super::coverage::Bytes;
-use super::hole::Hole;
 use super::lints::{Lint, Lints};
 use super::problem::Limit;
+use super::unsupported::Unsupported;
 use crate::cfi::defect::Defect;
-use crate::elf::plain::Plain;
+use crate::elf::escaped::Escaped;
 use std::collections::BTreeMap;
 use std::fmt;
 use std::ops::Range;
@@ -20,9 +20,9 @@ pub struct Contents {
     /// Their entries that have an expression.
     pub entries: usize,
     /// The entries with operations that `dwcheck` doesn't know, which are unreadable in every state.
-    pub with_holes: usize,
+    pub with_unsupported: usize,
     /// How many entries have an operation of each of these kinds.
-    pub holes: BTreeMap<Hole, usize>,
+    pub all_unsupported: BTreeMap<Unsupported, usize>,
     /// The bytes of the section.
     pub bytes: Bytes,
     /// Entries that are most likely mistakes.
@@ -59,15 +59,18 @@ impl fmt::Display for Doubtful {
             write!(f, "{:#x}..{:#x}, ", range.start, range.end)?;
         }
         write!(f, "list {:#x}", self.list)?;
-        self.variable.as_ref().map_or(Ok(()), |variable| write!(f, " ({})", Plain(variable)))
+        self.variable.as_ref().map_or(Ok(()), |variable| write!(f, " ({})", Escaped(variable)))
     }
 }
 
 impl Contents {
     /// What of the section isn't checked, in words: `3 backward branches`. `None` if all is checked.
     pub fn not_checked(&self) -> Option<String> {
-        let whole =
-            self.holes.iter().filter(|(hole, _)| hole.is_whole()).map(|(hole, count)| (hole.to_string(), *count));
+        let whole = self
+            .all_unsupported
+            .iter()
+            .filter(|(unsupported, _)| unsupported.is_whole())
+            .map(|(unsupported, count)| (unsupported.to_string(), *count));
         let limits = self.limits.iter().map(|(limit, count)| (limit.to_string(), *count));
         let all: Vec<_> = limits.chain(whole).map(|(what, count)| format!("{} {}", count, what)).collect();
         Some(all.join(", ")).filter(|text| !text.is_empty())

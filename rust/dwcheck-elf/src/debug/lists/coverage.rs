@@ -2,8 +2,8 @@
 //! what nothing refers to.
 
 use super::unit::TABLE_HEADER;
-use crate::elf::bytes::{Cursor, ReadError};
-use crate::elf::target::Target;
+use dwcheck_types::cursor::{Cursor, ReadError};
+use dwcheck_types::target::Target;
 use std::ops::Range;
 
 /// What bytes of a section are.

@@ -1,10 +1,10 @@
 //! Reads the entries of a location list (DWARF 5, section 2.6.2; DWARF 4, section 2.6.2).
 
 use super::expression::Scope;
-use crate::debug::codes::lle;
-use crate::elf::bytes::{Cursor, ReadError};
 use crate::elf::format::Name;
 use dwcheck::FaultKind;
+use dwcheck_types::codes::lle;
+use dwcheck_types::cursor::{Cursor, ReadError};
 
 /// What a list has at some place.
 #[derive(Clone, Copy, Debug, PartialEq, Eq)]
@@ -37,7 +37,9 @@ pub(crate) enum Bounds {
 /// An expression, and its offset in the section.
 #[derive(Clone, Copy, Debug, PartialEq, Eq)]
 pub(crate) struct Expression<'a> {
+    /// The offset in the section of its first byte.
     pub offset: usize,
+    /// Its bytes.
     pub bytes: &'a [u8],
 }
 

@@ -1,10 +1,10 @@
 //! Rewrites an expression so that `dwcheck` can check and evaluate it.
 
-use super::hole::{Hole, Spot, DEREF, UNREADABLE};
-use crate::debug::codes::op;
+use super::unsupported::{Unsupported, UnsupportedAt, DEREF, UNREADABLE};
 use crate::debug::expression::skip;
-use crate::elf::bytes::{Cursor, ReadError};
-use crate::elf::target::Target;
+use dwcheck_types::codes::op;
+use dwcheck_types::cursor::{Cursor, ReadError};
+use dwcheck_types::target::Target;
 use std::borrow::Cow;
 
 /// What the meaning of an expression depends on, besides its bytes.
@@ -21,7 +21,7 @@ pub(crate) struct Scope<'a> {
     pub load: u64,
     /// The value of an operation that becomes a hole without it, by its operands; for `form_tls_address` what
     /// is added to the entry that it takes. `None` if it isn't known.
-    pub known: &'a dyn Fn(Hole, &[u8]) -> Option<u64>,
+    pub known: &'a dyn Fn(Unsupported, &[u8]) -> Option<u64>,
 }
 
 /// An expression as `dwcheck` takes it.
@@ -30,7 +30,7 @@ pub(crate) struct Rewritten<'a> {
     /// The bytes. Those of the original, if nothing had to be changed.
     pub bytes: Cow<'a, [u8]>,
     /// The holes, in order.
-    pub holes: Vec<Spot>,
+    pub all_unsupported: Vec<UnsupportedAt>,
     /// The offset of each operation in the rewritten and in the original expression, ascending, then
     /// the lengths of both. Empty if nothing was changed.
     places: Vec<(usize, usize)>,
@@ -51,11 +51,11 @@ enum Act {
     Drop,
     NoAddress,
     /// A hole that takes this many entries from the stack and pushes one.
-    Hole(Hole, usize),
+    Unsupported(Unsupported, usize),
     /// A hole that is a value by itself.
-    Value(Hole),
+    Value(Unsupported),
     /// A hole in the place of the whole expression.
-    Whole(Hole),
+    Whole(Unsupported),
 }
 
 struct Operation {
@@ -75,29 +75,29 @@ impl Rewritten<'_> {
     }
 
     /// The hole whose operation without a result is at an offset of the rewritten expression.
-    pub fn hole_at(&self, offset: usize) -> Option<&Spot> {
-        self.holes.iter().find(|spot| spot.rewritten == offset)
+    pub fn unsupported_at(&self, offset: usize) -> Option<&UnsupportedAt> {
+        self.all_unsupported.iter().find(|spot| spot.rewritten == offset)
     }
 }
 
 /// Rewrites an expression.
 pub(crate) fn rewrite<'a>(expression: &'a [u8], scope: &Scope<'_>) -> Rewritten<'a> {
     let operations = read(expression, scope);
-    if let Some(Operation { begin, act: Act::Whole(hole), .. }) = operations.last() {
-        return whole(*hole, *begin);
+    if let Some(Operation { begin, act: Act::Whole(unsupported), .. }) = operations.last() {
+        return whole(*unsupported, *begin);
     }
     if operations.iter().all(|operation| matches!(operation.act, Act::Copy | Act::Branch(_))) {
         let bytes = Cow::Borrowed(expression);
-        return Rewritten { bytes, holes: Vec::new(), places: Vec::new(), without_address: None };
+        return Rewritten { bytes, all_unsupported: Vec::new(), places: Vec::new(), without_address: None };
     }
     write(expression, &operations, scope)
 }
 
 /// An expression that is one hole.
-fn whole(hole: Hole, original: usize) -> Rewritten<'static> {
-    let spot = Spot { hole, original, rewritten: DEREF };
+fn whole(unsupported: Unsupported, original: usize) -> Rewritten<'static> {
+    let spot = UnsupportedAt { unsupported, original, rewritten: DEREF };
     let bytes = Cow::Borrowed(&UNREADABLE[..]);
-    Rewritten { bytes, holes: vec![spot], places: vec![(0, original)], without_address: None }
+    Rewritten { bytes, all_unsupported: vec![spot], places: vec![(0, original)], without_address: None }
 }
 
 /// The operations, up to the first for which a hole replaces the whole expression. From one that can't
@@ -125,24 +125,24 @@ fn act(cursor: &mut Cursor<'_>, scope: &Scope<'_>) -> Result<Act, ReadError> {
     Ok(match code {
         op::ADDR if scope.load != 0 => loaded(cursor.number(scope.target.address_size.bytes())?),
         op::BRA | op::SKIP => Act::Branch(cursor.signed(2)? as i64),
-        op::CALL2..=op::CALL_REF => Act::Whole(Hole::Call),
+        op::CALL2..=op::CALL_REF => Act::Whole(Unsupported::Call),
         op::ADDRX | op::GNU_ADDR_INDEX => (scope.address)(cursor.uleb()?).map_or(Act::NoAddress, loaded),
         op::CONSTX | op::GNU_CONST_INDEX => (scope.address)(cursor.uleb()?).map_or(Act::NoAddress, Act::Constant),
         op::IMPLICIT_POINTER | op::GNU_IMPLICIT_POINTER => {
             let address = scope.target.address_size.bytes();
             cursor.take(u64::from(if scope.version == 2 { address } else { scope.offset_size }))?;
             cursor.skip_leb()?;
-            Act::Value(Hole::ImplicitPointer)
+            Act::Value(Unsupported::ImplicitPointer)
         }
         // DW_OP_GNU_uninit says that the variable may not be initialized. It changes nothing else.
         op::GNU_UNINIT => Act::Drop,
-        _ => match hole(cursor, code, scope)? {
-            Some((hole, takes)) => match (scope.known)(hole, cursor.since(operands)) {
-                Some(value) if hole == Hole::FormTlsAddress => Act::Plus(value),
+        _ => match unsupported(cursor, code, scope)? {
+            Some((unsupported, takes)) => match (scope.known)(unsupported, cursor.since(operands)) {
+                Some(value) if unsupported == Unsupported::FormTlsAddress => Act::Plus(value),
                 Some(value) => Act::Constant(value),
-                None => Act::Hole(hole, takes),
+                None => Act::Unsupported(unsupported, takes),
             },
-            None if code >= 0xe0 => Act::Whole(Hole::Vendor(code)),
+            None if code >= 0xe0 => Act::Whole(Unsupported::Vendor(code)),
             None => skip(cursor, code).map(|_| Act::Copy)?,
         },
     })
@@ -150,37 +150,41 @@ fn act(cursor: &mut Cursor<'_>, scope: &Scope<'_>) -> Result<Act, ReadError> {
 
 /// Reads an operation that becomes a hole. Returns how many entries it takes from the stack. `None`
 /// for any other operation, of which nothing is read.
-fn hole(cursor: &mut Cursor<'_>, code: u8, scope: &Scope<'_>) -> Result<Option<(Hole, usize)>, ReadError> {
+fn unsupported(
+    cursor: &mut Cursor<'_>,
+    code: u8,
+    scope: &Scope<'_>,
+) -> Result<Option<(Unsupported, usize)>, ReadError> {
     Ok(Some(match code {
-        op::XDEREF => (Hole::Xderef, 2),
-        op::XDEREF_SIZE => cursor.byte().map(|_| (Hole::Xderef, 2))?,
-        op::FORM_TLS_ADDRESS | op::GNU_PUSH_TLS_ADDRESS => (Hole::FormTlsAddress, 1),
+        op::XDEREF => (Unsupported::Xderef, 2),
+        op::XDEREF_SIZE => cursor.byte().map(|_| (Unsupported::Xderef, 2))?,
+        op::FORM_TLS_ADDRESS | op::GNU_PUSH_TLS_ADDRESS => (Unsupported::FormTlsAddress, 1),
         op::ENTRY_VALUE | op::GNU_ENTRY_VALUE => {
             let length = cursor.uleb()?;
-            cursor.take(length).map(|_| (Hole::EntryValue, 0))?
+            cursor.take(length).map(|_| (Unsupported::EntryValue, 0))?
         }
         op::CONST_TYPE | op::GNU_CONST_TYPE => {
             cursor.skip_leb()?;
             let length = cursor.byte()?;
-            cursor.take(u64::from(length)).map(|_| (Hole::ConstType, 0))?
+            cursor.take(u64::from(length)).map(|_| (Unsupported::ConstType, 0))?
         }
         op::REGVAL_TYPE | op::GNU_REGVAL_TYPE => {
             cursor.skip_leb()?;
-            cursor.skip_leb().map(|()| (Hole::RegvalType, 0))?
+            cursor.skip_leb().map(|()| (Unsupported::RegvalType, 0))?
         }
         op::DEREF_TYPE | op::XDEREF_TYPE | op::GNU_DEREF_TYPE => {
             cursor.byte()?;
             cursor.skip_leb()?;
             if code == op::XDEREF_TYPE {
-                (Hole::Xderef, 2)
+                (Unsupported::Xderef, 2)
             } else {
-                (Hole::DerefType, 1)
+                (Unsupported::DerefType, 1)
             }
         }
-        op::CONVERT | op::GNU_CONVERT => cursor.skip_leb().map(|()| (Hole::Convert, 1))?,
-        op::REINTERPRET | op::GNU_REINTERPRET => cursor.skip_leb().map(|()| (Hole::Reinterpret, 1))?,
-        op::GNU_PARAMETER_REF => cursor.take(4).map(|_| (Hole::ParameterRef, 0))?,
-        op::GNU_VARIABLE_VALUE => cursor.take(u64::from(scope.offset_size)).map(|_| (Hole::VariableValue, 0))?,
+        op::CONVERT | op::GNU_CONVERT => cursor.skip_leb().map(|()| (Unsupported::Convert, 1))?,
+        op::REINTERPRET | op::GNU_REINTERPRET => cursor.skip_leb().map(|()| (Unsupported::Reinterpret, 1))?,
+        op::GNU_PARAMETER_REF => cursor.take(4).map(|_| (Unsupported::ParameterRef, 0))?,
+        op::GNU_VARIABLE_VALUE => cursor.take(u64::from(scope.offset_size)).map(|_| (Unsupported::VariableValue, 0))?,
         _ => return Ok(None),
     }))
 }
@@ -192,7 +196,7 @@ fn length(operation: &Operation, target: Target) -> usize {
         Act::Address(_) | Act::Constant(_) | Act::NoAddress => 1 + usize::from(target.address_size.bytes()),
         Act::Plus(_) => 2 + usize::from(target.address_size.bytes()),
         Act::Drop => 0,
-        Act::Hole(_, takes) => takes + UNREADABLE.len(),
+        Act::Unsupported(_, takes) => takes + UNREADABLE.len(),
         Act::Value(_) => UNREADABLE.len() + 1,
         Act::Whole(_) => UNREADABLE.len(),
     }
@@ -214,7 +218,7 @@ fn write<'a>(expression: &'a [u8], operations: &[Operation], scope: &Scope<'_>) 
     let target = scope.target;
     let places = places(expression, operations, target);
     let mut bytes = Vec::new();
-    let mut holes = Vec::new();
+    let mut all_unsupported = Vec::new();
     for operation in operations {
         let begin = bytes.len();
         match operation.act {
@@ -224,7 +228,7 @@ fn write<'a>(expression: &'a [u8], operations: &[Operation], scope: &Scope<'_>) 
                     bytes.push(expression[operation.begin]);
                     target.push(&mut bytes, distance as u64, 2);
                 }
-                None => return whole(Hole::LongBranch, operation.begin),
+                None => return whole(Unsupported::LongBranch, operation.begin),
             },
             Act::Address(number) => push_word(&mut bytes, op::ADDR, number, target),
             Act::Constant(number) => push_word(&mut bytes, constant(target), number, target),
@@ -234,13 +238,21 @@ fn write<'a>(expression: &'a [u8], operations: &[Operation], scope: &Scope<'_>) 
             }
             Act::NoAddress => push_word(&mut bytes, op::ADDR, 0, target),
             Act::Drop => {}
-            Act::Hole(hole, takes) => {
+            Act::Unsupported(unsupported, takes) => {
                 bytes.extend(std::iter::repeat(op::DROP).take(takes));
-                holes.push(Spot { hole, original: operation.begin, rewritten: bytes.len() + DEREF });
+                all_unsupported.push(UnsupportedAt {
+                    unsupported,
+                    original: operation.begin,
+                    rewritten: bytes.len() + DEREF,
+                });
                 bytes.extend_from_slice(&UNREADABLE);
             }
-            Act::Value(hole) => {
-                holes.push(Spot { hole, original: operation.begin, rewritten: begin + DEREF });
+            Act::Value(unsupported) => {
+                all_unsupported.push(UnsupportedAt {
+                    unsupported,
+                    original: operation.begin,
+                    rewritten: begin + DEREF,
+                });
                 bytes.extend_from_slice(&UNREADABLE);
                 bytes.push(op::STACK_VALUE);
             }
@@ -248,7 +260,7 @@ fn write<'a>(expression: &'a [u8], operations: &[Operation], scope: &Scope<'_>) 
     }
     let without_address = operations.iter().find(|operation| matches!(operation.act, Act::NoAddress));
     let without_address = without_address.map(|operation| operation.begin);
-    Rewritten { bytes: Cow::Owned(bytes), holes, places, without_address }
+    Rewritten { bytes: Cow::Owned(bytes), all_unsupported, places, without_address }
 }
 
 fn constant(target: Target) -> u8 {

@@ -2,9 +2,9 @@
 
 use super::around::Around;
 use super::unit::{Entry, List, UnitLists};
-use crate::debug::codes::op;
 use crate::debug::expression::operations;
-use crate::elf::target::Target;
+use dwcheck_types::codes::op;
+use dwcheck_types::target::Target;
 use std::collections::BTreeMap;
 use std::fmt;
 use std::ops::Range;

@@ -1,9 +1,10 @@
 //! Compares the operations of an expression with those of the rewritten one, as gimli reads both.
 
-use super::hole::UNREADABLE;
-use crate::debug::codes::op;
+use super::unsupported::UNREADABLE;
 use crate::debug::debug_info::Slice;
+use dwcheck_types::codes::op;
 use gimli::{Dwarf, Encoding, EndianSlice, Expression, Operation, Reader, RunTimeEndian, Unit, UnitOffset};
+use std::fmt;
 
 /// How many `DW_OP_GNU_uninit` of an expression are replaced.
 const MAX_UNINIT: usize = 64;
@@ -21,18 +22,63 @@ enum Expected<'a> {
     /// A branch by this distance. The first field says whether it depends on a value.
     Branch(bool, i16),
     /// A hole that takes this many entries.
-    Hole(usize),
+    Unsupported(usize),
     /// A hole that is a value by itself.
     Value,
 }
 
-/// Compares two expressions. False if gimli can't read the original. An error says what differs.
+/// How a rewritten expression differs from the original.
+#[derive(Clone, Debug, PartialEq, Eq)]
+pub(crate) enum Unlike {
+    /// gimli can't read it.
+    Rewritten(gimli::Error),
+    /// gimli can't read an address to which the original refers.
+    Address(gimli::Error),
+    /// An operation has become another one.
+    Became(String, String),
+    /// Nothing stands for an operation that `dwcheck` doesn't know.
+    NoHole(String),
+    /// A branch is lost.
+    LostBranch,
+    /// A branch leads elsewhere.
+    OtherTarget,
+    /// A branch leads to an operation, and that of the original doesn't.
+    Target,
+    /// It has more operations.
+    Added,
+}
+
+impl fmt::Display for Unlike {
+    fn fmt(&self, f: &mut fmt::Formatter<'_>) -> fmt::Result {
+        match self {
+            Unlike::Rewritten(error) => write!(f, "the rewritten expression: {}", error),
+            Unlike::Address(error) => error.fmt(f),
+            Unlike::Became(original, rewritten) => write!(f, "{} became {}", original, rewritten),
+            Unlike::NoHole(operation) => write!(f, "no hole for {}", operation),
+            Unlike::LostBranch => f.write_str("a branch is lost"),
+            Unlike::OtherTarget => f.write_str("a branch has another target"),
+            Unlike::Target => f.write_str("a branch has a target"),
+            Unlike::Added => f.write_str("operations are added"),
+        }
+    }
+}
+
+impl std::error::Error for Unlike {
+    fn source(&self) -> Option<&(dyn std::error::Error + 'static)> {
+        match self {
+            Unlike::Rewritten(error) | Unlike::Address(error) => Some(error),
+            _ => None,
+        }
+    }
+}
+
+/// Compares two expressions. False if gimli can't read the original.
 pub(crate) fn same_operations<'a>(
     dwarf: &Dwarf<Slice<'a>>,
     unit: &Unit<Slice<'a>>,
     original: Expression<Slice<'a>>,
     rewritten: Expression<Slice<'_>>,
-) -> Result<bool, String> {
+) -> Result<bool, Unlike> {
     let (encoding, order) = (unit.encoding(), original.0.endian());
     let mut bytes = original.0.slice().to_vec();
     let left_out = without_uninit(&mut bytes, order, encoding);
@@ -48,7 +94,7 @@ pub(crate) fn same_operations<'a>(
         Err(_) => return Ok(false),
     };
     let encoding = Encoding { version: 5, format: gimli::Format::Dwarf32, ..encoding };
-    let rewritten = operations(rewritten, encoding).map_err(|error| format!("the rewritten expression: {}", error))?;
+    let rewritten = operations(rewritten, encoding).map_err(Unlike::Rewritten)?;
     compare((dwarf, unit), &originals, &left_out, &rewritten).map(|()| true)
 }
 
@@ -103,7 +149,7 @@ fn compare<'a, 'o>(
     originals: &Operations<'o>,
     left_out: &[usize],
     rewritten: &Operations<'_>,
-) -> Result<(), String> {
+) -> Result<(), Unlike> {
     let mut left = rewritten.all.as_slice();
     let mut places = Vec::with_capacity(originals.all.len() + 1);
     let mut branches = Vec::new();
@@ -115,22 +161,24 @@ fn compare<'a, 'o>(
         let count = match expected(dwarf, unit, operation)? {
             Expected::Same(same) => match (left.first(), without_type(&same)) {
                 (Some((_, first)), _) if *first == same => 1,
-                (_, Some(takes)) if hole(left, takes).is_some() => takes + 2,
-                (first, _) => return Err(format!("{:x?} became {:x?}", same, first)),
+                (_, Some(takes)) if unsupported(left, takes).is_some() => takes + 2,
+                (first, _) => return Err(Unlike::Became(format!("{:x?}", same), format!("{:x?}", first))),
             },
             Expected::Branch(is_conditional, distance) => {
-                let (at, new_distance) = branch(left, is_conditional).ok_or("a branch is lost")?;
+                let (at, new_distance) = branch(left, is_conditional).ok_or(Unlike::LostBranch)?;
                 branches.push(Branches { end: offset + 3, distance, new_end: at + 3, new_distance });
                 1
             }
-            Expected::Hole(takes) => hole(left, takes).ok_or_else(|| format!("no hole for {:x?}", operation))?,
-            Expected::Value => value(left).ok_or_else(|| format!("no hole for {:x?}", operation))?,
+            Expected::Unsupported(takes) => {
+                unsupported(left, takes).ok_or_else(|| Unlike::NoHole(format!("{:x?}", operation)))?
+            }
+            Expected::Value => value(left).ok_or_else(|| Unlike::NoHole(format!("{:x?}", operation)))?,
         };
         left = &left[count..];
     }
     places.push((originals.end, rewritten.end));
     if !left.is_empty() {
-        return Err("operations are added".to_string());
+        return Err(Unlike::Added);
     }
     branches.iter().try_for_each(|branch| branch.check(&places))
 }
@@ -146,14 +194,14 @@ struct Branches {
 impl Branches {
     /// Checks that both lead to the same operation, or both to none. `places` has the offset of each operation
     /// in the original and in the rewritten expression.
-    fn check(&self, places: &[(usize, usize)]) -> Result<(), String> {
+    fn check(&self, places: &[(usize, usize)]) -> Result<(), Unlike> {
         let target = |end: usize, distance: i16| usize::try_from(end as i64 + i64::from(distance)).ok();
         let place = target(self.end, self.distance);
         let place = place.and_then(|target| places.binary_search_by_key(&target, |place| place.0).ok());
         let new_target = target(self.new_end, self.new_distance);
         match place {
-            Some(place) if Some(places[place].1) != new_target => Err("a branch has another target".to_string()),
-            None if places.iter().any(|place| Some(place.1) == new_target) => Err("a branch has a target".to_string()),
+            Some(place) if Some(places[place].1) != new_target => Err(Unlike::OtherTarget),
+            None if places.iter().any(|place| Some(place.1) == new_target) => Err(Unlike::Target),
             _ => Ok(()),
         }
     }
@@ -163,17 +211,17 @@ fn expected<'a, 'o>(
     dwarf: &Dwarf<Slice<'a>>,
     unit: &Unit<Slice<'a>>,
     operation: &Operation<Slice<'o>>,
-) -> Result<Expected<'o>, String> {
-    let address = |index| dwarf.address(unit, index).map_err(|error| error.to_string());
+) -> Result<Expected<'o>, Unlike> {
+    let address = |index| dwarf.address(unit, index).map_err(Unlike::Address);
     let generic = UnitOffset(0);
     Ok(match operation {
         Operation::EntryValue { .. } | Operation::TypedLiteral { .. } | Operation::ParameterRef { .. } => {
-            Expected::Hole(0)
+            Expected::Unsupported(0)
         }
-        Operation::RegisterOffset { base_type, .. } if *base_type != generic => Expected::Hole(0),
-        Operation::Deref { space: true, .. } => Expected::Hole(2),
-        Operation::Deref { base_type, .. } if *base_type != generic => Expected::Hole(1),
-        Operation::Convert { .. } | Operation::Reinterpret { .. } | Operation::TLS => Expected::Hole(1),
+        Operation::RegisterOffset { base_type, .. } if *base_type != generic => Expected::Unsupported(0),
+        Operation::Deref { space: true, .. } => Expected::Unsupported(2),
+        Operation::Deref { base_type, .. } if *base_type != generic => Expected::Unsupported(1),
+        Operation::Convert { .. } | Operation::Reinterpret { .. } | Operation::TLS => Expected::Unsupported(1),
         Operation::ImplicitPointer { .. } => Expected::Value,
         Operation::AddressIndex { index } => Expected::Same(Operation::Address { address: address(*index)? }),
         Operation::ConstantIndex { index } => Expected::Same(Operation::UnsignedConstant { value: address(*index)? }),
@@ -205,7 +253,7 @@ fn branch(operations: &[Place<'_>], is_conditional: bool) -> Option<(usize, i16)
 }
 
 /// How many operations a hole has that takes this many entries. `None` if they aren't those of one.
-fn hole(operations: &[Place<'_>], takes: usize) -> Option<usize> {
+fn unsupported(operations: &[Place<'_>], takes: usize) -> Option<usize> {
     let (drops, rest) = (operations.get(..takes)?, &operations[takes..]);
     let has_drops = drops.iter().all(|(_, operation)| matches!(operation, Operation::Drop));
     let is_unreadable = match rest {
@@ -219,6 +267,6 @@ fn hole(operations: &[Place<'_>], takes: usize) -> Option<usize> {
 
 /// The same for a hole that is a value by itself.
 fn value(operations: &[Place<'_>]) -> Option<usize> {
-    let count = hole(operations, 0)?;
+    let count = unsupported(operations, 0)?;
     matches!(operations.get(count)?.1, Operation::StackValue).then(|| count + 1)
 }

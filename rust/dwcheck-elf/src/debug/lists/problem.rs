@@ -46,6 +46,7 @@ impl fmt::Display for Limit {
 /// Something wrong with a list.
 #[derive(Clone, Copy, Debug, PartialEq, Eq)]
 pub(crate) struct Problem {
+    /// What is wrong.
     pub kind: Kind,
     /// The offset in the section of the fault.
     pub at: usize,

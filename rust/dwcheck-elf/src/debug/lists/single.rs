@@ -1,7 +1,7 @@
 //! Looks up addresses in one list.
 
+use super::list_section::{checked, refused};
 use super::references::Reference;
-use super::section::{checked, refused};
 use super::unit::{Entry, Source, UnitLists, TABLE_HEADER};
 use dwcheck::{locations, Error, Lookup};
 use gimli::UnitOffset;
@@ -32,7 +32,7 @@ impl SingleList {
             lists.add(reference, source, is_left_out).map_err(|problem| problem.kind.name()).map(|_| lists)
         };
         let (base, target) = (source.new_base(source.base), source.scope.target);
-        let mut single = SingleList { lists: add(&|_| false)?, base, target: target.into(), faults: HashMap::new() };
+        let mut single = SingleList { lists: add(&|_| false)?, base, target, faults: HashMap::new() };
         if checked(&single.lists.bytes, target).map_err(|_| NO_MEMORY)?.is_some() {
             single.faults = faults(&single.lists, source);
             single.lists = add(&|entry| single.faults.contains_key(&entry))?;

@@ -3,13 +3,14 @@
 
 use super::entry::{Bounds, Expression, Item, ListReader};
 use super::expression::{rewrite, Rewritten, Scope};
-use super::hole::{Hole, Spot, UNREADABLE};
 use super::problem::{Kind, Problem};
 use super::references::Reference;
-use crate::debug::codes::lle;
+use super::unsupported::{Unsupported, UnsupportedAt, UNREADABLE};
 use crate::elf::format::Name;
-use crate::elf::target::Target;
 use dwcheck::FaultKind;
+use dwcheck_types::codes::lle;
+use dwcheck_types::cursor::push_uleb;
+use dwcheck_types::target::Target;
 use std::collections::BTreeMap;
 use std::ops::Range;
 
@@ -27,9 +28,9 @@ pub(crate) struct UnitLists {
     /// The entries of all lists that have an expression.
     pub entries: Vec<Entry>,
     /// How many entries have a hole of each kind.
-    pub holes: BTreeMap<Hole, usize>,
+    pub all_unsupported: BTreeMap<Unsupported, usize>,
     /// How many entries have a hole.
-    pub with_holes: usize,
+    pub with_unsupported: usize,
     /// How many bytes the lists have in their section.
     pub original_bytes: usize,
 }
@@ -167,7 +168,7 @@ impl UnitLists {
                     let problem = Problem::of(reference, expression.offset + operation, Kind::NoSuchAddress);
                     state.problems.push(Problem { entry: at, ..problem });
                 }
-                self.count(&rewritten.holes);
+                self.count(&rewritten.all_unsupported);
                 self.write_bounds(bounds, target);
                 let bytes = if is_left_out(at) { &UNREADABLE[..] } else { &rewritten.bytes };
                 let rewritten = self.write_expression(bytes);
@@ -185,11 +186,11 @@ impl UnitLists {
         }
     }
 
-    fn count(&mut self, holes: &[Spot]) {
-        self.with_holes += usize::from(!holes.is_empty());
-        for (index, spot) in holes.iter().enumerate() {
-            if holes[..index].iter().all(|other| other.hole != spot.hole) {
-                *self.holes.entry(spot.hole).or_default() += 1;
+    fn count(&mut self, all_unsupported: &[UnsupportedAt]) {
+        self.with_unsupported += usize::from(!all_unsupported.is_empty());
+        for (index, spot) in all_unsupported.iter().enumerate() {
+            if all_unsupported[..index].iter().all(|other| other.unsupported != spot.unsupported) {
+                *self.all_unsupported.entry(spot.unsupported).or_default() += 1;
             }
         }
     }
@@ -273,13 +274,4 @@ fn entry(
         || range.as_ref().map_or(false, |range| is_tombstone(range.start));
     let original = expression.offset..expression.offset + expression.bytes.len();
     Entry { offset, range, is_dropped, original, rewritten }
-}
-
-/// Appends an unsigned LEB128 number.
-fn push_uleb(bytes: &mut Vec<u8>, mut number: u64) {
-    while number > 0x7f {
-        bytes.push(number as u8 | 0x80);
-        number >>= 7;
-    }
-    bytes.push(number as u8);
 }

@@ -2,10 +2,10 @@
 //! (DWARF 5, section 3.4).
 
 use super::location::Locator;
-use super::place::{Missing, Place};
-use super::scopes::place;
-use crate::debug::codes::op;
+use super::scopes::die_id;
+use super::value_location::{Missing, ValueLocation};
 use crate::debug::debug_info::{Die, Slice};
+use dwcheck_types::codes::op;
 use gimli::{AttributeValue, DwAt};
 use std::rc::Rc;
 
@@ -20,10 +20,10 @@ impl<'v, 'a> Locator<'v, 'a> {
 
     /// The value of a parameter that only the caller knows.
     pub(super) fn parameter(&self, parameter: &Die<'v, 'a>) -> Option<u64> {
-        let wanted = place(parameter);
+        let wanted = die_id(parameter);
         self.value_by_caller(|found| {
             let names = [gimli::DW_AT_call_parameter, gimli::DW_AT_abstract_origin];
-            names.into_iter().filter_map(|name| found.reference(name)).any(|one| place(&one) == wanted)
+            names.into_iter().filter_map(|name| found.reference(name)).any(|one| die_id(&one) == wanted)
         })
     }
 
@@ -46,7 +46,7 @@ impl<'v, 'a> Locator<'v, 'a> {
     /// The value of an expression that isn't a location.
     pub(super) fn computed(&self, die: &Die<'v, 'a>, expression: &[u8]) -> Result<u64, Missing> {
         match self.evaluated(die, &[expression, &[op::STACK_VALUE]].concat())? {
-            Place::Value(value) => Ok(value),
+            ValueLocation::Value(value) => Ok(value),
             _ => Err(Missing::Unsupported("a result of this kind")),
         }
     }
@@ -77,8 +77,8 @@ fn expression<'a>(die: &Die<'_, 'a>, name: DwAt, other: DwAt) -> Option<Slice<'a
 /// Whether two entries are of one function: they have a common origin, or they are of different units and
 /// have the name of an external function in common.
 fn is_same_function(one: &Die<'_, '_>, other: &Die<'_, '_>) -> bool {
-    let places: Vec<_> = one.origins().map(|die| place(&die)).collect();
-    if other.origins().any(|die| places.contains(&place(&die))) {
+    let places: Vec<_> = one.origins().map(|die| die_id(&die)).collect();
+    if other.origins().any(|die| places.contains(&die_id(&die))) {
         return true;
     }
     let external = |die: &Die<'_, '_>| {

@@ -34,7 +34,7 @@ impl Variable {
 fn value(of: &Value) -> Json {
     let part = |part: &Result<Value, Missing>| part.as_ref().map_or(Json::Null, value);
     match of {
-        Value::Plain(text) => json!(text),
+        Value::Scalar(text) => json!(text),
         Value::Text { address, text, .. } => json!({ "address": address, "text": text }),
         Value::Pointer(name, of) => json!({ "points_to": name, "value": value(of) }),
         Value::Reference(address, of) => json!({ "address": address, "value": part(of) }),

@@ -1,15 +1,15 @@
 //! Finds where a variable is, by its expression or its location list.
 
-use super::place::{Machine, Missing, Place, Pointee};
+use super::value_location::{Machine, Missing, Pointee, ValueLocation};
 use super::{Frame, Variables};
-use crate::debug::codes::op;
 use crate::debug::debug_info::{Die, Slice};
 use crate::debug::expression::operations;
-use crate::debug::lists::{expression_at, rewrite, Hole, Rewritten, Scope, Source};
-use crate::elf::bytes::Cursor;
+use crate::debug::lists::{expression_at, rewrite, Rewritten, Scope, Source, Unsupported};
 use crate::elf::format::Name;
-use crate::elf::target::Target;
 use dwcheck::{evaluate, Abi, Context, ExpressionKind, Location, Outcome, PieceSize, State};
+use dwcheck_types::codes::op;
+use dwcheck_types::cursor::Cursor;
+use dwcheck_types::target::Target;
 use gimli::{AttributeValue, DebugAddrIndex, DebugInfoOffset, LocationListsOffset};
 use std::cell::Cell;
 use std::rc::Rc;
@@ -22,9 +22,11 @@ const MAX_KNOWN: usize = 1 << 14;
 
 /// Looks up where the variables of a frame are.
 pub(super) struct Locator<'v, 'a> {
+    /// The debug information.
     pub variables: &'v Variables<'a>,
     /// The function of the frame, not inlined.
     pub function: Die<'v, 'a>,
+    /// The frame, with its callers.
     pub frame: Frame<'v>,
     /// The registers and the memory of the frame.
     pub machine: Machine<'v>,
@@ -38,6 +40,7 @@ pub(super) struct Locator<'v, 'a> {
 }
 
 impl<'v, 'a> Locator<'v, 'a> {
+    /// A locator for a frame of a function, of which nothing was looked up yet.
     pub fn new(variables: &'v Variables<'a>, function: Die<'v, 'a>, frame: Frame<'v>, machine: Machine<'v>) -> Self {
         Locator::with(variables, function, frame, machine, Rc::new(Cell::new(MAX_KNOWN)))
     }
@@ -63,7 +66,7 @@ impl<'v, 'a> Locator<'v, 'a> {
     }
 
     /// Where a variable is. `is_abstract` says that nothing but its declaration is known of it.
-    pub fn place(&self, die: &Die<'v, 'a>, is_abstract: bool) -> Result<Place, Missing> {
+    pub fn place(&self, die: &Die<'v, 'a>, is_abstract: bool) -> Result<ValueLocation, Missing> {
         if let Some((holder, value)) = die.inherited(gimli::DW_AT_location) {
             return self.by_attribute(&holder, value);
         }
@@ -74,7 +77,7 @@ impl<'v, 'a> Locator<'v, 'a> {
         Err(if is_elsewhere { Missing::Unsupported("declared elsewhere") } else { Missing::OptimizedOut })
     }
 
-    fn by_attribute(&self, die: &Die<'v, 'a>, value: AttributeValue<Slice<'a>>) -> Result<Place, Missing> {
+    fn by_attribute(&self, die: &Die<'v, 'a>, value: AttributeValue<Slice<'a>>) -> Result<ValueLocation, Missing> {
         match value {
             AttributeValue::Exprloc(expression) => self.evaluated(die, expression.0.slice()),
             AttributeValue::Block(block) => self.evaluated(die, block.slice()),
@@ -87,7 +90,7 @@ impl<'v, 'a> Locator<'v, 'a> {
         }
     }
 
-    fn by_list(&self, die: &Die<'v, 'a>, list: LocationListsOffset<usize>) -> Result<Place, Missing> {
+    fn by_list(&self, die: &Die<'v, 'a>, list: LocationListsOffset<usize>) -> Result<ValueLocation, Missing> {
         let is_old = die.unit.encoding().version < 5;
         if is_old && die.units.are_split() {
             return Err(Missing::Unsupported("a list of GNU's split DWARF 4"));
@@ -112,7 +115,7 @@ impl<'v, 'a> Locator<'v, 'a> {
         &self,
         die: &Die<'v, 'a>,
         load: u64,
-        known: &dyn Fn(Hole, &[u8]) -> Option<u64>,
+        known: &dyn Fn(Unsupported, &[u8]) -> Option<u64>,
         take: impl FnOnce(Scope<'_>) -> T,
     ) -> T {
         let dwarf = &self.variables.units.dwarf;
@@ -124,22 +127,22 @@ impl<'v, 'a> Locator<'v, 'a> {
 
     /// The value of an operation that `dwcheck` doesn't know, if the caller's call site or the thread's data have
     /// it.
-    fn known(&self, die: &Die<'v, 'a>, hole: Hole, operands: &[u8]) -> Option<u64> {
+    fn known(&self, die: &Die<'v, 'a>, unsupported: Unsupported, operands: &[u8]) -> Option<u64> {
         if self.depth >= MAX_DEPTH {
             return None;
         }
         self.take_look_up()?;
         let mut cursor = Cursor::new(operands, self.variables.target);
-        match hole {
-            Hole::EntryValue => {
+        match unsupported {
+            Unsupported::EntryValue => {
                 let length = cursor.uleb().ok()?;
                 self.entry_value(cursor.take(length).ok()?)
             }
-            Hole::ParameterRef => {
+            Unsupported::ParameterRef => {
                 let offset = usize::try_from(cursor.number(4).ok()?).ok()?;
                 self.parameter(&Die { offset: gimli::UnitOffset(offset), ..die.clone() })
             }
-            Hole::FormTlsAddress => self.thread_block(),
+            Unsupported::FormTlsAddress => self.thread_block(),
             _ => None,
         }
     }
@@ -157,8 +160,8 @@ impl<'v, 'a> Locator<'v, 'a> {
     }
 
     /// Evaluates an expression of an entry's unit.
-    pub fn evaluated(&self, die: &Die<'v, 'a>, expression: &[u8]) -> Result<Place, Missing> {
-        let known = |hole: Hole, operands: &[u8]| self.known(die, hole, operands);
+    pub fn evaluated(&self, die: &Die<'v, 'a>, expression: &[u8]) -> Result<ValueLocation, Missing> {
+        let known = |unsupported: Unsupported, operands: &[u8]| self.known(die, unsupported, operands);
         self.with_scope(die, self.frame.load, &known, |scope| {
             let rewritten = rewrite(expression, &scope);
             if rewritten.without_address.is_some() {
@@ -176,7 +179,7 @@ impl<'v, 'a> Locator<'v, 'a> {
         let Machine { registers, memory, target } = self.machine;
         let state = State { registers, memory, abi: Abi::NONE };
         let context = Context { cfa: self.frame.cfa(), frame_base: self.frame_base.get(), object: None };
-        let evaluation = evaluate(expression, ExpressionKind::Location, target.into(), &context, &state);
+        let evaluation = evaluate(expression, ExpressionKind::Location, target, &context, &state);
         evaluation.map(|evaluation| evaluation.outcome).map_err(|error| match error {
             dwcheck::Error::Refused(fault) => Missing::Refused(fault.name()),
             _ => Missing::Unsupported("not enough memory"),
@@ -189,22 +192,22 @@ impl<'v, 'a> Locator<'v, 'a> {
         expression: &[u8],
         rewritten: &Rewritten<'_>,
         outcome: Outcome,
-    ) -> Result<Place, Missing> {
+    ) -> Result<ValueLocation, Missing> {
         match outcome {
             Outcome::Location(location) => place_of(location),
-            Outcome::Value(value) => Ok(Place::Value(value)),
+            Outcome::Value(value) => Ok(ValueLocation::Value(value)),
             Outcome::Pieces(pieces) => {
                 let piece = |piece: dwcheck::Piece| Some((place_of(piece.location), bytes_of(piece.size)?));
                 let pieces: Option<Vec<_>> = pieces.into_iter().map(piece).collect();
-                pieces.map(Place::Pieces).ok_or(Missing::Unsupported("pieces of bits"))
+                pieces.map(ValueLocation::Pieces).ok_or(Missing::Unsupported("pieces of bits"))
             }
             Outcome::DivisionByZero { .. } => Err(Missing::DivisionByZero),
-            Outcome::Unreadable { at } => match rewritten.hole_at(at as usize) {
-                Some(spot) if spot.hole == Hole::ImplicitPointer => {
+            Outcome::Unreadable { at } => match rewritten.unsupported_at(at as usize) {
+                Some(spot) if spot.unsupported == Unsupported::ImplicitPointer => {
                     let pointer = self.implicit_pointer(die, expression.get(spot.original..).unwrap_or(&[]));
-                    pointer.ok_or(Missing::NotEvaluated(Hole::ImplicitPointer))
+                    pointer.ok_or(Missing::NotEvaluated(Unsupported::ImplicitPointer))
                 }
-                Some(spot) => Err(Missing::by_hole(spot.hole)),
+                Some(spot) => Err(Missing::by_hole(spot.unsupported)),
                 None => Err(unreadable(&rewritten.bytes, at as usize, self.variables.target)),
             },
             _ => Err(Missing::Unsupported("a result of this kind")),
@@ -213,7 +216,7 @@ impl<'v, 'a> Locator<'v, 'a> {
 
     /// The pieces of an expression without branches, each evaluated by itself, so that those that are known
     /// have a place.
-    fn pieces(&self, rewritten: &Rewritten<'_>) -> Result<Place, Missing> {
+    fn pieces(&self, rewritten: &Rewritten<'_>) -> Result<ValueLocation, Missing> {
         let (bytes, target) = (&rewritten.bytes, self.variables.target);
         let mut pieces = Vec::new();
         let mut begin = 0;
@@ -226,8 +229,8 @@ impl<'v, 'a> Locator<'v, 'a> {
                 Outcome::Pieces(found) => {
                     found.into_iter().next().map_or(Err(Missing::OptimizedOut), |piece| place_of(piece.location))
                 }
-                Outcome::Unreadable { at } => Err(match rewritten.hole_at(begin + at as usize) {
-                    Some(spot) => Missing::by_hole(spot.hole),
+                Outcome::Unreadable { at } => Err(match rewritten.unsupported_at(begin + at as usize) {
+                    Some(spot) => Missing::by_hole(spot.unsupported),
                     None => unreadable(part, at as usize, target),
                 }),
                 Outcome::DivisionByZero { .. } => Err(Missing::DivisionByZero),
@@ -236,11 +239,11 @@ impl<'v, 'a> Locator<'v, 'a> {
             pieces.push((place, usize::try_from(size).unwrap_or(usize::MAX)));
             begin = end;
         }
-        Ok(Place::Pieces(pieces))
+        Ok(ValueLocation::Pieces(pieces))
     }
 
     /// The variable to which an implicit pointer leads, by the bytes of the operation.
-    fn implicit_pointer(&self, die: &Die<'v, 'a>, operation: &[u8]) -> Option<Place> {
+    fn implicit_pointer(&self, die: &Die<'v, 'a>, operation: &[u8]) -> Option<ValueLocation> {
         let encoding = die.unit.encoding();
         let mut cursor = Cursor::new(operation, self.variables.target);
         cursor.byte().ok()?;
@@ -248,15 +251,15 @@ impl<'v, 'a> Locator<'v, 'a> {
         let offset = DebugInfoOffset(usize::try_from(cursor.number(size).ok()?).ok()?);
         let past = cursor.sleb().ok()? as i64;
         let name = self.variables.units.die(offset)?.name();
-        Some(Place::ImplicitPointer(Pointee { name, past, entry: offset.0 }))
+        Some(ValueLocation::ImplicitPointer(Pointee { name, past, entry: offset.0 }))
     }
 
     /// The frame base of the function, by its expression or list.
     fn read_frame_base(&self) -> Option<u64> {
         let (die, value) = self.function.inherited(gimli::DW_AT_frame_base)?;
         match self.by_attribute(&die, value).ok()? {
-            Place::Register(number) => self.machine.registers.get(number),
-            Place::Memory(address) | Place::Value(address) => Some(address),
+            ValueLocation::Register(number) => self.machine.registers.get(number),
+            ValueLocation::Memory(address) | ValueLocation::Value(address) => Some(address),
             _ => None,
         }
     }
@@ -269,13 +272,13 @@ fn has_pieces(bytes: &[u8], target: Target) -> bool {
     is(op::PIECE) && !is(op::BRA) && !is(op::SKIP)
 }
 
-fn place_of(location: Location) -> Result<Place, Missing> {
+fn place_of(location: Location) -> Result<ValueLocation, Missing> {
     match location {
         Location::Nowhere => Err(Missing::OptimizedOut),
-        Location::Address(address) => Ok(Place::Memory(address)),
-        Location::Register(number) => Ok(Place::Register(number)),
-        Location::Value(value) => Ok(Place::Value(value)),
-        Location::Bytes(bytes) => Ok(Place::Bytes(bytes)),
+        Location::Address(address) => Ok(ValueLocation::Memory(address)),
+        Location::Register(number) => Ok(ValueLocation::Register(number)),
+        Location::Value(value) => Ok(ValueLocation::Value(value)),
+        Location::Bytes(bytes) => Ok(ValueLocation::Bytes(bytes)),
         _ => Err(Missing::Unsupported("a location of this kind")),
     }
 }
@@ -304,18 +307,18 @@ fn unreadable(bytes: &[u8], at: usize, target: Target) -> Missing {
 }
 
 /// The bytes of a `DW_AT_const_value`.
-fn constant(value: AttributeValue<Slice<'_>>, target: Target) -> Option<Place> {
+fn constant(value: AttributeValue<Slice<'_>>, target: Target) -> Option<ValueLocation> {
     match value {
-        AttributeValue::Block(block) => Some(Place::Bytes(block.slice().to_vec())),
+        AttributeValue::Block(block) => Some(ValueLocation::Bytes(block.slice().to_vec())),
         // gcc writes numbers that aren't negative in these forms, and others as DW_FORM_sdata.
-        AttributeValue::Data1(number) => Some(Place::Value(number.into())),
-        AttributeValue::Data2(number) => Some(Place::Value(number.into())),
-        AttributeValue::Data4(number) => Some(Place::Value(number.into())),
-        AttributeValue::Data8(number) => Some(Place::Value(number)),
-        AttributeValue::Sdata(number) => Some(Place::Value(number as u64)),
-        AttributeValue::Udata(number) => Some(Place::Value(number)),
-        AttributeValue::Addr(address) => Some(Place::Value(target.wrap(address))),
-        AttributeValue::String(text) => Some(Place::Bytes([text.slice(), &[0]].concat())),
+        AttributeValue::Data1(number) => Some(ValueLocation::Value(number.into())),
+        AttributeValue::Data2(number) => Some(ValueLocation::Value(number.into())),
+        AttributeValue::Data4(number) => Some(ValueLocation::Value(number.into())),
+        AttributeValue::Data8(number) => Some(ValueLocation::Value(number)),
+        AttributeValue::Sdata(number) => Some(ValueLocation::Value(number as u64)),
+        AttributeValue::Udata(number) => Some(ValueLocation::Value(number)),
+        AttributeValue::Addr(address) => Some(ValueLocation::Value(target.wrap(address))),
+        AttributeValue::String(text) => Some(ValueLocation::Bytes([text.slice(), &[0]].concat())),
         _ => None,
     }
 }

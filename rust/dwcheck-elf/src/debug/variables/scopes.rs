@@ -21,7 +21,9 @@ pub(super) struct Scope<'u, 'a> {
 /// A variable or a parameter.
 #[derive(Clone)]
 pub(super) struct Variable<'u, 'a> {
+    /// Its entry of debug information.
     pub die: Die<'u, 'a>,
+    /// Whether it is a parameter.
     pub is_parameter: bool,
     /// Whether only the abstract instance of the function has it: nothing says where it is.
     pub is_abstract: bool,
@@ -79,9 +81,9 @@ impl<'u, 'a> Search<'u, 'a> {
 
     /// Adds the entries of the abstract instance that these entries, or those of blocks among them, complete.
     /// A variable may be in a block that only the concrete instance has.
-    fn add_origins(&mut self, children: &[Die<'u, 'a>], origins: &mut HashSet<Place>, depth: usize) {
+    fn add_origins(&mut self, children: &[Die<'u, 'a>], origins: &mut HashSet<DieId>, depth: usize) {
         for child in children {
-            origins.extend(child.reference(gimli::DW_AT_abstract_origin).as_ref().map(place));
+            origins.extend(child.reference(gimli::DW_AT_abstract_origin).as_ref().map(die_id));
             if child.tag() == Some(gimli::DW_TAG_lexical_block) {
                 let inner = self.children(child, depth + 1);
                 self.add_origins(&inner, origins, depth + 1);
@@ -107,10 +109,10 @@ impl<'u, 'a> Search<'u, 'a> {
 
     /// Adds the variables of an abstract instance that the concrete one leaves out. Its blocks have no
     /// addresses, so that their variables are in scope.
-    fn add_abstract(&mut self, origin: &Die<'u, 'a>, concrete: &HashSet<Place>, depth: usize) {
+    fn add_abstract(&mut self, origin: &Die<'u, 'a>, concrete: &HashSet<DieId>, depth: usize) {
         for child in self.children(origin, depth) {
             match child.tag() {
-                _ if concrete.contains(&place(&child)) => {}
+                _ if concrete.contains(&die_id(&child)) => {}
                 Some(tag) if is_variable(tag) => self.add(child, tag, true),
                 Some(gimli::DW_TAG_lexical_block) => self.add_abstract(&child, concrete, depth + 1),
                 _ => {}
@@ -131,9 +133,9 @@ fn is_variable(tag: DwTag) -> bool {
 }
 
 /// Where an entry is: its unit, and its offset there.
-pub(super) type Place = (UnitSectionOffset, usize);
+pub(super) type DieId = (UnitSectionOffset, usize);
 
 /// Where an entry is.
-pub(super) fn place(die: &Die<'_, '_>) -> Place {
+pub(super) fn die_id(die: &Die<'_, '_>) -> DieId {
     (die.unit.header.offset(), die.offset.0)
 }

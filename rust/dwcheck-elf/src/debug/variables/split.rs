@@ -12,6 +12,10 @@ use std::cell::RefCell;
 use std::path::{Path, PathBuf};
 use std::rc::Rc;
 
+/// The file with the debug information of a unit isn't there, or isn't the unit's. It has this name.
+#[derive(Clone, Debug, PartialEq, Eq)]
+pub(crate) struct MissingFile(pub String);
+
 /// A function at an address.
 #[derive(Clone, Debug, PartialEq, Eq)]
 pub(crate) struct Called {
@@ -28,14 +32,14 @@ impl<'a> Variables<'a> {
     ///
     /// # Errors
     ///
-    /// The name of the file, if it isn't there or isn't the unit's.
-    pub(crate) fn split_functions(&self, address: u64) -> Result<Option<Vec<Called>>, String> {
+    /// If the file isn't there or isn't the unit's.
+    pub(crate) fn split_functions(&self, address: u64) -> Result<Option<Vec<Called>>, MissingFile> {
         let named = self.functions.units_at(address).find_map(|index| Some((index, self.split_name(index)?)));
         let (index, name) = match named {
             Some(named) => named,
             None => return Ok(None),
         };
-        let split = self.split_at(address).ok_or(name)?;
+        let split = self.split_at(address).ok_or(MissingFile(name))?;
         let function = split.functions.function(&split.units, address);
         let called = |scope: &Scope<'_, 'a>| Called { name: split.linked_name(scope), call: self.call(index, scope) };
         Ok(function.map(|function| scopes(function, address).iter().map(called).collect()))

@@ -1,7 +1,7 @@
 //! Writes variables as text: a line for each function, and one for each variable.
 
 use super::{Function, Missing, Value, Variable};
-use crate::elf::plain::Plain;
+use crate::elf::escaped::Escaped;
 use std::fmt;
 
 /// What stands in the place of a name that isn't there.
@@ -10,8 +10,8 @@ const NO_NAME: &str = "?";
 impl fmt::Display for Function {
     fn fmt(&self, f: &mut fmt::Formatter<'_>) -> fmt::Result {
         let word = if self.is_inlined { "inlined" } else { "function" };
-        write!(f, "{} {}", word, Plain(self.name.as_deref().unwrap_or(NO_NAME)))?;
-        self.source.as_ref().map_or(Ok(()), |source| write!(f, " ({})", Plain(source)))?;
+        write!(f, "{} {}", word, Escaped(self.name.as_deref().unwrap_or(NO_NAME)))?;
+        self.source.as_ref().map_or(Ok(()), |source| write!(f, " ({})", Escaped(source)))?;
         writeln!(f)?;
         self.lines().fmt(f)
     }
@@ -38,10 +38,10 @@ impl fmt::Display for Variable {
     fn fmt(&self, f: &mut fmt::Formatter<'_>) -> fmt::Result {
         let word = if self.is_parameter { "param" } else { "var" };
         let name = self.name.as_deref().unwrap_or(NO_NAME);
-        write!(f, "{} {}: {}", word, Plain(name), Plain(&self.type_name))?;
+        write!(f, "{} {}: {}", word, Escaped(name), Escaped(&self.type_name))?;
         match (&self.value, &self.place) {
-            (Ok(value), Ok(place)) => write!(f, " = {} ({})", value, Plain(&place.to_string())),
-            (Err(missing), Ok(place)) => write!(f, ": {} ({})", missing, Plain(&place.to_string())),
+            (Ok(value), Ok(place)) => write!(f, " = {} ({})", value, Escaped(&place.to_string())),
+            (Err(missing), Ok(place)) => write!(f, ": {} ({})", missing, Escaped(&place.to_string())),
             (_, Err(missing)) => write!(f, ": {}", missing),
         }
     }
@@ -50,9 +50,9 @@ impl fmt::Display for Variable {
 impl fmt::Display for Value {
     fn fmt(&self, f: &mut fmt::Formatter<'_>) -> fmt::Result {
         match self {
-            Value::Plain(text) => write!(f, "{}", Plain(text)),
+            Value::Scalar(text) => write!(f, "{}", Escaped(text)),
             Value::Text { address, prefix, text } => write!(f, "{} {}\"{}\"", address, prefix, text),
-            Value::Pointer(Some(name), value) => write!(f, "&{}, {}", Plain(name), value),
+            Value::Pointer(Some(name), value) => write!(f, "&{}, {}", Escaped(name), value),
             Value::Pointer(None, value) => write!(f, "&{}", value),
             Value::Reference(address, value) => {
                 write!(f, "@{}: ", address)?;
@@ -62,7 +62,7 @@ impl fmt::Display for Value {
                 f.write_str("{")?;
                 for (index, (name, value)) in members.iter().enumerate() {
                     let comma = if index > 0 { ", " } else { "" };
-                    write!(f, "{}{}{}", comma, Plain(name), if name.is_empty() { "" } else { " = " })?;
+                    write!(f, "{}{}{}", comma, Escaped(name), if name.is_empty() { "" } else { " = " })?;
                     write_part(f, value)?;
                 }
                 f.write_str("}")

@@ -4,7 +4,7 @@
 //! fixed distance from the thread pointer, which the dynamic linker has stored where relocations of the file
 //! say. For others, it has stored the file's number, by which glibc's array of blocks (the DTV) is indexed.
 
-use super::place::Machine;
+use super::value_location::Machine;
 use object::elf::{R_X86_64_DTPMOD64, R_X86_64_TPOFF64};
 use object::read::elf::{ElfFile64, ProgramHeader};
 use object::{elf, LittleEndian, Object, ObjectSymbol, ObjectSymbolTable, RelocationKind, RelocationTarget};

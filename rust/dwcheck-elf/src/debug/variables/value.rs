@@ -13,8 +13,8 @@ mod texts;
 mod variants;
 
 use super::location::Locator;
-use super::place::{Missing, Place};
 use super::types::{is_reference, name_of, number, plain, size_of, type_of};
+use super::value_location::{Missing, ValueLocation};
 use crate::debug::debug_info::Die;
 use characters::Characters;
 
@@ -22,7 +22,7 @@ use characters::Characters;
 #[derive(Clone, Debug, PartialEq, Eq)]
 pub enum Value {
     /// A number, a character, a pointer or the name of a constant, as text.
-    Plain(String),
+    Scalar(String),
     /// A pointer to a text.
     Text {
         /// The pointer.
@@ -64,7 +64,7 @@ impl Default for Shape {
 /// A part of a variable: the place and the size of the variable, and where the part begins.
 #[derive(Clone, Copy)]
 struct Part<'p> {
-    place: &'p Place,
+    place: &'p ValueLocation,
     size: usize,
     offset: usize,
 }
@@ -81,11 +81,11 @@ const MAX_BYTES: usize = 16;
 
 impl<'v, 'a> Locator<'v, 'a> {
     /// The value of a variable of a type at a place.
-    pub fn value(&self, kind: Option<&Die<'v, 'a>>, place: &Place, shape: Shape) -> Result<Value, Missing> {
+    pub fn value(&self, kind: Option<&Die<'v, 'a>>, place: &ValueLocation, shape: Shape) -> Result<Value, Missing> {
         let kind = kind.ok_or(Missing::Unsupported("no type"))?;
-        if let Place::ImplicitPointer(pointee) = place {
+        if let ValueLocation::ImplicitPointer(pointee) = place {
             let followed = self.followed(kind, pointee, shape);
-            return Ok(followed.unwrap_or_else(|| Value::Plain(place.to_string())));
+            return Ok(followed.unwrap_or_else(|| Value::Scalar(place.to_string())));
         }
         let size = self.size(kind)?;
         let shape = Shape { depth: shape.depth.min(MAX_DEPTH), ..shape };

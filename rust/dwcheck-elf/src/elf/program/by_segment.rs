@@ -1,8 +1,8 @@
 //! Finds `.eh_frame` in a file without section headers, as unwinders do at run time.
 
 use super::{Program, Section};
-use crate::elf::bytes::Cursor;
-use crate::elf::target::{AddressSize, Target};
+use dwcheck_types::cursor::Cursor;
+use dwcheck_types::target::{AddressSize, Target};
 use gimli::{BaseAddresses, EhFrameHdr, Pointer};
 use object::elf::{FileHeader32, FileHeader64, PT_GNU_EH_FRAME};
 use object::read::elf::{FileHeader, ProgramHeader};

@@ -2,7 +2,7 @@
 
 use super::Memory;
 use crate::elf::program::Program;
-use crate::elf::target::{AddressSize, Target};
+use dwcheck_types::target::{AddressSize, Target};
 use object::elf::{FileHeader32, FileHeader64, ELF_NOTE_GNU, NT_GNU_BUILD_ID, PF_W, PT_LOAD, PT_NOTE};
 use object::read::elf::{FileHeader, ProgramHeader};
 use object::Endianness;

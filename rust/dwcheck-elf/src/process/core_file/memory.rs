@@ -126,16 +126,22 @@ impl<'a> Memory<'a> {
     /// Copies the bytes from an address on into `bytes`, from one block or several. Returns false
     /// if one of the bytes isn't known; a part of `bytes` may then have been overwritten.
     pub fn read(&self, address: u64, bytes: &mut [u8]) -> bool {
+        self.read_some(address, bytes) == bytes.len()
+    }
+
+    /// Copies the bytes from an address on into `bytes`, up to the first one that isn't known. Returns how many it has
+    /// copied.
+    pub fn read_some(&self, address: u64, bytes: &mut [u8]) -> usize {
         let mut done = 0;
         while let Some(rest) = bytes.get_mut(done..).filter(|rest| !rest.is_empty()) {
             let held = match address.checked_add(done as u64).and_then(|next| self.from(next)) {
                 Some(held) => held,
-                None => return false,
+                None => break,
             };
             let count = held.len().min(rest.len());
             rest.iter_mut().zip(held).for_each(|(byte, held)| *byte = *held);
             done += count;
         }
-        true
+        done
     }
 }

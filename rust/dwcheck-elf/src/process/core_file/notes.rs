@@ -2,10 +2,10 @@
 
 use super::registers::{thread, vectors, Thread};
 use super::{CoreError, Sender, Signal};
-use crate::elf::abi::Abi;
-use crate::elf::bytes::{Cursor, ReadError};
-use crate::elf::target::{AddressSize, Target};
 use crate::process::maps::Map;
+use dwcheck_types::abi::Abi;
+use dwcheck_types::cursor::{Cursor, ReadError};
+use dwcheck_types::target::{AddressSize, Target};
 use object::elf::{NT_AUXV, NT_FILE, NT_PRFPREG, NT_PRPSINFO, NT_PRSTATUS, NT_SIGINFO};
 
 /// The type of the entry of the auxiliary vector that has the address of the program's first
@@ -63,19 +63,26 @@ pub struct ProcessInfo {
 pub(super) struct Notes<'data> {
     target: Target,
     abi: &'static Abi,
+    /// The threads, with their registers.
     pub threads: Vec<Thread>,
+    /// The signal that ended the process.
     pub signal: Option<Signal>,
+    /// The mapped files.
     pub mappings: Vec<Mapping<'data>>,
+    /// The address of the vDSO.
     pub vdso: Option<u64>,
+    /// The program's entry point, as loaded.
     pub entry: Option<u64>,
     /// The address of the program's file name.
     pub name: Option<u64>,
+    /// What is known of the process itself.
     pub process: Option<ProcessInfo>,
     /// The bits of a return address that hold an authentication code.
     pub pac_mask: Option<u64>,
 }
 
 impl<'data> Notes<'data> {
+    /// Nothing was read yet.
     pub fn new(target: Target, abi: &'static Abi) -> Self {
         let (threads, mappings) = (Vec::new(), Vec::new());
         let (vdso, entry, name) = (None, None, None);

@@ -21,10 +21,12 @@ impl Ranges {
         Ranges(merged)
     }
 
+    /// Whether there are no addresses.
     pub fn is_empty(&self) -> bool {
         self.0.is_empty()
     }
 
+    /// Whether an address is one of them.
     pub fn contains(&self, address: u64) -> bool {
         self.at(address).is_some()
     }

@@ -1,8 +1,8 @@
 //! Reads the id, the signal and the registers of a thread (`struct elf_prstatus` of Linux).
 
-use crate::elf::abi::Abi;
-use crate::elf::bytes::{Cursor, ReadError};
-use crate::elf::target::{AddressSize, Target};
+use dwcheck_types::abi::Abi;
+use dwcheck_types::cursor::{Cursor, ReadError};
+use dwcheck_types::target::{AddressSize, Target};
 use object::elf;
 
 /// A thread of a core file.

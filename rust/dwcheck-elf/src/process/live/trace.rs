@@ -2,9 +2,9 @@
 
 #![allow(unsafe_code)]
 
-use crate::elf::abi::Abi;
-use crate::elf::target::Target;
 use crate::process::core_file::registers;
+use dwcheck_types::abi::Abi;
+use dwcheck_types::target::Target;
 use nix::errno::Errno;
 use std::fmt;
 use std::ptr::null_mut;

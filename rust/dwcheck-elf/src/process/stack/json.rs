@@ -1,7 +1,7 @@
 //! Writes stacks as JSON.
 
 use super::text::Why;
-use super::{Frame, Inlined, Place, SourceLine, Stack};
+use super::{Frame, Inlined, Position, SourceLine, Stack};
 use crate::debug::variables::Function;
 use serde_json::{json, Map, Value};
 
@@ -30,7 +30,8 @@ impl Stack<'_, '_> {
     }
 
     fn frame(&self, index: usize, frame: &Frame) -> Value {
-        let Place { module, build_id, address_in_module, function, offset, source, inlined } = self.stacks.place(frame);
+        let Position { module, build_id, address_in_module, function, offset, source, inlined } =
+            self.stacks.position(frame);
         let mut object = json!({
             "number": self.number(index),
             "address": hex(frame.address),

@@ -3,11 +3,11 @@
 use super::json::hex as address;
 use super::per_file::PerFile;
 use super::Stacks;
-use crate::cfi::text::{Address, Plain};
+use crate::cfi::text::{Address, Escaped};
 use crate::elf::debug_files::hex;
 use crate::elf::program::Program;
-use crate::elf::target::Target;
 use crate::process::core_file::Mapping;
+use dwcheck_types::target::Target;
 use serde_json::{json, Value};
 use std::collections::HashMap;
 use std::fmt;
@@ -82,6 +82,6 @@ impl fmt::Display for Listed {
     fn fmt(&self, f: &mut fmt::Formatter<'_>) -> fmt::Result {
         write!(f, "module {}..{}", Address(self.target, self.begin), Address(self.target, self.end))?;
         self.build_id.as_ref().map_or(Ok(()), |id| write!(f, " build-id {}", id))?;
-        write!(f, " ({})", Plain(&self.path.to_string_lossy()))
+        write!(f, " ({})", Escaped(&self.path.to_string_lossy()))
     }
 }

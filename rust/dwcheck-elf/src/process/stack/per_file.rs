@@ -12,6 +12,7 @@ pub(super) struct PerFile<T, F> {
 }
 
 impl<T: Clone, F: FnMut(&Program<'_>) -> Option<T>> PerFile<T, F> {
+    /// Nothing was read yet.
     pub fn new(read: F) -> Self {
         PerFile { read, found: HashMap::new() }
     }

@@ -3,9 +3,10 @@
 
 use crate::cfi::section_table::{add, SectionTable};
 use crate::elf::program::Program;
-use crate::elf::target::Target;
 use crate::process::core_file::{Image, Module};
+use crate::process::without_row::sigpanic;
 use dwcheck::{Caller, Error, Process, State};
+use dwcheck_types::target::Target;
 use std::collections::{HashMap, HashSet};
 use std::ops::Range;
 use std::path::PathBuf;
@@ -31,8 +32,7 @@ pub(super) struct Tables<'a> {
 struct FileTables<'a> {
     /// `.debug_frame` first.
     sections: Vec<SectionTable<'a>>,
-    /// The address of Go's function `runtime.sigpanic`. Go's signal handler makes it look as if the
-    /// interrupted code had called it.
+    /// The address of Go's function [`sigpanic`].
     sigpanic: Option<u64>,
 }
 
@@ -62,19 +62,16 @@ struct Compiled {
     begin: u64,
     is_signal_frame: bool,
     is_signal_return: bool,
-    /// The addresses in the process at which the return address is signed.
-    signed: Vec<Range<u64>>,
 }
 
 /// The caller of a frame that a row was found for.
 pub(super) struct Found {
+    /// The caller.
     pub caller: Caller,
     /// Whether the frame is a signal frame, whose caller was interrupted and didn't call.
     pub is_signal_frame: bool,
     /// Whether it is a signal frame to which a handler returns, which didn't call either.
     pub is_signal_return: bool,
-    /// Whether the return address is signed.
-    pub is_signed: bool,
 }
 
 impl<'a> Tables<'a> {
@@ -85,7 +82,7 @@ impl<'a> Tables<'a> {
             modules,
             code: Vec::new(),
             files: HashMap::new(),
-            process: Process::new(target.into()),
+            process: Process::new(target),
             compiled: Vec::new(),
             refused: HashSet::new(),
             problems: Vec::new(),
@@ -140,7 +137,6 @@ impl<'a> Tables<'a> {
             caller,
             is_signal_frame: compiled.is_signal_frame,
             is_signal_return: compiled.is_signal_return,
-            is_signed: compiled.signed.iter().any(|range| range.contains(&address)),
         }))
     }
 
@@ -209,12 +205,9 @@ impl<'a> Tables<'a> {
         });
         let reason = match added {
             Ok((Ok(()), one)) => {
-                let move_by =
-                    |range: &Range<u64>| range.start.wrapping_add(module.bias)..range.end.wrapping_add(module.bias);
-                let signed = one.signed.iter().map(move_by).collect();
                 let is_signal_frame = one.is_signal_frame || *sigpanic == Some(piece.range.start);
                 let begin = piece.range.start.wrapping_add(module.bias);
-                self.compiled.push(Compiled { begin, is_signal_frame, is_signal_return: one.is_signal_frame, signed });
+                self.compiled.push(Compiled { begin, is_signal_frame, is_signal_return: one.is_signal_frame });
                 return Ok(true);
             }
             Ok((Err(Error::Refused(fault)), _)) => fault.name(),
@@ -241,9 +234,7 @@ fn read<'a>(module: &Module<'a>) -> (FileTables<'a>, Vec<String>) {
     match Program::read(module.image.bytes()) {
         Ok(program) => {
             let (sections, problems) = SectionTable::all(&program);
-            let functions = program.has_section(".gopclntab").then(|| program.functions());
-            let sigpanic = functions.and_then(|functions| functions.address_of("runtime.sigpanic").ok());
-            (FileTables { sections, sigpanic }, problems)
+            (FileTables { sections, sigpanic: sigpanic(&program) }, problems)
         }
         Err(error) => (FileTables::default(), vec![error.to_string()]),
     }

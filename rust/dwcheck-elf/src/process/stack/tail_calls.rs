@@ -1,7 +1,7 @@
 //! Finds where frames are missing because functions ended with a jump to another function (a tail call).
 
-use super::guess::Guesser;
 use super::{FoundBy, Stack, Stacks};
+use crate::process::without_row::Guesser;
 use dwcheck::Registers;
 use dwcheck_lint::instruction::{Effect, Target};
 use dwcheck_lint::machine::Machine;
@@ -35,12 +35,12 @@ impl Stack<'_, '_> {
 impl Stacks<'_> {
     /// Where the call before an address leads, if it is one to a fixed address.
     fn called_before(&self, address: u64) -> Option<u64> {
-        let (core, memory, abi) = (self.core, &self.memory, self.core.abi());
+        let abi = self.core.abi();
         if abi.link_register.is_none() {
-            return Guesser { core, memory, registers: &Registers::default() }.called_before(address);
+            return Guesser { view: self, registers: &Registers::default() }.called_before(address);
         }
         let begin = address.checked_sub(FIXED_LENGTH)?;
-        let code = memory.at_most(begin, FIXED_LENGTH as usize);
+        let code = self.memory.at_most(begin, FIXED_LENGTH as usize);
         match (Machine::numbered(abi.machine)?.decode)(&code, begin).effect {
             Effect::Call { target: Target::Code(called) } => Some(called),
             _ => None,

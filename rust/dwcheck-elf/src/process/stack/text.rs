@@ -1,8 +1,8 @@
 //! Writes stacks as text.
 
-use super::{Frame, Place, SourceLine, Stack, Stop};
-use crate::cfi::text::{Address, Plain};
-use crate::elf::target::Target;
+use super::{Frame, Position, SourceLine, Stack, Stop};
+use crate::cfi::text::{Address, Escaped};
+use dwcheck_types::target::Target;
 use std::fmt;
 
 /// Why a stack has no more frames, in words.
@@ -25,7 +25,7 @@ impl fmt::Display for Why {
 
 impl fmt::Display for SourceLine {
     fn fmt(&self, f: &mut fmt::Formatter<'_>) -> fmt::Result {
-        write!(f, "{}", Plain(&self.file))?;
+        write!(f, "{}", Escaped(&self.file))?;
         self.line.map_or(Ok(()), |line| write!(f, ":{}", line))
     }
 }
@@ -65,11 +65,11 @@ impl<'s, 'a> Stack<'s, 'a> {
     }
 
     fn write_frame(&self, f: &mut fmt::Formatter<'_>, index: usize, frame: &Frame) -> fmt::Result {
-        let Place { module, address_in_module, function, offset, source, inlined, .. } = self.stacks.place(frame);
+        let Position { module, address_in_module, function, offset, source, inlined, .. } = self.stacks.position(frame);
         let address = Address(self.stacks.core.target(), frame.address);
         let shown = address_in_module.filter(|_| self.stacks.shows_modules);
         let shown = shown.map_or_else(String::new, |address| format!("+{:#x}", address));
-        let module = module.map(|path| format!("{}{}", Plain(&path.to_string_lossy()), shown));
+        let module = module.map(|path| format!("{}{}", Escaped(&path.to_string_lossy()), shown));
         let (mut functions, number) = (self.functions(index), self.number(index));
         for one in inlined {
             let name = if one.name.is_empty() { "?" } else { &one.name };

@@ -1,7 +1,7 @@
 //! The variables of frames.
 
 use super::{Frame, Stack, Stacks};
-use crate::cfi::text::Plain;
+use crate::cfi::text::Escaped;
 use crate::debug::variables::{self, Called, Function, Loaded, Shape, Step, Variables};
 use crate::elf::program::Program;
 use crate::process::core_file::Module;
@@ -50,12 +50,12 @@ impl<'a> Stacks<'a> {
     pub(super) fn split_functions(&self, place: usize, module: &Module<'a>, address: u64) -> Option<Vec<Called>> {
         let mut opened = self.variables.borrow_mut();
         let variables = opened.entry(place).or_insert_with(|| self.open(module)).as_ref()?;
-        variables.split_functions(address).map_err(|name| self.note_missing(module, &name)).ok()?
+        variables.split_functions(address).map_err(|missing| self.note_missing(module, &missing.0)).ok()?
     }
 
     /// Notes that a file isn't there that has the debug information of a unit of a module.
     fn note_missing(&self, module: &Module<'a>, name: &str) {
-        let why = format!("its debug information is in another file, {}, which isn't there", Plain(name));
+        let why = format!("its debug information is in another file, {}, which isn't there", Escaped(name));
         self.split.borrow_mut().insert(module.path.clone(), why);
     }
 
@@ -68,7 +68,7 @@ impl<'a> Stacks<'a> {
         let separate = separate.filter(|_| !program.has_bytes(".debug_info"));
         let (path, debug) = separate.unwrap_or_else(|| (module.path.clone(), program));
         let shared = files.shared(&path, &debug).unwrap_or_else(|why| {
-            self.unshared.borrow_mut().insert(module.path.clone(), why);
+            self.unshared.borrow_mut().insert(module.path.clone(), why.to_string());
             None
         });
         let shared = shared.and_then(|bytes| Program::read(bytes).ok());

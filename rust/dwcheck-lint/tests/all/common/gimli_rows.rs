@@ -1,5 +1,6 @@
 //! The rows of programs, as gimli reads them.
 
+use dwcheck_lint::error::Error;
 use dwcheck_lint::landings::landings;
 use dwcheck_lint::machine::Machine;
 use dwcheck_lint::module::{Convention, Module, Segment};
@@ -31,9 +32,9 @@ impl<'a> GimliRows<'a> {
         self.headers.get(index).filter(|header| header.contains(address))
     }
 
-    fn all(&self, header: &Header<'a>) -> Result<Vec<Row<'a>>, String> {
+    fn all(&self, header: &Header<'a>) -> Result<Vec<Row<'a>>, Error> {
         let mut context = self.context.borrow_mut();
-        let failed = |error: gimli::Error| error.to_string();
+        let failed = |error: gimli::Error| Error::Rows(error.into());
         let mut table = header.rows(&self.section, &self.bases, &mut context).map_err(failed)?;
         let mut rows = Vec::new();
         while let Some(row) = table.next_row().map_err(failed)? {
@@ -50,7 +51,9 @@ impl<'a> GimliRows<'a> {
             }
             rules.sort_by_key(|(register, _)| *register);
             let cfa = match row.cfa() {
-                CfaRule::RegisterAndOffset { register, offset } => Cfa::Offset(numbered(*register), *offset),
+                CfaRule::RegisterAndOffset { register, offset } => {
+                    Cfa::RegisterOffset { register: numbered(*register), offset: *offset }
+                }
                 CfaRule::Expression(expression) => Cfa::Expression(expression.0.slice()),
             };
             rows.push(Row { begin: row.start_address(), end: row.end_address(), cfa, rules });
@@ -62,11 +65,13 @@ impl<'a> GimliRows<'a> {
     fn rule(&self, rule: &RegisterRule<Bytes<'a>>) -> Rule<'a> {
         match rule {
             RegisterRule::Undefined => Rule::Undefined,
-            RegisterRule::SameValue => Rule::Same,
+            RegisterRule::SameValue => Rule::SameValue,
             RegisterRule::Offset(offset) => Rule::Offset(*offset),
+            RegisterRule::ValOffset(offset) => Rule::ValOffset(*offset),
             RegisterRule::Register(register) => Rule::Register((self.machine.register)(register.0)),
             RegisterRule::Expression(expression) => Rule::Expression(expression.0.slice()),
-            _ => Rule::Value,
+            RegisterRule::ValExpression(expression) => Rule::ValExpression(expression.0.slice()),
+            RegisterRule::Architectural => Rule::Architectural,
         }
     }
 }
@@ -84,8 +89,8 @@ fn ends_the_stack<'a>(header: &Header<'a>, section: &EhFrame<Bytes<'a>>, bases: 
 }
 
 impl<'a> Rows for GimliRows<'a> {
-    fn rows(&self, fde: &Fde) -> Result<Vec<Row<'_>>, String> {
-        self.all(self.header(fde.begin).ok_or("no such FDE")?)
+    fn rows(&self, fde: &Fde) -> Result<Vec<Row<'_>>, Error> {
+        self.all(self.header(fde.begin).ok_or(Error::NoFde)?)
     }
 
     fn row(&self, address: u64) -> Option<Row<'_>> {

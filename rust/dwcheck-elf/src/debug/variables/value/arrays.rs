@@ -5,11 +5,11 @@ use super::numbers::signed;
 use super::{Part, Shape, Value, MAX_DEPTH};
 use crate::debug::debug_info::Die;
 use crate::debug::variables::location::Locator;
-use crate::debug::variables::place::Missing;
 use crate::debug::variables::types::{
     constant_length, has_lowest, is_column_major, lowest, number, plain, ranges, size_of, type_of, MAX_SIZE, MAX_TYPES,
 };
-use crate::elf::target::AddressSize;
+use crate::debug::variables::value_location::Missing;
+use dwcheck_types::target::AddressSize;
 use gimli::{AttributeValue, DwAt};
 
 /// What all dimensions of an array have in common.

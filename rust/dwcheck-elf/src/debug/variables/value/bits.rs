@@ -4,9 +4,9 @@ use super::numbers::{is_signed, unsigned};
 use super::{Part, Shape, Value};
 use crate::debug::debug_info::Die;
 use crate::debug::variables::location::Locator;
-use crate::debug::variables::place::{Missing, Place};
 use crate::debug::variables::types::{number, size_of};
-use crate::elf::target::Order;
+use crate::debug::variables::value_location::{Missing, ValueLocation};
+use dwcheck_types::target::Order;
 
 impl<'v, 'a> Locator<'v, 'a> {
     /// The value of a member of this type that has a number of bits.
@@ -37,7 +37,7 @@ impl<'v, 'a> Locator<'v, 'a> {
         let size = size_of(kind).and_then(|size| usize::try_from(size).ok()).filter(|size| *size <= bytes.len());
         let size = size.ok_or(Missing::Unsupported("a member of bits of this type"))?;
         bytes.truncate(size);
-        self.part(kind, Part { place: &Place::Bytes(bytes), size, offset: 0 }, Shape::default(), &mut 0)
+        self.part(kind, Part { place: &ValueLocation::Bytes(bytes), size, offset: 0 }, Shape::default(), &mut 0)
     }
 }
 

@@ -3,7 +3,7 @@
 use super::numbers::encoding;
 use crate::debug::debug_info::Die;
 use crate::debug::variables::types::{other_names, plain, size_of};
-use crate::elf::target::Target;
+use dwcheck_types::target::Target;
 
 /// The types of characters of several bytes, by their names, with what C writes before texts of them.
 const WIDE: [(&str, &str); 3] = [("wchar_t", "L"), ("char16_t", "u"), ("char32_t", "U")];

@@ -5,9 +5,9 @@ use super::{is_member, Part, Value};
 use crate::debug::debug_info::Die;
 use crate::debug::variables::functions::begin_of;
 use crate::debug::variables::location::Locator;
-use crate::debug::variables::place::Missing;
 use crate::debug::variables::types::{is_function, number, plain, size_of, type_of};
-use crate::elf::names::demangled;
+use crate::debug::variables::value_location::Missing;
+use crate::elf::demangle::demangled;
 use gimli::AttributeValue;
 use object::elf;
 
@@ -27,7 +27,7 @@ enum Function {
 }
 
 /// A class, and an offset in it.
-struct Spot<'v, 'a> {
+struct InClass<'v, 'a> {
     class: Die<'v, 'a>,
     offset: u64,
 }
@@ -38,7 +38,7 @@ impl<'v, 'a> Locator<'v, 'a> {
         let class = kind.reference(gimli::DW_AT_containing_type).and_then(|class| plain(&class));
         let target = type_of(kind).and_then(|target| plain(&target));
         let bytes = self.bytes(kind, part)?;
-        Ok(Value::Plain(if target.map_or(false, |target| is_function(&target)) {
+        Ok(Value::Scalar(if target.map_or(false, |target| is_function(&target)) {
             self.pointer_to_method(class, &bytes)
         } else {
             pointer_to_data(class, signed(&self.in_order(bytes)))
@@ -58,7 +58,7 @@ impl<'v, 'a> Locator<'v, 'a> {
             },
             Function::Virtual(place) => {
                 let index = place / u64::from(self.machine.target.address_size.bytes());
-                let spot = class.zip(u64::try_from(adjustment).ok()).map(|(class, offset)| Spot { class, offset });
+                let spot = class.zip(u64::try_from(adjustment).ok()).map(|(class, offset)| InClass { class, offset });
                 match spot.and_then(|spot| spot.virtual_method(index, MAX_BASES)) {
                     Some(name) => return format!("&virtual {}", name),
                     None => format!("&virtual table offset {}", place),
@@ -92,7 +92,7 @@ impl<'v, 'a> Locator<'v, 'a> {
 
 /// A pointer to data of a class, as gdb shows it: the name of the member at this offset, or the offset.
 fn pointer_to_data(class: Option<Die<'_, '_>>, stored: i128) -> String {
-    let spot = |offset| class.map(|class| Spot { class, offset });
+    let spot = |offset| class.map(|class| InClass { class, offset });
     match u64::try_from(stored) {
         Ok(offset) => spot(offset).and_then(|spot| spot.member(MAX_BASES)).unwrap_or_else(|| offset.to_string()),
         Err(_) if stored == -1 => "NULL".to_string(),
@@ -100,7 +100,7 @@ fn pointer_to_data(class: Option<Die<'_, '_>>, stored: i128) -> String {
     }
 }
 
-impl<'v, 'a> Spot<'v, 'a> {
+impl<'v, 'a> InClass<'v, 'a> {
     /// The name of the member there, with that of its class.
     fn member(&self, left: usize) -> Option<String> {
         let members = self.class.children();
@@ -122,12 +122,12 @@ impl<'v, 'a> Spot<'v, 'a> {
     }
 
     /// The same place in the base class that has it.
-    fn in_base(&self) -> Option<Spot<'v, 'a>> {
+    fn in_base(&self) -> Option<InClass<'v, 'a>> {
         let bases = self.class.children().into_iter().filter(|base| base.tag() == Some(gimli::DW_TAG_inheritance));
         let mut places = bases.filter_map(|base| {
             let class = plain(&type_of(&base)?)?;
             let offset = self.offset.checked_sub(number(&base, gimli::DW_AT_data_member_location)?)?;
-            (offset < size_of(&class)?).then_some(Spot { class, offset })
+            (offset < size_of(&class)?).then_some(InClass { class, offset })
         });
         places.next()
     }

@@ -4,8 +4,8 @@ use super::numbers::{cut, signed, unsigned};
 use super::{Part, Value};
 use crate::debug::debug_info::Die;
 use crate::debug::variables::location::Locator;
-use crate::debug::variables::place::Missing;
 use crate::debug::variables::types::{number, plain, type_of};
+use crate::debug::variables::value_location::Missing;
 use gimli::AttributeValue;
 
 impl<'v, 'a> Locator<'v, 'a> {
@@ -21,7 +21,7 @@ impl<'v, 'a> Locator<'v, 'a> {
         let found = constants.find(|one| one.tag() == Some(gimli::DW_TAG_enumerator) && is_wanted(one));
         let name = found.and_then(|one| one.name());
         let number = || if is_unsigned(kind) { value.to_string() } else { signed(&bytes).to_string() };
-        Ok(Value::Plain(name.or_else(|| flags(kind, value)).unwrap_or_else(number)))
+        Ok(Value::Scalar(name.or_else(|| flags(kind, value)).unwrap_or_else(number)))
     }
 }
 

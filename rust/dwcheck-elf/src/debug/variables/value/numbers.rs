@@ -6,9 +6,9 @@ use super::reals::Format;
 use super::{Part, Value, MAX_BYTES};
 use crate::debug::debug_info::Die;
 use crate::debug::variables::location::Locator;
-use crate::debug::variables::place::Missing;
 use crate::debug::variables::types::{is_fortran, plain};
-use crate::elf::target::Order;
+use crate::debug::variables::value_location::Missing;
+use dwcheck_types::target::Order;
 use gimli::{AttributeValue, DwAte};
 
 const NO_SUCH_ENCODING: Missing = Missing::Unsupported("a type of this encoding");
@@ -25,7 +25,7 @@ impl<'v, 'a> Locator<'v, 'a> {
             gimli::DW_ATE_float => self.real(kind, &bytes),
             _ => shown(encoding, &bytes),
         };
-        number.map(Value::Plain).ok_or(NO_SUCH_ENCODING)
+        number.map(Value::Scalar).ok_or(NO_SUCH_ENCODING)
     }
 
     /// A complex number: its real part, then its imaginary one.
@@ -34,7 +34,7 @@ impl<'v, 'a> Locator<'v, 'a> {
         let (real, imaginary) = bytes.split_at(bytes.len() / 2);
         let number = |bytes: &[u8]| self.real(kind, &self.in_order(bytes.to_vec())).ok_or(NO_SUCH_ENCODING);
         let (real, imaginary) = (number(real)?, number(imaginary)?);
-        Ok(Value::Plain(match is_fortran(kind) {
+        Ok(Value::Scalar(match is_fortran(kind) {
             true => format!("({},{})", real, imaginary),
             false => format!("{} + {}i", real, imaginary),
         }))
@@ -59,7 +59,7 @@ impl<'v, 'a> Locator<'v, 'a> {
         let bytes = self.in_order(self.bytes(kind, part)?);
         let number = if is_signed(kind) { signed(&bytes).to_string() } else { unsigned(&bytes).to_string() };
         let text = characters.one(unsigned(&bytes) as u32);
-        Ok(Value::Plain(text.map_or_else(|| number.clone(), |text| format!("{} {}", number, text))))
+        Ok(Value::Scalar(text.map_or_else(|| number.clone(), |text| format!("{} {}", number, text))))
     }
 
     /// The bytes of a number with the least significant one first.

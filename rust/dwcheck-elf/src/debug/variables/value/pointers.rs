@@ -5,8 +5,8 @@ use super::numbers::unsigned;
 use super::{Part, Shape, Value};
 use crate::debug::debug_info::Die;
 use crate::debug::variables::location::Locator;
-use crate::debug::variables::place::{Missing, Place, Pointee};
 use crate::debug::variables::types::{is_function, plain, type_of};
+use crate::debug::variables::value_location::{Missing, Pointee, ValueLocation};
 use gimli::DebugInfoOffset;
 
 impl<'v, 'a> Locator<'v, 'a> {
@@ -18,7 +18,7 @@ impl<'v, 'a> Locator<'v, 'a> {
         let text = characters.and_then(|characters| Some((characters, self.text(at, characters, shape.length)?)));
         Ok(match text {
             Some((Characters { prefix, .. }, text)) => Value::Text { address, prefix, text },
-            None => Value::Plain(address),
+            None => Value::Scalar(address),
         })
     }
 
@@ -34,11 +34,11 @@ impl<'v, 'a> Locator<'v, 'a> {
         let address = format!("{:#x}", at);
         let target = match type_of(kind) {
             Some(target) if !plain(&target).map_or(false, |target| is_function(&target)) => target,
-            _ => return Ok(Value::Plain(address)),
+            _ => return Ok(Value::Scalar(address)),
         };
         let value = match shape.pointers.checked_sub(1) {
             Some(pointers) => self.size(&target).and_then(|size| {
-                let part = Part { place: &Place::Memory(at), size, offset: 0 };
+                let part = Part { place: &ValueLocation::Memory(at), size, offset: 0 };
                 self.part(&target, part, Shape { pointers, ..shape }, left)
             }),
             None => Ok(Value::Deeper),
@@ -60,8 +60,8 @@ impl<'v, 'a> Locator<'v, 'a> {
         let characters = pointed.as_ref().and_then(Characters::of);
         let value = match (&place, &pointee.name, characters) {
             // The compiler has an entry without a name and a type for the text.
-            (Place::Bytes(bytes), None, Some(characters)) => {
-                Value::Plain(characters.quoted(bytes, self.machine.target))
+            (ValueLocation::Bytes(bytes), None, Some(characters)) => {
+                Value::Scalar(characters.quoted(bytes, self.machine.target))
             }
             _ => self.value(type_of(&target).or(pointed).as_ref(), &place, Shape { pointers, ..shape }).ok()?,
         };

@@ -5,8 +5,8 @@ use super::numbers::unsigned;
 use super::{Part, Shape, Value};
 use crate::debug::debug_info::Die;
 use crate::debug::variables::location::Locator;
-use crate::debug::variables::place::Missing;
 use crate::debug::variables::types::{is_pointer, number, size_of, type_of};
+use crate::debug::variables::value_location::Missing;
 
 /// The types of texts of Rust and Go, which are an address and a number of bytes.
 const COUNTED: [&str; 3] = ["&str", "&mut str", "string"];
@@ -45,7 +45,7 @@ impl<'v, 'a> Locator<'v, 'a> {
     ) -> Result<Value, Missing> {
         let length = count.min(shape.length).saturating_mul(characters.width);
         let bytes = self.machine.bytes(part.place, part.size, part.offset, length)?;
-        Ok(Value::Plain(characters.quoted(&bytes, self.machine.target)))
+        Ok(Value::Scalar(characters.quoted(&bytes, self.machine.target)))
     }
 
     /// A text of Rust or Go: an address and a number of bytes. `None` if the type isn't that of such texts, or

@@ -4,8 +4,8 @@ use super::numbers::{cut, unsigned};
 use super::Part;
 use crate::debug::debug_info::Die;
 use crate::debug::variables::location::Locator;
-use crate::debug::variables::place::Missing;
 use crate::debug::variables::types::{number, type_of};
+use crate::debug::variables::value_location::Missing;
 
 impl<'v, 'a> Locator<'v, 'a> {
     /// What is there of the variants of a structure: the children of the one that the discriminant names, or

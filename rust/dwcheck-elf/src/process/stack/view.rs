@@ -1,0 +1,37 @@
+//! What walks without rows have to know of the process of a core file.
+
+use super::Stacks;
+use crate::process::without_row::View;
+use dwcheck::Error;
+use dwcheck_types::abi::Abi;
+use dwcheck_types::target::Target;
+
+impl View for Stacks<'_> {
+    fn target(&self) -> Target {
+        self.core.target()
+    }
+
+    fn abi(&self) -> &'static Abi {
+        self.core.abi()
+    }
+
+    fn signed_bits(&self) -> u64 {
+        self.core.signed_bits()
+    }
+
+    fn read(&self, address: u64, bytes: &mut [u8]) -> usize {
+        self.memory.read_some(address, bytes)
+    }
+
+    fn is_executable(&self, address: u64) -> bool {
+        self.core.is_executable(address)
+    }
+
+    fn file_at(&self, address: u64) -> Option<usize> {
+        self.tables.borrow().module_at(address)
+    }
+
+    fn has_row(&self, address: u64) -> Result<bool, Error> {
+        self.tables.borrow_mut().covers(address)
+    }
+}

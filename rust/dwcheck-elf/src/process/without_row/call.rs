@@ -1,0 +1,54 @@
+//! Calls of x86 before an address.
+
+/// Whether bytes of x86 code end with a near call: e8 and four bytes, or ff, a ModRM byte whose
+/// middle bits are 2, and what this byte says that follows.
+pub fn ends_with_call(code: &[u8; 7]) -> bool {
+    let is_indirect = |length: usize| {
+        let (code, modrm) = (code[7 - length], code[8 - length]);
+        code == 0xff && modrm >> 3 & 7 == 2 && length_of(modrm) == length
+    };
+    code[2] == 0xe8 || [2, 3, 4, 6, 7].into_iter().any(is_indirect)
+}
+
+/// Where a near call leads that ends at an address, if it is one to a fixed address.
+pub(super) fn direct_target(code: &[u8; 7], end: u64) -> Option<u64> {
+    match *code {
+        [_, _, 0xe8, a, b, c, d] => Some(end.wrapping_add(i64::from(i32::from_le_bytes([a, b, c, d])) as u64)),
+        _ => None,
+    }
+}
+
+/// The length of an instruction ff whose ModRM byte is this one.
+fn length_of(modrm: u8) -> usize {
+    let sib = usize::from(modrm & 7 == 4 && modrm >> 6 != 3);
+    let displacement = match (modrm >> 6, modrm & 7) {
+        (0, 5) | (2, _) => 4,
+        (1, _) => 1,
+        _ => 0,
+    };
+    2 + sib + displacement
+}
+
+#[cfg(test)]
+mod tests {
+    use super::ends_with_call;
+
+    /// Calls as GNU as encodes them.
+    #[test]
+    fn calls() {
+        for (call, is_call) in [
+            (&[0x90, 0x90, 0xe8, 1, 2, 3, 4][..], true),
+            (&[0x90, 0x90, 0x90, 0x90, 0x90, 0xff, 0xd0], true), // call *%rax
+            (&[0x90, 0x90, 0x90, 0x90, 0xff, 0x14, 0x24], true), // call *(%rsp)
+            (&[0x90, 0x90, 0x90, 0x90, 0xff, 0x50, 0x08], true), // call *8(%rax)
+            (&[0x90, 0x90, 0x90, 0xff, 0x54, 0x24, 0x08], true), // call *8(%rsp)
+            (&[0x90, 0xff, 0x15, 1, 2, 3, 4], true),             // call *0x4030201(%rip)
+            (&[0xff, 0x94, 0x24, 0, 1, 0, 0], true),             // call *256(%rsp)
+            (&[0x90, 0x90, 0x90, 0x90, 0x90, 0xff, 0xe0], false), // jmp *%rax
+            (&[0x90, 0x90, 0x90, 0x90, 0x90, 0x90, 0xc3], false),
+            (&[0x90, 0x90, 0x90, 0x90, 0x90, 0xff, 0x50], false),
+        ] {
+            assert_eq!(ends_with_call(call.try_into().unwrap()), is_call, "{:x?}", call);
+        }
+    }
+}
