@@ -1,10 +1,12 @@
 //! Look-ups in an `.eh_frame` section where it lies, by its `.eh_frame_hdr`.
 
+ghost use Rattle.std.specs.Prelude.{◌<◌, ◌^◌, length};
+
 use crate::inputs::{BASES, LITTLE};
-use dw_bytes::{Fault, FaultKind};
+use dw_bytes::{Fault, OUT_OF_MEMORY};
 use dw_eh_rows::check_eh_frame;
-use dw_in_place::{SearchTable, leads_to_all, row_for_address_in, row_in_place};
-use dw_rows::{CfaRule, CheckedExpressions, RegisterRule, UnwindTableRow};
+use dw_in_place::{SearchTable, leads_to_all, row_for_address_in};
+use dw_rows::{CfaRule, CheckedExpressions, UnwindTableRow};
 use dw_rules::UnwindContext;
 use std::test::Fail;
 
@@ -46,89 +48,62 @@ fn reads_headers(rt: HostRuntime) {
     assert!(rt; SearchTable::read(&SECTION, LITTLE, 0x3000).is_none());
 }
 
+/// The row of an address: its FDE's offset, where it begins and ends, and whether its CFA is an
+/// expression.
+fn look_up<'a>(
+    section: &'a [u8],
+    table: &SearchTable<'_>,
+    address: u64,
+    expressions: &mut CheckedExpressions<'a>,
+) -> Result<Option<(u32, u64, u64, bool)>, Fault>
+    requires { length section.now < 2 ^ 32 }
+{
+    let mut context = UnwindContext::new();
+    let mut row = UnwindTableRow::empty();
+    match row_for_address_in(
+        section,
+        table,
+        BASES,
+        false,
+        address,
+        &mut context,
+        expressions,
+        &mut row,
+    ) {
+        Ok(Some(fde)) => {
+            let by_expression = matches!(&row.cfa(), CfaRule::Expression { .. });
+            Ok(Some((
+                fde.fde.offset,
+                row.start_address(),
+                row.end_address(),
+                by_expression,
+            )))
+        }
+        Ok(None) => Ok(None),
+        Err(fault) => Err(fault),
+    }
+}
+
 #[test]
 fn finds_rows_in_place(rt: HostRuntime) -> Result<(), Fail> {
     let table = SearchTable::read(&HEADER, LITTLE, 0x3000).expect(&rt, "a table");
-    let mut context = UnwindContext::new();
-    let mut expressions = CheckedExpressions::with_room(rt.alloc(), 4)?;
-    let mut row = UnwindTableRow::empty();
-    let found = row_for_address_in(
-        &SECTION,
-        &table,
-        BASES,
-        false,
-        0x1001,
-        &mut context,
-        &mut expressions,
-        &mut row,
-    )?;
-    let fde = found.expect(&rt, "an FDE");
-    assert!(rt; fde.fde.offset == 0x18 && fde.cie.cie.return_address_register == 16);
-    assert!(rt; row.start_address() == 0x1001 && row.end_address() == 0x1020);
-    assert!(rt;
-        matches!(
-            &row.cfa(),
-            CfaRule::RegisterAndOffset {
-                register: 7,
-                offset: 16
-            }
-        )
-    );
-    assert!(rt; matches!(&row.register(6), RegisterRule::Offset(-16)));
-    Ok(())
-}
-
-#[test]
-fn checks_expressions_in_their_room(rt: HostRuntime) -> Result<(), Fail> {
-    let mut context = UnwindContext::new();
     let mut expressions = CheckedExpressions::with_room(rt.alloc(), 1)?;
-    let mut row = UnwindTableRow::empty();
-    let found = row_in_place(
-        &SECTION,
-        LITTLE,
-        BASES,
-        false,
-        0x30,
-        0x102a,
-        &mut context,
-        &mut expressions,
-        &mut row,
-    )?;
-    assert!(rt; found.is_some());
-    match row.cfa() {
-        CfaRule::Expression { offset, expression } => {
-            assert!(rt; offset == 0x46 && expression.operation_count() == 9);
-        }
-        CfaRule::RegisterAndOffset { .. } => panic!(rt; "an expression"),
-    }
-    Ok(())
-}
-
-#[test]
-fn says_what_is_wrong(rt: HostRuntime) -> Result<(), Fail> {
-    let mut context = UnwindContext::new();
+    let before = look_up(&SECTION, &table, 0xfff, &mut expressions);
+    assert!(rt; before == Ok(None));
+    let first = look_up(&SECTION, &table, 0x1000, &mut expressions);
+    assert!(rt; first == Ok(Some((0x18, 0x1000, 0x1001, false))));
+    let last = look_up(&SECTION, &table, 0x101f, &mut expressions);
+    assert!(rt; last == Ok(Some((0x18, 0x1001, 0x1020, false))));
+    let by_expression = look_up(&SECTION, &table, 0x102a, &mut expressions);
+    assert!(rt; by_expression == Ok(Some((0x30, 0x102a, 0x1030, true))));
+    let after = look_up(&SECTION, &table, 0x1030, &mut expressions);
+    assert!(rt; after == Ok(None));
+    let lying = SearchTable::read(&LYING, LITTLE, 0x3000).expect(&rt, "a table");
+    let wrong = look_up(&SECTION, &lying, 0x102a, &mut expressions);
+    assert!(rt; wrong == Ok(None));
     let mut none = CheckedExpressions::with_room(rt.alloc(), 0)?;
-    let mut row = UnwindTableRow::empty();
-    let found = row_in_place(
-        &SECTION,
-        LITTLE,
-        BASES,
-        false,
-        0x30,
-        0x1020,
-        &mut context,
-        &mut none,
-        &mut row,
-    );
-    assert!(rt;
-        matches!(
-            &found,
-            Err(Fault {
-                kind: FaultKind::Memory,
-                at: 0
-            })
-        )
-    );
+    let without_room = look_up(&SECTION, &table, 0x1020, &mut none);
+    assert!(rt; without_room == Err(OUT_OF_MEMORY));
     Ok(())
 }
 
