@@ -267,7 +267,10 @@ impl<'data> Frames<'data> {
     ///
     /// [`Error::Refused`] with the first fault; or [`Error::NoMemory`].
     pub fn check(&self) -> Result<Counts, Error> {
-        self.section.format.section(self.bytes()).check().map(Counts::of)
+        let counts = self.section.format.section(self.bytes()).check().map(Counts::of)?;
+        // For the library a record that is left out is a CIE.
+        let cies = self.used().filter(|record| record.is_cie()).count();
+        Ok(Counts { cies, ..counts })
     }
 
     /// Makes a process with this section as its only module, which is loaded at `load` and answers
