@@ -19,7 +19,7 @@ sum() {
 }
 
 names() { # the crates that the program and the library are made of, but the library's own
-    sed -n 's/^\([a-z_]*\)\( staticlib\)\?:.*/\1/p' crates.txt | grep -vxE 'dw_tests|dw_times|worked_rows|dwcheck_c'
+    sed -n 's/^\([a-z_]*\)\( staticlib\)\?:.*/\1/p' crates.txt | grep -vxE 'dw_tests|dw_times|dw_in_place|worked_rows|dwcheck_c'
 }
 
 stop() { # LOG: shows why a command failed
@@ -43,7 +43,7 @@ prove_copy() { # FOLDER: proves a copy of the crates there
     done
     grep -E "^($(names | tr '\n' '|')none)( staticlib)?:" crates.txt > "$1/crates.txt"
     cp HANDLES "$1/"
-    echo "proving $(names | wc -l) crates, but for those that were proved on this machine before; in all about half an hour on 4 processors"
+    echo "proving $(names | wc -l) crates, but for those that were proved on this machine before; in all about an hour on 4 processors"
     (cd "$1" && rt ci 2>&1 < /dev/null) | tee build/log |
         sed -un 's/^rt: \([a-z_]*\) \(proved\|NOT PROVED\)$/\1 \2/p' || stop build/log
 }
