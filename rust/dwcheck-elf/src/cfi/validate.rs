@@ -16,7 +16,6 @@ pub(crate) use comparable::comparable;
 pub use dwcheck_rows::{validate_rows, DwcheckRows};
 pub use gimli_rows::GimliRows;
 
-
 /// The first difference between what gimli reads and what the library reads.
 #[derive(Clone, Debug, PartialEq, Eq)]
 pub struct Difference {
