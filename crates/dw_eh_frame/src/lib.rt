@@ -13,5 +13,5 @@ mod records;
 
 pub use augmentation::Augmentation;
 pub use pointer::{Bases, PointerBase, PointerEncoding, PointerFormat};
-pub use record::{EhCie, EhFde, EhRecord, eh_record, eh_record_after};
+pub use record::{EhCie, EhFde, EhRecord, eh_record, eh_record_after, usual_fde};
 pub use records::{EhRecords, eh_records, eh_records_with_copies};

@@ -301,7 +301,7 @@ const USUAL_ADDRESSES: PointerEncoding = PointerEncoding {
 /// encoding but the usual one is compiled.
 #[inline(always)]
 #[tactic(auto, unfolding(crate::specs::Records::eh_record_at, crate::specs::Records::eh_body_at, crate::specs::Records::eh_full_at))]
-pub(crate) fn usual_fde<'a>(
+pub fn usual_fde<'a>(
     section: &'a [u8],
     target: Target,
     bases: Bases,

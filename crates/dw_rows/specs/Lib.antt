@@ -29,3 +29,5 @@ pub mod QuickCheck
 pub mod RowCursors
 -- FDEs in order of offset and of address, the address index, and what a checked section stores
 pub mod Overlap
+-- the expressions that have passed their check
+pub mod KeptExpressions

@@ -1,12 +1,13 @@
 //! The checked expressions of a section, in a list that grows while the section's programs are
 //! checked.
 
-ghost use Rattle.std.specs.Prelude.{◌≡◌, [], ◌∷◌, ◌++◌, Some, OnOk, IfOk};
-ghost use Rattle.dw_bytes.specs.Answers.{Answers};
+ghost use Rattle.std.specs.Prelude.{◌≡◌, [], ◌∷◌, ◌++◌, Some, OnOk, IfErr, IfOk};
+ghost use Rattle.dw_bytes.specs.Answers.{Answers, memory};
 ghost use Rattle.dw_frame.specs.Views.{instruction_of, expression_of};
 ghost use Rattle.dw_stack.specs.Located.{located_as, located_fault};
 ghost use Rattle.dw_rules.specs.Expressions.{expression_in, list_of};
 
+use crate::few_expressions::FewExpressions;
 use dw_bytes::{Fault, FaultKind, OUT_OF_MEMORY};
 use dw_frame::{CallFrameInstruction, UnwindExpression};
 use dw_stack::{CheckedExpression, Kind, check_expression};
@@ -17,33 +18,41 @@ use std::marker::Model;
 /// allocates nothing for it.
 const SHORT: usize = 16;
 
+/// Where checked expressions are, each with the offset of its first byte in the section.
+#[derive(Drop)]
+pub enum Kept<'a> {
+    /// In the value itself, if there are any: then nothing is allocated.
+    Few(Option<FewExpressions<'a>>),
+    /// In an allocation that grows.
+    Many(Vec<(u32, CheckedExpression<'a>)>),
+}
+
 /// The expressions that have passed their check, in the order in which they were checked. Each has
 /// the offset of its first byte in the section.
 ///
 /// ```rust
-/// let mut checked = CheckedExpressions::with_room(alloc, 64)?;
+/// let mut checked = CheckedExpressions::few(alloc);
 /// check_cie_program(&mut context.state, &mut checked, &cie)?; // allocates nothing
 /// ```
 #[derive(Drop)]
 pub struct CheckedExpressions<'a> {
     alloc: Global,
-    kept: Vec<(u32, CheckedExpression<'a>)>,
-    /// Whether a check may allocate memory.
-    may_grow: bool,
+    kept: Kept<'a>,
 }
 
 impl<'a> Model for CheckedExpressions<'a> {
     ghost use Rattle.std.specs.Prelude.{List};
-    ghost use Rattle.dw_stack.specs.Located.{LocatedExpression, all_located};
+    ghost use Rattle.dw_stack.specs.Located.{LocatedExpression};
+    ghost use Rattle.dw_rows.specs.KeptExpressions.{kept_in};
 
     ghost Value = { List LocatedExpression };
 
-    ghost view = { λ j. all_located j.kept.items };
+    ghost view = { λ j. kept_in j.kept };
 }
 
 impl<'a> CheckedExpressions<'a> {
     ghost use Rattle.std.specs.Prelude.{length};
-    ghost use Rattle.dw_stack.specs.Located.{all_located};
+    ghost use Rattle.dw_stack.specs.Located.{all_located, located_of};
 
     /// An empty list.
     pub fn new(alloc: Global) -> Self
@@ -51,28 +60,29 @@ impl<'a> CheckedExpressions<'a> {
     {
         CheckedExpressions {
             alloc,
-            kept: Vec::new(alloc),
-            may_grow: true,
+            kept: Kept::Many(Vec::new(alloc)),
         }
     }
 
-    /// An empty list with room for `count` expressions. Checks that add to it allocate nothing: for
-    /// an expression more, and for one of more than 16 bytes, they report `Memory`.
-    pub fn with_room(alloc: Global, count: usize) -> Result<Self, AllocError>
-        ensures { IfOk result (λ list. list ≡ []) }
+    /// An empty list in which checks allocate nothing. For an expression more than `MAX_FEW`, and for
+    /// one of more than 16 bytes, they report `Memory`.
+    pub fn few(alloc: Global) -> Self
+        ensures { result ≡ [] }
     {
-        Ok(CheckedExpressions {
+        CheckedExpressions {
             alloc,
-            kept: Vec::with_capacity(alloc, count)?,
-            may_grow: false,
-        })
+            kept: Kept::Few(None),
+        }
     }
 
-    /// Removes all expressions. Their room stays.
+    /// Removes all expressions.
     pub fn clear(&mut self)
         ensures { self.new ≡ [] }
     {
-        self.kept.clear();
+        match &mut self.kept {
+            Kept::Few(few) => *few = None,
+            Kept::Many(many) => many.clear(),
+        }
     }
 
     /// All expressions, in the order in which they were checked, each with the offset of its first
@@ -80,21 +90,26 @@ impl<'a> CheckedExpressions<'a> {
     pub fn as_slice(&self) -> &[(u32, CheckedExpression<'a>)]
         ensures { all_located result.now ≡ self.now }
     {
-        self.kept.as_slice()
+        match &self.kept {
+            Kept::Few(None) => &[],
+            Kept::Few(Some(few)) => few.as_slice(),
+            Kept::Many(many) => many.as_slice(),
+        }
     }
 
     /// How many expressions there are.
     pub fn count(&self) -> usize
         ensures { result ≡ length self.now }
     {
-        self.kept.len()
+        self.as_slice().len()
     }
 
-    /// Returns all expressions, in the order in which they were checked.
-    pub fn into_kept(self) -> Vec<(u32, CheckedExpression<'a>)>
-        ensures { all_located result.items ≡ self.entry }
+    /// Copies all expressions, in the order in which they were checked, to an array without spare
+    /// room.
+    pub fn to_vec(&self) -> Result<Vec<(u32, CheckedExpression<'a>)>, AllocError>
+        ensures { IfOk result (λ copy. all_located copy.items ≡ self.now) }
     {
-        self.kept
+        Vec::from_slice(self.alloc, self.as_slice())
     }
 
     /// Checks the expression of an instruction, if the instruction has one, and appends the
@@ -120,11 +135,34 @@ impl<'a> CheckedExpressions<'a> {
         }
     }
 
-    /// Whether checking and storing this expression might allocate memory that may not be allocated.
+    /// Whether the check of this expression might allocate memory that may not be allocated.
     #[inline(always)]
     fn lacks_room(&self, found: &UnwindExpression<'a>) -> bool {
-        !self.may_grow
-            && (found.expression.bytes().len() > SHORT || self.kept.len() == self.kept.capacity())
+        match &self.kept {
+            Kept::Few(_) => found.expression.bytes().len() > SHORT,
+            Kept::Many(_) => false,
+        }
+    }
+
+    /// Appends a checked expression.
+    fn push(&mut self, item: (u32, CheckedExpression<'a>)) -> Result<(), Fault>
+        ensures pushed { OnOk result (self.new ≡ self.old ++ located_of item.entry ∷ []) }
+        ensures refused { IfErr result (λ fault. fault ≡ memory) }
+    {
+        match &mut self.kept {
+            Kept::Few(None) => self.kept = Kept::Few(Some(FewExpressions::of(item))),
+            Kept::Few(Some(few)) => {
+                if !few.push(item) {
+                    return Err(OUT_OF_MEMORY);
+                }
+            }
+            Kept::Many(many) => {
+                if many.push(item).is_err() {
+                    return Err(OUT_OF_MEMORY);
+                }
+            }
+        }
+        Ok(())
     }
 
     /// Checks an expression under the kind `kind`, and appends it to the list. A fault has its
@@ -140,7 +178,7 @@ impl<'a> CheckedExpressions<'a> {
         }
         match check_expression(self.alloc, found.expression, kind) {
             Ok(checked) => {
-                self.kept.push((found.offset, checked))?;
+                self.push((found.offset, checked))?;
                 Ok(())
             }
             Err(fault) if fault.kind == FaultKind::Memory => Err(OUT_OF_MEMORY),

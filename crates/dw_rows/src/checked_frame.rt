@@ -189,7 +189,7 @@ fn check_programs<'a>(
     let rows = check_fdes(&mut context, &mut checked, cies, &initial, fdes)?;
     Ok(CheckedPrograms {
         initial,
-        expressions: checked.into_kept(),
+        expressions: checked.to_vec()?,
         in_cies,
         rows,
     })

@@ -5,6 +5,7 @@
 mod checked_expressions;
 mod checked_frame;
 mod cie_search;
+mod few_expressions;
 mod index;
 pub mod laws;
 mod lookup;
@@ -20,8 +21,10 @@ pub use dw_rules::{
     Abi, CfaRule, MAX_KEPT, MAX_REMEMBERED, MAX_RULES, PlainRules, RegisterRule, RegisterRules,
     UnwindRow, UnwindTableRow,
 };
+pub use few_expressions::MAX_FEW;
 pub use index::IndexEntry;
-pub use lookup::write_row_at;
+pub use lookup::{lend_row, seek_row, write_row_at};
 pub use program_checks::{check_cie, check_cie_program, check_fde, quick_or_full_check};
+pub use quick_check::quick_row_count;
 pub use row_cursor::{begin_rows, next_range};
 pub use row_iter::Rows;

@@ -1,4 +1,4 @@
-use Rattle.std.proofs.Common.{◌≡◌, None, ap, refl}
+use Rattle.std.proofs.Common.{ap, refl}
 use Rattle.dw_rules.specs.InForce.{implied_cfa}
 use Rattle.dw_rows.proofs.laws.cie_programs_begin_with_no_rules.Goals as goal
 

@@ -2,10 +2,10 @@ use Rattle.std.proofs.Common.{◌+◌, ◌-◌, ◌≤◌, List, ◌∷◌, leng
 use Rattle.dw_frame.specs.Views.{cie_of, fde_of}
 use Rattle.dw_rules.specs.RuleSet.{StoredRules}
 use Rattle.dw_rows.specs.RowCursors.{cursor_at, Seeks, above}
-use Rattle.dw_rows.proofs.lookup.+write_row_in_bracket.Given as goal
+use Rattle.dw_rows.proofs.lookup.+seek_in_bracket.Given as goal
 
-abbrev pub decreases-write_row_in_bracket : goal.decreases-write_row_in_bracket
-decreases-write_row_in_bracket l = length l.instructions.now
+abbrev pub decreases-seek_in_bracket : goal.decreases-seek_in_bracket
+decreases-seek_in_bracket l = length l.instructions.now
 
 abbrev pub invariant-loop-start : goal.invariant-loop-start
 invariant-loop-start l = record {
