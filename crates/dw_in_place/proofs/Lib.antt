@@ -6,3 +6,4 @@ pub mod AtOffset
 pub mod SameRow
 pub mod Sections
 pub mod Following
+pub mod InForce

@@ -1,6 +1,7 @@
 -- What look-ups in place give in a section without fault.
-use Rattle.std.proofs.Common.{◌≡◌, ℕ, zero, suc, ◌<◌, Bool, true, false, cond, List, [], ◌∷◌, length, Option, Some, None, Result, Ok, Contains, refl, sym, ap, subst, ◌∙◌, arith}
+use Rattle.std.proofs.Common.{◌≡◌, ℕ, zero, suc, ◌<◌, Bool, true, false, cond, List, [], ◌∷◌, ◌++◌, length, Option, Some, None, Result, Ok, Contains, refl, sym, ap, subst, ◌∙◌, arith}
 use Rattle.std.proofs.lemmas.Bool.{lt-ltb}
+use Rattle.std.proofs.lemmas.List.{length-append}
 use Rattle.dw_bytes.specs.declared.target.Target.{Target}
 use Rattle.dw_bytes.specs.declared.fault.Fault.{Fault}
 use Rattle.dw_frame.specs.Records.{Cie, Fde, Record, cie_record, fde_record, cies_among}
@@ -18,11 +19,12 @@ use Rattle.dw_eh_rows.specs.Section.{eh_frame_of}
 use Rattle.dw_eh_rows.specs.Signals.{eh_fdes}
 use Rattle.dw_eh_rows.proofs.Among.{later, eh-record, fde-record}
 use Rattle.dw_eh_rows.proofs.WholeSections.{IsFaultless as IsFaultlessSection, read-of}
-use Rattle.dw_in_place.specs.InPlace.{alone, unless_fault, fde_at, fde_in_place_fault, row_of_fde}
-use Rattle.dw_in_place.specs.LookUps.{LeadsToAll, offset_by, fde_by_entry, row_by}
+use Rattle.dw_in_place.specs.InPlace.{alone, lying, unless_fault, fde_at, fde_in_place_fault, row_of_fde}
+use Rattle.dw_in_place.specs.LookUps.{GivesRow, LeadsToAll, record_offset, fde_by_entry}
 use Rattle.dw_in_place.specs.SearchTables.{Table, Finds}
 use Rattle.dw_in_place.proofs.AtOffset.{fde-at-is, covering-is, covers-so, covers-then}
 use Rattle.dw_in_place.proofs.Entries.{found-entry, one-entry}
+use Rattle.dw_in_place.proofs.Following.{fde-still}
 use Rattle.dw_in_place.proofs.OneFde.{IsFaultless, no-fault, alone-checked}
 use Rattle.dw_in_place.proofs.ReadInOrder.{ReadsFde, reads-fde}
 use Rattle.dw_in_place.proofs.SameRow.{row-in-place}
@@ -131,72 +133,74 @@ same-row-in-place is_aarch64 bases target section facts e among kept a here =
 -- ---- look-ups by a table
 
 -- what a look-up gives: the row that the section has
-pub record GivesRow (is_aarch64 : Bool) (bases : Bases) (section : List ℕ) (t : Table) (a : ℕ) (entry : Option ℕ) : Type 0 where
-  pub found : Option EhFde
-  pub is : fde_by_entry is_aarch64 bases section t a entry ≡ Ok found
-  pub row : row_by t.target section a found ≡ row_of (eh_frame_of is_aarch64 bases t.target section) a
 
 -- an address that no FDE covers has no row
-no-row : (is_aarch64 : Bool) (bases : Bases) (section : List ℕ) (t : Table) (a : ℕ)
-    → ((f : Fde) → Contains (eh_frame_of is_aarch64 bases t.target section).fdes f → ¬ Covers f a)
-    → None ≡ row_of (eh_frame_of is_aarch64 bases t.target section) a
-no-row is_aarch64 bases section t a none = sym (row-none (eh_frame_of is_aarch64 bases t.target section) a none)
+no-row : (is_aarch64 : Bool) (bases : Bases) (target : Target) (section : List ℕ) (a : ℕ)
+    → ((f : Fde) → Contains (eh_frame_of is_aarch64 bases target section).fdes f → ¬ Covers f a)
+    → None ≡ row_of (eh_frame_of is_aarch64 bases target section) a
+no-row is_aarch64 bases target section a none = sym (row-none (eh_frame_of is_aarch64 bases target section) a none)
 
 -- if the FDE covers an address, it covers some
 some-address : (f : Fde) (a : ℕ) → Covers f a → 0 < f.address_range
 some-address f a here = let low = here.0 in let high = here.1 in omega arith
 
-pub gives-row : (is_aarch64 : Bool) (bases : Bases) (section : List ℕ) (t : Table) → SectionFacts is_aarch64 bases t.target section
-    → LeadsToAll t bases.section (eh_frame_of is_aarch64 bases t.target section).fdes → (a : ℕ) (entry : Option ℕ) → Finds t a entry
-    → GivesRow is_aarch64 bases section t a entry
-gives-row is_aarch64 bases section t facts leads a None finds = record {
+pub gives-row : (is_aarch64 : Bool) (bases : Bases) (target : Target) (section more : List ℕ) (t : Table)
+    → SectionFacts is_aarch64 bases target section
+    → LeadsToAll t bases.section (eh_frame_of is_aarch64 bases target section).fdes → (a : ℕ) (entry : Option ℕ) → Finds t a entry
+    → GivesRow (lying is_aarch64 bases target (section ++ more)) t a entry (row_of (eh_frame_of is_aarch64 bases target section) a)
+gives-row is_aarch64 bases target section more t facts leads a None finds = record {
   found = None;
   is = refl;
-  row = no-row is_aarch64 bases section t a (λ f f_in here.
+  row_is = no-row is_aarch64 bases target section a (λ f f_in here.
       let led = leads.each f f_in (some-address f a here) in
       let found = found-entry t a led.entry None leads.in_order (led.each a here) finds in
       cc);
 }
-gives-row is_aarch64 bases section t facts leads a (Some k) finds =
-    let s = eh_frame_of is_aarch64 bases t.target section in
+gives-row is_aarch64 bases target section more t facts leads a (Some k) finds =
+    let s = eh_frame_of is_aarch64 bases target section in
+    let whole = section ++ more in
     let (f, f_in, named) = leads.only k finds.within in
-    let from = in-eh (read-of is_aarch64 bases t.target section) f (facts.only (fde_record f)
-    (fde-record (eh_frame_records is_aarch64 bases t.target section) f f_in)) in
+    let from = in-eh (read-of is_aarch64 bases target section) f (facts.only (fde_record f)
+    (fde-record (eh_frame_records is_aarch64 bases target section) f f_in)) in
     let e = from.fde in
     let kept : Contains s.fdes e.fde = subst (λ (g : Fde). Contains s.fdes g) (sym from.is) f_in in
-    let at : offset_by t bases.section k ≡ e.fde.offset = named ∙ ap (λ (g : Fde). g.offset) (sym from.is) in
+    let at : record_offset t bases.section k ≡ e.fde.offset = named ∙ ap (λ (g : Fde). g.offset) (sym from.is) in
     let sound = checked-fdes-sound s facts.accepted e.fde kept in
-    let inside : offset_by t bases.section k < length section =
-    omega (arith, at, sound.program.begins, sound.program.ends) in
-    let reads : fde_by_entry is_aarch64 bases section t a (Some k) ≡ fde_at is_aarch64 bases t.target section e.fde.offset a =
-    ap (λ b. cond b (fde_at is_aarch64 bases t.target section (offset_by t bases.section k) a) (fine None))
-    (lt-ltb (offset_by t bases.section k) (length section) inside)
-    ∙ ap (λ n. fde_at is_aarch64 bases t.target section n a) at in
+    let inside : record_offset t bases.section k < length whole =
+    omega (arith, at, sound.program.begins, sound.program.ends, length-append section more) in
+    let reads : fde_by_entry (lying is_aarch64 bases target whole) t a (Some k) ≡ fde_at is_aarch64 bases target whole e.fde.offset a =
+    ap (λ b. cond b (fde_at is_aarch64 bases target whole (record_offset t bases.section k) a) (fine None))
+    (lt-ltb (record_offset t bases.section k) (length whole) inside)
+    ∙ ap (λ n. fde_at is_aarch64 bases target whole n a) at in
     go e kept from.among at reads (covers a e.fde) refl
   where
-    go : (e : EhFde) → Contains (eh_frame_of is_aarch64 bases t.target section).fdes e.fde
-        → Contains (eh_fdes (read-of is_aarch64 bases t.target section)) e → offset_by t bases.section k ≡ e.fde.offset
-        → fde_by_entry is_aarch64 bases section t a (Some k) ≡ fde_at is_aarch64 bases t.target section e.fde.offset a
-        → (b : Bool) → covers a e.fde ≡ b → GivesRow is_aarch64 bases section t a (Some k)
+    go : (e : EhFde) → Contains (eh_frame_of is_aarch64 bases target section).fdes e.fde
+        → Contains (eh_fdes (read-of is_aarch64 bases target section)) e → record_offset t bases.section k ≡ e.fde.offset
+        → fde_by_entry (lying is_aarch64 bases target (section ++ more)) t a (Some k)
+        ≡ fde_at is_aarch64 bases target (section ++ more) e.fde.offset a
+        → (b : Bool) → covers a e.fde ≡ b
+        → GivesRow (lying is_aarch64 bases target (section ++ more)) t a (Some k) (row_of (eh_frame_of is_aarch64 bases target section) a)
     go e kept among at reads true inside =
         let here = covers-then a e.fde inside in
         record {
           found = Some e;
-          is = reads ∙ found-in-place is_aarch64 bases t.target section facts e among kept a here;
-          row = same-row-in-place is_aarch64 bases t.target section facts e among kept a here;
+          is = reads ∙ fde-still is_aarch64 bases target section more e.fde.offset a (Some e)
+              (found-in-place is_aarch64 bases target section facts e among kept a here);
+          row_is = same-row-in-place is_aarch64 bases target section facts e among kept a here;
         }
     go e kept among at reads false outside =
-        let good = good-fde is_aarch64 bases t.target section facts e among kept in
+        let good = good-fde is_aarch64 bases target section facts e among kept in
         record {
           found = None;
-          is = reads ∙ (fde-at-is is_aarch64 bases t.target section e.fde.offset a (eh_fde e) good.reads.after good.reads.read
+          is = reads ∙ fde-still is_aarch64 bases target section more e.fde.offset a None
+              (fde-at-is is_aarch64 bases target section e.fde.offset a (eh_fde e) good.reads.after good.reads.read
               ∙ ap (λ b. cond b (unless_fault (fde_in_place_fault e) e) (fine None)) outside);
-          row = no-row is_aarch64 bases section t a (λ g g_in here.
+          row_is = no-row is_aarch64 bases target section a (λ g g_in here.
               let led = leads.each g g_in (some-address g a here) in
               let one : led.entry ≡ k = one-entry t a led.entry k leads.in_order (led.each a here) finds in
-              let offsets : g.offset ≡ e.fde.offset = sym led.named ∙ (ap (offset_by t bases.section) one ∙ at) in
-              let same = ascending-same fde_offset (eh_frame_of is_aarch64 bases t.target section).fdes
-              (checked-fdes-ascend (eh_frame_of is_aarch64 bases t.target section) facts.accepted) g e.fde g_in kept offsets in
+              let offsets : g.offset ≡ e.fde.offset = sym led.named ∙ (ap (record_offset t bases.section) one ∙ at) in
+              let same = ascending-same fde_offset (eh_frame_of is_aarch64 bases target section).fdes
+              (checked-fdes-ascend (eh_frame_of is_aarch64 bases target section) facts.accepted) g e.fde g_in kept offsets in
               let covered = covers-so a e.fde (subst (λ (f : Fde). Covers f a) same here) in
               let clash : true ≡ false = sym covered ∙ outside in
               cc);

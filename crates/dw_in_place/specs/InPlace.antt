@@ -12,6 +12,17 @@ use Rattle.dw_eh_frame.specs.declared.pointer.Bases.{Bases}
 use Rattle.dw_eh_frame.specs.Records.{EhFde, eh_record_at, lost}
 use Rattle.dw_eh_rows.specs.Signals.{fde_in}
 
+-- A section where it lies: whether its programs are for aarch64, where it is, how its numbers are
+-- read, and its bytes.
+pub record SectionInPlace : Type 0 where
+  pub is_aarch64 : Bool
+  pub bases : Bases
+  pub target : Target
+  pub bytes : List ℕ
+
+abbrev pub lying : Bool → Bases → Target → List ℕ → SectionInPlace
+lying is_aarch64 bases target section = record { is_aarch64 = is_aarch64; bases = bases; target = target; bytes = section }
+
 -- ---- the first fault
 
 -- whether the CIE ends where the FDE begins, or before it, as it does in a section without gaps
@@ -40,6 +51,10 @@ covering a (Some e) = if covers a e.fde then unless_fault (fde_in_place_fault e)
 unfoldable pub fde_at : Bool → Bases → Target → List ℕ → ℕ → ℕ → Result (Option EhFde) Fault
 fde_at is_aarch64 bases target section at a =
     eh_record_at is_aarch64 bases section (section_from target section at) >>= λ found. covering a (fde_in found.0)
+
+-- what is read at an offset of a section that lies somewhere
+abbrev pub found_at : SectionInPlace → ℕ → ℕ → Result (Option EhFde) Fault
+found_at s at a = fde_at s.is_aarch64 s.bases s.target s.bytes at a
 
 -- ---- its row
 

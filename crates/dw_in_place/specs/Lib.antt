@@ -9,3 +9,5 @@ pub mod InPlace
 pub mod LookUps
 -- ---- What values of the code's types stand for.
 pub mod Views
+-- what a look-up in place keeps for the next one
+pub mod Known

@@ -9,8 +9,8 @@ ghost use Rattle.dw_eh_frame.specs.declared.pointer.Bases.{Bases};
 ghost use Rattle.dw_eh_frame.specs.Records.{EhFde, eh_records_of};
 ghost use Rattle.dw_eh_rows.specs.Section.{eh_frame_of, eh_section_fault};
 ghost use Rattle.dw_eh_rows.specs.Signals.{eh_fdes};
-ghost use Rattle.dw_in_place.specs.InPlace.{fde_at, row_of_fde};
-ghost use Rattle.dw_in_place.specs.LookUps.{LeadsToAll, fde_by_entry, row_by};
+ghost use Rattle.dw_in_place.specs.InPlace.{fde_at, lying, row_of_fde};
+ghost use Rattle.dw_in_place.specs.LookUps.{GivesRow, LeadsToAll};
 ghost use Rattle.dw_in_place.specs.SearchTables.{Table, Finds, IsEntryFor, IsInOrder, IsLastBy, location_in};
 
 /// In a table that is in order, an entry is that of an address if and only if it is the last one that
@@ -22,14 +22,12 @@ pub fn one_entry_in_order()
     ensures none { (t : Table) (a k : ℕ) → IsInOrder t → Finds t a None → k < t.count → a < location_in t k }
 {}
 
-/// Where a process's section ends needn't be known: if bytes follow it, they change neither what is
-/// found at an offset of the section without a fault, nor the row.
+/// Where a process's section ends needn't be known: if bytes follow it, they don't change what is
+/// found at an offset of the section without a fault.
 pub fn bytes_after_a_section_change_nothing()
-    ensures fde { (is_aarch64 : Bool) (bases : Bases) (target : Target) (section more : List ℕ) (at a : ℕ) (found : Option EhFde)
+    ensures { (is_aarch64 : Bool) (bases : Bases) (target : Target) (section more : List ℕ) (at a : ℕ) (found : Option EhFde)
         → fde_at is_aarch64 bases target section at a ≡ Ok found
         → fde_at is_aarch64 bases target (section ++ more) at a ≡ Ok found }
-    ensures row { (target : Target) (section more : List ℕ) (e : EhFde) (a : ℕ)
-        → row_of_fde target (section ++ more) e a ≡ row_of_fde target section e a }
 {}
 
 /// If `check_eh_frame` accepts a section, each of its FDEs that isn't left out as an exact copy has no
@@ -55,13 +53,18 @@ pub fn rows_in_place_are_those_of_the_section()
 
 /// If `check_eh_frame` accepts a section, and a table leads to all its FDEs, a look-up by the table
 /// has no fault, and gives the row that the section has, for each address; none where it has none.
+/// So it is if bytes follow the section.
 pub fn look_ups_find_all_rows()
-    ensures { (is_aarch64 : Bool) (bases : Bases) (section : List ℕ) (t : Table)
-        → eh_section_fault is_aarch64 bases t.target section ≡ None
-        → LeadsToAll t bases.section (eh_frame_of is_aarch64 bases t.target section).fdes
-        → (a : ℕ) (entry : Option ℕ) → Finds t a entry → (found : Option EhFde)
-        × (fde_by_entry is_aarch64 bases section t a entry ≡ Ok found)
-        × (row_by t.target section a found ≡ row_of (eh_frame_of is_aarch64 bases t.target section) a) }
+    ensures here { (is_aarch64 : Bool) (bases : Bases) (target : Target) (section : List ℕ) (t : Table)
+        → eh_section_fault is_aarch64 bases target section ≡ None
+        → LeadsToAll t bases.section (eh_frame_of is_aarch64 bases target section).fdes
+        → (a : ℕ) (entry : Option ℕ) → Finds t a entry
+        → GivesRow (lying is_aarch64 bases target section) t a entry (row_of (eh_frame_of is_aarch64 bases target section) a) }
+    ensures followed { (is_aarch64 : Bool) (bases : Bases) (target : Target) (section more : List ℕ) (t : Table)
+        → eh_section_fault is_aarch64 bases target section ≡ None
+        → LeadsToAll t bases.section (eh_frame_of is_aarch64 bases target section).fdes
+        → (a : ℕ) (entry : Option ℕ) → Finds t a entry
+        → GivesRow (lying is_aarch64 bases target (section ++ more)) t a entry (row_of (eh_frame_of is_aarch64 bases target section) a) }
 {
     dw_eh_frame::laws::sections_are_records();
     dw_eh_frame::laws::records_lie_one_after_another();

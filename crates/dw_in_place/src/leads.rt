@@ -6,11 +6,11 @@ ghost use Rattle.dw_frame.specs.Bounds.{Ascends};
 ghost use Rattle.dw_frame.specs.Records.{Fde};
 ghost use Rattle.dw_frame.specs.Views.{fde_of};
 ghost use Rattle.dw_rows.specs.Overlap.{fde_offset};
-ghost use Rattle.dw_in_place.specs.LookUps.{LeadsTo, LeadsToAll, offset_by};
+ghost use Rattle.dw_in_place.specs.LookUps.{LeadsTo, LeadsToAll, record_offset};
 ghost use Rattle.dw_in_place.specs.SearchTables.{location_in};
 ghost use Rattle.dw_in_place.specs.Views.{table_of};
 
-use crate::look_up::offset_of_record;
+use crate::record_offset::offset_of_record;
 use crate::search_table::SearchTable;
 use dw_frame::FrameDescriptionEntry;
 use dw_rows::CheckedFrame;
@@ -58,7 +58,7 @@ fn names_one(
     requires order { Ascends fde_offset (map fde_of fdes.now) }
     requires within { entry < (table_of table.now).count }
     ensures { IsTrue result ↔ ((f : Fde) × Contains (map fde_of fdes.now) f
-        × (offset_by (table_of table.now) start entry ≡ f.offset)) }
+        × (record_offset (table_of table.now) start entry ≡ f.offset)) }
 {
     let offset = offset_of_record(table, start, entry);
     match fdes.binary_search_by_key(&offset, |fde| u64::from(fde.offset)) {
@@ -71,7 +71,7 @@ fn names_one(
 fn names_only(table: &SearchTable<'_>, start: u64, fdes: &[FrameDescriptionEntry<'_>]) -> bool
     requires { Ascends fde_offset (map fde_of fdes.now) }
     ensures { IsTrue result ↔ ((k : ℕ) → k < (table_of table.now).count → (f : Fde)
-        × Contains (map fde_of fdes.now) f × (offset_by (table_of table.now) start k ≡ f.offset)) }
+        × Contains (map fde_of fdes.now) f × (record_offset (table_of table.now) start k ≡ f.offset)) }
 {
     for entry in 0..table.count() {
         if !names_one(table, start, entry, fdes) {

@@ -2,13 +2,17 @@
 //! table of `.eh_frame_hdr`, and its row from that record and its CIE alone (LSB Core, section 10.6).
 #![tactic(auto)]
 
+mod frame_in_place;
 mod in_place;
 pub mod laws;
 mod leads;
 mod look_up;
+mod record_offset;
 mod search_table;
+mod section_in_place;
 
-pub use in_place::row_in_place;
+pub use frame_in_place::FrameInPlace;
 pub use leads::leads_to_all;
-pub use look_up::row_for_address_in;
+pub use look_up::{LookUpMemory, row_for_address_in, row_in_place};
 pub use search_table::SearchTable;
+pub use section_in_place::SectionInPlace;

@@ -1,91 +1,119 @@
-//! The row of an address by the search table of `.eh_frame_hdr`, and then in place.
+//! A single look-up in an `.eh_frame` section where it lies.
 
-ghost use Rattle.std.specs.Prelude.{ℕ, ◌≡◌, ◌⊎◌, ◌+◌, ◌-◌, ◌<◌, ◌^◌, length, IfOk, IfSome, IfNone, OnErr, MatchResult, Option, Ok, Err, Some, option_map};
-ghost use Rattle.dw_bytes.specs.Answers.{memory};
-ghost use Rattle.dw_eh_frame.specs.Pointers.{wrapped};
+ghost use Rattle.std.specs.Prelude.{ℕ, ◌≡◌, ◌⊎◌, ◌≤◌, length, IfOk, IfSome, MatchResult, Option, Some, Ok, Err, option_map};
+ghost use Rattle.dw_bytes.specs.Answers.{memory as out_of_memory};
+ghost use Rattle.dw_rows.specs.Section.{IsChecked};
 ghost use Rattle.dw_eh_frame.specs.Views.{eh_fde_of};
-ghost use Rattle.dw_in_place.specs.InPlace.{row_of_fde};
-ghost use Rattle.dw_in_place.specs.LookUps.{fde_by_entry, offset_by};
+ghost use Rattle.dw_in_place.specs.InPlace.{alone, found_at, row_of_fde};
+ghost use Rattle.dw_in_place.specs.LookUps.{fde_by_entry};
 ghost use Rattle.dw_in_place.specs.SearchTables.{Finds};
-ghost use Rattle.dw_in_place.specs.Views.{table_of};
+ghost use Rattle.dw_in_place.specs.Views.{section_of, table_of};
 
-use crate::in_place::row_in_place;
+use crate::in_place::{KnownCie, covering_fde, find_by_check, lend_checked};
+use crate::record_offset::offset_of_record;
 use crate::search_table::SearchTable;
-use dw_bytes::{AddressSize, Fault, Target};
-use dw_eh_frame::{Bases, EhFde};
-use dw_rows::{CheckedExpressions, UnwindTableRow};
-use dw_rules::UnwindContext;
+use crate::section_in_place::SectionInPlace;
+use dw_bytes::Fault;
+use dw_eh_frame::EhFde;
+use dw_rows::{CheckedExpressions, UnwindRow};
+use dw_rules::UnwindState;
+use std::alloc::Global;
 
-/// How far the address `to` is after the address `from`.
-#[inline(always)]
-fn distance(target: Target, from: u64, to: u64) -> u64
-    ensures { result ≡ wrapped target (to + (2 ^ 64 - from)) }
-{
-    let far = to.wrapping_sub(from);
-    match target.address_size {
-        AddressSize::Four => far % 0x1_0000_0000,
-        AddressSize::Eight => far,
+/// Working memory of a look-up, of 5 KB: the state in which programs run, and their checked
+/// expressions, which the row borrows. It may have any contents, so use it for many look-ups.
+#[derive(Drop)]
+pub struct LookUpMemory<'a> {
+    known: KnownCie<'a>,
+    expressions: CheckedExpressions<'a>,
+}
+
+impl<'a> LookUpMemory<'a> {
+    /// Memory that no look-up has used. Nothing is allocated, now or later.
+    pub fn new(alloc: Global) -> Self {
+        LookUpMemory {
+            known: KnownCie {
+                cie: None,
+                state: UnwindState::new(),
+            },
+            expressions: CheckedExpressions::few(alloc),
+        }
     }
 }
 
-/// The offset of the record that an entry of a table names, in a section that begins at the address
-/// `start`. It may be past the section's end.
-#[inline(always)]
-pub(crate) fn offset_of_record(table: &SearchTable<'_>, start: u64, entry: u32) -> u64
-    requires { entry < (table_of table.now).count }
-    ensures { result ≡ offset_by (table_of table.now) start entry }
+/// The row of an address, from the record at the offset `at` of a section, and the FDE that it is,
+/// with its CIE. Only these two records are read, and nothing is allocated. `None` if the record
+/// isn't an FDE, or doesn't cover the address; then nothing is checked.
+///
+/// The error is the first fault, with its offset in the section: a fault of `eh_record`; `NoSuchCie`
+/// (9) at the CIE pointer, if the CIE ends after the FDE begins; a fault of the CIE's program, or
+/// else of the FDE's, up to its end, as `check_fde` of `dw_rows` reports it. `Memory` (60), at 0,
+/// says that both programs have more than `MAX_FEW` expressions, or one of more than 16 bytes. It
+/// takes time in proportion to the bytes of the two records.
+pub fn row_in_place<'p, 'a>(
+    section: &SectionInPlace<'a>,
+    at: u32,
+    address: u64,
+    memory: &'p mut LookUpMemory<'a>,
+) -> Result<Option<(UnwindRow<'p, 'a>, EhFde<'a>)>, Fault>
+    requires { at ≤ length section.now.bytes.now }
+    ensures fde { MatchResult result
+        (λ found. found_at (section_of section.now) at address ≡ Ok (option_map (λ f. eh_fde_of f.1) found))
+        (λ fault. (fault ≡ out_of_memory) ⊎ (found_at (section_of section.now) at address ≡ Err fault)) }
+    ensures row { IfOk result (λ found. IfSome found (λ f.
+        row_of_fde section.now.target section.now.bytes.now (eh_fde_of f.1) address ≡ Some f.0)) }
+    ensures checked { IfOk result (λ found. IfSome found (λ f.
+        IsChecked (alone section.now.target section.now.bytes.now (eh_fde_of f.1)))) }
 {
-    distance(table.target(), start, table.record_address(entry))
+    let Some(fde) = covering_fde(section, at, address)? else {
+        return Ok(None);
+    };
+    let found = find_by_check(
+        section,
+        &fde,
+        address,
+        &mut memory.known,
+        &mut memory.expressions,
+    )?;
+    let row = lend_checked(
+        &memory.known.state,
+        &memory.expressions,
+        found.in_cie,
+        found.start,
+        found.end,
+    );
+    Ok(Some((row, fde)))
 }
 
-/// Overwrites `row` with the row of an address of an `.eh_frame` section of fewer than 2^32 bytes,
-/// and returns its FDE with its CIE: those of the record that the table names for the address, as
-/// `row_in_place` reads them. `None` if the table names no record for it, or one that doesn't begin
-/// in the section; or if that record isn't an FDE, or doesn't cover the address. The table is
-/// believed in nothing: whatever it says, the row is that of the record that was read. It is the
-/// row that a check of the whole section gives, if the section is accepted and the table leads to
-/// all FDEs (law `look_ups_find_all_rows`).
+/// The row of an address, and its FDE with its CIE: those of the record that the table names for the
+/// address, as `row_in_place` reads them. `None` if the table names no record for it, or one that
+/// doesn't begin in the section; or if that record isn't an FDE, or doesn't cover the address. The
+/// table is believed in nothing: whatever it says, the row is that of the record that was read. It is
+/// the row that a check of the whole section gives, if the section is accepted and the table leads
+/// to all FDEs (law `look_ups_find_all_rows`).
 ///
-/// `bases` says where the section is, and `is_aarch64` whether its programs are for aarch64. The
-/// search takes O(log n) for n entries. For `context`, `expressions` and the errors see
-/// `row_in_place`.
-pub fn row_for_address_in<'f, 'a>(
-    section: &'a [u8],
+/// The search takes O(log n) for n entries. For the errors see `row_in_place`.
+pub fn row_for_address_in<'p, 'a>(
+    section: &SectionInPlace<'a>,
     table: &SearchTable<'_>,
-    bases: Bases,
-    is_aarch64: bool,
     address: u64,
-    context: &mut UnwindContext,
-    expressions: &'f mut CheckedExpressions<'a>,
-    row: &mut UnwindTableRow<'f, 'a>,
-) -> Result<Option<EhFde<'a>>, Fault>
-    requires { length section.now < 2 ^ 32 }
+    memory: &'p mut LookUpMemory<'a>,
+) -> Result<Option<(UnwindRow<'p, 'a>, EhFde<'a>)>, Fault>
     ensures fde { (entry : Option ℕ) × Finds (table_of table.now) address entry × MatchResult result
-        (λ found. fde_by_entry is_aarch64 bases section.now (table_of table.now) address entry
-        ≡ Ok (option_map eh_fde_of found))
-        (λ fault. (fault ≡ memory)
-        ⊎ (fde_by_entry is_aarch64 bases section.now (table_of table.now) address entry ≡ Err fault)) }
-    ensures row { IfOk result (λ found. IfSome found (λ fde.
-        row_of_fde (table_of table.now).target section.now (eh_fde_of fde) address ≡ Some row.new)) }
-    ensures none { IfOk result (λ found. IfNone found (row.new ≡ row.old)) }
-    ensures err { OnErr result (row.new ≡ row.old) }
+        (λ found. fde_by_entry (section_of section.now) (table_of table.now) address entry
+        ≡ Ok (option_map (λ f. eh_fde_of f.1) found))
+        (λ fault. (fault ≡ out_of_memory)
+        ⊎ (fde_by_entry (section_of section.now) (table_of table.now) address entry ≡ Err fault)) }
+    ensures row { IfOk result (λ found. IfSome found (λ f.
+        row_of_fde section.now.target section.now.bytes.now (eh_fde_of f.1) address ≡ Some f.0)) }
+    ensures checked { IfOk result (λ found. IfSome found (λ f.
+        IsChecked (alone section.now.target section.now.bytes.now (eh_fde_of f.1)))) }
 {
     let Some(entry) = table.entry_for_address(address) else {
         return Ok(None);
     };
-    let at = offset_of_record(table, bases.section, entry);
-    if at >= section.len() as u64 {
+    let at = offset_of_record(table, section.bases.section, entry);
+    if at >= section.bytes.len() as u64 {
         return Ok(None);
     }
-    row_in_place(
-        section,
-        table.target(),
-        bases,
-        is_aarch64,
-        at as u32,
-        address,
-        context,
-        expressions,
-        row,
-    )
+    row_in_place(section, at as u32, address, memory)
 }

@@ -88,8 +88,29 @@ fn read_address(bytes: &[u8], target: Target, base: u64, at: usize) -> u64
     address_from(target, base, read_word(bytes, target, at))
 }
 
+/// A guess of the index of the entry for an address that is `key` after the header, in a table whose
+/// numbers are little-endian: nothing says that it is right, and it must be checked. It compares the
+/// numbers as they are written, and adds the results of comparisons instead of branching, since each
+/// branch would be mispredicted about half of the time.
+#[inline(always)]
+fn guess_entry(entries: &[u8], count: u32, key: i64) -> u32
+    requires { 8 * count ≤ length entries.now }
+{
+    let mut low = 0;
+    let mut size = count;
+    while size > 1 {
+        let half = size / 2;
+        let place = 8 * (low + half) as usize;
+        let distance = i64::from(LittleEndian::read_i32(&entries[place..]));
+        low += half * u32::from(distance <= key);
+        size -= half;
+    }
+    low
+}
+
 impl<'a> SearchTable<'a> {
     ghost use Rattle.std.specs.Prelude.{ℕ, ◌≡◌, ◌+◌, ◌<◌, ◌≤◌, ◌↔◌, IsTrue, MatchOption, None, Some, option_map};
+    ghost use Rattle.std.specs.Bool.{OnTrue};
     ghost use Rattle.dw_in_place.specs.SearchTables.{Finds, IsEntryFor, IsInOrder, location_in, record_in, table_in};
     ghost use Rattle.dw_in_place.specs.Views.{table_of};
 
@@ -171,7 +192,40 @@ impl<'a> SearchTable<'a> {
     /// next one begins after it. `None` if there are no entries, or if the first one begins after
     /// the address. In a table that is in order it is the last entry that begins at the address or
     /// before it (law `one_entry_in_order`). It is found by binary search, in O(log n) for n entries.
+    #[inline(always)]
     pub fn entry_for_address(&self, address: u64) -> Option<u32>
+        ensures { Finds (table_of self.now) address result }
+    {
+        if self.target.order == Order::Little {
+            let key = address.wrapping_sub(self.address).cast_signed();
+            let guess = guess_entry(&self.bytes[12..], self.count, key);
+            if self.is_entry_for(guess, address) {
+                return Some(guess);
+            }
+        }
+        self.search(address)
+    }
+
+    /// Whether an entry is that of an address.
+    #[inline(always)]
+    fn is_entry_for(&self, entry: u32, address: u64) -> bool
+        ensures { OnTrue result (IsEntryFor (table_of self.now) address entry) }
+    {
+        if entry >= self.count {
+            return false;
+        }
+        if self.location(entry) > address {
+            return false;
+        }
+        if entry + 1 < self.count && self.location(entry + 1) <= address {
+            return false;
+        }
+        true
+    }
+
+    /// What `entry_for_address` returns, by a search that reads entries of any order as addresses.
+    #[inline(never)]
+    fn search(&self, address: u64) -> Option<u32>
         ensures { Finds (table_of self.now) address result }
     {
         if self.count == 0 {

@@ -1,13 +1,14 @@
 //! Look-ups in an `.eh_frame` section where it lies, by its `.eh_frame_hdr`.
 
-ghost use Rattle.std.specs.Prelude.{◌<◌, ◌^◌, length};
-
 use crate::inputs::{BASES, LITTLE};
-use dw_bytes::{Fault, OUT_OF_MEMORY};
+use dw_bytes::Fault;
+use dw_eh_frame::EhFde;
 use dw_eh_rows::check_eh_frame;
-use dw_in_place::{SearchTable, leads_to_all, row_for_address_in};
-use dw_rows::{CfaRule, CheckedExpressions, UnwindTableRow};
-use dw_rules::UnwindContext;
+use dw_in_place::{
+    FrameInPlace, LookUpMemory, SearchTable, SectionInPlace, leads_to_all, row_for_address_in,
+};
+use dw_rows::{CfaRule, UnwindRow};
+use std::alloc::Global;
 use std::test::Fail;
 
 /// A CIE, and at 0x18 an FDE of 0x1000 to 0x1020, as gcc writes them for a function that pushes its
@@ -48,62 +49,73 @@ fn reads_headers(rt: HostRuntime) {
     assert!(rt; SearchTable::read(&SECTION, LITTLE, 0x3000).is_none());
 }
 
-/// The row of an address: its FDE's offset, where it begins and ends, and whether its CFA is an
-/// expression.
-fn look_up<'a>(
-    section: &'a [u8],
+/// A row in brief: its FDE's offset, where it begins and ends, and whether its CFA is an expression.
+type BriefRow = (u32, u64, u64, bool);
+
+fn in_brief(row: &UnwindRow<'_, '_>, fde: &EhFde<'_>) -> BriefRow {
+    let by_expression = matches!(&row.cfa(), CfaRule::Expression { .. });
+    (
+        fde.fde.offset,
+        row.start_address(),
+        row.end_address(),
+        by_expression,
+    )
+}
+
+/// The row of an address, by one of many look-ups.
+fn found_in(
+    frame: &mut FrameInPlace<'_>,
     table: &SearchTable<'_>,
     address: u64,
-    expressions: &mut CheckedExpressions<'a>,
-) -> Result<Option<(u32, u64, u64, bool)>, Fault>
-    requires { length section.now < 2 ^ 32 }
-{
-    let mut context = UnwindContext::new();
-    let mut row = UnwindTableRow::empty();
-    match row_for_address_in(
-        section,
-        table,
-        BASES,
-        false,
-        address,
-        &mut context,
-        expressions,
-        &mut row,
-    ) {
-        Ok(Some(fde)) => {
-            let by_expression = matches!(&row.cfa(), CfaRule::Expression { .. });
-            Ok(Some((
-                fde.fde.offset,
-                row.start_address(),
-                row.end_address(),
-                by_expression,
-            )))
-        }
-        Ok(None) => Ok(None),
-        Err(fault) => Err(fault),
+) -> Result<Option<BriefRow>, Fault> {
+    if !frame.find(table, address)? {
+        return Ok(None);
+    }
+    Ok(Some(in_brief(&frame.row(), &frame.fde())))
+}
+
+/// The row of an address, by a single look-up.
+fn once(alloc: Global, table: &SearchTable<'_>, address: u64) -> Result<Option<BriefRow>, Fault> {
+    let mut memory = LookUpMemory::new(alloc);
+    match row_for_address_in(&section(), table, address, &mut memory)? {
+        Some((row, fde)) => Ok(Some(in_brief(&row, &fde))),
+        None => Ok(None),
     }
 }
+
+fn section() -> SectionInPlace<'static> {
+    SectionInPlace {
+        bytes: &SECTION,
+        target: LITTLE,
+        bases: BASES,
+        is_aarch64: false,
+    }
+}
+
+/// Addresses, and what is found there by `HEADER`. The program of the second FDE has an expression,
+/// so the CIE is known from the first one on.
+const FOUND: [(u64, Option<BriefRow>); 6] = [
+    (0xfff, None),
+    (0x1000, Some((0x18, 0x1000, 0x1001, false))),
+    (0x101f, Some((0x18, 0x1001, 0x1020, false))),
+    (0x102a, Some((0x30, 0x102a, 0x1030, true))),
+    (0x1000, Some((0x18, 0x1000, 0x1001, false))),
+    (0x1030, None),
+];
 
 #[test]
 fn finds_rows_in_place(rt: HostRuntime) -> Result<(), Fail> {
     let table = SearchTable::read(&HEADER, LITTLE, 0x3000).expect(&rt, "a table");
-    let mut expressions = CheckedExpressions::with_room(rt.alloc(), 1)?;
-    let before = look_up(&SECTION, &table, 0xfff, &mut expressions);
-    assert!(rt; before == Ok(None));
-    let first = look_up(&SECTION, &table, 0x1000, &mut expressions);
-    assert!(rt; first == Ok(Some((0x18, 0x1000, 0x1001, false))));
-    let last = look_up(&SECTION, &table, 0x101f, &mut expressions);
-    assert!(rt; last == Ok(Some((0x18, 0x1001, 0x1020, false))));
-    let by_expression = look_up(&SECTION, &table, 0x102a, &mut expressions);
-    assert!(rt; by_expression == Ok(Some((0x30, 0x102a, 0x1030, true))));
-    let after = look_up(&SECTION, &table, 0x1030, &mut expressions);
-    assert!(rt; after == Ok(None));
+    let mut frame = FrameInPlace::new(rt.alloc(), section());
+    for (address, expected) in FOUND {
+        let found = found_in(&mut frame, &table, address)?;
+        assert!(rt; found == expected);
+        let alone = once(rt.alloc(), &table, address)?;
+        assert!(rt; alone == expected);
+    }
     let lying = SearchTable::read(&LYING, LITTLE, 0x3000).expect(&rt, "a table");
-    let wrong = look_up(&SECTION, &lying, 0x102a, &mut expressions);
-    assert!(rt; wrong == Ok(None));
-    let mut none = CheckedExpressions::with_room(rt.alloc(), 0)?;
-    let without_room = look_up(&SECTION, &table, 0x1020, &mut none);
-    assert!(rt; without_room == Err(OUT_OF_MEMORY));
+    assert!(rt; found_in(&mut frame, &lying, 0x102a)?.is_none());
+    assert!(rt; once(rt.alloc(), &lying, 0x102a)?.is_none());
     Ok(())
 }
 

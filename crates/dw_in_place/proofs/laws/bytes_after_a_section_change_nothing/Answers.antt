@@ -1,6 +1,5 @@
-use Rattle.std.proofs.Common.{refl}
 use Rattle.dw_in_place.proofs.Following.{fde-still}
 use Rattle.dw_in_place.proofs.laws.bytes_after_a_section_change_nothing.Goals as goal
 
 pub returns : goal.returns
-returns c = record { fde = fde-still; row = λ target section more e a. refl }
+returns c = fde-still

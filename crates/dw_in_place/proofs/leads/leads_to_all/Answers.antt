@@ -5,7 +5,7 @@ use Rattle.dw_bytes.specs.Encoding.{max_address}
 use Rattle.dw_frame.specs.Bounds.{Ascends}
 use Rattle.dw_frame.specs.Records.{Fde}
 use Rattle.dw_rows.specs.Overlap.{fde_offset}
-use Rattle.dw_in_place.specs.LookUps.{LeadsTo, offset_by}
+use Rattle.dw_in_place.specs.LookUps.{LeadsTo, record_offset}
 use Rattle.dw_in_place.specs.Views.{table_of}
 use Rattle.dw_in_place.proofs.leads.leads_to_all.Goals as goal
 
@@ -33,6 +33,6 @@ returns c =
       in_order = c.if-not-is_in_order.ensures.0 refl;
       each = subst (λ (l : List Fde). (f : Fde) → Contains l f → 0 < f.address_range → LeadsTo t start f) fdes
           c.if-not-leads_to_each.ensures;
-      only = subst (λ (l : List Fde). (k : ℕ) → k < t.count → (f : Fde) × Contains l f × (offset_by t start k ≡ f.offset)) fdes
+      only = subst (λ (l : List Fde). (k : ℕ) → k < t.count → (f : Fde) × Contains l f × (record_offset t start k ≡ f.offset)) fdes
           (c.if-not-names_only.ensures.0 refl);
     }

@@ -1,7 +1,7 @@
 use Rattle.std.proofs.Common.{◌+◌, ◌<◌, ◌≤◌}
 use Rattle.dw_in_place.specs.SearchTables.{location_in}
 use Rattle.dw_in_place.specs.Views.{table_of}
-use Rattle.dw_in_place.proofs.search_table.SearchTable.entry_for_address.Given as goal
+use Rattle.dw_in_place.proofs.search_table.SearchTable.search.Given as goal
 
 abbrev pub invariant-loop-size : goal.invariant-loop-size
 invariant-loop-size l = record {
