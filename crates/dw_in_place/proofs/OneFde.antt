@@ -1,18 +1,16 @@
 -- An FDE without a fault in place and its CIE are an accepted section of two records.
-use Rattle.std.proofs.Common.{◌≡◌, ℕ, zero, suc, ◌≤◌, Bool, true, false, cond, List, [], ◌∷◌, ◌++◌, length, take, drop, map, Option, Some, None, Contains, refl, sym, ap, subst, ◌∙◌, arith}
+use Rattle.std.proofs.Common.{◌≡◌, ℕ, zero, suc, ◌≤◌, Bool, true, false, cond, List, [], ◌∷◌, ◌++◌, length, map, Option, Some, None, Contains, refl, sym, ap, ◌∙◌, arith}
 use Rattle.std.specs.Prelude.{is_some, find}
 use Rattle.std.specs.Option.{option_or}
 use Rattle.std.proofs.lemmas.Bool.{eq-eqb, leb-true, le-leb, le-ltb}
-use Rattle.std.proofs.lemmas.List.{append-nil, take-map, drop-map, map-append, length-map, length-append}
+use Rattle.std.proofs.lemmas.List.{append-nil}
 use Rattle.dw_bytes.specs.declared.target.Target.{Target}
 use Rattle.dw_bytes.specs.declared.fault.Fault.{Fault}
 use Rattle.dw_bytes.specs.declared.fault.FaultKind.TheVariants.{NoSuchCie}
-use Rattle.dw_frame.specs.Bounds.{ArePlaced, Ascends, IsSoundCie, IsSoundFde}
+use Rattle.dw_frame.specs.Bounds.{ArePlaced, IsSoundCie, IsSoundFde}
 use Rattle.dw_frame.specs.Records.{Cie, Fde, cie_record, fde_record}
-use Rattle.dw_stack.specs.declared.checked.CheckedExpression.{CheckedExpression}
-use Rattle.dw_stack.specs.Located.{LocatedExpression, located_of, all_located}
-use Rattle.dw_rules.specs.ExpressionOrder.{expression_offset, AreInOrder}
-use Rattle.dw_rules.specs.Expressions.{expressions_of, cie_expressions}
+use Rattle.dw_stack.specs.Located.{LocatedExpression}
+use Rattle.dw_rules.specs.Expressions.{expressions_of}
 use Rattle.dw_rules.specs.ProgramFault.{cie_fault, fde_fault, end_of}
 use Rattle.dw_rules.specs.Rules.{Row}
 use Rattle.dw_rules.specs.RowsWithExpressions.{row_with_expressions}
@@ -20,7 +18,7 @@ use Rattle.dw_rows.specs.RowCursors.{Lends}
 use Rattle.dw_rows.specs.Section.{Covers, IsChecked, IsCoverOf, cie_at, fault_by_cie, parts_fault, rows_by_cie}
 use Rattle.dw_rows.specs.UnwindRows.{rows_of, has_address}
 use Rattle.dw_rows.proofs.Faults.{option_or-none}
-use Rattle.dw_rows.proofs.expressions.Lending.{lends-in, cies-in-order, fdes-in-order}
+use Rattle.dw_rows.proofs.expressions.Lending.{lends-in}
 use Rattle.dw_rows.proofs.rows.Lookups.{row-found}
 use Rattle.dw_rows.proofs.sections.CheckedSections.{records-accepted}
 use Rattle.dw_rows.proofs.sections.Parts.{pass-parts}

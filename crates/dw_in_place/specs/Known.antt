@@ -1,5 +1,5 @@
 -- What a look-up in place keeps for the next one, and what its parts find.
-use Rattle.std.specs.Prelude.{◌≡◌, ◌≤◌, ℕ, Bool, true, false, List, [], length, take, drop, Option, Some, None, option_map, IfSome, Ok}
+use Rattle.std.specs.Prelude.{◌≡◌, ◌≤◌, ℕ, true, false, List, [], length, take, drop, Option, Some, None, option_map, IfSome, Ok}
 use Rattle.dw_bytes.specs.Reading.{section_from}
 use Rattle.dw_frame.specs.Bounds.{Ascends}
 use Rattle.dw_stack.specs.Located.{LocatedExpression}

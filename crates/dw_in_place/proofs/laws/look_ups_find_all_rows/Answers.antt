@@ -1,4 +1,4 @@
-use Rattle.std.proofs.Common.{◌≡◌, ℕ, Bool, List, [], ◌++◌, None, subst}
+use Rattle.std.proofs.Common.{◌≡◌, ℕ, Bool, List, [], None, subst}
 use Rattle.std.proofs.lemmas.List.{append-nil}
 use Rattle.dw_bytes.specs.declared.target.Target.{Target}
 use Rattle.dw_rows.specs.Section.{row_of}
