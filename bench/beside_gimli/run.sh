@@ -3,6 +3,9 @@
 # or their results. Nothing is written into the checkout.
 #   bench/beside_gimli/run.sh times SECTION ..   prints the processor times of both, each the least
 #                                                of several runs, and their ratio
+#   bench/beside_gimli/run.sh in_place PROGRAM ..
+#                                                prints what a look-up in .eh_frame where it lies takes,
+#                                                by .eh_frame_hdr, beside gimli's by the same
 #   bench/beside_gimli/run.sh read SECTION       lets only gimli read all rows or list entries, so
 #                                                that the process can be timed
 #   bench/beside_gimli/run.sh differ FRAMES LISTS EXPRESSIONS SEED SECTION ..
@@ -12,7 +15,7 @@
 #                                                cases also compares the rows in compiled tables
 # Sections are raw and little-endian with addresses of 8 bytes: .debug_loclists if the name ends
 # with .lists, else .debug_frame. If the variable WORK names a folder, what is built stays there.
-# This needs gcc, cargo and Debian's librust-gimli-dev (apt-get install librust-gimli-dev).
+# This needs gcc, cargo and Debian's librust-gimli-dev and librust-object-dev.
 set -eu
 here=$(cd "$(dirname "$0")" && pwd)
 checkout=$(cd "$here" && git rev-parse --show-toplevel)

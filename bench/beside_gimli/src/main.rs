@@ -3,6 +3,7 @@
 //!   beside differ FRAMES LISTS EXPRESSIONS SEED SECTION ..
 //!                               makes this many random cases of each kind from the sections, and
 //!                               compares what both read
+//!   beside in_place PROGRAM ..  times look-ups in the `.eh_frame` of programs where it lies
 //!   beside rows SECTION         lets only gimli compute all rows of a frame section
 //!   beside read SECTION         lets only gimli read all rows and rules, or all entries of lists,
 //!                               and all expressions
@@ -12,6 +13,7 @@
 mod cases;
 mod differ;
 mod encoded;
+mod in_place;
 mod limits;
 mod meaning;
 mod ours;
@@ -39,6 +41,7 @@ fn main() {
     let words: Vec<String> = std::env::args().skip(1).collect();
     match words.first().map(String::as_str) {
         Some("times") => times::run(&sections(&words[1..])),
+        Some("in_place") => in_place::run(&words[1..]),
         Some("rows") if words.len() == 2 => println!("{}", theirs::all_rows(&sections(&words[1..])[0].1)),
         Some("read") if words.len() == 2 => read(&sections(&words[1..])[0]),
         Some("differ") if words.len() > 5 => {
@@ -46,6 +49,6 @@ fn main() {
             let same = differ::run(&sections(&words[5..]), number(1), number(2), number(3), number(4));
             std::process::exit(i32::from(!same));
         }
-        _ => panic!("beside times|rows|read|differ .."),
+        _ => panic!("beside times|in_place|rows|read|differ .."),
     }
 }

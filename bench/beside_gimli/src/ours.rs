@@ -16,6 +16,17 @@ unsafe extern "C" {
     fn bench_look_up_by_table(section: Start, n: usize, addresses: *const u64, m: usize, times: u32) -> u64;
     fn bench_unwind_by_table(section: Start, n: usize, addresses: *const u64, m: usize, times: u32) -> u64;
     fn bench_table_answer(section: Start, n: usize, big: bool, small: bool, addresses: *const u64, m: usize) -> u64;
+    fn bench_look_up_in_place(
+        bytes: Start,
+        n: usize,
+        section_address: u64,
+        header: Start,
+        m: usize,
+        header_address: u64,
+        addresses: *const u64,
+        count: usize,
+        keeps: u32,
+    ) -> u64;
     fn bench_evaluate(bytes: Start, n: usize, times: u32) -> u64;
     fn bench_check_expression(bytes: Start, n: usize, times: u32) -> u64;
     fn bench_certify(bytes: Start, n: usize, times: u32) -> u64;
@@ -124,4 +135,23 @@ pub fn lists_answer(section: &[u8], big: bool, small: bool, base: u64, addresses
 /// register's rule otherwise.
 pub fn expression_answer(bytes: &[u8], big: bool, small: bool, location: bool) -> u64 {
     unsafe { bench_expression_answer(bytes.as_ptr(), bytes.len(), big, small, location) }
+}
+
+/// Adds up where the rows of these addresses end, looked up in an `.eh_frame` section where it lies by
+/// its `.eh_frame_hdr`. Each section comes with its address. `keeps` says whether the rules of CIEs are
+/// kept from one look-up to the next.
+pub fn look_up_in_place(section: (&[u8], u64), header: (&[u8], u64), addresses: &[u64], keeps: bool) -> u64 {
+    unsafe {
+        bench_look_up_in_place(
+            section.0.as_ptr(),
+            section.0.len(),
+            section.1,
+            header.0.as_ptr(),
+            header.0.len(),
+            header.1,
+            addresses.as_ptr(),
+            addresses.len(),
+            u32::from(keeps),
+        )
+    }
 }

@@ -39,6 +39,7 @@ pub in-force : (s : SectionInPlace) (e : EhFde) (a : ℕ) (range : ℕ × ℕ) (
 in-force s e a range state es one covers at same =
     let row = row_with_expressions es (row_between range.0 range.1 state.current) in
     record {
+      covers = covers;
       checked = one.checked;
       row = alone-row s.target s.bytes e a row one.pointer covers
           (subst (λ (l : List LocatedExpression). find (has_address a) (map (row_with_expressions l) (rows_of e.cie.cie e.fde)) ≡ Some row)

@@ -25,7 +25,8 @@ lying is_aarch64 bases target section = record { is_aarch64 = is_aarch64; bases 
 
 -- ---- the first fault
 
--- whether the CIE ends where the FDE begins, or before it, as it does in a section without gaps
+-- whether the CIE ends where the FDE begins, or before it, as it does in an accepted section. The LSB
+-- doesn't ask for this.
 abbrev pub is_after_cie : EhFde → Bool
 is_after_cie e = nat_le (end_of e.cie.cie.program) e.fde.offset
 

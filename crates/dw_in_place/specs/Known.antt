@@ -49,10 +49,11 @@ pub record IsRead (s : SectionInPlace) (at : ℕ) (e : EhFde) : Type 0 where
   pub inside : next ≤ length s.bytes
 
 -- The rules are those of the row that an FDE has at the address `a`. The row begins at the first
--- number of `range`, and ends before the second; its expressions are among `es`. The FDE and its CIE
--- alone are an accepted section.
+-- number of `range`, and ends before the second; its expressions are among `es`. The FDE covers the
+-- address, and is an accepted section together with its CIE.
 pub record IsInForce (s : SectionInPlace) (e : EhFde) (a : ℕ) (range : ℕ × ℕ) (rules : StoredRules)
     (es : List LocatedExpression) : Type 0 where
+  pub covers : Covers e.fde a
   pub checked : IsChecked (alone s.target s.bytes e)
   pub row : row_of_fde s.target s.bytes e a ≡ Some (row_with_expressions es (row_between range.0 range.1 rules))
 

@@ -16,7 +16,7 @@ abbrev pub record_offset : Table → ℕ → ℕ → ℕ
 record_offset t start k = wrapped t.target (record_in t k + (2 ^ 64 - start))
 
 -- What a look-up of the address a gives once a search has found an entry: what is read at the offset
--- that the entry names. None without an entry, or if the offset isn't one of the section's.
+-- that the entry names. None without an entry, or if the offset is past the section's end.
 abbrev pub fde_by_entry : SectionInPlace → Table → ℕ → Option ℕ → Result (Option EhFde) Fault
 fde_by_entry s t a None = Ok None
 fde_by_entry s t a (Some k) =
@@ -39,7 +39,7 @@ pub record LeadsTo (t : Table) (start : ℕ) (f : Fde) : Type 0 where
   pub each : (a : ℕ) → Covers f a → IsEntryFor t a entry
 
 -- The table is in order, leads to each of these FDEs that covers addresses, and names no other
--- records.
+-- records, and so no exact copies.
 pub record LeadsToAll (t : Table) (start : ℕ) (fdes : List Fde) : Type 0 where
   pub in_order : IsInOrder t
   pub each : (f : Fde) → Contains fdes f → 0 < f.address_range → LeadsTo t start f

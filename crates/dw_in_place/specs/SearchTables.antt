@@ -1,5 +1,6 @@
 -- The binary search table of an `.eh_frame_hdr` section (LSB Core, section 10.6.2), in the encoding
--- that linkers write. It has an entry for each FDE of `.eh_frame`, in order of their first addresses.
+-- that linkers write. It is meant to have an entry for each FDE of `.eh_frame`, in order of their first
+-- addresses.
 use Rattle.std.specs.Prelude.{ℕ, ◌+◌, ◌*◌, ◌%◌, ◌^◌, ◌<◌, ◌≤◌, ◌==◌, ◌&&◌, nat_le, Bool, false, if◌then◌else◌, List, ◌∷◌, length, drop}
 use Rattle.std.specs.Prelude.{Option, Some, None}
 use Rattle.dw_bytes.specs.declared.target.Target.{Target}
@@ -72,7 +73,7 @@ abbrev pub Finds : Table → ℕ → Option ℕ → Type 0
 Finds t a None = 0 < t.count → a < location_in t 0
 Finds t a (Some k) = IsEntryFor t a k
 
--- ---- tables in order, as linkers write them
+-- ---- tables in order, as linkers write them; several entries may begin at one address
 
 abbrev pub IsInOrder : Table → Type 0
 IsInOrder t = (j k : ℕ) → j ≤ k → k < t.count → location_in t j ≤ location_in t k

@@ -18,7 +18,7 @@ use dw_rules::UnwindState;
 use std::alloc::Global;
 use std::marker::Model;
 
-/// Which of the two CIEs the rules of the row that was found are with.
+/// Which of the two states has the rules of the row.
 #[derive(Clone, Copy)]
 pub enum Place {
     First,
@@ -36,12 +36,14 @@ pub struct FoundRow<'a> {
     pub end: u64,
 }
 
-/// An `.eh_frame` section where it lies, with the working memory of look-ups. Nothing is prepared,
-/// and nothing of the section is checked but the two records of each look-up. The rules that the
-/// last two CIEs leave are kept, since most FDEs have one of those.
+/// An `.eh_frame` section in place, with the working memory of look-ups. Nothing is preprocessed, and
+/// each look-up reads and checks two records only, an FDE and its CIE. The rules that the last two CIEs
+/// leave are kept, if these have no fault and no expressions, since most FDEs have one of those.
 ///
-/// It takes some 9 KB, and look-ups allocate nothing: so make it once, for many look-ups, and a
-/// signal handler may make them.
+/// It takes some 9 KB. Create one, and reuse it for many look-ups: they allocate nothing. Nearly all
+/// take less than 1 KB of stack; a program with an expression or a rare instruction takes up to 40 KB, for
+/// which the alternate stack of a signal handler needs room. A handler needs a `FrameInPlace` of its
+/// own, since it may interrupt a look-up.
 ///
 /// ```rust
 /// let mut frame = FrameInPlace::new(alloc, section);
@@ -145,7 +147,7 @@ impl<'a> FrameInPlace<'a> {
     ghost use Rattle.dw_in_place.specs.SearchTables.{Finds};
     ghost use Rattle.dw_in_place.specs.Views.{section_of, table_of};
 
-    /// A section where it lies. Nothing was found yet. Nothing is allocated, now or later.
+    /// A section in place, in which nothing has been found yet. Nothing is allocated, now or later.
     pub fn new(alloc: Global, section: SectionInPlace<'a>) -> Self
         ensures { result ≡ record { section = section_of section.entry; found = None } }
     {
@@ -159,7 +161,14 @@ impl<'a> FrameInPlace<'a> {
         }
     }
 
-    /// The row that was found last.
+    /// Whether the last look-up found a row.
+    pub fn has_found(&self) -> bool
+        ensures { result ≡ is_some self.now.found }
+    {
+        self.found.is_some()
+    }
+
+    /// The row that the last look-up found. It must have found one.
     #[inline(always)]
     pub fn row(&self) -> UnwindRow<'_, 'a>
         requires { IsSome self.now.found }
@@ -181,7 +190,7 @@ impl<'a> FrameInPlace<'a> {
         )
     }
 
-    /// The FDE of the row that was found last, with its CIE.
+    /// The FDE of the row that the last look-up found, with its CIE. It must have found one.
     #[inline(always)]
     pub fn fde(&self) -> EhFde<'a>
         requires { IsSome self.now.found }
@@ -193,16 +202,19 @@ impl<'a> FrameInPlace<'a> {
         found.fde
     }
 
-    /// Finds the row of an address in the record at the offset `at` of the section. The result says
-    /// whether there is one: then `row` lends it, and `fde` is the FDE that the record is, with its
-    /// CIE. Only these two records are read. There is none if the record isn't an FDE, or doesn't
-    /// cover the address; then nothing is checked.
+    /// Finds the row of an address in the record at the offset `at` of the section, which must not be past
+    /// its end. The result says whether there is one: then `row` lends it, and `fde` returns the record
+    /// as an FDE, with its CIE. Only these two records are read, whatever bytes are there. Once they
+    /// have been read, there is no row if the record isn't an FDE, or doesn't cover the address: then
+    /// neither program is checked. Pass the return address minus 1 for the caller of a frame, unless
+    /// the frame is a signal frame.
     ///
     /// The error is the first fault, with its offset in the section: a fault of `eh_record`;
     /// `NoSuchCie` (9) at the CIE pointer, if the CIE ends after the FDE begins; a fault of the CIE's
     /// program, or else of the FDE's, up to its end, as `check_fde` of `dw_rows` reports it. `Memory`
-    /// (60), at 0, says that both programs have more than `MAX_FEW` expressions, or one of more than
-    /// 16 bytes. It takes time in proportion to the bytes of the two records.
+    /// (60), at 0, says that the two programs together have more than `MAX_FEW` (32) expressions, or
+    /// that an expression is longer than 16 bytes, whether or not the row uses it; then the rest isn't
+    /// checked. It takes time in proportion to the bytes of the two records.
     #[inline(always)]
     pub fn find_at(&mut self, at: u32, address: u64) -> Result<bool, Fault>
         requires { at ≤ length self.old.section.bytes }
@@ -214,6 +226,7 @@ impl<'a> FrameInPlace<'a> {
             row_of_fde self.old.section.target self.old.section.bytes (has_fde f) address ≡ Some (has_row f)) }
         ensures checked { IfSome self.new.found (λ f.
             IsChecked (alone self.old.section.target self.old.section.bytes (has_fde f))) }
+        ensures covers { IfSome self.new.found (λ f. Covers (has_fde f).fde address) }
         ensures same { self.new.section ≡ self.old.section }
         ensures none { OnErr result (self.new.found ≡ None) }
     {
@@ -252,6 +265,7 @@ impl<'a> FrameInPlace<'a> {
             row_of_fde self.old.section.target self.old.section.bytes (has_fde f) address ≡ Some (has_row f)) }
         ensures checked { IfSome self.new.found (λ f.
             IsChecked (alone self.old.section.target self.old.section.bytes (has_fde f))) }
+        ensures covers { IfSome self.new.found (λ f. Covers (has_fde f).fde address) }
         ensures same { self.new.section ≡ self.old.section }
         ensures none { OnErr result (self.new.found ≡ None) }
     {
@@ -281,6 +295,7 @@ impl<'a> FrameInPlace<'a> {
             row_of_fde self.old.section.target self.old.section.bytes (has_fde f) address ≡ Some (has_row f)) }
         ensures checked { IfSome self.new.found (λ f.
             IsChecked (alone self.old.section.target self.old.section.bytes (has_fde f))) }
+        ensures covers { IfSome self.new.found (λ f. Covers (has_fde f).fde address) }
         ensures same { self.new.section ≡ self.old.section }
         ensures none { OnErr result (self.new.found ≡ None) }
     {
@@ -309,12 +324,13 @@ impl<'a> FrameInPlace<'a> {
         }
     }
 
-    /// Finds the row of an address in the record that a table names for it, as `find_at` does. There
-    /// is none if the table names no record for the address, or one that doesn't begin in the
-    /// section; or if that record isn't an FDE, or doesn't cover the address. The table is believed
-    /// in nothing: whatever it says, the row is that of the record that was read. It is the row that
-    /// a check of the whole section gives, if the section is accepted and the table leads to all FDEs
-    /// (law `look_ups_find_all_rows`).
+    /// Finds the row of an address in the record that a table names for it, as `find_at` does. There is
+    /// none if the table names no record for the address, or one past the section's end; or if that
+    /// record isn't an FDE, or doesn't cover the address. The row is always that of the record that was
+    /// read, but a wrong table may lead to no row, or to bytes within another record; in a table out of
+    /// order an address may have several entries. It is the row that a check of the whole section gives,
+    /// if the section is accepted and the table leads to all FDEs (law `look_ups_find_all_rows`). That
+    /// the table is this section's isn't checked: compare its `frame_address` with `bases.section`.
     ///
     /// The search takes O(log n) for n entries. For the errors see `find_at`.
     #[inline(always)]
@@ -329,6 +345,7 @@ impl<'a> FrameInPlace<'a> {
             row_of_fde self.old.section.target self.old.section.bytes (has_fde f) address ≡ Some (has_row f)) }
         ensures checked { IfSome self.new.found (λ f.
             IsChecked (alone self.old.section.target self.old.section.bytes (has_fde f))) }
+        ensures covers { IfSome self.new.found (λ f. Covers (has_fde f).fde address) }
         ensures same { self.new.section ≡ self.old.section }
         ensures none { OnErr result (self.new.found ≡ None) }
     {

@@ -30,8 +30,8 @@ pub fn bytes_after_a_section_change_nothing()
         → fde_at is_aarch64 bases target (section ++ more) at a ≡ Ok found }
 {}
 
-/// If `check_eh_frame` accepts a section, each of its FDEs that isn't left out as an exact copy has no
-/// fault in place, and for an address that it covers it has the row that the section has.
+/// If `check_eh_frame` accepts a section, each of its FDEs that isn't left out as an exact copy is found
+/// in place without a fault, for each address that it covers, and its row is the section's.
 pub fn rows_in_place_are_those_of_the_section()
     ensures fde { (is_aarch64 : Bool) (bases : Bases) (target : Target) (section : List ℕ)
         → eh_section_fault is_aarch64 bases target section ≡ None → (e : EhFde)

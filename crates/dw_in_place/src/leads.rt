@@ -1,13 +1,13 @@
 //! Whether a search table leads to all FDEs of a checked section.
 
 ghost use Rattle.std.specs.Prelude.{ℕ, ◌≡◌, ◌+◌, ◌^◌, ◌<◌, ◌↔◌, IsTrue, Contains, map};
-ghost use Rattle.std.specs.Bool.{OnTrue};
+ghost use Rattle.std.specs.Bool.{OnTrue, OnFalse};
 ghost use Rattle.dw_frame.specs.Bounds.{Ascends};
 ghost use Rattle.dw_frame.specs.Records.{Fde};
 ghost use Rattle.dw_frame.specs.Views.{fde_of};
 ghost use Rattle.dw_rows.specs.Overlap.{fde_offset};
 ghost use Rattle.dw_in_place.specs.LookUps.{LeadsTo, LeadsToAll, record_offset};
-ghost use Rattle.dw_in_place.specs.SearchTables.{location_in};
+ghost use Rattle.dw_in_place.specs.SearchTables.{IsInOrder, location_in};
 ghost use Rattle.dw_in_place.specs.Views.{table_of};
 
 use crate::record_offset::offset_of_record;
@@ -27,12 +27,14 @@ fn ends_after(table: &SearchTable<'_>, entry: u32, address: u64) -> bool
     address < table.location(entry + 1)
 }
 
-/// Whether one entry of a table names the record of an FDE, and is that of each address that the FDE
-/// covers. It must cover one. `start` is the address of the section.
+/// Whether one entry of a table, which must be in order, names the record of an FDE, and is that of
+/// each address that the FDE covers. It must cover one. `start` is the address of the section.
 fn leads_to(table: &SearchTable<'_>, start: u64, fde: &FrameDescriptionEntry<'_>) -> bool
+    requires order { IsInOrder (table_of table.now) }
     requires some { 0 < fde.now.address_range }
     requires fits { fde.now.initial_location + fde.now.address_range < 2 ^ 64 }
-    ensures { OnTrue result (LeadsTo (table_of table.now) start (fde_of fde.now)) }
+    ensures leads { OnTrue result (LeadsTo (table_of table.now) start (fde_of fde.now)) }
+    ensures not { OnFalse result (LeadsTo (table_of table.now) start (fde_of fde.now) → ⊥) }
 {
     let Some(entry) = table.entry_for_address(fde.initial_location) else {
         return false;
@@ -81,12 +83,15 @@ fn names_only(table: &SearchTable<'_>, start: u64, fdes: &[FrameDescriptionEntry
     true
 }
 
-/// Whether a table leads to each of these FDEs that covers an address.
+/// Whether a table, which must be in order, leads to each of these FDEs that covers an address.
 fn leads_to_each(table: &SearchTable<'_>, start: u64, fdes: &[FrameDescriptionEntry<'_>]) -> bool
-    requires { (f : Fde) → Contains (map fde_of fdes.now) f
+    requires order { IsInOrder (table_of table.now) }
+    requires fit { (f : Fde) → Contains (map fde_of fdes.now) f
         → f.initial_location + f.address_range < 2 ^ 64 }
-    ensures { OnTrue result ((f : Fde) → Contains (map fde_of fdes.now) f → 0 < f.address_range
+    ensures lead { OnTrue result ((f : Fde) → Contains (map fde_of fdes.now) f → 0 < f.address_range
         → LeadsTo (table_of table.now) start f) }
+    ensures not { OnFalse result (((f : Fde) → Contains (map fde_of fdes.now) f → 0 < f.address_range
+        → LeadsTo (table_of table.now) start f) → ⊥) }
 {
     for fde in fdes {
         if fde.address_range > 0 && !leads_to(table, start, fde) {
@@ -96,15 +101,17 @@ fn leads_to_each(table: &SearchTable<'_>, start: u64, fdes: &[FrameDescriptionEn
     true
 }
 
-/// Whether a search table leads to all FDEs of a checked section, whose bytes begin at the address
-/// `start`: the table is in order, has one entry for all addresses of each FDE, which names its
-/// record, and names no other records. A linker's table does, unless an FDE has exact copies. It
-/// takes O(n log n) for n FDEs.
+/// Whether a search table leads to all FDEs of a checked section: the table is in order, and for each
+/// FDE a single entry serves all its addresses and names its record; and it names no other records. A
+/// linker's table usually does, but not if an FDE has an exact copy, or if an empty FDE begins within
+/// another one. `start` is the address of the section, and `frame` is what `check_eh_frame` made of it.
+/// It takes O((m + n) log (m + n)) for m entries and n FDEs.
 ///
 /// Then a look-up by the table gives the row that the section has, for each address (law
 /// `look_ups_find_all_rows`).
 pub fn leads_to_all(table: &SearchTable<'_>, start: u64, frame: &CheckedFrame<'_>) -> bool
-    ensures { OnTrue result (LeadsToAll (table_of table.now) start frame.now.fdes) }
+    ensures leads { OnTrue result (LeadsToAll (table_of table.now) start frame.now.fdes) }
+    ensures not { OnFalse result (LeadsToAll (table_of table.now) start frame.now.fdes → ⊥) }
 {
     dw_rows::laws::checked_frame_sections();
     // For the proof: a section that is lent has passed its check.

@@ -21,7 +21,8 @@ pub struct SectionInPlace<'a> {
     pub bytes: &'a [u8],
     /// How its numbers are read.
     pub target: Target,
-    /// Where it is, as linked.
+    /// Where it is: as linked, or as loaded, like the table's address and the addresses that are looked
+    /// up.
     pub bases: Bases,
     /// Whether its programs are for aarch64.
     pub is_aarch64: bool,

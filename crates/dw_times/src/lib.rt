@@ -3,6 +3,7 @@
 #![tactic(auto)]
 
 mod checksum;
+mod in_place;
 mod machine;
 mod meaning;
 mod reading_checksum;
