@@ -11,8 +11,8 @@ use crate::survey::{note_unread, progress, STACK};
 use dwcheck_lint::coverage::Coverage;
 use dwcheck_lint::finding::Severity;
 use dwcheck_lint::kinds::{Kind, KINDS};
-use known::Known;
-use linted::{linted, Linted, Outcome, Shown};
+use known::{Known, Remaining};
+use linted::{lint_file, Linted, Outcome, Shown, WrittenFinding};
 use rayon::prelude::*;
 use std::fmt;
 use std::io::{self, Write};
@@ -45,7 +45,7 @@ pub fn lint(arguments: &LintArguments, out: &mut impl Write) -> Result<Done, Fai
     let shown = Shown { private, explain, json, sarif, kinds };
     let all: Vec<_> = pool.install(|| {
         let each = files.paths.par_iter().with_max_len(1).map(|path| {
-            let linted = linted(path, &shown);
+            let linted = lint_file(path, &shown);
             bar.inc(1);
             linted
         });
@@ -70,9 +70,9 @@ fn kind(name: &str) -> Result<Kind, Failure> {
     })
 }
 
-/// Says something of a file on standard error. If that is closed, nobody can read it, so it doesn't matter that it
+/// Warns of a file on standard error. If that is closed, nobody can read it, so it doesn't matter that it
 /// fails.
-fn say(path: &Path, what: &dyn fmt::Display) {
+fn warn(path: &Path, what: &dyn fmt::Display) {
     let _ = writeln!(io::stderr(), "dwcheck-elf: {}: {}", shown(path), what);
 }
 
@@ -91,21 +91,10 @@ impl Totals {
                 self.coverage.add(&coverage);
                 if is_empty(&coverage) && unused.is_empty() && arguments.paths.contains(&path) {
                     self.unread += 1;
-                    say(&path, &"no FDEs, so no rows to compare");
+                    warn(&path, &"no FDEs, so no rows to compare");
                 }
-                unused.iter().for_each(|reason| say(&path, reason));
-                let mut known = known.of(&path);
-                for finding in findings {
-                    if known.take(&finding.key) {
-                        self.known += 1;
-                        continue;
-                    }
-                    self.count(finding.severity);
-                    match finding.sarif {
-                        Some(result) => self.results.push(result),
-                        None => writeln!(out, "{}", finding.text)?,
-                    }
-                }
+                unused.iter().for_each(|reason| warn(&path, reason));
+                self.write_findings(out, findings, known.of(&path))?;
                 if arguments.sarif {
                     return Ok(());
                 }
@@ -113,7 +102,7 @@ impl Totals {
             }
             Outcome::Other(error) if arguments.paths.contains(&path) => {
                 self.unread += 1;
-                say(&path, &error);
+                warn(&path, &error);
                 Ok(())
             }
             Outcome::Other(_) => {
@@ -122,10 +111,31 @@ impl Totals {
             }
             Outcome::Unread(error) => {
                 self.unread += 1;
-                say(&path, &error);
+                warn(&path, &error);
                 Ok(())
             }
         }
+    }
+
+    /// Writes the findings that aren't known, or keeps them for SARIF, and counts them.
+    fn write_findings(
+        &mut self,
+        out: &mut impl Write,
+        findings: Vec<WrittenFinding>,
+        mut known: Remaining,
+    ) -> io::Result<()> {
+        for finding in findings {
+            if known.take(&finding.key) {
+                self.known += 1;
+                continue;
+            }
+            self.count(finding.severity);
+            match finding.sarif {
+                Some(result) => self.results.push(result),
+                None => writeln!(out, "{}", finding.text)?,
+            }
+        }
+        Ok(())
     }
 
     fn count(&mut self, severity: Severity) {

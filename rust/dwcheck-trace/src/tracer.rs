@@ -175,11 +175,20 @@ impl Tracer<'_, '_> {
         if report != Report::Signal(libc::SIGTRAP) {
             self.interrupted(&mut thread);
         }
-        let signal = match report {
-            Report::Signal(libc::SIGTRAP) => self.trapped(&mut thread),
+        if let Some(signal) = self.signal_after(&mut thread, report) {
+            self.resume(&mut thread, signal);
+        }
+        self.threads.insert(tid, thread);
+    }
+
+    /// Handles what a stopped thread reports. Returns the signal with which it goes on, 0 if none. `None` if it stays
+    /// stopped.
+    fn signal_after(&mut self, thread: &mut Thread, report: Report) -> Option<i32> {
+        match report {
+            Report::Signal(libc::SIGTRAP) => self.trapped(thread),
             Report::Signal(signal) => Some(signal),
             Report::Created(creation) => {
-                self.created(&thread, creation);
+                self.created(thread, creation);
                 Some(0)
             }
             Report::VforkDone => {
@@ -187,16 +196,12 @@ impl Tracer<'_, '_> {
                 Some(0)
             }
             Report::GroupStop => {
-                ptrace::listen(tid);
+                ptrace::listen(thread.tid);
                 thread.is_stopped = false;
                 None
             }
             _ => Some(0),
-        };
-        if let Some(signal) = signal {
-            self.resume(&mut thread, signal);
         }
-        self.threads.insert(tid, thread);
     }
 
     /// A thread stopped for another reason than a trap. If it ran a batch, this ends that.

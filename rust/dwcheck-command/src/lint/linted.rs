@@ -45,7 +45,7 @@ pub struct Linted {
 }
 
 /// A finding, as it is written.
-pub struct Written {
+pub struct WrittenFinding {
     pub key: Key,
     pub severity: Severity,
     pub text: String,
@@ -56,7 +56,7 @@ pub struct Written {
 /// The result for a file.
 pub enum Outcome {
     /// The file was judged. `text` says how much of it.
-    Judged { findings: Vec<Written>, coverage: Box<Coverage>, unused: Vec<String>, text: String },
+    Judged { findings: Vec<WrittenFinding>, coverage: Box<Coverage>, unused: Vec<String>, text: String },
     /// The file's code isn't read.
     Other(LintError),
     /// The file can't be read.
@@ -64,7 +64,7 @@ pub enum Outcome {
 }
 
 /// Lints a file.
-pub fn linted(path: &Path, shown: &Shown) -> Linted {
+pub fn lint_file(path: &Path, shown: &Shown) -> Linted {
     let outcome = match content(path) {
         Ok(data) => judged(path, &data, shown),
         Err(error) => Outcome::Unread(format!("cannot read: {}", error)),
@@ -114,7 +114,7 @@ impl<'m> File<'_, 'm> {
         FunctionOffset::at(self.functions, address).map(|spot| spot.to_string())
     }
 
-    fn written(&self, finding: &Finding<'m>, lint: &mut Lint<'m>, shown: &Shown) -> Written {
+    fn written(&self, finding: &Finding<'m>, lint: &mut Lint<'m>, shown: &Shown) -> WrittenFinding {
         let names = |address| self.name(address);
         let mut text = format!("{}: {}", crate::end::shown(self.path), Text(self.module, finding, &names));
         let key = Key::of(text.lines().next().unwrap_or(""));
@@ -125,7 +125,7 @@ impl<'m> File<'_, 'm> {
             text.push_str(&explained(&explain(lint, finding.fde).unwrap_or_default()));
         }
         let sarif = shown.sarif.then(|| self.result(finding, &text));
-        Written { key, severity: finding.severity, text, sarif }
+        WrittenFinding { key, severity: finding.severity, text, sarif }
     }
 
     /// A finding, whose text this is, as a result of SARIF.

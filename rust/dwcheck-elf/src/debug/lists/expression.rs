@@ -214,50 +214,70 @@ fn places(expression: &[u8], operations: &[Operation], target: Target) -> Vec<(u
     places
 }
 
+/// An expression that is being rewritten.
+struct Rewriting<'e> {
+    expression: &'e [u8],
+    target: Target,
+    places: Vec<(usize, usize)>,
+    bytes: Vec<u8>,
+    all_unsupported: Vec<UnsupportedAt>,
+}
+
+impl Rewriting<'_> {
+    /// Writes an operation. `None` if it is a branch whose distance doesn't fit any more.
+    fn push(&mut self, operation: &Operation) -> Option<()> {
+        match operation.act {
+            Act::Copy | Act::Whole(_) => {
+                self.bytes.extend_from_slice(&self.expression[operation.begin..operation.end]);
+            }
+            Act::Branch(distance) => {
+                let distance = moved(&self.places, operation.end, distance, self.bytes.len() + 3)?;
+                self.bytes.push(self.expression[operation.begin]);
+                self.target.push(&mut self.bytes, distance as u64, 2);
+            }
+            Act::Address(number) => self.push_word(op::ADDR, number),
+            Act::Constant(number) => self.push_word(constant(self.target), number),
+            Act::Plus(number) => {
+                self.push_word(constant(self.target), number);
+                self.bytes.push(op::PLUS);
+            }
+            Act::NoAddress => self.push_word(op::ADDR, 0),
+            Act::Drop => {}
+            Act::Unsupported(unsupported, takes) => {
+                self.bytes.extend(std::iter::repeat(op::DROP).take(takes));
+                self.push_unreadable(unsupported, operation.begin);
+            }
+            Act::Value(unsupported) => {
+                self.push_unreadable(unsupported, operation.begin);
+                self.bytes.push(op::STACK_VALUE);
+            }
+        }
+        Some(())
+    }
+
+    /// Writes an operation with a number of an address's size.
+    fn push_word(&mut self, code: u8, number: u64) {
+        self.bytes.push(code);
+        self.target.push(&mut self.bytes, number, self.target.address_size.bytes());
+    }
+
+    /// Writes a read that fails, in place of the operation at the offset `original`.
+    fn push_unreadable(&mut self, unsupported: Unsupported, original: usize) {
+        self.all_unsupported.push(UnsupportedAt { unsupported, original, rewritten: self.bytes.len() + DEREF });
+        self.bytes.extend_from_slice(&UNREADABLE);
+    }
+}
+
 fn write<'a>(expression: &'a [u8], operations: &[Operation], scope: &Scope<'_>) -> Rewritten<'a> {
     let target = scope.target;
     let places = places(expression, operations, target);
-    let mut bytes = Vec::new();
-    let mut all_unsupported = Vec::new();
+    let mut rewriting = Rewriting { expression, target, places, bytes: Vec::new(), all_unsupported: Vec::new() };
     for operation in operations {
-        let begin = bytes.len();
-        match operation.act {
-            Act::Copy | Act::Whole(_) => bytes.extend_from_slice(&expression[operation.begin..operation.end]),
-            Act::Branch(distance) => match moved(&places, operation.end, distance, begin + 3) {
-                Some(distance) => {
-                    bytes.push(expression[operation.begin]);
-                    target.push(&mut bytes, distance as u64, 2);
-                }
-                None => return whole(Unsupported::LongBranch, operation.begin),
-            },
-            Act::Address(number) => push_word(&mut bytes, op::ADDR, number, target),
-            Act::Constant(number) => push_word(&mut bytes, constant(target), number, target),
-            Act::Plus(number) => {
-                push_word(&mut bytes, constant(target), number, target);
-                bytes.push(op::PLUS);
-            }
-            Act::NoAddress => push_word(&mut bytes, op::ADDR, 0, target),
-            Act::Drop => {}
-            Act::Unsupported(unsupported, takes) => {
-                bytes.extend(std::iter::repeat(op::DROP).take(takes));
-                all_unsupported.push(UnsupportedAt {
-                    unsupported,
-                    original: operation.begin,
-                    rewritten: bytes.len() + DEREF,
-                });
-                bytes.extend_from_slice(&UNREADABLE);
-            }
-            Act::Value(unsupported) => {
-                all_unsupported.push(UnsupportedAt {
-                    unsupported,
-                    original: operation.begin,
-                    rewritten: begin + DEREF,
-                });
-                bytes.extend_from_slice(&UNREADABLE);
-                bytes.push(op::STACK_VALUE);
-            }
+        if rewriting.push(operation).is_none() {
+            return whole(Unsupported::LongBranch, operation.begin);
         }
     }
+    let Rewriting { places, bytes, all_unsupported, .. } = rewriting;
     let without_address = operations.iter().find(|operation| matches!(operation.act, Act::NoAddress));
     let without_address = without_address.map(|operation| operation.begin);
     Rewritten { bytes: Cow::Owned(bytes), all_unsupported, places, without_address }
@@ -269,11 +289,6 @@ fn constant(target: Target) -> u8 {
     } else {
         op::CONST4U
     }
-}
-
-fn push_word(bytes: &mut Vec<u8>, code: u8, number: u64, target: Target) {
-    bytes.push(code);
-    target.push(bytes, number, target.address_size.bytes());
 }
 
 /// The distance of a branch that ends at `end` in the original, and at `new_end` once it is rewritten. A
