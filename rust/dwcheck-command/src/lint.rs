@@ -5,9 +5,10 @@ mod linted;
 mod sarif;
 
 use crate::arguments::LintArguments;
-use crate::end::{shown, Done, Failure};
+use crate::end::{shown_path, Done, Failure};
+use crate::pool::thread_pool;
 use crate::survey::files::Files;
-use crate::survey::{note_unread, progress, STACK};
+use crate::survey::{note_unread_files, progress_bar};
 use dwcheck_lint::coverage::Coverage;
 use dwcheck_lint::finding::Severity;
 use dwcheck_lint::kinds::{Kind, KINDS};
@@ -35,12 +36,11 @@ struct Totals {
 
 /// Lints all files, and writes what is found, as text or as JSON.
 pub fn lint(arguments: &LintArguments, out: &mut impl Write) -> Result<Done, Failure> {
-    let kinds = arguments.kind.iter().map(|name| kind(name)).collect::<Result<Vec<_>, _>>()?;
+    let kinds = arguments.kind.iter().map(|name| kind_of_name(name)).collect::<Result<Vec<_>, _>>()?;
     let known = arguments.known.as_deref().map_or(Ok(Known::default()), Known::read)?;
-    let pool = rayon::ThreadPoolBuilder::new().num_threads(arguments.jobs.unwrap_or(0)).stack_size(STACK);
-    let pool = pool.build().map_err(|error| Failure::File(format!("no threads: {}", error)))?;
+    let pool = thread_pool(arguments.jobs)?;
     let files = pool.install(|| Files::once_each(&arguments.paths));
-    let bar = progress(files.paths.len() as u64);
+    let bar = progress_bar(files.paths.len() as u64);
     let (private, explain, json, sarif) = (arguments.private, arguments.explain, arguments.json, arguments.sarif);
     let shown = Shown { private, explain, json, sarif, kinds };
     let all: Vec<_> = pool.install(|| {
@@ -52,17 +52,17 @@ pub fn lint(arguments: &LintArguments, out: &mut impl Write) -> Result<Done, Fai
         each.collect()
     });
     bar.finish_and_clear();
-    note_unread(&files);
+    note_unread_files(&files);
     let mut totals = Totals { unread: files.unread.len(), ..Totals::default() };
     for one in all {
-        totals.write(out, one, arguments, &known)?;
+        totals.write_linted(out, one, arguments, &known)?;
     }
-    totals.write_last(out, arguments)?;
+    totals.write_lint_totals(out, arguments)?;
     Ok(totals.done())
 }
 
 /// The kind with a name.
-fn kind(name: &str) -> Result<Kind, Failure> {
+fn kind_of_name(name: &str) -> Result<Kind, Failure> {
     let found = KINDS.iter().find(|(_, known)| *known == name).map(|(kind, _)| *kind);
     let names = || KINDS.iter().map(|(_, name)| *name).collect::<Vec<_>>().join(", ");
     found.ok_or_else(|| {
@@ -72,28 +72,34 @@ fn kind(name: &str) -> Result<Kind, Failure> {
 
 /// Warns of a file on standard error. If that is closed, nobody can read it, so it doesn't matter that it
 /// fails.
-fn warn(path: &Path, what: &dyn fmt::Display) {
-    let _ = writeln!(io::stderr(), "dwcheck-elf: {}: {}", shown(path), what);
+fn warn_of_file(path: &Path, what: &dyn fmt::Display) {
+    let _ = writeln!(io::stderr(), "dwcheck-elf: {}: {}", shown_path(path), what);
 }
 
 /// Whether a file has no FDEs.
-fn is_empty(coverage: &Coverage) -> bool {
+fn has_no_fdes(coverage: &Coverage) -> bool {
     coverage.fdes + coverage.signal_frames + coverage.unread == 0
 }
 
 impl Totals {
     /// Writes what was found in a file, and counts it.
-    fn write(&mut self, out: &mut impl Write, one: Linted, arguments: &LintArguments, known: &Known) -> io::Result<()> {
+    fn write_linted(
+        &mut self,
+        out: &mut impl Write,
+        one: Linted,
+        arguments: &LintArguments,
+        known: &Known,
+    ) -> io::Result<()> {
         let Linted { path, outcome } = one;
         match outcome {
             Outcome::Judged { findings, coverage, unused, text } => {
                 self.files += 1;
                 self.coverage.add(&coverage);
-                if is_empty(&coverage) && unused.is_empty() && arguments.paths.contains(&path) {
+                if has_no_fdes(&coverage) && unused.is_empty() && arguments.paths.contains(&path) {
                     self.unread += 1;
-                    warn(&path, &"no FDEs, so no rows to compare");
+                    warn_of_file(&path, &"no FDEs, so no rows to compare");
                 }
-                unused.iter().for_each(|reason| warn(&path, reason));
+                unused.iter().for_each(|reason| warn_of_file(&path, reason));
                 self.write_findings(out, findings, known.of(&path))?;
                 if arguments.sarif {
                     return Ok(());
@@ -102,7 +108,7 @@ impl Totals {
             }
             Outcome::Other(error) if arguments.paths.contains(&path) => {
                 self.unread += 1;
-                warn(&path, &error);
+                warn_of_file(&path, &error);
                 Ok(())
             }
             Outcome::Other(_) => {
@@ -111,7 +117,7 @@ impl Totals {
             }
             Outcome::Unread(error) => {
                 self.unread += 1;
-                warn(&path, &error);
+                warn_of_file(&path, &error);
                 Ok(())
             }
         }
@@ -129,7 +135,7 @@ impl Totals {
                 self.known += 1;
                 continue;
             }
-            self.count(finding.severity);
+            self.count_finding(finding.severity);
             match finding.sarif {
                 Some(result) => self.results.push(result),
                 None => writeln!(out, "{}", finding.text)?,
@@ -138,7 +144,7 @@ impl Totals {
         Ok(())
     }
 
-    fn count(&mut self, severity: Severity) {
+    fn count_finding(&mut self, severity: Severity) {
         match severity {
             Severity::BacktraceBroken => self.broken += 1,
             Severity::RegisterLost => self.lost += 1,
@@ -151,9 +157,9 @@ impl Totals {
     }
 
     /// Writes the totals, unless there is only one file; or all findings as SARIF.
-    fn write_last(&mut self, out: &mut impl Write, arguments: &LintArguments) -> io::Result<()> {
+    fn write_lint_totals(&mut self, out: &mut impl Write, arguments: &LintArguments) -> io::Result<()> {
         if arguments.sarif {
-            let document = sarif::document(std::mem::take(&mut self.results), &self.coverage);
+            let document = sarif::lint_document(std::mem::take(&mut self.results), &self.coverage);
             return writeln!(out, "{:#}", document);
         }
         let counts = [

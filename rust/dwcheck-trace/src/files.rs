@@ -1,6 +1,6 @@
 //! The files whose code processes run: their FDEs, rows and functions.
 
-use super::confirm::{suspects, Suspect};
+use super::confirm::{suspects_of_lint, Suspect};
 use super::registers::{CALLEE_SAVED, SAVED_COUNT};
 use super::rules::Rule;
 use super::site::{Judged, SavedAt, Site};
@@ -12,7 +12,7 @@ use dwcheck_elf::mapped::Bytes;
 use dwcheck_elf::names::FunctionOffset;
 use dwcheck_elf::program::{Program, ProgramError, Segment};
 use dwcheck_lint::flow::is_entry_row;
-use dwcheck_lint::judge::unjudged;
+use dwcheck_lint::judge::why_unjudged;
 use dwcheck_lint::machine::Machine;
 use dwcheck_lint::module::{Convention, Module};
 use dwcheck_lint::register::{Register, Registers};
@@ -203,7 +203,7 @@ impl<'s> ModuleFile<'s> {
             self.entries = entries;
             return;
         }
-        self.suspects = suspects(&self.module, &self.functions);
+        self.suspects = suspects_of_lint(&self.module, &self.functions);
         let wanted = self.suspects.iter().filter_map(|suspect| self.function_of_part(suspect.fde));
         self.entries = wanted.filter(|begin| entries.contains(begin)).collect();
     }
@@ -281,7 +281,7 @@ impl<'s> ModuleFile<'s> {
         let section = section.ok_or(Rule::NoRow)?;
         let is_signal = fde.map_or(false, |fde| self.module.fdes[fde].is_signal);
         if !is_signal {
-            unjudged(self.module.machine, row).map_or(Ok(()), |reason| Err(Rule::from(reason)))?;
+            why_unjudged(self.module.machine, row).map_or(Ok(()), |reason| Err(Rule::from(reason)))?;
         }
         let keeps = self.module.convention == Convention::KeepsRegisters;
         let callee_saved = CALLEE_SAVED.map(|number| match row.rule(Register(number as u8)) {
@@ -290,14 +290,14 @@ impl<'s> ModuleFile<'s> {
             None | Some(RowRule::SameValue) => SavedAt::InPlace,
             Some(_) => SavedAt::Elsewhere,
         });
-        let reads = reads(self.module.machine, row, &callee_saved);
-        Ok(Judged { section, callee_saved, begin: row.begin, reads, lowest: lowest(row), is_signal })
+        let reads = registers_of_row(self.module.machine, row, &callee_saved);
+        Ok(Judged { section, callee_saved, begin: row.begin, reads, lowest: lowest_saved_offset(row), is_signal })
     }
 }
 
 /// The registers by which a row finds the CFA, the return address and the callee-saved registers. `None` if it has
 /// an expression for one of them.
-fn reads(machine: &Machine, row: &Row<'_>, callee_saved: &[SavedAt; SAVED_COUNT]) -> Option<Registers> {
+fn registers_of_row(machine: &Machine, row: &Row<'_>, callee_saved: &[SavedAt; SAVED_COUNT]) -> Option<Registers> {
     let mut reads = Registers::NONE;
     match row.cfa {
         Cfa::RegisterOffset { register, .. } => reads.insert(register),
@@ -317,7 +317,7 @@ fn reads(machine: &Machine, row: &Row<'_>, callee_saved: &[SavedAt; SAVED_COUNT]
 }
 
 /// The lowest offset from the CFA at which a row finds a register.
-fn lowest(row: &Row<'_>) -> i64 {
+fn lowest_saved_offset(row: &Row<'_>) -> i64 {
     let offsets = row.rules.iter().filter_map(|(_, rule)| match rule {
         RowRule::Offset(offset) => Some(*offset),
         _ => None,

@@ -136,7 +136,7 @@ impl<'data> CoreFile<'data> {
         let files = process.maps.iter().enumerate().filter(|(_, map)| map.path.starts_with(b"/"));
         let mapping = |(index, map)| Mapping::of_live(map, can_differ(&process.maps, index));
         let mappings: Vec<_> = files.map(mapping).collect();
-        let auxiliary = |kind| notes::auxiliary(&process.auxiliary, target, kind);
+        let auxiliary = |kind| notes::auxiliary_value(&process.auxiliary, target, kind);
         CoreFile {
             target,
             abi,
