@@ -1,4 +1,4 @@
-//! How a run of the program ends, and its exit status.
+//! How a run of the program ends: its exit status, and the line that says why it failed.
 
 use dwcheck_elf::inspect::InspectError;
 use dwcheck_elf::text::Escaped;

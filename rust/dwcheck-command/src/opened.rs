@@ -1,5 +1,4 @@
-//! What the commands share: they read files and addresses, choose frame sections, and write faults
-//! and names.
+//! What the commands share: they open ELF files, read arguments that are addresses, and write faults and notes.
 
 use crate::end::{shown_path, Done, Failure};
 use dwcheck::Process;

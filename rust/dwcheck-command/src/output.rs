@@ -1,4 +1,4 @@
-//! A file that is there only when it is whole.
+//! Files that are written whole or not at all, and never over a file that is read.
 
 use crate::end::{shown_path, Failure};
 use nix::unistd::{linkat, LinkatFlags};

@@ -1,4 +1,4 @@
-//! The instructions of an FDE, and where blocks of them begin.
+//! The instructions of an FDE, decoded, and where blocks of them begin.
 
 use crate::instruction::{Effect, Instruction};
 use crate::machine::Machine;

@@ -1,4 +1,4 @@
-//! Compares a row with what is known.
+//! Compares a row with a state of the code: the CFA, the return address, each register and its slot.
 
 use crate::expression::Context;
 use crate::machine::{Machine, MOST_CALLEE_SAVED};

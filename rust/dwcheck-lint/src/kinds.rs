@@ -1,4 +1,4 @@
-//! The kinds of defects, by their names.
+//! The kinds of defects, by their names, and how a finding's kind is found.
 
 use crate::finding::Group;
 use crate::flow::is_entry_row;

@@ -1,4 +1,4 @@
-//! How an instruction changes what is known.
+//! How an instruction changes what is known: it moves, adds, loads, stores, pushes or pops.
 
 use crate::instruction::{Effect, Entry, MemoryOperand, Scale, Transfer};
 use crate::machine::Machine;

@@ -1,4 +1,4 @@
-//! Registers that a function has popped before it returns.
+//! Registers that a function has popped before it returns, and the slots from which it did.
 //!
 //! After `pop %rbp` or `leave`, tables of compilers still say that the register is in its slot. In the process it is,
 //! but the slot is below the stack pointer now, and perf copies only what is above. The register has the same value.

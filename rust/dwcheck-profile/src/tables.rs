@@ -1,4 +1,4 @@
-//! The unwind tables of files.
+//! The unwind tables of files, one for each FDE, compiled when they are first needed.
 //!
 //! There is one table for each FDE, at the addresses as linked, wherever and however often processes mapped the
 //! file. An FDE is checked and compiled when a frame first needs it, by whichever thread walks there first.

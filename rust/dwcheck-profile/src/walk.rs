@@ -1,4 +1,4 @@
-//! Walks the stack of a sample.
+//! Walks the stack of a sample: the kernel's chain, then the task's frames by rows, by frame pointers or by guesses.
 //!
 //! Walks only read what they share, so that any number of threads may walk at once. A walk that needs something
 //! which isn't there yet says so and ends; it is done again when that was added.

@@ -1,4 +1,4 @@
-//! Compares a row with what is true of a frame.
+//! Compares a row with what is true of a frame, by unwinding it.
 
 use super::registers::{Registers, CALLEE_SAVED, COUNT, SAVED_COUNT};
 use super::rules::Rule;

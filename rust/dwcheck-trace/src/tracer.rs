@@ -1,4 +1,4 @@
-//! Handles what the threads report that are traced.
+//! Handles what the threads report that are traced: signals, traps, new threads and processes, their ends.
 
 use super::alarm::{Alarm, Asked};
 use super::batch::Batch;

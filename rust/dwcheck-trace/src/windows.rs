@@ -1,4 +1,4 @@
-//! Decides what is stepped: the first calls of each function, up to their returns. Functions that were
+//! Decides what is stepped, in windows: the first calls of each function, up to their returns. Functions that were
 //! stepped already run at full speed.
 
 use super::breakpoints::Breakpoint;

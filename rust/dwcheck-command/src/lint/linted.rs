@@ -1,4 +1,4 @@
-//! Lints one file.
+//! Lints one file: its findings as they are written, and how much of it was judged.
 
 use super::known::Key;
 use super::sarif;

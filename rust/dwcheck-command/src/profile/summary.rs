@@ -1,4 +1,4 @@
-//! The lines on standard error that say what was read, and what wasn't.
+//! The lines on standard error that say what of a recording was read, what wasn't, and why stacks ended.
 
 use crate::arguments::{Format, ProfileArguments};
 use crate::end::shown_path;

@@ -1,4 +1,4 @@
-//! Which FDE counts at which address.
+//! Which FDE counts at which address, where several cover it.
 
 use std::cmp::Reverse;
 use std::collections::BinaryHeap;

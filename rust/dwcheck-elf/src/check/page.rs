@@ -1,4 +1,4 @@
-//! What pages of HTML with data in them share.
+//! What pages of HTML with data in them share: the page is written up to a mark, then the data, then the rest.
 
 use std::io::{self, Write};
 

@@ -1,4 +1,4 @@
-//! The code and data of a program as they are in memory, for reading its code.
+//! The code and data of a program as they are in memory, and the imports by which code leads to other files.
 
 use crate::elf::layout::{is_loaded_section, Layout};
 use crate::elf::relocate::{Object, Outside, APART};

@@ -1,4 +1,4 @@
-//! The address of each section of a file in memory.
+//! The address of each section of a file in memory: those of an unlinked object are laid out one after another.
 
 use dwcheck_types::target::Target;
 use object::elf::{ET_REL, SHF_ALLOC, SHF_EXECINSTR};

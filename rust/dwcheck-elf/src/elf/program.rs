@@ -1,4 +1,4 @@
-//! An ELF file: its frame sections, location lists, functions and segments.
+//! An ELF file: its sections, also compressed ones, its frame sections, location lists, functions and segments.
 
 mod by_segment;
 

@@ -1,4 +1,4 @@
-//! What `/proc` says about a process.
+//! What `/proc` says about a process: its memory maps, threads, machine and tracer.
 
 use crate::elf::program::Program;
 use dwcheck_types::abi::{abi, Abi};

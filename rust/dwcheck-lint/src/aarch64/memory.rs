@@ -1,4 +1,4 @@
-//! Loads and stores.
+//! Loads and stores of aarch64.
 
 use super::{vector_register, write_of_register, Word, SP};
 use crate::instruction::{Effect, Entry, MemoryOperand, Transfer};

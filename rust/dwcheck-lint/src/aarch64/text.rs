@@ -1,5 +1,5 @@
-//! The text of the instructions that matter to a frame, as objdump writes it. All others are shown as
-//! `.inst` with their 4 bytes as a number.
+//! The text of instructions of aarch64 that matter to a frame, as objdump writes it. All others are shown as `.inst`
+//! with their 4 bytes as a number.
 
 use super::{Word, SP};
 use crate::instruction::{Effect, Target};

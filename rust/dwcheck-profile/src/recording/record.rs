@@ -1,4 +1,4 @@
-//! The records of a recording.
+//! The records of a recording: mappings, forks, names, losses, and others, and the time of each.
 
 use super::event::{part, Events};
 use super::features::{bytes_until_zero, BuildId};

@@ -1,4 +1,4 @@
-//! gimli's rows of a section.
+//! gimli's rows of a section, and their rules in the form in which they are compared.
 
 use super::{RowError, RowSource};
 use crate::cfi::row::{Cfa, Row, Rule};

@@ -1,4 +1,4 @@
-//! Which code of a program has rows.
+//! Which code of a program has rows, and the gaps that have none.
 
 use super::instructions::Memory;
 use crate::elf::covered::Covered;

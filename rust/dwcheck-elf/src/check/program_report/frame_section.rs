@@ -1,4 +1,4 @@
-//! What a frame section holds.
+//! What a frame section holds, for a report.
 
 use crate::cfi::eh_frame_hdr::mismatches;
 use crate::cfi::frames::{Counts, Frames, Name, Notes};

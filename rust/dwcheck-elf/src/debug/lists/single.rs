@@ -1,4 +1,4 @@
-//! Looks up addresses in one list.
+//! Looks up addresses in a single location list.
 
 use super::list_section::{first_fault_of_expression, first_fault_of_tables};
 use super::references::Reference;

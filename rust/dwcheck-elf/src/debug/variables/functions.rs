@@ -1,4 +1,4 @@
-//! Finds the units and the functions that have an address.
+//! Finds the units and the functions that have an address, by an index of their ranges.
 
 use crate::debug::debug_info::{ranges_of, Die, Units};
 use gimli::UnitOffset;

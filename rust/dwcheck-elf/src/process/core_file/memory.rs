@@ -1,4 +1,4 @@
-//! The memory of a process that died.
+//! The memory of a process that died: blocks of the core file, and of mapped files that the core left out.
 
 use super::{CoreFile, Files};
 use crate::elf::covered::Covered;

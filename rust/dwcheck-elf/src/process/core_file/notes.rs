@@ -1,4 +1,4 @@
-//! Reads the notes of a core file.
+//! Reads the notes of a core file: the signal, the process, the mapped files, the auxiliary vector.
 
 use super::registers::{read_prstatus, read_vector_registers, Thread};
 use super::{CoreError, Sender, Signal};

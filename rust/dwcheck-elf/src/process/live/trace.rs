@@ -1,4 +1,4 @@
-//! Stops a thread by ptrace, and lets it go on.
+//! Stops a thread by ptrace, reads its registers, and lets it go on.
 
 #![allow(unsafe_code)]
 

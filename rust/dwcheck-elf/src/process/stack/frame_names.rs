@@ -1,4 +1,4 @@
-//! Names of functions, and lines of source files.
+//! Names of the functions of frames, and their lines of source files.
 
 use crate::debug::inlined;
 use crate::debug::lines::{At, Lines, SourceLine};

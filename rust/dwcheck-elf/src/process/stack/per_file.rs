@@ -1,4 +1,4 @@
-//! Something that is read of the file of a module. A file that is mapped several times is read once.
+//! Something that is read once of the file of each module. A file that is mapped several times is read once.
 
 use super::tables::{file_key, FileKey};
 use crate::elf::program::Program;

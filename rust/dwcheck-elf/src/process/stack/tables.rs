@@ -1,5 +1,5 @@
-//! The unwind tables of a process's modules. An FDE is checked and compiled when a look-up first
-//! needs it.
+//! The unwind tables of a process's modules. An FDE is checked and compiled when
+//! a look-up first needs it.
 
 use crate::cfi::section_table::{add_fde, SectionTable};
 use crate::elf::program::Program;

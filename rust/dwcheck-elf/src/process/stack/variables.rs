@@ -1,4 +1,4 @@
-//! The variables of frames.
+//! The variables of the frames of a stack.
 
 use super::{Frame, Stack, Stacks};
 use crate::cfi::text::Escaped;

@@ -1,4 +1,4 @@
-//! Reads members of structures that have a number of bits.
+//! Reads bit fields: members of structures that have a number of bits.
 
 use super::numbers::{is_signed_type, unsigned_number};
 use super::{Part, Shape, Value};

@@ -1,4 +1,4 @@
-//! Reads numbers that have names.
+//! Reads enumerations: numbers that have names.
 
 use super::numbers::{low_bytes, signed_number, unsigned_number};
 use super::{Part, Value};

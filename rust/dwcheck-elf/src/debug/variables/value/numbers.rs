@@ -1,4 +1,4 @@
-//! Reads numbers of base types.
+//! Reads numbers of base types: with and without a sign, with a fraction, complex ones, characters.
 
 use super::characters::Characters;
 use super::enumerations::is_unsigned_enumeration;

@@ -1,4 +1,4 @@
-//! Reads texts.
+//! Reads texts: those at an address, arrays of characters, and the texts of Fortran, Rust and Go.
 
 use super::characters::{utf8_text, Characters};
 use super::numbers::unsigned_number;
