@@ -65,7 +65,7 @@ struct LastRow {
 
 /// Why a file can't be read.
 #[derive(Debug)]
-pub enum FileError {
+pub enum ModuleFileError {
     /// It can't be opened.
     Unread(io::Error),
     /// It isn't an ELF file that can be read.
@@ -97,7 +97,7 @@ pub(super) struct Files<'b, 's> {
     /// The index of each file, by its path and its number. `None` if it can't be read.
     known: HashMap<(Vec<u8>, u64), Option<usize>>,
     /// Why files can't be read.
-    pub unread: Vec<(PathBuf, FileError)>,
+    pub unread: Vec<(PathBuf, ModuleFileError)>,
     selection: Selection,
 }
 
@@ -141,7 +141,7 @@ impl<'b: 's, 's> Files<'b, 's> {
         let inside = path.strip_prefix("/").unwrap_or(path);
         let root = PathBuf::from(format!("/proc/{}/root", pid)).join(inside);
         let bytes = Bytes::of_elf(Path::new(&mapped)).or_else(|_| Bytes::of_elf(&root));
-        bytes.map_err(|error| self.unread.push((path.to_path_buf(), FileError::Unread(error)))).ok()
+        bytes.map_err(|error| self.unread.push((path.to_path_buf(), ModuleFileError::Unread(error)))).ok()
     }
 
     fn add(&mut self, path: &[u8], bytes: Bytes) -> Option<usize> {
@@ -166,11 +166,11 @@ impl<'s> ModuleFile<'s> {
         bytes: &'b [u8],
         arena: &'s Arena<Sections<'b>>,
         selection: &Selection,
-    ) -> Result<Self, FileError> {
-        let program = Program::read(bytes).map_err(FileError::Program)?;
+    ) -> Result<Self, ModuleFileError> {
+        let program = Program::read(bytes).map_err(ModuleFileError::Program)?;
         let functions = program.functions();
         let sections: &'s Sections<'s> = arena.alloc(Sections::read(&program));
-        let module = sections.module(&program, &functions).map_err(FileError::Code)?;
+        let module = sections.module(&program, &functions).map_err(ModuleFileError::Code)?;
         // The stacks of Go move while functions are on them.
         let is_stepped = selection.selects(&path) && module.convention != Convention::Go;
         let load = functions.all().iter().find(|function| function.name == MODULES_CHANGED);
@@ -333,22 +333,22 @@ impl Selection {
     }
 }
 
-impl fmt::Display for FileError {
+impl fmt::Display for ModuleFileError {
     fn fmt(&self, f: &mut fmt::Formatter<'_>) -> fmt::Result {
         match self {
-            FileError::Unread(error) => write!(f, "cannot read: {}", error),
-            FileError::Program(error) => error.fmt(f),
-            FileError::Code(error) => error.fmt(f),
+            ModuleFileError::Unread(error) => write!(f, "cannot read: {}", error),
+            ModuleFileError::Program(error) => error.fmt(f),
+            ModuleFileError::Code(error) => error.fmt(f),
         }
     }
 }
 
-impl std::error::Error for FileError {
+impl std::error::Error for ModuleFileError {
     fn source(&self) -> Option<&(dyn std::error::Error + 'static)> {
         match self {
-            FileError::Unread(error) => Some(error),
-            FileError::Program(error) => Some(error),
-            FileError::Code(error) => Some(error),
+            ModuleFileError::Unread(error) => Some(error),
+            ModuleFileError::Program(error) => Some(error),
+            ModuleFileError::Code(error) => Some(error),
         }
     }
 }
