@@ -1,4 +1,5 @@
-//! aarch64: its calling convention, and its decoder.
+//! aarch64: its calling convention, and its decoder of instruction words: immediates, branches, system, registers,
+//! vectors.
 //!
 //! A64 has a few regular encodings, all of 4 bytes. The fields of an instruction are named by their
 //! highest and lowest bits, as the architecture's manual numbers them.

@@ -1,4 +1,5 @@
-//! Follows the flow of control through an FDE's code until nothing new is found.
+//! Follows the flow of control through an FDE's code until nothing new is found: which blocks are reached, and in
+//! which states.
 
 use crate::assume::{assumed_state, state_at_entry, unsaved_slots};
 use crate::callees::{leads_elsewhere, Callees};

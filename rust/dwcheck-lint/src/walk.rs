@@ -1,4 +1,4 @@
-//! Walks through a block, and finds the edges that lead out of it.
+//! Walks through a block, and finds the edges that lead out of it: jumps, calls, landing pads, falling through.
 
 use crate::flow::Flow;
 use crate::instruction::{Condition, Effect, Entry, Target};

@@ -1,4 +1,5 @@
-//! x86-64: its calling convention, and its decoder over Zydis.
+//! x86-64: its calling convention, and its decoder over Zydis: what `mov`, `lea`, `add`, `push`, jumps and the others
+//! do.
 
 mod common;
 mod remembered;

@@ -1,5 +1,5 @@
-//! The files whose code samples pass, and other code that has an owner: the kernel, and code that a
-//! compiler made at run time.
+//! The files whose code samples pass, and other code that has an owner: the kernel, the vDSO, and code that a compiler
+//! made at run time; where each is looked for.
 
 use super::error::Error;
 use super::jitdump::is_jitdump_path;

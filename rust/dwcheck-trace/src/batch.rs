@@ -1,4 +1,4 @@
-//! Batches: instructions that a thread runs at once, up to a breakpoint.
+//! Batches: instructions that a thread runs at once, up to a breakpoint; which may be in one, and where it ends.
 //!
 //! A batch begins where a row was right. No row of it finds anything by a register that was written since in a way
 //! that isn't followed, and none of its instructions enters the kernel. What pushes, pops and sums of the stack

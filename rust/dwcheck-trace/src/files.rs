@@ -1,4 +1,5 @@
-//! The files whose code processes run: their FDEs, rows and functions.
+//! The files whose code processes run: their FDEs, rows and functions, which of them are selected, and the sites that
+//! rows are judged at.
 
 use super::confirm::{suspects_of_lint, Suspect};
 use super::registers::{CALLEE_SAVED, SAVED_COUNT};

@@ -1,4 +1,4 @@
-//! Compares a row with what is true of a frame, by unwinding it.
+//! Compares a row with what is true of a frame, by unwinding it: the verdict, and memory below the CFA.
 
 use super::registers::{Registers, CALLEE_SAVED, COUNT, SAVED_COUNT};
 use super::rules::Rule;

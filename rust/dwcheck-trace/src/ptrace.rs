@@ -1,4 +1,4 @@
-//! Requests of ptrace, and what traced threads report.
+//! Requests of ptrace: seize, interrupt, step, run, registers, words; and waiting for what traced threads report.
 //!
 //! nix has no real-time signals, so whatever names a signal calls the C library itself.
 //!

@@ -1,4 +1,5 @@
-//! The frame sections of a program, in the form that the library takes.
+//! The frame sections of a program, in the form that the library takes: their bytes as edited, the records that are
+//! used, what is unresolved or signed.
 //!
 //! The library gets the bytes of the file, at their offsets. Only what it would refuse and is harmless, or
 //! is left out, is changed in place; `edits` has the list.

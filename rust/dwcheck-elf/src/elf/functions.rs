@@ -1,4 +1,4 @@
-//! Looks up the functions of an ELF file, by address or by name.
+//! Looks up the functions of an ELF file, by address or by name, or similar names.
 
 use crate::elf::demangle::{is_shown_as, similar_name, STUB};
 use crate::elf::layout::Layout;

@@ -1,4 +1,5 @@
-//! An ELF file: its sections, also compressed ones, its frame sections, location lists, functions and segments.
+//! An ELF file: its machine, its sections, also compressed ones, its frame sections, location lists, functions,
+//! segments, build id and debug links.
 
 mod by_segment;
 

@@ -1,4 +1,5 @@
-//! A core file: the threads, the memory and the mapped files of a process that died.
+//! A core file: the threads, the memory, which of it is executable or writable, and the mapped files of a process that
+//! died.
 
 mod files;
 mod in_memory;

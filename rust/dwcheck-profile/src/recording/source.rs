@@ -1,4 +1,4 @@
-//! Reads the records of a recording one after another, also those that perf compressed.
+//! Takes the records of a recording from a file or a pipe one after another, also those that perf compressed.
 
 use super::header::PIPE_SIZE;
 use super::{kind, Damage, RecordHead, HEAD};

@@ -1,4 +1,4 @@
-//! The records of a frame section, as the library reads them one by one.
+//! The records of a frame section, as the library reads them one by one: their ranges, programs and addresses.
 
 use super::Format;
 use dwcheck::{Error, Fault, RecordKind};

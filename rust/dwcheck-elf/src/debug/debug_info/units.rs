@@ -1,4 +1,4 @@
-//! The units of debug information, and references between their entries.
+//! The units of debug information, and their entries: attributes, children, ranges, and references between entries.
 
 use super::definitions::Definitions;
 use super::Slice;

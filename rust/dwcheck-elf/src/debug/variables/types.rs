@@ -1,5 +1,5 @@
-//! The types of variables: their names, their sizes, and what they are once names for them and qualifiers
-//! are left out.
+//! The types of variables: their names, their sizes, dimensions and indexes of arrays, languages, and what a type is
+//! without other names and qualifiers.
 
 use crate::debug::debug_info::Die;
 use gimli::{AttributeValue, DwTag};

@@ -1,4 +1,4 @@
-//! Opens the files that a process had mapped into memory when it died.
+//! Opens the files that a process had mapped into memory when it died, and sees whether they are still the same.
 
 use super::in_memory::{build_id_in_bytes, has_same_id, image_in_memory};
 use super::{CoreFile, Mapping};
