@@ -3,10 +3,14 @@
 //! is checked by pkg-config, or by the file dwcheck.pc if one is in or near the folder.
 
 use std::env;
+use std::error;
 use std::ffi::{OsStr, OsString};
+use std::fmt;
 use std::fs;
+use std::io;
 use std::path::{Path, PathBuf};
 use std::process::{exit, Command};
+use std::string::FromUtf8Error;
 
 const DIRS: &str = "DWCHECK_LIB_DIR";
 const NAMES: &str = "DWCHECK_LIBS";
@@ -20,13 +24,63 @@ const VERSIONS: &str = "dwcheck >= 2 dwcheck < 3";
 /// The library to link if DWCHECK_LIBS isn't set.
 const LIBRARY: &str = "dwcheck";
 
+/// Why the library can't be linked.
+#[derive(Debug)]
+enum Error {
+    /// No folder of DWCHECK_LIB_DIR has the library of this name.
+    NotFound(String),
+    /// This file says that the library is of this version, which this crate isn't for.
+    OtherVersion(PathBuf, String),
+    /// pkg-config doesn't run.
+    NoPkgConfig(io::Error),
+    /// pkg-config doesn't find the library, and prints this.
+    NotFoundByPkgConfig(String),
+    /// What pkg-config prints isn't text.
+    NoText(FromUtf8Error),
+}
+
+impl fmt::Display for Error {
+    fn fmt(&self, f: &mut fmt::Formatter<'_>) -> fmt::Result {
+        match self {
+            Error::NotFound(name) => write!(f, "no library {} in {}", name, DIRS),
+            Error::OtherVersion(file, version) => {
+                let file = file.display();
+                write!(
+                    f,
+                    "{} has version {}, and this crate is for version {}",
+                    file, version, MAJOR
+                )
+            }
+            Error::NoPkgConfig(why) => write!(f, "pkg-config doesn't run ({}); set {}", why, DIRS),
+            Error::NotFoundByPkgConfig(why) => {
+                write!(
+                    f,
+                    "pkg-config doesn't find {}; set {}\n{}",
+                    VERSIONS, DIRS, why
+                )
+            }
+            Error::NoText(why) => why.fmt(f),
+        }
+    }
+}
+
+impl error::Error for Error {
+    fn source(&self) -> Option<&(dyn error::Error + 'static)> {
+        match self {
+            Error::NoPkgConfig(why) => Some(why),
+            Error::NoText(why) => Some(why),
+            Error::NotFound(_) | Error::OtherVersion(..) | Error::NotFoundByPkgConfig(_) => None,
+        }
+    }
+}
+
 fn main() {
     for name in [DIRS, NAMES, "PKG_CONFIG", "PKG_CONFIG_PATH"] {
         println!("cargo:rerun-if-env-changed={}", name);
     }
     let linked = match env::var_os(DIRS) {
-        Some(dirs) => from_folders(&dirs),
-        None => from_pkg_config(),
+        Some(dirs) => link_from_folders(&dirs),
+        None => link_by_pkg_config(),
     };
     if let Err(why) = linked {
         eprintln!("dwcheck: {}", why);
@@ -43,7 +97,8 @@ struct Found {
     file: PathBuf,
 }
 
-fn from_folders(dirs: &OsStr) -> Result<(), String> {
+/// Links the libraries that DWCHECK_LIBS names, or else `dwcheck`, from the folders that DWCHECK_LIB_DIR lists.
+fn link_from_folders(dirs: &OsStr) -> Result<(), Error> {
     let folders: Vec<PathBuf> = env::split_paths(dirs).collect();
     let found = match env::var(NAMES) {
         Ok(names) => {
@@ -51,9 +106,9 @@ fn from_folders(dirs: &OsStr) -> Result<(), String> {
                 .split(|c: char| c == ',' || c.is_whitespace())
                 .filter(|name| !name.is_empty())
                 .collect();
-            find_all(&folders, &names)?
+            find_libraries(&folders, &names)?
         }
-        Err(_) => find_all(&folders, &[LIBRARY])?,
+        Err(_) => find_libraries(&folders, &[LIBRARY])?,
     };
     for library in found {
         check_version(&library.folder)?;
@@ -69,7 +124,7 @@ fn from_folders(dirs: &OsStr) -> Result<(), String> {
 
 /// Refuses a library of another version, if a file dwcheck.pc beside it or in its folder `pkgconfig`
 /// says so.
-fn check_version(folder: &Path) -> Result<(), String> {
+fn check_version(folder: &Path) -> Result<(), Error> {
     for file in [
         folder.join("dwcheck.pc"),
         folder.join("pkgconfig/dwcheck.pc"),
@@ -82,22 +137,21 @@ fn check_version(folder: &Path) -> Result<(), String> {
         let version = text.lines().find_map(|line| line.strip_prefix("Version:"));
         let version = version.unwrap_or("").trim();
         if version.split('.').next() != Some(MAJOR) {
-            return Err(format!(
-                "{} has version {}, and this crate is for version {}",
-                file.display(),
-                version,
-                MAJOR
-            ));
+            return Err(Error::OtherVersion(file, version.to_string()));
         }
     }
     Ok(())
 }
 
-fn find_all(folders: &[PathBuf], names: &[&str]) -> Result<Vec<Found>, String> {
-    names.iter().map(|name| find(folders, name)).collect()
+fn find_libraries(folders: &[PathBuf], names: &[&str]) -> Result<Vec<Found>, Error> {
+    names
+        .iter()
+        .map(|name| find_library(folders, name))
+        .collect()
 }
 
-fn find(folders: &[PathBuf], name: &str) -> Result<Found, String> {
+/// The static library of a name, or else the shared one, in the first of the folders that has it.
+fn find_library(folders: &[PathBuf], name: &str) -> Result<Found, Error> {
     for (kind, ending) in [("static", "a"), ("dylib", "so"), ("dylib", "dylib")] {
         for folder in folders {
             let file = folder.join(format!("lib{}.{}", name, ending));
@@ -111,23 +165,21 @@ fn find(folders: &[PathBuf], name: &str) -> Result<Found, String> {
             }
         }
     }
-    Err(format!("no library {} in {}", name, DIRS))
+    Err(Error::NotFound(name.to_string()))
 }
 
-fn from_pkg_config() -> Result<(), String> {
+/// Links what pkg-config prints for the library.
+fn link_by_pkg_config() -> Result<(), Error> {
     let program = env::var_os("PKG_CONFIG").unwrap_or_else(|| OsString::from("pkg-config"));
     let output = Command::new(program)
         .args(["--libs", VERSIONS])
         .output()
-        .map_err(|why| format!("pkg-config doesn't run ({}); set {}", why, DIRS))?;
+        .map_err(Error::NoPkgConfig)?;
     if !output.status.success() {
         let why = String::from_utf8_lossy(&output.stderr).into_owned();
-        return Err(format!(
-            "pkg-config doesn't find {}; set {}\n{}",
-            VERSIONS, DIRS, why
-        ));
+        return Err(Error::NotFoundByPkgConfig(why));
     }
-    let words = String::from_utf8(output.stdout).map_err(|why| why.to_string())?;
+    let words = String::from_utf8(output.stdout).map_err(Error::NoText)?;
     for word in words.split_whitespace() {
         if let Some(folder) = word.strip_prefix("-L") {
             println!("cargo:rustc-link-search=native={}", folder);

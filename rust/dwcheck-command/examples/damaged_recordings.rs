@@ -171,13 +171,13 @@ fn profile(bytes: &[u8], root: &Path, number: usize) -> Result {
     let event = profile.sampled_events().first().copied().unwrap_or(0);
     let out = &mut io::sink();
     let written = match format % 7 {
-        0 => folded::write(&profile, &names, event, out),
-        1 => script::write(&profile, &names, ScriptOptions { stops: true }, out),
-        2 => html::write(&profile, &names, event, "title", out),
-        3 => speedscope::write(&profile, &names, event, out),
-        4 => pprof::write(&profile, &names, out),
-        5 => firefox::write(&profile, &names, event, "title", out),
-        _ => top::write(&profile, &names, event, 10, out),
+        0 => folded::write_folded(&profile, &names, event, out),
+        1 => script::write_script(&profile, &names, ScriptOptions { stops: true }, out),
+        2 => html::write_html(&profile, &names, event, "title", out),
+        3 => speedscope::write_speedscope(&profile, &names, event, out),
+        4 => pprof::write_pprof(&profile, &names, out),
+        5 => firefox::write_firefox(&profile, &names, event, "title", out),
+        _ => top::write_top(&profile, &names, event, 10, out),
     };
     written.expect("a sink takes everything");
     Result { is_read: true, is_damaged: profile.damage.is_some(), samples: profile.samples.len() }

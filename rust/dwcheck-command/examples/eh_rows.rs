@@ -8,6 +8,7 @@
 use dwcheck::{CfaRule, EhFrame, Module, Process, Row, Rule, Target};
 use gimli::{BaseAddresses, CieOrFde, EndianSlice, RegisterRule, RunTimeEndian, UnwindContext, UnwindSection};
 use object::{Architecture, Object, ObjectSection};
+use std::error::Error;
 use std::io::{stdin, BufRead};
 
 type Bytes<'a> = EndianSlice<'a, RunTimeEndian>;
@@ -60,27 +61,32 @@ fn library_text(process: &Process, row: &Row) -> String {
     format!("{:#x}..{:#x} {}{}", row.addresses.start, row.addresses.end, cfa, rules.collect::<String>())
 }
 
-/// Compares the rows of all FDEs. `Err` says which differs.
-fn compare(process: &Process, section: &gimli::EhFrame<Bytes<'_>>, bases: &BaseAddresses) -> Result<usize, String> {
+/// Compares the rows of all FDEs, and returns how many there are. `Err` says which differs.
+fn compare_rows(
+    process: &Process,
+    section: &gimli::EhFrame<Bytes<'_>>,
+    bases: &BaseAddresses,
+) -> Result<usize, Box<dyn Error>> {
     let mut context = UnwindContext::new();
     let mut rows = process.rows();
     let mut count = 0;
     let mut entries = section.entries(bases);
-    while let Some(entry) = entries.next().map_err(|why| why.to_string())? {
+    while let Some(entry) = entries.next()? {
         let partial = match entry {
             CieOrFde::Fde(partial) => partial,
             CieOrFde::Cie(_) => continue,
         };
-        let fde = partial.parse(gimli::EhFrame::cie_from_offset).map_err(|why| why.to_string())?;
-        let mut table = fde.rows(section, bases, &mut context).map_err(|why| why.to_string())?;
-        while let Some(row) = table.next_row().map_err(|why| why.to_string())? {
+        let fde = partial.parse(gimli::EhFrame::cie_from_offset)?;
+        let mut table = fde.rows(section, bases, &mut context)?;
+        while let Some(row) = table.next_row()? {
             if row.start_address() == row.end_address() {
                 continue;
             }
             let theirs = gimli_text(row);
             let ours = rows.row(row.start_address()).map(|row| library_text(process, row));
             if ours.as_ref() != Some(&theirs) {
-                return Err(format!("{} is gimli's, and {} ours", theirs, ours.unwrap_or_else(|| "none".into())));
+                let ours = ours.unwrap_or_else(|| "none".into());
+                return Err(format!("{} is gimli's, and {} ours", theirs, ours).into());
             }
             count += 1;
         }
@@ -89,7 +95,7 @@ fn compare(process: &Process, section: &gimli::EhFrame<Bytes<'_>>, bases: &BaseA
 }
 
 /// Compares a file's section, if it has one. `Err` is a line about what is wrong.
-fn compare_file(bytes: &[u8], counts: &mut Counts) -> Result<(), String> {
+fn compare_file(bytes: &[u8], counts: &mut Counts) -> Result<(), Box<dyn Error>> {
     let file = match object::File::parse(bytes) {
         Ok(file) if file.kind() != object::ObjectKind::Relocatable => file,
         _ => return Ok(()),
@@ -117,13 +123,13 @@ fn compare_file(bytes: &[u8], counts: &mut Counts) -> Result<(), String> {
     counts.sections += 1;
     if let Err(why) = process.add(data, Module::at(0).range(whole).eh_frame(eh_frame)) {
         counts.refused += 1;
-        return Err(why.to_string());
+        return Err(why.into());
     }
     let endian = if file.is_little_endian() { RunTimeEndian::Little } else { RunTimeEndian::Big };
     let mut section_of_gimli = gimli::EhFrame::new(data, endian);
     section_of_gimli.set_address_size(if file.is_64() { 8 } else { 4 });
     let bases = BaseAddresses::default().set_eh_frame(section.address());
-    counts.rows += compare(&process, &section_of_gimli, &bases)?;
+    counts.rows += compare_rows(&process, &section_of_gimli, &bases)?;
     Ok(())
 }
 

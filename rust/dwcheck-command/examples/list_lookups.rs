@@ -9,24 +9,22 @@
 use dwcheck_elf::lists::{compare_look_ups, LookUps};
 use dwcheck_elf::mapped::Bytes;
 use dwcheck_elf::program::Program;
+use std::error::Error;
 use std::io::{stdin, BufRead};
 use std::path::Path;
 use std::process::ExitCode;
 
 /// The look-ups of a program. `None` if it has no debug information.
-fn of(path: &str) -> Result<Option<LookUps>, String> {
-    let bytes = Bytes::of_elf(Path::new(path)).map_err(|error| error.to_string())?;
-    let program = Program::read(&bytes).map_err(|error| error.to_string())?;
-    match program.has_bytes(".debug_info") {
-        true => compare_look_ups(&program).map(Some).map_err(|error| error.to_string()),
-        false => Ok(None),
-    }
+fn look_ups_of(path: &str) -> Result<Option<LookUps>, Box<dyn Error>> {
+    let bytes = Bytes::of_elf(Path::new(path))?;
+    let program = Program::read(&bytes)?;
+    Ok(if program.has_bytes(".debug_info") { Some(compare_look_ups(&program)?) } else { None })
 }
 
 fn main() -> ExitCode {
     let (mut files, mut failed, mut all) = (0, 0, LookUps::default());
     for path in stdin().lock().lines().map_while(Result::ok) {
-        match of(&path) {
+        match look_ups_of(&path) {
             Ok(Some(found)) => {
                 files += 1;
                 all.lists += found.lists;

@@ -1,8 +1,8 @@
 //! The command `check`: checks the frame sections and the location lists of programs.
 
 use crate::arguments::CheckArguments;
-use crate::end::{shown, Done, Failure};
-use crate::opened::{note, program, read, write_defect};
+use crate::end::{shown_path, Done, Failure};
+use crate::opened::{open_elf, parse_program, write_defect, write_note};
 use dwcheck::{CheckedExpression, Report};
 use dwcheck_elf::debug_files::DebugFiles;
 use dwcheck_elf::eh_frame_hdr::mismatches;
@@ -20,7 +20,7 @@ use std::path::{Path, PathBuf};
 pub fn check(arguments: &CheckArguments, out: &mut impl Write) -> Result<Done, Failure> {
     let mut done = Done::Accepted;
     for path in &arguments.programs {
-        match check_one(arguments, path, out) {
+        match check_program(arguments, path, out) {
             Ok(one) => done = done.max(one),
             Err(failure @ Failure::File(_)) if arguments.programs.len() > 1 => {
                 out.flush()?;
@@ -35,15 +35,15 @@ pub fn check(arguments: &CheckArguments, out: &mut impl Write) -> Result<Done, F
 
 /// Reads a program. If it is a folder, the failure names the command that takes folders.
 fn read_program(path: &Path) -> Result<Bytes, Failure> {
-    read(path).map_err(|failure| match failure {
+    open_elf(path).map_err(|failure| match failure {
         Failure::File(text) if path.is_dir() => Failure::File(format!("{}: survey reads folders", text)),
         failure => failure,
     })
 }
 
-fn check_one(arguments: &CheckArguments, path: &Path, out: &mut impl Write) -> Result<Done, Failure> {
+fn check_program(arguments: &CheckArguments, path: &Path, out: &mut impl Write) -> Result<Done, Failure> {
     let data = read_program(path)?;
-    let program = program(path, &data)?;
+    let program = parse_program(path, &data)?;
     let CheckArguments { all, doubtful, compare, .. } = *arguments;
     let check = Check { all, doubtful, compare, counts_only: false };
     let mut sections = inspect_frame_sections(&program, check);
@@ -55,7 +55,7 @@ fn check_one(arguments: &CheckArguments, path: &Path, out: &mut impl Write) -> R
         separate = add_lists(&mut sections, path, &program, check);
     }
     if sections.is_empty() {
-        writeln!(out, "{}: no {}", shown(path), names)?;
+        writeln!(out, "{}: no {}", shown_path(path), names)?;
     }
     for section in &sections {
         let file = section.file.as_deref().or(separate.as_deref()).filter(|_| section.lists.is_some());
@@ -63,9 +63,9 @@ fn check_one(arguments: &CheckArguments, path: &Path, out: &mut impl Write) -> R
         if matches!(section.verdict, Verdict::Unread(_)) {
             continue;
         }
-        write_doubtful(out, file.unwrap_or(path), section)?;
+        write_doubtful_entries(out, file.unwrap_or(path), section)?;
         if let Some(frames) = &section.frames {
-            write_header(out, path, &program, frames)?;
+            write_eh_frame_hdr(out, path, &program, frames)?;
             if arguments.notes.notes {
                 write_notes(out, frames)?;
             }
@@ -85,18 +85,18 @@ fn write_verdict(
     match &section.verdict {
         Verdict::Refused(defects) => {
             defects.iter().try_for_each(|defect| write_defect(out, separate.unwrap_or(path), defect))?;
-            let done = write_rest(out, path, section)?;
-            section.lists.as_ref().map_or(Ok(()), |lists| write_found(out, lists))?;
+            let done = write_rest_of_frames(out, path, section)?;
+            section.lists.as_ref().map_or(Ok(()), |lists| write_list_contents(out, lists))?;
             return Ok(done);
         }
         Verdict::FoundLists => write_found_lists(out, path, separate, section)?,
         Verdict::Unread(error) => {
             out.flush()?;
-            note(path, error);
+            write_note(path, error);
             return Ok(Done::Unread);
         }
         _ => {
-            writeln!(out, "{}: {}: accepted", shown(path), section.name)?;
+            writeln!(out, "{}: {}: accepted", shown_path(path), section.name)?;
             write_accepted(out, section)?;
         }
     }
@@ -104,9 +104,9 @@ fn write_verdict(
 }
 
 /// Writes a line for each entry of location lists that is most likely a mistake, if they are asked for.
-fn write_doubtful(out: &mut impl Write, file: &Path, section: &Inspected<'_>) -> io::Result<()> {
+fn write_doubtful_entries(out: &mut impl Write, file: &Path, section: &Inspected<'_>) -> io::Result<()> {
     let mut doubtful = section.lists.iter().flat_map(|lists| &lists.doubtful);
-    doubtful.try_for_each(|one| writeln!(out, "{}: {}{}", shown(file), section.name, one))
+    doubtful.try_for_each(|one| writeln!(out, "{}: {}{}", shown_path(file), section.name, one))
 }
 
 /// Adds the location lists of a program to its sections. Returns the path of the separate file of debug
@@ -125,7 +125,7 @@ fn add_lists<'a>(
             file
         }
         Err((file, why)) => {
-            note(&file, why);
+            write_note(&file, why);
             None
         }
     }
@@ -135,8 +135,8 @@ fn add_lists<'a>(
 /// rows, and a line for each of its expressions.
 fn write_accepted(out: &mut impl Write, section: &Inspected<'_>) -> io::Result<()> {
     match (&section.verdict, &section.frames) {
-        (Verdict::Frames(agreement), Some(frames)) => write_frames(out, agreement, frames),
-        (Verdict::Lists(report), _) => write_lists(out, report),
+        (Verdict::Frames(agreement), Some(frames)) => write_frame_counts(out, agreement, frames),
+        (Verdict::Lists(report), _) => write_list_report(out, report),
         _ => Ok(()),
     }
 }
@@ -153,16 +153,16 @@ fn write_found_lists(
         Some(lists) => lists,
         None => return Ok(()),
     };
-    let place = separate.map_or_else(String::new, |file| format!(" (in {})", shown(file)));
+    let place = separate.map_or_else(String::new, |file| format!(" (in {})", shown_path(file)));
     let not_checked = lists.not_checked().map_or_else(String::new, |what| format!(", not checked: {}", what));
-    writeln!(out, "{}: {}{}: accepted{}", shown(path), section.name, place, not_checked)?;
+    writeln!(out, "{}: {}{}: accepted{}", shown_path(path), section.name, place, not_checked)?;
     lists.unchecked.iter().try_for_each(|defect| write_defect(out, separate.unwrap_or(path), defect))?;
-    write_found(out, lists)
+    write_list_contents(out, lists)
 }
 
 /// Writes what location lists have that were found by `.debug_info`: how many they are, what is in their
 /// section, and which operations can't be evaluated.
-fn write_found(out: &mut impl Write, lists: &lists::Contents) -> io::Result<()> {
+fn write_list_contents(out: &mut impl Write, lists: &lists::Contents) -> io::Result<()> {
     let lists::Contents { units, entries, bytes, .. } = lists;
     writeln!(out, "units {} lists {} entries {}", units, lists.lists, entries)?;
     let ListBytes { headers, views, unused, gaps, .. } = bytes;
@@ -184,26 +184,26 @@ fn write_found(out: &mut impl Write, lists: &lists::Contents) -> io::Result<()> 
 }
 
 /// Writes how much of a refused frame section is left out, and what the rest holds.
-fn write_rest(out: &mut impl Write, path: &Path, section: &Inspected<'_>) -> io::Result<Done> {
+fn write_rest_of_frames(out: &mut impl Write, path: &Path, section: &Inspected<'_>) -> io::Result<Done> {
     match section.rest() {
         Ok(Some(rest)) => {
-            writeln!(out, "{}: {}: {}", shown(path), section.name, rest.left_out())?;
-            write_frames(out, &rest.counts, &rest.frames)?;
+            writeln!(out, "{}: {}: {}", shown_path(path), section.name, rest.left_out())?;
+            write_frame_counts(out, &rest.counts, &rest.frames)?;
             Ok(Done::Refused)
         }
         Ok(None) => Ok(Done::Refused),
         Err(error) => {
             out.flush()?;
-            note(path, error);
+            write_note(path, error);
             Ok(Done::Unread)
         }
     }
 }
 
-fn write_frames(out: &mut impl Write, agreement: &Counts, frames: &Frames<'_>) -> io::Result<()> {
+fn write_frame_counts(out: &mut impl Write, agreement: &Counts, frames: &Frames<'_>) -> io::Result<()> {
     let Counts { cies, fdes, rows, .. } = agreement;
     // Accepted expressions are refused again only if memory runs out.
-    let expressions = frames.measured().map_err(|_| io::ErrorKind::OutOfMemory)?;
+    let expressions = frames.measure_expressions().map_err(|_| io::ErrorKind::OutOfMemory)?;
     writeln!(out, "cies {} fdes {} rows {} expressions {}", cies, fdes, rows, expressions.len())?;
     for Measured { offset, is_cfa, operations, depth } in expressions {
         let kind = if is_cfa { "cfa" } else { "register" };
@@ -213,18 +213,18 @@ fn write_frames(out: &mut impl Write, agreement: &Counts, frames: &Frames<'_>) -
 }
 
 /// Writes how the sorted table of `.eh_frame_hdr` differs from `.eh_frame`, with a line for each kind of difference.
-fn write_header(out: &mut impl Write, path: &Path, program: &Program<'_>, frames: &Frames<'_>) -> io::Result<()> {
+fn write_eh_frame_hdr(out: &mut impl Write, path: &Path, program: &Program<'_>, frames: &Frames<'_>) -> io::Result<()> {
     match mismatches(program, frames) {
         Ok(all) => all.iter().try_for_each(|one| writeln!(out, "note .eh_frame_hdr: {}", one)),
         Err(why) => {
             out.flush()?;
-            note(path, format_args!(".eh_frame_hdr: {}", why));
+            write_note(path, format_args!(".eh_frame_hdr: {}", why));
             Ok(())
         }
     }
 }
 
-fn write_lists(out: &mut impl Write, report: &Report) -> io::Result<()> {
+fn write_list_report(out: &mut impl Write, report: &Report) -> io::Result<()> {
     writeln!(out, "tables {} lists {} expressions {}", report.tables, report.lists, report.expressions.len())?;
     for CheckedExpression { offset, operations, depth, .. } in &report.expressions {
         let (name, offset) = (Name::DebugLoclists, Offset(*offset));

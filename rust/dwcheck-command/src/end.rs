@@ -1,4 +1,4 @@
-//! How a run of the program ends, and its exit status.
+//! How a run of the program ends: its exit status, and the line that says why it failed.
 
 use dwcheck_elf::inspect::InspectError;
 use dwcheck_elf::text::Escaped;
@@ -53,14 +53,14 @@ impl Failure {
         match self {
             Failure::Argument(_) => 2,
             Failure::File(_) => 3,
-            Failure::Output(error) if is_closed(error) => PIPE_CLOSED,
+            Failure::Output(error) if is_broken_pipe(error) => PIPE_CLOSED,
             Failure::Output(_) => 3,
         }
     }
 
     /// Ends the program: says on standard error why, unless the reader of the output has ended, such as `head`.
     pub fn end(&self) -> ExitCode {
-        if !matches!(self, Failure::Output(error) if is_closed(error)) {
+        if !matches!(self, Failure::Output(error) if is_broken_pipe(error)) {
             // If standard error is closed, nobody can read the message, so it doesn't matter that this fails.
             let _ = writeln!(io::stderr(), "dwcheck-elf: {}", self);
         }
@@ -69,17 +69,17 @@ impl Failure {
 
     /// The failure for a file that can't be opened or read.
     pub fn reading(path: &Path, error: &io::Error) -> Self {
-        Failure::File(format!("cannot read {}: {}", shown(path), why_unread(path, error)))
+        Failure::File(format!("cannot read {}: {}", shown_path(path), why_unread(path, error)))
     }
 
     /// The failure for a file whose sections can't be checked.
     pub fn judging(path: &Path, error: &InspectError) -> Self {
-        Failure::File(format!("{}: {}", shown(path), error))
+        Failure::File(format!("{}: {}", shown_path(path), error))
     }
 }
 
 /// Whether what was written goes to a pipe that nobody reads any more.
-fn is_closed(error: &io::Error) -> bool {
+fn is_broken_pipe(error: &io::Error) -> bool {
     error.kind() == io::ErrorKind::BrokenPipe
 }
 
@@ -107,6 +107,6 @@ impl fmt::Display for Failure {
 }
 
 /// A path as it is shown: with escapes for control characters, which a hostile name may have.
-pub fn shown(path: &Path) -> String {
+pub fn shown_path(path: &Path) -> String {
     Escaped(&path.to_string_lossy()).to_string()
 }

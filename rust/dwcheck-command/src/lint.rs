@@ -5,14 +5,15 @@ mod linted;
 mod sarif;
 
 use crate::arguments::LintArguments;
-use crate::end::{shown, Done, Failure};
+use crate::end::{shown_path, Done, Failure};
+use crate::pool::thread_pool;
 use crate::survey::files::Files;
-use crate::survey::{note_unread, progress, STACK};
+use crate::survey::{note_unread_files, progress_bar};
 use dwcheck_lint::coverage::Coverage;
 use dwcheck_lint::finding::Severity;
 use dwcheck_lint::kinds::{Kind, KINDS};
-use known::Known;
-use linted::{linted, Linted, Outcome, Shown};
+use known::{Known, Remaining};
+use linted::{lint_file, Linted, Outcome, Shown, WrittenFinding};
 use rayon::prelude::*;
 use std::fmt;
 use std::io::{self, Write};
@@ -35,34 +36,33 @@ struct Totals {
 
 /// Lints all files, and writes what is found, as text or as JSON.
 pub fn lint(arguments: &LintArguments, out: &mut impl Write) -> Result<Done, Failure> {
-    let kinds = arguments.kind.iter().map(|name| kind(name)).collect::<Result<Vec<_>, _>>()?;
+    let kinds = arguments.kind.iter().map(|name| kind_of_name(name)).collect::<Result<Vec<_>, _>>()?;
     let known = arguments.known.as_deref().map_or(Ok(Known::default()), Known::read)?;
-    let pool = rayon::ThreadPoolBuilder::new().num_threads(arguments.jobs.unwrap_or(0)).stack_size(STACK);
-    let pool = pool.build().map_err(|error| Failure::File(format!("no threads: {}", error)))?;
+    let pool = thread_pool(arguments.jobs)?;
     let files = pool.install(|| Files::once_each(&arguments.paths));
-    let bar = progress(files.paths.len() as u64);
+    let bar = progress_bar(files.paths.len() as u64);
     let (private, explain, json, sarif) = (arguments.private, arguments.explain, arguments.json, arguments.sarif);
     let shown = Shown { private, explain, json, sarif, kinds };
     let all: Vec<_> = pool.install(|| {
         let each = files.paths.par_iter().with_max_len(1).map(|path| {
-            let linted = linted(path, &shown);
+            let linted = lint_file(path, &shown);
             bar.inc(1);
             linted
         });
         each.collect()
     });
     bar.finish_and_clear();
-    note_unread(&files);
+    note_unread_files(&files);
     let mut totals = Totals { unread: files.unread.len(), ..Totals::default() };
     for one in all {
-        totals.write(out, one, arguments, &known)?;
+        totals.write_linted(out, one, arguments, &known)?;
     }
-    totals.write_last(out, arguments)?;
+    totals.write_lint_totals(out, arguments)?;
     Ok(totals.done())
 }
 
 /// The kind with a name.
-fn kind(name: &str) -> Result<Kind, Failure> {
+fn kind_of_name(name: &str) -> Result<Kind, Failure> {
     let found = KINDS.iter().find(|(_, known)| *known == name).map(|(kind, _)| *kind);
     let names = || KINDS.iter().map(|(_, name)| *name).collect::<Vec<_>>().join(", ");
     found.ok_or_else(|| {
@@ -70,42 +70,37 @@ fn kind(name: &str) -> Result<Kind, Failure> {
     })
 }
 
-/// Says something of a file on standard error. If that is closed, nobody can read it, so it doesn't matter that it
+/// Warns of a file on standard error. If that is closed, nobody can read it, so it doesn't matter that it
 /// fails.
-fn say(path: &Path, what: &dyn fmt::Display) {
-    let _ = writeln!(io::stderr(), "dwcheck-elf: {}: {}", shown(path), what);
+fn warn_of_file(path: &Path, what: &dyn fmt::Display) {
+    let _ = writeln!(io::stderr(), "dwcheck-elf: {}: {}", shown_path(path), what);
 }
 
 /// Whether a file has no FDEs.
-fn is_empty(coverage: &Coverage) -> bool {
+fn has_no_fdes(coverage: &Coverage) -> bool {
     coverage.fdes + coverage.signal_frames + coverage.unread == 0
 }
 
 impl Totals {
     /// Writes what was found in a file, and counts it.
-    fn write(&mut self, out: &mut impl Write, one: Linted, arguments: &LintArguments, known: &Known) -> io::Result<()> {
+    fn write_linted(
+        &mut self,
+        out: &mut impl Write,
+        one: Linted,
+        arguments: &LintArguments,
+        known: &Known,
+    ) -> io::Result<()> {
         let Linted { path, outcome } = one;
         match outcome {
             Outcome::Judged { findings, coverage, unused, text } => {
                 self.files += 1;
                 self.coverage.add(&coverage);
-                if is_empty(&coverage) && unused.is_empty() && arguments.paths.contains(&path) {
+                if has_no_fdes(&coverage) && unused.is_empty() && arguments.paths.contains(&path) {
                     self.unread += 1;
-                    say(&path, &"no FDEs, so no rows to compare");
+                    warn_of_file(&path, &"no FDEs, so no rows to compare");
                 }
-                unused.iter().for_each(|reason| say(&path, reason));
-                let mut known = known.of(&path);
-                for finding in findings {
-                    if known.take(&finding.key) {
-                        self.known += 1;
-                        continue;
-                    }
-                    self.count(finding.severity);
-                    match finding.sarif {
-                        Some(result) => self.results.push(result),
-                        None => writeln!(out, "{}", finding.text)?,
-                    }
-                }
+                unused.iter().for_each(|reason| warn_of_file(&path, reason));
+                self.write_findings(out, findings, known.of(&path))?;
                 if arguments.sarif {
                     return Ok(());
                 }
@@ -113,7 +108,7 @@ impl Totals {
             }
             Outcome::Other(error) if arguments.paths.contains(&path) => {
                 self.unread += 1;
-                say(&path, &error);
+                warn_of_file(&path, &error);
                 Ok(())
             }
             Outcome::Other(_) => {
@@ -122,13 +117,34 @@ impl Totals {
             }
             Outcome::Unread(error) => {
                 self.unread += 1;
-                say(&path, &error);
+                warn_of_file(&path, &error);
                 Ok(())
             }
         }
     }
 
-    fn count(&mut self, severity: Severity) {
+    /// Writes the findings that aren't known, or keeps them for SARIF, and counts them.
+    fn write_findings(
+        &mut self,
+        out: &mut impl Write,
+        findings: Vec<WrittenFinding>,
+        mut known: Remaining,
+    ) -> io::Result<()> {
+        for finding in findings {
+            if known.take(&finding.key) {
+                self.known += 1;
+                continue;
+            }
+            self.count_finding(finding.severity);
+            match finding.sarif {
+                Some(result) => self.results.push(result),
+                None => writeln!(out, "{}", finding.text)?,
+            }
+        }
+        Ok(())
+    }
+
+    fn count_finding(&mut self, severity: Severity) {
         match severity {
             Severity::BacktraceBroken => self.broken += 1,
             Severity::RegisterLost => self.lost += 1,
@@ -141,9 +157,9 @@ impl Totals {
     }
 
     /// Writes the totals, unless there is only one file; or all findings as SARIF.
-    fn write_last(&mut self, out: &mut impl Write, arguments: &LintArguments) -> io::Result<()> {
+    fn write_lint_totals(&mut self, out: &mut impl Write, arguments: &LintArguments) -> io::Result<()> {
         if arguments.sarif {
-            let document = sarif::document(std::mem::take(&mut self.results), &self.coverage);
+            let document = sarif::lint_document(std::mem::take(&mut self.results), &self.coverage);
             return writeln!(out, "{:#}", document);
         }
         let counts = [

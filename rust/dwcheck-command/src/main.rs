@@ -8,6 +8,7 @@ mod lint;
 mod lists;
 mod opened;
 mod output;
+mod pool;
 mod profile;
 mod report;
 mod rows;
@@ -39,7 +40,7 @@ fn main() -> ExitCode {
         }
     };
     let mut out = BufWriter::new(io::stdout().lock());
-    let ended = run(arguments.command, &mut out).and_then(|done| {
+    let ended = run_command(arguments.command, &mut out).and_then(|done| {
         out.flush()?;
         Ok(done)
     });
@@ -49,7 +50,7 @@ fn main() -> ExitCode {
     }
 }
 
-fn run(command: Command, out: &mut impl Write) -> Result<Done, Failure> {
+fn run_command(command: Command, out: &mut impl Write) -> Result<Done, Failure> {
     match command {
         Command::Check(arguments) => check::check(&arguments, out),
         Command::Rows(arguments) => rows::rows(&arguments, out),

@@ -1,7 +1,6 @@
-//! What the commands share: they read files and addresses, choose frame sections, and write faults
-//! and names.
+//! What the commands share: they open ELF files, read arguments that are addresses, and write faults and notes.
 
-use crate::end::{shown, Done, Failure};
+use crate::end::{shown_path, Done, Failure};
 use dwcheck::Process;
 use dwcheck_elf::fault::{Defect, Within};
 use dwcheck_elf::frames::{Frames, Name};
@@ -10,7 +9,7 @@ use dwcheck_elf::inspect::{inspect_frame_sections, Check, InspectError, LeftOut,
 use dwcheck_elf::mapped::Bytes;
 use dwcheck_elf::names::FunctionOffset;
 use dwcheck_elf::program::Program;
-use dwcheck_elf::state_file::address as number;
+use dwcheck_elf::state_file::parse_address;
 use dwcheck_elf::target::Target;
 use dwcheck_elf::text::Escaped;
 use std::fmt;
@@ -19,7 +18,7 @@ use std::io::{self, Read, Write};
 use std::path::Path;
 
 /// Opens an ELF file, which may also be a pipe or another file that isn't regular.
-pub fn read(path: &Path) -> Result<Bytes, Failure> {
+pub fn open_elf(path: &Path) -> Result<Bytes, Failure> {
     Bytes::of_elf(path).map_err(|error| Failure::reading(path, &error))
 }
 
@@ -34,8 +33,8 @@ pub fn read_text(path: &Path) -> Result<Vec<u8>, Failure> {
 }
 
 /// Reads the headers of an ELF file.
-pub fn program<'data>(path: &Path, data: &'data [u8]) -> Result<Program<'data>, Failure> {
-    Program::read(data).map_err(|error| Failure::File(format!("{}: {}", shown(path), error)))
+pub fn parse_program<'data>(path: &Path, data: &'data [u8]) -> Result<Program<'data>, Failure> {
+    Program::read(data).map_err(|error| Failure::File(format!("{}: {}", shown_path(path), error)))
 }
 
 /// The frame sections of a program, without the CIEs and FDEs that are refused.
@@ -67,7 +66,7 @@ impl<'data> Opened<'data> {
             if name != Name::DebugFrame || opened.frames.is_empty() {
                 return Err(Failure::judging(path, &error));
             }
-            note(path, format_args!("{}; .eh_frame is used", error));
+            write_note(path, format_args!("{}; .eh_frame is used", error));
         }
         Ok(opened)
     }
@@ -77,10 +76,10 @@ impl<'data> Opened<'data> {
     pub fn note_refused(&self, path: &Path, all: bool) {
         for (defects, left_out) in &self.refused {
             if let (Some(first), Some(left_out)) = (defects.first(), left_out) {
-                note(path, format_args!("{}: {}", first.section, left_out));
+                write_note(path, format_args!("{}: {}", first.section, left_out));
             }
             let shown = if all { defects.len() } else { 1 };
-            defects.iter().take(shown).for_each(|defect| note(path, defect));
+            defects.iter().take(shown).for_each(|defect| write_note(path, defect));
         }
     }
 
@@ -103,7 +102,7 @@ impl<'data> Opened<'data> {
 /// Writes a fault in two lines. The first says where it is, such as in which FDE, and gives its
 /// name. The second has its offset, the rule that it breaks, and the hint if there is one.
 pub fn write_defect(out: &mut impl Write, path: &Path, defect: &Defect) -> io::Result<()> {
-    writeln!(out, "{}: {}", shown(path), defect)?;
+    writeln!(out, "{}: {}", shown_path(path), defect)?;
     write!(out, "    at {:#x}: {}", defect.offset, defect.rule)?;
     match defect.hint {
         Some(hint) => writeln!(out, "; {}", hint),
@@ -112,34 +111,40 @@ pub fn write_defect(out: &mut impl Write, path: &Path, defect: &Defect) -> io::R
 }
 
 /// Makes a process with a frame section as its only module, at the addresses that it is linked for.
-pub fn process(path: &Path, frames: &Frames<'_>) -> Result<Process, Failure> {
+pub fn process_of_frames(path: &Path, frames: &Frames<'_>) -> Result<Process, Failure> {
     let failed = |error| Failure::judging(path, &InspectError::Dwcheck(frames.name(), error));
     frames.process(0).map_err(failed)
 }
 
 /// Writes a note on standard error.
-pub fn note(path: &Path, text: impl fmt::Display) {
+pub fn write_note(path: &Path, text: impl fmt::Display) {
     // If standard error is closed, nobody can read the note, so it doesn't matter that this fails.
-    let _ = writeln!(io::stderr(), "dwcheck-elf: {}: {}", shown(path), text);
+    let _ = writeln!(io::stderr(), "dwcheck-elf: {}: {}", shown_path(path), text);
 }
 
 /// The name of the function that contains an address, in parentheses after a space. Empty if the
 /// program has no name for the address.
-pub fn named(functions: &Functions<'_>, address: u64) -> String {
+pub fn function_in_parentheses(functions: &Functions<'_>, address: u64) -> String {
     FunctionOffset::at(functions, address).map_or_else(String::new, |spot| format!(" ({})", spot))
 }
 
 /// Reads the argument with this name that is a number, such as `0x1130`.
 pub fn number_argument(name: &str, text: &str, target: Target) -> Result<u64, Failure> {
     let bad = || format!("bad argument: {} is {}, which isn't an address as 0x1130", name, Escaped(text));
-    number(text, target).ok_or_else(|| Failure::Argument(bad()))
+    parse_address(text, target).ok_or_else(|| Failure::Argument(bad()))
 }
 
 /// Reads the argument with this name that is an address in the process: a number, or a function of the program with
 /// or without an offset, such as `main+4`. `load` is where the program is loaded. It is added to
 /// the address of a function, but not to a number.
-pub fn address(name: &str, text: &str, target: Target, functions: &Functions<'_>, load: u64) -> Result<u64, Failure> {
-    if let Some(number) = number(text, target) {
+pub fn address_argument(
+    name: &str,
+    text: &str,
+    target: Target,
+    functions: &Functions<'_>,
+    load: u64,
+) -> Result<u64, Failure> {
+    if let Some(number) = parse_address(text, target) {
         return Ok(number);
     }
     if text.starts_with("0x") {

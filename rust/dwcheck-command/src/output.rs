@@ -1,6 +1,6 @@
-//! A file that is there only when it is whole.
+//! Files that are written whole or not at all, and never over a file that is read.
 
-use crate::end::{shown, Failure};
+use crate::end::{shown_path, Failure};
 use nix::unistd::{linkat, LinkatFlags};
 use std::fs::{self, File, OpenOptions};
 use std::io::{self, BufWriter, Write};
@@ -25,7 +25,7 @@ impl Output {
     pub fn create(path: &Path) -> Result<Output, Failure> {
         // A link stays, and what it leads to is replaced.
         let path = &fs::canonicalize(path).unwrap_or_else(|_| path.to_path_buf());
-        let failed = |error| cannot(path, &error);
+        let failed = |error| cannot_write(path, &error);
         let with = |partial, is_nameless, file| Output {
             path: path.to_path_buf(),
             partial,
@@ -55,7 +55,7 @@ impl Output {
 
     /// Gives the file its name.
     pub fn finish(mut self) -> Result<(), Failure> {
-        let failed = |error: io::Error| cannot(&self.path, &error);
+        let failed = |error: io::Error| cannot_write(&self.path, &error);
         self.writer.flush().map_err(failed)?;
         if let Some(partial) = self.partial.as_ref().filter(|_| self.is_nameless) {
             let own = format!("/proc/self/fd/{}", self.writer.get_ref().as_raw_fd());
@@ -65,7 +65,7 @@ impl Output {
         match self.partial.take() {
             Some(partial) => fs::rename(&partial, &self.path).map_err(|error| {
                 let _ = fs::remove_file(&partial);
-                cannot(&self.path, &error)
+                cannot_write(&self.path, &error)
             }),
             None => Ok(()),
         }
@@ -74,24 +74,24 @@ impl Output {
 
 /// Refuses an output that would overwrite a file that is read, or one in a folder that is read. The name doesn't
 /// matter: links are followed, and a file may have several names.
-pub fn check_apart<'p>(output: &Path, inputs: impl IntoIterator<Item = &'p Path>) -> Result<(), Failure> {
-    let written = match identity(output) {
+pub fn check_output_apart<'p>(output: &Path, inputs: impl IntoIterator<Item = &'p Path>) -> Result<(), Failure> {
+    let written = match file_identity(output) {
         Some(written) => written,
         None => return Ok(()),
     };
-    let mut read = inputs.into_iter().flat_map(files);
-    match read.find(|input| identity(input) == Some(written)) {
+    let mut read = inputs.into_iter().flat_map(files_of_path);
+    match read.find(|input| file_identity(input) == Some(written)) {
         Some(input) => Err(Failure::Argument(format!(
             "bad argument: --output {} would overwrite {}, which is read; give another file",
-            shown(output),
-            shown(&input)
+            shown_path(output),
+            shown_path(&input)
         ))),
         None => Ok(()),
     }
 }
 
 /// A file, or the files in a folder.
-fn files(path: &Path) -> Vec<PathBuf> {
+fn files_of_path(path: &Path) -> Vec<PathBuf> {
     match fs::read_dir(path) {
         Ok(entries) => entries.filter_map(|entry| Some(entry.ok()?.path())).collect(),
         Err(_) => vec![path.to_path_buf()],
@@ -99,7 +99,7 @@ fn files(path: &Path) -> Vec<PathBuf> {
 }
 
 /// The device and the number of a regular file, which are the same for each of its names.
-fn identity(path: &Path) -> Option<(u64, u64)> {
+fn file_identity(path: &Path) -> Option<(u64, u64)> {
     let file = path.metadata().ok().filter(|file| file.is_file())?;
     Some((file.dev(), file.ino()))
 }
@@ -112,6 +112,6 @@ impl Drop for Output {
     }
 }
 
-fn cannot(path: &Path, error: &io::Error) -> Failure {
-    Failure::File(format!("cannot write {}: {}", shown(path), error))
+fn cannot_write(path: &Path, error: &io::Error) -> Failure {
+    Failure::File(format!("cannot write {}: {}", shown_path(path), error))
 }

@@ -3,9 +3,9 @@
 mod summary;
 
 use crate::arguments::{Format, ProfileArguments};
-use crate::end::{shown, Done, Failure};
-use crate::output::{check_apart, Output};
-use crate::survey::STACK;
+use crate::end::{shown_path, Done, Failure};
+use crate::output::{check_output_apart, Output};
+use crate::pool::start_threads;
 use dwcheck_elf::text::Escaped;
 use dwcheck_profile::script::ScriptOptions;
 use dwcheck_profile::{firefox, folded, html, pprof, script, speedscope, top};
@@ -19,43 +19,40 @@ use std::path::Path;
 /// Writes the profile of a recording on `out` or to a file, and a summary on standard error.
 pub fn profile(arguments: &ProfileArguments, out: &mut impl Write) -> Result<Done, Failure> {
     if let Some(output) = &arguments.output {
-        check_apart(output, arguments.kallsyms.as_deref().into_iter().chain([opened(&arguments.recording)]))?;
+        check_output_apart(
+            output,
+            arguments.kallsyms.as_deref().into_iter().chain([path_of_recording(&arguments.recording)]),
+        )?;
     }
-    start_threads(arguments)?;
-    let (profile, names) = read(arguments)?;
-    check_event(arguments, &profile.events)?;
+    start_threads(arguments.jobs)?;
+    let (profile, names) = read_recording(arguments)?;
+    check_event_name(arguments, &profile.events)?;
     match &arguments.output {
-        None => write(arguments, &profile, &names, out)?,
+        None => write_profile(arguments, &profile, &names, out)?,
         Some(path) => {
             let mut output = Output::create(path)?;
-            write(arguments, &profile, &names, output.writer())?;
+            write_profile(arguments, &profile, &names, output.writer())?;
             output.finish()?;
         }
     }
     out.flush()?;
-    summary::write(arguments, &profile, &names);
+    summary::write_summary(arguments, &profile, &names);
     let done = if profile.damage.is_some() { Done::Unread } else { Done::Accepted };
     // The program ends now. To free each table and each text before that would only take time.
     std::mem::forget((profile, names));
     Ok(done)
 }
 
-/// Starts as many threads as are asked for.
-fn start_threads(arguments: &ProfileArguments) -> Result<(), Failure> {
-    let threads = rayon::ThreadPoolBuilder::new().num_threads(arguments.jobs.unwrap_or(0)).stack_size(STACK);
-    threads.build_global().map_err(|error| Failure::File(format!("no threads: {}", error)))
-}
-
 /// Reads the recording.
-fn read(arguments: &ProfileArguments) -> Result<(Profile, Names), Failure> {
-    let options = options(arguments)?;
+fn read_recording(arguments: &ProfileArguments) -> Result<(Profile, Names), Failure> {
+    let options = profile_options(arguments)?;
     let kernel = arguments.kallsyms.clone();
     if let Some(path) = &kernel {
         File::open(path).map_err(|error| Failure::reading(path, &error))?;
     }
-    let mut recording = open(&arguments.recording)?;
-    check_event(arguments, recording.about().events())?;
-    let bar = bar(recording.size());
+    let mut recording = open_recording(&arguments.recording)?;
+    check_event_name(arguments, recording.about().events())?;
+    let bar = progress_of_recording(recording.size());
     // This runs in one of the threads, which have stacks of the size that is asked for.
     Ok(rayon::scope(|_| {
         let profile = Profile::read(&mut recording, &options, |position| {
@@ -70,50 +67,55 @@ fn read(arguments: &ProfileArguments) -> Result<(Profile, Names), Failure> {
 }
 
 /// Refuses an event that wasn't recorded. A recording that comes through a pipe has no events until it is read.
-fn check_event(arguments: &ProfileArguments, events: &[Event]) -> Result<(), Failure> {
+fn check_event_name(arguments: &ProfileArguments, events: &[Event]) -> Result<(), Failure> {
     let name = match arguments.event.as_ref() {
         Some(name) if !events.is_empty() && events.iter().all(|event| event.name != *name) => name,
         _ => return Ok(()),
     };
     let mut known: Vec<_> = events.iter().map(|event| Escaped(&event.name).to_string()).collect();
     known.dedup();
-    let (name, recording, known) = (Escaped(name), shown(&arguments.recording), known.join(", "));
+    let (name, recording, known) = (Escaped(name), shown_path(&arguments.recording), known.join(", "));
     Err(Failure::Argument(format!("bad argument: --event {}: {} has no such event; it has {}", name, recording, known)))
 }
 
-fn write(arguments: &ProfileArguments, profile: &Profile, names: &Names, out: &mut impl Write) -> Result<(), Failure> {
+fn write_profile(
+    arguments: &ProfileArguments,
+    profile: &Profile,
+    names: &Names,
+    out: &mut impl Write,
+) -> Result<(), Failure> {
     let event = profile.sampled_events().first().copied().unwrap_or(0);
     match arguments.format {
-        Format::Folded => folded::write(profile, names, event, out)?,
-        Format::Script => script::write(profile, names, ScriptOptions { stops: arguments.stops }, out)?,
-        Format::Html => html::write(profile, names, event, &title(arguments, profile), out)?,
-        Format::Speedscope => speedscope::write(profile, names, event, out)?,
-        Format::Pprof => pprof::write(profile, names, out)?,
-        Format::Firefox => firefox::write(profile, names, event, &title(arguments, profile), out)?,
-        Format::Top => top::write(profile, names, event, arguments.rows, out)?,
+        Format::Folded => folded::write_folded(profile, names, event, out)?,
+        Format::Script => script::write_script(profile, names, ScriptOptions { stops: arguments.stops }, out)?,
+        Format::Html => html::write_html(profile, names, event, &profile_title(arguments, profile), out)?,
+        Format::Speedscope => speedscope::write_speedscope(profile, names, event, out)?,
+        Format::Pprof => pprof::write_pprof(profile, names, out)?,
+        Format::Firefox => firefox::write_firefox(profile, names, event, &profile_title(arguments, profile), out)?,
+        Format::Top => top::write_top(profile, names, event, arguments.rows, out)?,
     }
     Ok(())
 }
 
 /// What was recorded: perf's command line, or else the recording's name.
-fn title(arguments: &ProfileArguments, profile: &Profile) -> String {
+fn profile_title(arguments: &ProfileArguments, profile: &Profile) -> String {
     match profile.features.command.as_slice() {
-        [] => shown(&arguments.recording),
+        [] => shown_path(&arguments.recording),
         command => command.join(" "),
     }
 }
 
 /// The path that is opened for a recording.
-fn opened(recording: &Path) -> &Path {
+fn path_of_recording(recording: &Path) -> &Path {
     match recording == Path::new("-") {
         true => Path::new("/dev/stdin"),
         false => recording,
     }
 }
 
-fn open(path: &Path) -> Result<Recording<'static>, Failure> {
-    let opened = opened(path);
-    let cannot = |error: &dyn std::fmt::Display| Failure::File(format!("cannot read {}: {}", shown(path), error));
+fn open_recording(path: &Path) -> Result<Recording<'static>, Failure> {
+    let opened = path_of_recording(path);
+    let cannot = |error: &dyn std::fmt::Display| Failure::File(format!("cannot read {}: {}", shown_path(path), error));
     let file = File::open(opened).map_err(|error| cannot(&error))?;
     let metadata = file.metadata().map_err(|error| cannot(&error))?;
     let recording = match metadata {
@@ -121,24 +123,24 @@ fn open(path: &Path) -> Result<Recording<'static>, Failure> {
         regular if regular.is_file() => Recording::of_file(&file),
         _ => Recording::of_pipe(file),
     };
-    recording.map_err(|damage| unread(path, &damage))
+    recording.map_err(|damage| unread_recording(path, &damage))
 }
 
 /// The failure for a recording that can't be opened. Of a folder, it names the file.
-fn unread(path: &Path, damage: &Damage) -> Failure {
+fn unread_recording(path: &Path, damage: &Damage) -> Failure {
     match damage {
         Damage::InFile(name, why) if name == "data" => Failure::File(format!(
             "{}: {}; give a file, or a folder that perf record --threads wrote",
-            shown(&path.join(name)),
+            shown_path(&path.join(name)),
             why
         )),
-        Damage::InFile(name, why) => Failure::File(format!("{}: {}", shown(&path.join(name)), why)),
-        _ => Failure::File(format!("{}: {}", shown(path), damage)),
+        Damage::InFile(name, why) => Failure::File(format!("{}: {}", shown_path(&path.join(name)), why)),
+        _ => Failure::File(format!("{}: {}", shown_path(path), damage)),
     }
 }
 
 /// Shows on a terminal how much of the recording was read.
-fn bar(size: Option<u64>) -> ProgressBar {
+fn progress_of_recording(size: Option<u64>) -> ProgressBar {
     let bar = match size {
         Some(size) => ProgressBar::new(size),
         None => return ProgressBar::hidden(),
@@ -149,8 +151,8 @@ fn bar(size: Option<u64>) -> ProgressBar {
     }
 }
 
-fn options(arguments: &ProfileArguments) -> Result<Options, Failure> {
-    let times = arguments.time.as_deref().map_or(Ok(0..=u64::MAX), times)?;
+fn profile_options(arguments: &ProfileArguments) -> Result<Options, Failure> {
+    let times = arguments.time.as_deref().map_or(Ok(0..=u64::MAX), parse_time_range)?;
     Ok(Options {
         comms: arguments.comm.clone(),
         pids: arguments.pid.clone(),
@@ -163,11 +165,11 @@ fn options(arguments: &ProfileArguments) -> Result<Options, Failure> {
 }
 
 /// Times in nanoseconds, from two numbers of seconds, either of which may be left out.
-fn times(text: &str) -> Result<RangeInclusive<u64>, Failure> {
+fn parse_time_range(text: &str) -> Result<RangeInclusive<u64>, Failure> {
     let wrong = || Failure::Argument(format!("--time {}: give two times in seconds, such as 12.5,13", text));
     let (begin, end) = text.split_once(',').ok_or_else(wrong)?;
-    let begin = if begin.is_empty() { Some(0) } else { nanoseconds(begin) };
-    let end = if end.is_empty() { Some(u64::MAX) } else { nanoseconds(end) };
+    let begin = if begin.is_empty() { Some(0) } else { parse_seconds(begin) };
+    let end = if end.is_empty() { Some(u64::MAX) } else { parse_seconds(end) };
     let (begin, end) = begin.zip(end).ok_or_else(wrong)?;
     if begin > end {
         return Err(wrong());
@@ -175,7 +177,7 @@ fn times(text: &str) -> Result<RangeInclusive<u64>, Failure> {
     Ok(begin..=end)
 }
 
-fn nanoseconds(text: &str) -> Option<u64> {
+fn parse_seconds(text: &str) -> Option<u64> {
     const DIGITS: usize = 9;
     let (whole, part) = text.split_once('.').unwrap_or((text, "0"));
     let is_number = |text: &str| !text.is_empty() && text.bytes().all(|byte| byte.is_ascii_digit());
@@ -188,15 +190,15 @@ fn nanoseconds(text: &str) -> Option<u64> {
 
 #[cfg(test)]
 mod tests {
-    use super::times;
+    use super::parse_time_range;
 
     #[test]
     fn times_are_seconds_and_either_may_be_left_out() {
-        assert_eq!(times("1.5,2").unwrap(), 1_500_000_000..=2_000_000_000);
-        assert_eq!(times(",0.000001").unwrap(), 0..=1000);
-        assert_eq!(times("3,").unwrap(), 3_000_000_000..=u64::MAX);
+        assert_eq!(parse_time_range("1.5,2").unwrap(), 1_500_000_000..=2_000_000_000);
+        assert_eq!(parse_time_range(",0.000001").unwrap(), 0..=1000);
+        assert_eq!(parse_time_range("3,").unwrap(), 3_000_000_000..=u64::MAX);
         for wrong in ["", "1", "2,1", "-1,2", "1.2.3,", "1e3,", "99999999999,", "1,2,3"] {
-            assert!(times(wrong).is_err(), "{}", wrong);
+            assert!(parse_time_range(wrong).is_err(), "{}", wrong);
         }
     }
 }

@@ -1,9 +1,9 @@
 //! The command `report`: writes one page about the frame sections of programs.
 
 use crate::arguments::ReportArguments;
-use crate::end::{shown, Done, Failure};
-use crate::opened::{note, program, read};
-use crate::output::{check_apart, Output};
+use crate::end::{shown_path, Done, Failure};
+use crate::opened::{open_elf, parse_program, write_note};
+use crate::output::{check_output_apart, Output};
 use dwcheck_elf::program_report::page::{self, Contents, ROOM};
 use dwcheck_elf::program_report::{Difference, Report, SectionStatus};
 use std::io::Write;
@@ -15,19 +15,25 @@ pub fn report(arguments: &ReportArguments, out: &mut impl Write) -> Result<Done,
         return Err(Failure::Argument("bad argument: --compare takes two programs, the old one first".to_string()));
     }
     if let Some(output) = &arguments.output {
-        check_apart(output, arguments.programs.iter().map(PathBuf::as_path))?;
+        check_output_apart(output, arguments.programs.iter().map(PathBuf::as_path))?;
     }
-    let files = arguments.programs.iter().map(|path| Ok((path, read(path)?))).collect::<Result<Vec<_>, Failure>>()?;
+    let files =
+        arguments.programs.iter().map(|path| Ok((path, open_elf(path)?))).collect::<Result<Vec<_>, Failure>>()?;
     let read = files.iter().map(|(path, data)| {
-        let program = program(path, data)?;
-        Ok(Report::read(shown(path), &program))
+        let program = parse_program(path, data)?;
+        Ok(Report::read(shown_path(path), &program))
     });
     let reports = read.collect::<Result<Vec<_>, Failure>>()?;
     let difference = match reports.as_slice() {
         [old, new] if arguments.compare => Some(Difference::of(old, new)),
         _ => None,
     };
-    let contents = Contents { only: only(&arguments.function, &reports)?, difference, reports: &reports, room: ROOM };
+    let contents = Contents {
+        only: selected_functions(&arguments.function, &reports)?,
+        difference,
+        reports: &reports,
+        room: ROOM,
+    };
     match &arguments.output {
         None => page::write(&contents, out)?,
         Some(path) => {
@@ -36,11 +42,16 @@ pub fn report(arguments: &ReportArguments, out: &mut impl Write) -> Result<Done,
             output.finish()?;
         }
     }
-    Ok(files.iter().zip(&reports).map(|((path, _), report)| done(path, report)).max().unwrap_or(Done::Accepted))
+    Ok(files
+        .iter()
+        .zip(&reports)
+        .map(|((path, _), report)| done_of_report(path, report))
+        .max()
+        .unwrap_or(Done::Accepted))
 }
 
 /// The functions with these names, of each program. `None` if no names are given.
-fn only(names: &[String], reports: &[Report<'_>]) -> Result<Option<Vec<Vec<usize>>>, Failure> {
+fn selected_functions(names: &[String], reports: &[Report<'_>]) -> Result<Option<Vec<Vec<usize>>>, Failure> {
     let is_known = |name: &&String| reports.iter().any(|report| report.named(name).next().is_some());
     if let Some(name) = names.iter().find(|name| !is_known(name)) {
         return Err(Failure::Argument(format!("bad argument: no FDE is that of a function with the name {}", name)));
@@ -51,12 +62,12 @@ fn only(names: &[String], reports: &[Report<'_>]) -> Result<Option<Vec<Vec<usize
 }
 
 /// Whether all sections of a program are accepted. Says on standard error why one can't be checked.
-fn done(path: &std::path::Path, report: &Report<'_>) -> Done {
+fn done_of_report(path: &std::path::Path, report: &Report<'_>) -> Done {
     let of_section = |status: &SectionStatus| match status {
         SectionStatus::Accepted => Done::Accepted,
         SectionStatus::Refused(..) => Done::Refused,
         SectionStatus::Unread(why) => {
-            note(path, why);
+            write_note(path, why);
             Done::Unread
         }
     };

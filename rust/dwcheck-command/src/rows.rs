@@ -2,8 +2,10 @@
 
 use crate::arguments::{RowArguments, RowsArguments};
 use crate::check::write_notes;
-use crate::end::{shown, Done, Failure};
-use crate::opened::{self, address, named, number_argument, process, read, write_defect, Opened};
+use crate::end::{shown_path, Done, Failure};
+use crate::opened::{
+    self, address_argument, function_in_parentheses, number_argument, open_elf, process_of_frames, write_defect, Opened,
+};
 use dwcheck::Process;
 use dwcheck_elf::frames::{Frames, Kind};
 use dwcheck_elf::functions::Functions;
@@ -17,17 +19,17 @@ use std::path::Path;
 /// Shows all FDEs and rows of a program, but those of FDEs that are refused, whose faults are shown on
 /// standard error.
 pub fn rows(arguments: &RowsArguments, out: &mut impl Write) -> Result<Done, Failure> {
-    let data = read(&arguments.program)?;
-    let program = opened::program(&arguments.program, &data)?;
+    let data = open_elf(&arguments.program)?;
+    let program = opened::parse_program(&arguments.program, &data)?;
     let opened = Opened::read(&arguments.program, &program)?;
     if opened.frames.is_empty() && opened.refused.is_empty() {
-        return Err(no_rows(&arguments.program, program.kind()));
+        return Err(no_frame_section(&arguments.program, program.kind()));
     }
     let functions = program.functions();
     for frames in &opened.frames {
-        let process = process(&arguments.program, frames)?;
+        let process = process_of_frames(&arguments.program, frames)?;
         writeln!(out, "section {}", frames.name())?;
-        write_section(out, frames, &process, &functions)?;
+        write_rows_of_section(out, frames, &process, &functions)?;
         if arguments.notes.notes {
             write_notes(out, frames)?;
         }
@@ -38,15 +40,15 @@ pub fn rows(arguments: &RowsArguments, out: &mut impl Write) -> Result<Done, Fai
 }
 
 /// The failure for a file that has no frame section.
-fn no_rows(path: &Path, kind: program::Kind) -> Failure {
+fn no_frame_section(path: &Path, kind: program::Kind) -> Failure {
     let hint = match kind {
         program::Kind::Core => "; it is a core file: stack prints its stacks",
         _ => "",
     };
-    Failure::File(format!("{}: has neither .eh_frame nor .debug_frame{}", shown(path), hint))
+    Failure::File(format!("{}: has neither .eh_frame nor .debug_frame{}", shown_path(path), hint))
 }
 
-fn write_section(
+fn write_rows_of_section(
     out: &mut impl Write,
     frames: &Frames<'_>,
     process: &Process,
@@ -64,7 +66,16 @@ fn write_section(
         };
         let (offset, cie) = (Offset(record.offset), Offset(cie));
         let (first, last) = (Address(target, begin), Address(target, end));
-        writeln!(out, "fde {} cie {} {}..{} ra r{}{}", offset, cie, first, last, register, named(functions, begin))?;
+        writeln!(
+            out,
+            "fde {} cie {} {}..{} ra r{}{}",
+            offset,
+            cie,
+            first,
+            last,
+            register,
+            function_in_parentheses(functions, begin)
+        )?;
         write_rows(out, frames, DwcheckRows::whole(process, begin, end))?;
     }
     Ok(())
@@ -81,23 +92,23 @@ fn write_rows(out: &mut impl Write, frames: &Frames<'_>, mut rows: DwcheckRows<'
 /// Shows the row of an address, from the first section that has such a row. If no section has one,
 /// shows the fault of the FDE that covers the address and is refused, or `none`.
 pub fn row(arguments: &RowArguments, out: &mut impl Write) -> Result<Done, Failure> {
-    let data = read(&arguments.program)?;
-    let program = opened::program(&arguments.program, &data)?;
+    let data = open_elf(&arguments.program)?;
+    let program = opened::parse_program(&arguments.program, &data)?;
     let functions = program.functions();
     let target = program.target();
     let load = number_argument("--load", &arguments.load, target)?;
-    let loaded = address("ADDRESS", &arguments.address, target, &functions, load)?;
+    let loaded = address_argument("ADDRESS", &arguments.address, target, &functions, load)?;
     let linked = target.wrap(loaded.wrapping_sub(load));
     let opened = Opened::read(&arguments.program, &program)?;
     for frames in &opened.frames {
-        let process = process(&arguments.program, frames)?;
+        let process = process_of_frames(&arguments.program, frames)?;
         if process.row(linked).is_some() {
             let mut row = Row::default();
             let end = linked.saturating_add(1);
             let found = DwcheckRows::whole(&process, linked, end).next_row(&mut row);
             found.map_err(|error| Failure::File(error.to_string()))?;
             writeln!(out, "section {}", frames.name())?;
-            writeln!(out, "{}{}", RowLine(target, &row), named(&functions, linked))?;
+            writeln!(out, "{}{}", RowLine(target, &row), function_in_parentheses(&functions, linked))?;
             opened.note_refused(&arguments.program, false);
             return Ok(opened.done());
         }

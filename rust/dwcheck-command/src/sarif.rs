@@ -9,7 +9,7 @@ const VERSION: &str = "2.1.0";
 const SCHEMA: &str = "https://json.schemastore.org/sarif-2.1.0.json";
 
 /// The whole document of a run, with the rules that its results may name.
-pub fn document(results: Vec<Value>, rules: Vec<Value>, properties: Value) -> Value {
+pub fn sarif_document(results: Vec<Value>, rules: Vec<Value>, properties: Value) -> Value {
     json!({
         "$schema": SCHEMA,
         "version": VERSION,
@@ -22,15 +22,15 @@ pub fn document(results: Vec<Value>, rules: Vec<Value>, properties: Value) -> Va
 }
 
 /// Where a result is: at a source line, or at an address of a program if the line isn't known.
-pub fn place(path: &Path, address: Option<u64>, line: Option<&SourceLine>) -> Value {
+pub fn sarif_location(path: &Path, address: Option<u64>, line: Option<&SourceLine>) -> Value {
     if let Some(SourceLine { file, line: Some(line), column }) = line {
         let mut region = json!({ "startLine": line });
         if let Some(column) = column {
             region["startColumn"] = json!(column);
         }
-        return json!({ "artifactLocation": { "uri": uri(Path::new(file)) }, "region": region });
+        return json!({ "artifactLocation": { "uri": file_uri(Path::new(file)) }, "region": region });
     }
-    let mut place = json!({ "artifactLocation": { "uri": uri(path) }, "region": { "startLine": 1 } });
+    let mut place = json!({ "artifactLocation": { "uri": file_uri(path) }, "region": { "startLine": 1 } });
     if let Some(address) = address {
         place["address"] = json!({ "absoluteAddress": address });
     }
@@ -38,7 +38,7 @@ pub fn place(path: &Path, address: Option<u64>, line: Option<&SourceLine>) -> Va
 }
 
 /// A path as a URI: relative to the current folder if it is below that, as code hosts want it.
-fn uri(path: &Path) -> String {
+fn file_uri(path: &Path) -> String {
     let here = std::env::current_dir().ok();
     let below = here.and_then(|here| path.strip_prefix(here).ok().map(Path::to_path_buf));
     let path = below.as_deref().unwrap_or(path).to_string_lossy().into_owned();

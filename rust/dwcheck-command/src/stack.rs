@@ -3,8 +3,8 @@
 mod threads;
 
 use crate::arguments::StackArguments;
-use crate::end::{shown, Done, Failure};
-use crate::opened::read;
+use crate::end::{shown_path, Done, Failure};
+use crate::opened::open_elf;
 use dwcheck_elf::core_file::{CoreError, CoreFile, Files, MappedFile};
 use dwcheck_elf::live::Snapshot;
 use dwcheck_elf::mapped::Bytes;
@@ -20,59 +20,59 @@ use threads::Report;
 /// Prints the stacks on `out`, and warnings on standard error.
 pub fn stack(arguments: &StackArguments, out: &mut impl Write) -> Result<Done, Failure> {
     if let Some(pid) = arguments.pid {
-        return of_process(arguments, pid, out);
+        return stack_of_process(arguments, pid, out);
     }
     match arguments.files.as_slice() {
-        [core] => of_core(arguments, None, core, out),
-        [program, core] => of_core(arguments, Some(program), core, out),
+        [core] => stack_of_core(arguments, None, core, out),
+        [program, core] => stack_of_core(arguments, Some(program), core, out),
         _ => Err(Failure::Argument("give [PROGRAM] CORE, or --pid".to_string())),
     }
 }
 
 /// The program of a core file: its path, and its bytes.
-struct Given {
+struct OpenedProgram {
     path: PathBuf,
     bytes: Bytes,
 }
 
-fn of_core(
+fn stack_of_core(
     arguments: &StackArguments,
     program: Option<&PathBuf>,
     path: &Path,
     out: &mut impl Write,
 ) -> Result<Done, Failure> {
-    let bytes = read(path)?;
-    let core = CoreFile::read(&bytes).map_err(|error| unread(path, &error))?;
+    let bytes = open_elf(path)?;
+    let core = CoreFile::read(&bytes).map_err(|error| unread_core(path, &error))?;
     let mut files = Files::read(&core, &arguments.root);
-    let given = match program {
-        Some(program) => Some(given(program)?),
+    let opened = match program {
+        Some(program) => Some(open_program(program)?),
         None if core.mappings().is_empty() => {
-            core.program_name().and_then(|name| given(Path::new(OsStr::from_bytes(name))).ok())
+            core.program_name().and_then(|name| open_program(Path::new(OsStr::from_bytes(name))).ok())
         }
         None => None,
     };
-    let is_used = given.as_ref().map_or(false, |given| files.use_program(&core, &given.bytes));
+    let is_used = opened.as_ref().map_or(false, |opened| files.use_program(&core, &opened.bytes));
     let mut stacks = Stacks::of(&core, &files);
-    if let Some(given) = &given {
-        stacks.add_program(&given.path, &given.bytes);
+    if let Some(opened) = &opened {
+        stacks.add_program(&opened.path, &opened.bytes);
     }
     let mut warnings = Vec::new();
-    match &given {
-        Some(given) if !is_used && !has_program(&stacks, &given.path, &arguments.root) => {
-            warnings.push(other_program(program.unwrap_or(&given.path), files.program(&core)));
+    match &opened {
+        Some(opened) if !is_used && !has_program(&stacks, &opened.path, &arguments.root) => {
+            warnings.push(other_program_warning(program.unwrap_or(&opened.path), files.program(&core)));
         }
         None if core.mappings().is_empty() => {
-            warnings.push(format!("{} names no files: give its program, as in PROGRAM CORE", shown(path)));
+            warnings.push(format!("{} names no files: give its program, as in PROGRAM CORE", shown_path(path)));
         }
         _ => {}
     }
     if core.is_cut() {
-        warnings.push(format!("{} ends before the memory that it should hold", shown(path)));
+        warnings.push(format!("{} ends before the memory that it should hold", shown_path(path)));
     }
-    print(arguments, &core, (&mut stacks, None), warnings, out)
+    print_stacks(arguments, &core, (&mut stacks, None), warnings, out)
 }
 
-fn of_process(arguments: &StackArguments, pid: u32, out: &mut impl Write) -> Result<Done, Failure> {
+fn stack_of_process(arguments: &StackArguments, pid: u32, out: &mut impl Write) -> Result<Done, Failure> {
     let copy = if arguments.vars {
         Snapshot::take_with_data(pid, &arguments.tid)
     } else {
@@ -83,12 +83,12 @@ fn of_process(arguments: &StackArguments, pid: u32, out: &mut impl Write) -> Res
     let files = Files::of_live(&core, pid);
     let mut stacks = Stacks::of(&core, &files);
     let warnings = copy.skipped().map(|(tid, why)| format!("thread {}: {}", tid, why)).collect();
-    print(arguments, &core, (&mut stacks, Some(copy.longest_stop())), warnings, out)
+    print_stacks(arguments, &core, (&mut stacks, Some(copy.longest_stop())), warnings, out)
 }
 
 /// Walks the stacks, prints them, and then the warnings. For a process that runs, `longest_stop` is
 /// the longest time for which a thread was stopped.
-fn print(
+fn print_stacks(
     arguments: &StackArguments,
     core: &CoreFile<'_>,
     (stacks, longest_stop): (&mut Stacks<'_>, Option<Duration>),
@@ -113,19 +113,19 @@ fn print(
     Ok(Done::Accepted)
 }
 
-fn given(program: &Path) -> Result<Given, Failure> {
+fn open_program(program: &Path) -> Result<OpenedProgram, Failure> {
     let path = program.canonicalize();
     let path = path.map_err(|error| Failure::reading(program, &error))?;
-    Ok(Given { bytes: read(&path)?, path })
+    Ok(OpenedProgram { bytes: open_elf(&path)?, path })
 }
 
 /// The failure for a core file that can't be read.
-fn unread(path: &Path, error: &CoreError) -> Failure {
+fn unread_core(path: &Path, error: &CoreError) -> Failure {
     let hint = match error {
         CoreError::NotCore(_) => "; the order is PROGRAM CORE",
         _ => "",
     };
-    Failure::File(format!("{}: {}{}", shown(path), error, hint))
+    Failure::File(format!("{}: {}{}", shown_path(path), error, hint))
 }
 
 /// Whether the process had a file loaded, which may be inside the folder `root`.
@@ -136,10 +136,10 @@ fn has_program(stacks: &Stacks<'_>, program: &Path, root: &Path) -> bool {
 }
 
 /// The warning if PROGRAM isn't used. `file` is the program's file at its path in the core.
-fn other_program(program: &Path, file: Option<&MappedFile>) -> String {
-    let warning = format!("{} isn't the program of this core file", shown(program));
+fn other_program_warning(program: &Path, file: Option<&MappedFile>) -> String {
+    let warning = format!("{} isn't the program of this core file", shown_path(program));
     match file.filter(|file| file.bytes.is_ok()) {
-        Some(file) => format!("{}: {} is used", warning, shown(&file.path)),
+        Some(file) => format!("{}: {} is used", warning, shown_path(&file.path)),
         None => warning,
     }
 }

@@ -6,15 +6,16 @@ mod sarif;
 mod totals;
 
 use crate::arguments::SurveyArguments;
-use crate::end::{shown, Done, Failure};
-use crate::opened::{note, write_defect};
+use crate::end::{shown_path, Done, Failure};
+use crate::opened::{write_defect, write_note};
+use crate::pool::thread_pool;
 use dwcheck_elf::fault::Defect;
 use dwcheck_elf::frames::{Counts, Name, Notes};
 use dwcheck_elf::inspect::{inspect, inspect_frame_sections, Check, Inspected, Verdict};
 use dwcheck_elf::lines::{Lines, SourceLine};
 use dwcheck_elf::lists;
 use dwcheck_elf::program::{Program, ProgramError};
-use files::{content, Files};
+use files::{map_file, Files};
 use indicatif::{ProgressBar, ProgressStyle};
 use rayon::prelude::*;
 use std::collections::HashMap;
@@ -25,9 +26,6 @@ use std::sync::mpsc::{self, Receiver};
 use std::thread;
 use totals::Totals;
 use typed_arena::Arena;
-
-/// The number of bytes of each thread's stack: more than gimli and `dwcheck` need.
-pub const STACK: usize = 8 << 20;
 
 /// The result of checking a file.
 pub struct Surveyed {
@@ -90,10 +88,9 @@ pub enum Held {
 
 /// Checks all files, and writes their faults and the totals, as text, as JSON or as SARIF.
 pub fn survey(arguments: &SurveyArguments, out: &mut impl Write) -> Result<Done, Failure> {
-    let pool = rayon::ThreadPoolBuilder::new().num_threads(arguments.jobs.unwrap_or(0)).stack_size(STACK);
-    let pool = pool.build().map_err(|error| Failure::File(format!("no threads: {}", error)))?;
+    let pool = thread_pool(arguments.jobs)?;
     let files = pool.install(|| Files::once_each(&arguments.paths));
-    let bar = progress(files.paths.len() as u64);
+    let bar = progress_bar(files.paths.len() as u64);
     // Notes are also in the documents of JSON and SARIF.
     let counts_only = !(arguments.notes.notes || arguments.json || arguments.sarif);
     let asked = Asked {
@@ -104,64 +101,64 @@ pub fn survey(arguments: &SurveyArguments, out: &mut impl Write) -> Result<Done,
     let mut totals = Totals::of(&files);
     let mut results = sarif::Results::default();
     if arguments.json {
-        json::write_unread(out, &files)?;
+        json::write_json_unread(out, &files)?;
     } else {
-        note_unread(&files);
+        note_unread_files(&files);
     }
     let (sender, surveyed) = mpsc::channel();
     // Files are checked in their order, as far as several at once allow, and written in it.
     let check_all = || {
         let each = files.paths.iter().enumerate().par_bridge();
-        each.try_for_each_with(sender, |sender, (number, path)| sender.send((number, inspected(path.clone(), asked))))
+        each.try_for_each_with(sender, |sender, (number, path)| sender.send((number, survey_file(path.clone(), asked))))
     };
     thread::scope(|scope| {
         // It ends early if the results can't be written.
         scope.spawn(|| pool.install(check_all).is_ok());
-        in_order(surveyed, |one| {
+        take_in_order(surveyed, |one| {
             bar.inc(1);
             totals.count(&one);
-            bar.suspend(|| write_one(out, arguments, &one, &mut results))
+            bar.suspend(|| write_surveyed(out, arguments, &one, &mut results))
         })
     })?;
     bar.finish_and_clear();
-    write_totals(out, arguments, &totals, results)?;
+    write_survey_totals(out, arguments, &totals, results)?;
     Ok(totals.done())
 }
 
 /// Writes what was found in a file, or keeps it for the document of SARIF.
-fn write_one(
+fn write_surveyed(
     out: &mut impl Write,
     arguments: &SurveyArguments,
     one: &Surveyed,
     results: &mut sarif::Results,
 ) -> io::Result<()> {
     match (arguments.json, arguments.sarif) {
-        (true, _) => json::write_file(out, one),
+        (true, _) => json::write_json_file(out, one),
         (false, true) => {
             results.add(one);
-            note_errors(one);
+            note_unread_sections(one);
             Ok(())
         }
-        (false, false) => write_refused(out, one),
+        (false, false) => write_refusals(out, one),
     }
 }
 
 /// Writes the totals, and the document of SARIF that has them.
-fn write_totals(
+fn write_survey_totals(
     out: &mut impl Write,
     arguments: &SurveyArguments,
     totals: &Totals,
     results: sarif::Results,
 ) -> io::Result<()> {
     match (arguments.json, arguments.sarif) {
-        (true, _) => json::write_totals(out, totals),
-        (false, true) => results.write(out, json::totals(totals)),
+        (true, _) => json::write_json_totals(out, totals),
+        (false, true) => results.write(out, json::json_totals(totals)),
         (false, false) => totals.write(out, arguments.notes.notes),
     }
 }
 
 /// Calls `take` with the results in the order of their numbers, each as soon as those before it are there.
-fn in_order<T>(results: Receiver<(usize, T)>, mut take: impl FnMut(T) -> io::Result<()>) -> io::Result<()> {
+fn take_in_order<T>(results: Receiver<(usize, T)>, mut take: impl FnMut(T) -> io::Result<()>) -> io::Result<()> {
     let mut waiting = HashMap::new();
     let mut next = 0;
     for (number, result) in results {
@@ -175,7 +172,7 @@ fn in_order<T>(results: Receiver<(usize, T)>, mut take: impl FnMut(T) -> io::Res
 }
 
 /// A progress bar on standard error. It is shown only if standard error is a terminal.
-pub fn progress(count: u64) -> ProgressBar {
+pub fn progress_bar(count: u64) -> ProgressBar {
     let bar = ProgressBar::new(count);
     let style = ProgressStyle::with_template("{wide_bar} {pos}/{len} {eta}");
     style.map_or(bar.clone(), |style| bar.with_style(style))
@@ -192,14 +189,14 @@ struct Asked {
 }
 
 /// Checks a file.
-fn inspected(path: PathBuf, asked: Asked) -> Surveyed {
-    match content(&path) {
-        Ok(data) => inspected_bytes(path, &data, asked),
+fn survey_file(path: PathBuf, asked: Asked) -> Surveyed {
+    match map_file(&path) {
+        Ok(data) => survey_bytes(path, &data, asked),
         Err(error) => Surveyed { path, machine: None, outcome: Err(Unread::File(error)) },
     }
 }
 
-fn inspected_bytes(path: PathBuf, data: &[u8], asked: Asked) -> Surveyed {
+fn survey_bytes(path: PathBuf, data: &[u8], asked: Asked) -> Surveyed {
     let program = match Program::read(data) {
         Ok(program) => program,
         Err(error) => return Surveyed { path, machine: None, outcome: Err(Unread::Program(error)) },
@@ -210,20 +207,20 @@ fn inspected_bytes(path: PathBuf, data: &[u8], asked: Asked) -> Surveyed {
     };
     let mut sections: Vec<_> = inspected.into_iter().map(Section::of).collect();
     if asked.has_lines && sections.iter().any(|section| !section.defects.is_empty()) {
-        find_lines(&program, &mut sections);
+        find_source_lines(&program, &mut sections);
     }
     Surveyed { path, machine: Some(program.machine()), outcome: Ok(sections) }
 }
 
 /// Looks up the source line of each fault.
-fn find_lines(program: &Program<'_>, sections: &mut [Section]) {
+fn find_source_lines(program: &Program<'_>, sections: &mut [Section]) {
     let unpacked = Arena::new();
     let lines = match Lines::read(program, None, &unpacked) {
         Some(lines) => lines,
         None => return,
     };
     for section in sections {
-        let line = |defect| lines.line(sarif::address(defect)?);
+        let line = |defect| lines.line(sarif::address_of_fde(defect)?);
         section.lines = section.defects.iter().map(line).collect();
     }
 }
@@ -260,30 +257,31 @@ impl Section {
 }
 
 /// Says on standard error which files and folders can't be read.
-pub fn note_unread(files: &Files) {
+pub fn note_unread_files(files: &Files) {
     for (path, error) in &files.unread {
-        let _ = writeln!(io::stderr(), "dwcheck-elf: cannot read {}: {}", shown(path), error);
+        let _ = writeln!(io::stderr(), "dwcheck-elf: cannot read {}: {}", shown_path(path), error);
     }
 }
 
 /// Says on standard error why a file or a section can't be read or checked.
-fn note_errors(surveyed: &Surveyed) {
+fn note_unread_sections(surveyed: &Surveyed) {
     match &surveyed.outcome {
-        Ok(sections) => {
-            sections.iter().filter_map(|section| section.error.as_ref()).for_each(|error| note(&surveyed.path, error))
-        }
-        Err(error) => note(&surveyed.path, error),
+        Ok(sections) => sections
+            .iter()
+            .filter_map(|section| section.error.as_ref())
+            .for_each(|error| write_note(&surveyed.path, error)),
+        Err(error) => write_note(&surveyed.path, error),
     }
 }
 
 /// Writes two lines for each fault of a file. Also says why the file or a section can't be read.
-fn write_refused(out: &mut impl Write, surveyed: &Surveyed) -> io::Result<()> {
+fn write_refusals(out: &mut impl Write, surveyed: &Surveyed) -> io::Result<()> {
     let sections = surveyed.outcome.as_deref().unwrap_or(&[]);
     let mut defects = sections.iter().flat_map(|section| &section.defects).peekable();
     if defects.peek().is_some() {
         defects.try_for_each(|defect| write_defect(out, &surveyed.path, defect))?;
         out.flush()?;
     }
-    note_errors(surveyed);
+    note_unread_sections(surveyed);
     Ok(())
 }

@@ -2,9 +2,9 @@
 //! as far as they are known.
 
 use crate::arguments::VarsArguments;
-use crate::end::{shown, Done, Failure};
-use crate::opened::{address, note, number_argument, program, read, Opened};
-use crate::walks::state_file;
+use crate::end::{shown_path, Done, Failure};
+use crate::opened::{address_argument, number_argument, open_elf, parse_program, write_note, Opened};
+use crate::walks::read_state_file;
 use dwcheck::{Block, Process, State};
 use dwcheck_elf::abi::abi;
 use dwcheck_elf::core_file::{CoreFile, Files};
@@ -29,9 +29,11 @@ pub fn vars(arguments: &VarsArguments, out: &mut impl Write) -> Result<Done, Fai
     let shape = Shape { depth: arguments.depth, ..Shape::default() };
     let mut done = Done::Accepted;
     let functions = match (arguments.pid, &arguments.core, &arguments.program, &arguments.address) {
-        (Some(pid), None, None, None) => of_process(arguments, pid, shape)?,
-        (None, Some(core), None, None) => of_core(arguments, core, shape)?,
-        (None, None, Some(program), Some(address)) => of_program(arguments, program, address, shape, &mut done)?,
+        (Some(pid), None, None, None) => variables_of_process(arguments, pid, shape)?,
+        (None, Some(core), None, None) => variables_of_core(arguments, core, shape)?,
+        (None, None, Some(program), Some(address)) => {
+            variables_of_program(arguments, program, address, shape, &mut done)?
+        }
         _ => return Err(Failure::Argument("give PROGRAM ADDRESS, --core or --pid".to_string())),
     };
     if arguments.json {
@@ -46,19 +48,19 @@ pub fn vars(arguments: &VarsArguments, out: &mut impl Write) -> Result<Done, Fai
     Ok(done)
 }
 
-fn of_core(arguments: &VarsArguments, path: &Path, shape: Shape) -> Result<Vec<Function>, Failure> {
-    let bytes = read(path)?;
-    let core = CoreFile::read(&bytes).map_err(|error| Failure::File(format!("{}: {}", shown(path), error)))?;
-    of_frame(arguments, &core, &Files::read(&core, &arguments.root), shape)
+fn variables_of_core(arguments: &VarsArguments, path: &Path, shape: Shape) -> Result<Vec<Function>, Failure> {
+    let bytes = open_elf(path)?;
+    let core = CoreFile::read(&bytes).map_err(|error| Failure::File(format!("{}: {}", shown_path(path), error)))?;
+    variables_of_frame(arguments, &core, &Files::read(&core, &arguments.root), shape)
 }
 
 /// The process goes on once the thread's registers and the memory are copied.
-fn of_process(arguments: &VarsArguments, pid: u32, shape: Shape) -> Result<Vec<Function>, Failure> {
+fn variables_of_process(arguments: &VarsArguments, pid: u32, shape: Shape) -> Result<Vec<Function>, Failure> {
     let tid = arguments.thread.unwrap_or(pid);
     let failed = |why: String| Failure::File(format!("process {}: {}", pid, why));
     let copy = Snapshot::take_with_data(pid, &[tid]).map_err(|error| failed(error.to_string()))?;
     let core = copy.core();
-    of_frame(arguments, &core, &Files::of_live(&core, pid), shape)
+    variables_of_frame(arguments, &core, &Files::of_live(&core, pid), shape)
 }
 
 /// The failure for a thread that isn't there, or for a core file without threads.
@@ -75,7 +77,7 @@ fn no_thread(wanted: Option<u32>, core: &CoreFile<'_>) -> Failure {
 }
 
 /// The functions of the frame that is asked for.
-fn of_frame(
+fn variables_of_frame(
     arguments: &VarsArguments,
     core: &CoreFile<'_>,
     files: &Files,
@@ -97,32 +99,32 @@ fn of_frame(
     }
     let functions = stacks.variables(&stack, arguments.frame, shape);
     for (file, why) in stacks.missing() {
-        note(&file, why);
+        write_note(&file, why);
     }
     Ok(functions)
 }
 
 /// `done` is set to how the run ends.
-fn of_program(
+fn variables_of_program(
     arguments: &VarsArguments,
     path: &Path,
     at: &str,
     shape: Shape,
     done: &mut Done,
 ) -> Result<Vec<Function>, Failure> {
-    let data = read(path)?;
-    let program = program(path, &data)?;
+    let data = open_elf(path)?;
+    let program = parse_program(path, &data)?;
     let target = program.target();
     let load = number_argument("--load", &arguments.load, target)?;
-    let address = address("ADDRESS", at, target, &program.functions(), load)?;
-    let state = arguments.state.as_ref().map_or(Ok(StateFile::default()), |path| state_file(path, target))?;
+    let address = address_argument("ADDRESS", at, target, &program.functions(), load)?;
+    let state = arguments.state.as_ref().map_or(Ok(StateFile::default()), |path| read_state_file(path, target))?;
     let files = DebugFiles::default();
-    let variables = variables(path, &program, &files)?;
+    let variables = read_debug_information(path, &program, &files)?;
     let process = match &arguments.state {
-        Some(_) => unwinder(path, &program, load, done)?,
+        Some(_) => read_unwind_tables(path, &program, load, done)?,
         None => Modules::new(target),
     };
-    let steps = steps(process.process(), address, &state)?;
+    let steps = frame_and_callers(process.process(), address, &state)?;
     let constants = program.constants(load);
     let constants = constants.iter().map(|(address, bytes)| Block::new(*address, bytes));
     // What the state has counts before what the file has.
@@ -137,21 +139,25 @@ fn of_program(
     match missing {
         Some(name) => {
             let why = format!("its debug information is in another file, {}, which isn't there", Escaped(&name));
-            Err(Failure::File(format!("{}: {}", shown(path), why)))
+            Err(Failure::File(format!("{}: {}", shown_path(path), why)))
         }
         None => Ok(functions),
     }
 }
 
 /// The debug information of a program, which may be in a file of its own.
-fn variables<'a>(path: &Path, program: &Program<'a>, files: &'a DebugFiles) -> Result<Variables<'a>, Failure> {
-    let failed = |why: String| Failure::File(format!("{}: {}", shown(path), why));
+fn read_debug_information<'a>(
+    path: &Path,
+    program: &Program<'a>,
+    files: &'a DebugFiles,
+) -> Result<Variables<'a>, Failure> {
+    let failed = |why: String| Failure::File(format!("{}: {}", shown_path(path), why));
     let whole = path.canonicalize().unwrap_or_else(|_| path.to_path_buf());
     let separate = match program.has_bytes(".debug_info") {
         true => None,
-        false => {
-            files.find(&whole, program).map_err(|(file, why)| Failure::File(format!("{}: {}", shown(&file), why)))?
-        }
+        false => files
+            .find(&whole, program)
+            .map_err(|(file, why)| Failure::File(format!("{}: {}", shown_path(&file), why)))?,
     };
     let read = |(path, bytes): (PathBuf, &'a Bytes)| Program::read(bytes).map(|program| (path, program));
     let separate = separate.map(read).transpose().map_err(|error| failed(error.to_string()))?;
@@ -160,7 +166,7 @@ fn variables<'a>(path: &Path, program: &Program<'a>, files: &'a DebugFiles) -> R
         return Err(failed("no .debug_info, and no separate file of debug information".to_string()));
     }
     let shared = files.shared(place, debug).unwrap_or_else(|why| {
-        note(path, why);
+        write_note(path, why);
         None
     });
     let shared = shared.and_then(|bytes| Program::read(bytes).ok());
@@ -172,20 +178,20 @@ fn variables<'a>(path: &Path, program: &Program<'a>, files: &'a DebugFiles) -> R
 }
 
 /// The program's unwind tables, which give the CFA and the callers.
-fn unwinder(path: &Path, program: &Program<'_>, load: u64, done: &mut Done) -> Result<Modules, Failure> {
+fn read_unwind_tables(path: &Path, program: &Program<'_>, load: u64, done: &mut Done) -> Result<Modules, Failure> {
     let opened = Opened::read(path, program)?;
     *done = opened.done();
     opened.note_refused(path, false);
     let mut modules = Modules::new(program.target());
     let added = modules.add(path, program, &opened.frames, load);
-    if let Some(lost) = added.map_err(|error| Failure::File(format!("{}: {}", shown(path), error)))? {
-        note(path, lost);
+    if let Some(lost) = added.map_err(|error| Failure::File(format!("{}: {}", shown_path(path), error)))? {
+        write_note(path, lost);
     }
     Ok(modules)
 }
 
 /// The frame at an address, and its callers.
-fn steps(process: &Process, address: u64, file: &StateFile) -> Result<Vec<Step>, Failure> {
+fn frame_and_callers(process: &Process, address: u64, file: &StateFile) -> Result<Vec<Step>, Failure> {
     let blocks = file.blocks();
     let registers = file.registers.clone();
     let mut steps = Vec::new();

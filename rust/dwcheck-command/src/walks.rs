@@ -2,8 +2,10 @@
 //! memory in a state file.
 
 use crate::arguments::{BacktraceArguments, UnwindArguments};
-use crate::end::{shown, Done, Failure};
-use crate::opened::{address, note, number_argument, program, read, read_text, write_defect, Opened};
+use crate::end::{shown_path, Done, Failure};
+use crate::opened::{
+    address_argument, number_argument, open_elf, parse_program, read_text, write_defect, write_note, Opened,
+};
 use dwcheck::{Answer, Error, Frame};
 use dwcheck_elf::fault::Defect;
 use dwcheck_elf::functions::Functions;
@@ -11,7 +13,7 @@ use dwcheck_elf::mapped::Bytes;
 use dwcheck_elf::modules::Modules;
 use dwcheck_elf::names::FunctionOffset;
 use dwcheck_elf::program::Program;
-use dwcheck_elf::state_file::{short, StateFile};
+use dwcheck_elf::state_file::{parse_short_number, StateFile};
 use dwcheck_elf::target::Target;
 use dwcheck_elf::text::{Address, Escaped, Known};
 use std::ffi::OsStr;
@@ -23,7 +25,7 @@ use std::path::{Path, PathBuf};
 const LONGEST_LINE: usize = 80;
 
 /// A module that the command line names: its file, and where it is loaded.
-struct Given {
+struct NamedModule {
     path: PathBuf,
     load: u64,
     data: Bytes,
@@ -66,9 +68,9 @@ impl<'a> Loaded<'a> {
 
 /// Lists the modules that the command line names: first the program, whose bytes are `data`, then
 /// the further modules, whose files are read here.
-fn given(arguments: &UnwindArguments, target: Target, data: Bytes) -> Result<Vec<Given>, Failure> {
+fn named_modules(arguments: &UnwindArguments, target: Target, data: Bytes) -> Result<Vec<NamedModule>, Failure> {
     let load = number_argument("--load", &arguments.modules.load, target)?;
-    let mut all = vec![Given { path: arguments.program.clone(), load, data }];
+    let mut all = vec![NamedModule { path: arguments.program.clone(), load, data }];
     for module in &arguments.modules.module {
         let bytes = module.as_bytes();
         let bad = || {
@@ -81,7 +83,7 @@ fn given(arguments: &UnwindArguments, target: Target, data: Bytes) -> Result<Vec
         if path.as_os_str().is_empty() {
             return Err(bad());
         }
-        all.push(Given { data: read(&path)?, path, load });
+        all.push(NamedModule { data: open_elf(&path)?, path, load });
     }
     Ok(all)
 }
@@ -89,20 +91,20 @@ fn given(arguments: &UnwindArguments, target: Target, data: Bytes) -> Result<Vec
 /// Checks all modules and puts them into a process. If something of a module isn't used, such as what
 /// is refused, or all of it if its addresses overlap those of an earlier module, a note on standard error
 /// says so.
-fn loaded(given: &[Given], target: Target) -> Result<Loaded<'_>, Failure> {
+fn load_modules(named: &[NamedModule], target: Target) -> Result<Loaded<'_>, Failure> {
     let mut all = Loaded { modules: Modules::new(target), target, functions: Vec::new(), opened: Vec::new() };
-    for Given { path, load, data } in given {
-        let program = program(path, data)?;
+    for NamedModule { path, load, data } in named {
+        let program = parse_program(path, data)?;
         if program.target() != target {
-            return Err(Failure::File(format!("{}: another byte order or address size", shown(path))));
+            return Err(Failure::File(format!("{}: another byte order or address size", shown_path(path))));
         }
         let opened = Opened::read(path, &program)?;
         opened.note_refused(path, false);
         let added = all.modules.add(path, &program, &opened.frames, *load);
         all.opened.push((path, *load, opened));
-        let lost = added.map_err(|error| Failure::File(format!("{}: {}", shown(path), error)))?;
+        let lost = added.map_err(|error| Failure::File(format!("{}: {}", shown_path(path), error)))?;
         if let Some(lost) = &lost {
-            note(path, lost);
+            write_note(path, lost);
         }
         // Without its addresses, a further module's functions have no names here either.
         if lost.map_or(false, |lost| lost.is_whole()) && !all.functions.is_empty() {
@@ -115,45 +117,45 @@ fn loaded(given: &[Given], target: Target) -> Result<Loaded<'_>, Failure> {
 
 /// What `unwind` and `backtrace` share: reads and checks all files, and calls `ask`, which writes
 /// the answer.
-fn run<W: Write>(
+fn run_on_modules<W: Write>(
     arguments: &UnwindArguments,
     out: &mut W,
     ask: impl FnOnce(&Loaded<'_>, u64, &StateFile, &mut W) -> Result<(), Failure>,
 ) -> Result<Done, Failure> {
-    let data = read(&arguments.program)?;
+    let data = open_elf(&arguments.program)?;
     let target = Program::read(&data)
-        .map_err(|error| Failure::File(format!("{}: {}", shown(&arguments.program), error)))?
+        .map_err(|error| Failure::File(format!("{}: {}", shown_path(&arguments.program), error)))?
         .target();
-    let given = given(arguments, target, data)?;
-    let state = state_file(&arguments.state, target)?;
-    let loaded = loaded(&given, target)?;
+    let named = named_modules(arguments, target, data)?;
+    let state = read_state_file(&arguments.state, target)?;
+    let loaded = load_modules(&named, target)?;
     let (functions, load) = &loaded.functions[0];
-    let address = address("ADDRESS", &arguments.address, target, functions, *load)?;
+    let address = address_argument("ADDRESS", &arguments.address, target, functions, *load)?;
     ask(&loaded, address, &state, out)?;
     Ok(loaded.opened.iter().map(|(.., opened)| opened.done()).max().unwrap_or(Done::Accepted))
 }
 
 /// Reads a state file.
-pub fn state_file(path: &Path, target: Target) -> Result<StateFile, Failure> {
+pub fn read_state_file(path: &Path, target: Target) -> Result<StateFile, Failure> {
     let text = read_text(path)?;
     StateFile::parse(&text, target).map_err(|number| {
         let line = text.split(|byte| *byte == b'\n').nth((number - 1) as usize).unwrap_or(&[]);
         let line = String::from_utf8_lossy(&line[..line.len().min(LONGEST_LINE)]);
-        Failure::Argument(format!("{}: state line {}: {}", shown(path), number, Escaped(&line)))
+        Failure::Argument(format!("{}: state line {}: {}", shown_path(path), number, Escaped(&line)))
     })
 }
 
-fn no_answer(error: Error) -> Failure {
+fn unwinding_failure(error: Error) -> Failure {
     Failure::File(error.to_string())
 }
 
 /// Shows the caller of the frame at an address. If no module has a row for the address, shows the fault of
 /// the FDE that covers the address and is refused, or `none`.
 pub fn unwind(arguments: &UnwindArguments, out: &mut impl Write) -> Result<Done, Failure> {
-    run(arguments, out, |loaded, address, file, out| {
+    run_on_modules(arguments, out, |loaded, address, file, out| {
         let blocks = file.blocks();
         let target = loaded.target;
-        match loaded.modules.process().unwind(address, &file.state(&blocks)).map_err(no_answer)? {
+        match loaded.modules.process().unwind(address, &file.state(&blocks)).map_err(unwinding_failure)? {
             None => match loaded.refused_at(address) {
                 Some((path, defect)) => write_defect(out, path, defect)?,
                 None => writeln!(out, "none")?,
@@ -182,13 +184,16 @@ pub fn backtrace(arguments: &BacktraceArguments, out: &mut impl Write) -> Result
             arguments.limit
         ))
     };
-    let limit = short(&arguments.limit).ok_or_else(bad)?;
-    run(&arguments.frame, out, |loaded, address, file, out| {
+    let limit = parse_short_number(&arguments.limit).ok_or_else(bad)?;
+    run_on_modules(&arguments.frame, out, |loaded, address, file, out| {
         let blocks = file.blocks();
-        let walk =
-            loaded.modules.process().backtrace(address, &file.state(&blocks), usize::from(limit)).map_err(no_answer)?;
+        let walk = loaded
+            .modules
+            .process()
+            .backtrace(address, &file.state(&blocks), usize::from(limit))
+            .map_err(unwinding_failure)?;
         for (number, frame) in walk.frames.iter().enumerate() {
-            write_frame(out, loaded, number, frame)?;
+            write_walk_frame(out, loaded, number, frame)?;
         }
         writeln!(out, "stop {}", walk.stop)?;
         Ok(())
@@ -197,7 +202,7 @@ pub fn backtrace(arguments: &BacktraceArguments, out: &mut impl Write) -> Result
 
 /// Writes a frame. If the frame's address follows a call, the name is that of the function that
 /// contains the call.
-fn write_frame(out: &mut impl Write, loaded: &Loaded<'_>, number: usize, frame: &Frame) -> Result<(), Failure> {
+fn write_walk_frame(out: &mut impl Write, loaded: &Loaded<'_>, number: usize, frame: &Frame) -> Result<(), Failure> {
     let target = loaded.target;
     let name = loaded.named(frame.address(), number > 0);
     match frame.cfa() {

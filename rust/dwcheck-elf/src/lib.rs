@@ -43,7 +43,7 @@ pub mod names {
 /// What the crates `dwcheck-profile` and `dwcheck-trace` use beside the public modules. It is no part of the interface.
 #[doc(hidden)]
 pub mod internal {
-    pub use crate::cfi::section_table::{add, OneFde, SectionTable};
+    pub use crate::cfi::section_table::{add_fde, OneFde, SectionTable};
     pub use crate::check::page;
     pub use crate::elf::demangle::short_name;
     pub use crate::process::maps::Process;

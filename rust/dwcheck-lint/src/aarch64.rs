@@ -1,4 +1,5 @@
-//! aarch64: its calling convention, and its decoder.
+//! aarch64: its calling convention, and its decoder of instruction words: immediates, branches, system, registers,
+//! vectors.
 //!
 //! A64 has a few regular encodings, all of 4 bytes. The fields of an instruction are named by their
 //! highest and lowest bits, as the architecture's manual numbers them.
@@ -61,16 +62,16 @@ pub static AARCH64: Machine = Machine {
     exception_data: Registers::of(&[0, 1, 2, 3]),
     // exit, exit_group and rt_sigreturn.
     exits: (Register(8), &[93, 94, 139]),
-    stub,
-    decode,
-    text: text::text,
+    stub: plt_stub_slot,
+    decode: decode_aarch64,
+    text: text::aarch64_text,
 };
 
 /// An instruction.
 #[derive(Clone, Copy)]
 struct Word(u32);
 
-fn decode(bytes: &[u8], address: u64) -> Instruction {
+fn decode_aarch64(bytes: &[u8], address: u64) -> Instruction {
     match Word::read(bytes) {
         Some(word) => Instruction { length: 4, effect: word.effect(address) },
         None => Instruction { length: bytes.len().max(1) as u8, effect: Effect::Invalid },
@@ -79,7 +80,7 @@ fn decode(bytes: &[u8], address: u64) -> Instruction {
 
 /// The entries of procedure linkage tables: `adrp x16; ldr x17, [x16, ..]; add x16, ..; br x17`, perhaps
 /// after `bti c`, and perhaps with `autia1716` before the jump.
-fn stub(bytes: &[u8], address: u64) -> Option<u64> {
+fn plt_stub_slot(bytes: &[u8], address: u64) -> Option<u64> {
     let effect =
         |index: usize| Some(Word::read(bytes.get(4 * index..)?)?.effect(address.wrapping_add(4 * index as u64)));
     let first = usize::from(effect(0)? == Effect::Nothing);
@@ -94,7 +95,7 @@ fn stub(bytes: &[u8], address: u64) -> Option<u64> {
 }
 
 /// A register that may be changed, or nothing for the register that is always zero.
-fn written(register: Option<Register>) -> Effect {
+fn write_of_register(register: Option<Register>) -> Effect {
     let mut registers = Registers::NONE;
     register.into_iter().for_each(|register| registers.insert(register));
     match register {
@@ -134,7 +135,7 @@ impl Word {
 
     /// The vector register whose number begins at a bit. `None` if it isn't followed.
     fn vector(self, low: u32) -> Option<Register> {
-        vector(self.bits(low + 4, low))
+        vector_register(self.bits(low + 4, low))
     }
 
     fn is_wide(self) -> bool {
@@ -153,7 +154,7 @@ impl Word {
             0b0100 | 0b0110 | 0b1100 | 0b1110 => self.memory(),
             0b0101 | 0b1101 => self.of_registers(),
             0b0111 | 0b1111 => self.of_vectors(),
-            0b0010 => self.scalable(),
+            0b0010 => self.scalable_vectors(),
             _ if self.bits(31, 16) == 0 => Effect::Stop,
             _ => Effect::Invalid,
         }
@@ -173,7 +174,7 @@ impl Word {
             0b011 => Effect::Derive { to: self.general_or_sp(0), from: self.general_or_sp(5) },
             0b100 => self.logical_immediate(),
             0b101 => self.move_wide(),
-            _ => written(to),
+            _ => write_of_register(to),
         }
     }
 
@@ -185,7 +186,7 @@ impl Word {
         match (sets_flags && to == SP, number) {
             (true, _) if is_subtraction => Effect::CompareNumber { number: magnitude },
             (true, _) => Effect::Nothing,
-            _ if !self.is_wide() => written(Some(to)),
+            _ if !self.is_wide() => write_of_register(Some(to)),
             (false, 0) => Effect::Move { to, from },
             (false, number) => Effect::Add { to, from, number },
         }
@@ -193,14 +194,14 @@ impl Word {
 
     fn logical_immediate(self) -> Effect {
         let (operation, to) = (self.bits(30, 29), self.general_or_sp(0));
-        let mask = bitmask(self.bits(22, 22), self.bits(21, 16), self.bits(15, 10)).map(|mask| mask as i64);
+        let mask = bitmask_immediate(self.bits(22, 22), self.bits(21, 16), self.bits(15, 10)).map(|mask| mask as i64);
         match (operation, self.general(5), mask) {
-            (0b11, ..) => written(self.general(0)),
+            (0b11, ..) => write_of_register(self.general(0)),
             (0b01, None, Some(mask)) if self.is_wide() => Effect::Set { to, number: mask },
             (0b01, None, Some(mask)) => Effect::Set { to, number: mask & 0xffff_ffff },
             (0b00, Some(from), mask) if self.is_wide() => Effect::Align { to, from, mask },
             (_, Some(from), _) if to == SP => Effect::Derive { to, from },
-            _ => written(Some(to)),
+            _ => write_of_register(Some(to)),
         }
     }
 
@@ -212,7 +213,7 @@ impl Word {
             (Some(to), 0b00) => Effect::Set { to, number: !field & all },
             (Some(to), 0b10) => Effect::Set { to, number: field },
             (Some(to), 0b11) => Effect::Insert { to, mask: 0xffff << shift, number: field },
-            (to, _) => written(to),
+            (to, _) => write_of_register(to),
         }
     }
 
@@ -253,7 +254,7 @@ impl Word {
     fn exception(self) -> Effect {
         match (self.bits(23, 21), self.bits(1, 0)) {
             (0b000, 0b01) => Effect::System { registers: Registers::of(&[0]) },
-            (0b000, _) => written(Some(Register(0))),
+            (0b000, _) => write_of_register(Some(Register(0))),
             _ => Effect::Stop,
         }
     }
@@ -266,7 +267,7 @@ impl Word {
             // `dsb sy`, `isb` and `sb`, which hand-written code has after each return.
             0xd503_3f9f | 0xd503_3fdf | 0xd503_30ff => Effect::Padding,
             _ if self.bits(31, 12) == 0xd5032 && self.bits(4, 0) == 0b11111 => self.hint(),
-            _ if self.bit(21) => written(self.general(0)),
+            _ if self.bit(21) => write_of_register(self.general(0)),
             _ => Effect::Nothing,
         }
     }
@@ -280,9 +281,9 @@ impl Word {
             (0b01011, _) => self.add_shifted(),
             (0b11010, 0b000) if self.bits(15, 10) != 0 => Effect::Nothing,
             (0b11010, 0b010) => Effect::Nothing,
-            (0b11010, 0b100) => self.select(),
+            (0b11010, 0b100) => self.conditional_select(),
             (0b11010, 0b110) if self.bit(30) && self.bits(20, 16) == 1 => self.signing(),
-            _ => written(to),
+            _ => write_of_register(to),
         }
     }
 
@@ -291,7 +292,7 @@ impl Word {
         match (self.general(0), self.general(16)) {
             (Some(to), Some(from)) if is_copy && self.is_wide() => Effect::Move { to, from },
             (Some(to), None) if is_copy => Effect::Set { to, number: 0 },
-            (to, _) => written(to),
+            (to, _) => write_of_register(to),
         }
     }
 
@@ -303,12 +304,12 @@ impl Word {
                 return Effect::Compare { one, other };
             }
             (Some(to), Some(from), Some(by)) if self.is_wide() => (to, from, by),
-            (to, ..) => return written(to),
+            (to, ..) => return write_of_register(to),
         };
         match (is_subtraction, is_left) {
             (true, _) => Effect::SubtractRegister { to, from, by: Some(by).filter(|_| shift == 0) },
             (false, true) => Effect::AddRegister { to, from, by, scale: Scale { shift, is_extended: false } },
-            (false, false) => written(Some(to)),
+            (false, false) => write_of_register(Some(to)),
         }
     }
 
@@ -326,17 +327,17 @@ impl Word {
             by if is_subtraction && self.is_wide() => {
                 Effect::SubtractRegister { to, from, by: by.filter(|_| is_plain) }
             }
-            _ => written(Some(to)),
+            _ => write_of_register(Some(to)),
         }
     }
 
     /// One of two registers, by a condition.
-    fn select(self) -> Effect {
+    fn conditional_select(self) -> Effect {
         let is_copy = self.is_wide() && !self.bit(30) && self.bits(11, 10) == 0;
         match (self.general(0), self.general(5), self.general(16)) {
             (Some(to), Some(one), Some(other)) if is_copy && to == one => Effect::MayMove { to, from: other },
             (Some(to), Some(one), Some(other)) if is_copy && to == other => Effect::MayMove { to, from: one },
-            (to, ..) => written(to),
+            (to, ..) => write_of_register(to),
         }
     }
 
@@ -354,9 +355,9 @@ impl Word {
             _ => is_conversion || is_fixed_point,
         };
         match (to_general, is_comparison) {
-            (true, _) => written(self.general(0)),
+            (true, _) => write_of_register(self.general(0)),
             (false, true) => Effect::Nothing,
-            (false, false) => written(self.vector(0)),
+            (false, false) => write_of_register(self.vector(0)),
         }
     }
 
@@ -374,12 +375,12 @@ impl Word {
     }
 
     /// The scalable vector extension. Which vectors and predicates its instructions write isn't told apart.
-    fn scalable(self) -> Effect {
+    fn scalable_vectors(self) -> Effect {
         if self.bits(31, 23) == 0b0_0000_1000 && self.bit(21) && self.bits(15, 12) == 0b0101 {
             return Effect::Derive { to: self.general_or_sp(0), from: self.general_or_sp(16) };
         }
         if self.is_scalable_to_general() {
-            return written(self.general(0));
+            return write_of_register(self.general(0));
         }
         let mut registers = Registers::NONE;
         self.vector(0).into_iter().for_each(|register| registers.insert(register));
@@ -388,12 +389,12 @@ impl Word {
 }
 
 /// A vector register by its number. `None` if it isn't followed.
-fn vector(number: u32) -> Option<Register> {
+fn vector_register(number: u32) -> Option<Register> {
     Some(Register(number as u8 + 24)).filter(|_| (8..16).contains(&number))
 }
 
 /// The immediate of logical instructions: a run of ones, rotated, and repeated. `None` if there is none.
-fn bitmask(wide: u32, rotation: u32, ones: u32) -> Option<u64> {
+fn bitmask_immediate(wide: u32, rotation: u32, ones: u32) -> Option<u64> {
     let highest = 31u32.checked_sub((wide << 6 | !ones & 0x3f).leading_zeros())?;
     let (size, levels) = (1 << highest, (1 << highest) - 1);
     let (ones, rotation) = (ones & levels, rotation & levels);

@@ -1,6 +1,6 @@
 //! The state that a row describes, for code that nothing is seen to reach.
 
-use crate::expression::{simple, Context};
+use crate::expression::{simple_form, Context};
 use crate::machine::Machine;
 use crate::register::Register;
 use crate::state::State;
@@ -16,7 +16,7 @@ const MOST_RULES: usize = 20;
 
 /// The offsets from the CFA at which rows say that registers are saved, below the stack pointer at the entry of a
 /// function that is called. Nothing is saved there yet at the entry.
-pub fn unsaved(machine: &Machine, rows: &[Row<'_>]) -> Vec<i64> {
+pub fn unsaved_slots(machine: &Machine, rows: &[Row<'_>]) -> Vec<i64> {
     let is_judged = |register| machine.callee_saved.contains(register) || *register == machine.return_address;
     let rules = rows.iter().flat_map(|row| &row.rules).filter(|(register, _)| is_judged(register));
     let mut offsets = Vec::new();
@@ -35,7 +35,7 @@ pub fn unsaved(machine: &Machine, rows: &[Row<'_>]) -> Vec<i64> {
 }
 
 /// The state at the entry of a function that is called, with slots in which nothing is saved yet.
-pub fn entered(machine: &Machine, row: &Row<'_>, unsaved: &[i64]) -> State {
+pub fn state_at_entry(machine: &Machine, row: &Row<'_>, unsaved: &[i64]) -> State {
     let mut state = State::unknown(false);
     unsaved.iter().for_each(|offset| state.put(Base::CFA, *offset, Value::Clobbered));
     for register in machine.followed() {
@@ -56,7 +56,7 @@ pub fn entered(machine: &Machine, row: &Row<'_>, unsaved: &[i64]) -> State {
 
 /// The state in which a row is right at an address, which is at an offset in its FDE. Nothing else is known
 /// in it.
-pub fn assumed(machine: &Machine, row: &Row<'_>, fde: &Fde, offset: u32) -> State {
+pub fn assumed_state(machine: &Machine, row: &Row<'_>, fde: &Fde, offset: u32) -> State {
     let address = fde.begin.wrapping_add(u64::from(offset));
     let mut assumption = Assumption { machine, offset, state: State::unknown(true) };
     assumption.assume_cfa(row, address);
@@ -89,7 +89,7 @@ impl Assumption<'_> {
             Cfa::RegisterOffset { register, offset } => {
                 self.state.set(register, Value::from_cfa(offset.wrapping_neg()))
             }
-            Cfa::Expression(expression) => match simple(expression) {
+            Cfa::Expression(expression) => match simple_form(expression) {
                 Some(found) if found.is_loaded => {
                     let (base, offset) = self.base_of(found.register);
                     let value = Value::from_cfa(found.added.wrapping_neg());
@@ -129,7 +129,7 @@ impl Assumption<'_> {
                 Some(Rule::Offset(offset)) => self.state.put(Base::CFA, offset, value),
                 Some(Rule::Register(other)) => self.state.set(other, value),
                 Some(Rule::Expression(expression)) => {
-                    if let Some(found) = simple(expression).filter(|found| !found.is_loaded) {
+                    if let Some(found) = simple_form(expression).filter(|found| !found.is_loaded) {
                         let (base, offset) = self.base_of(found.register);
                         self.state.put(base, offset.wrapping_add(found.offset).wrapping_add(found.added), value);
                     }

@@ -95,12 +95,12 @@ impl Callees {
 
     fn target_never_returns(&mut self, module: &Module<'_>, target: Target, depth: usize) -> bool {
         match target {
-            Target::Pointer(address) => module.imports.get(&address).map_or(false, |name| is_ending(name)),
+            Target::Pointer(address) => module.imports.get(&address).map_or(false, |name| never_returns_by_name(name)),
             Target::Code(address) if module.stands_for_import(address) => {
-                module.imports.get(&address).map_or(false, |name| is_ending(name))
+                module.imports.get(&address).map_or(false, |name| never_returns_by_name(name))
             }
             Target::Code(address) => match (module.machine.stub)(module.bytes_at(address), address) {
-                Some(pointer) => module.imports.get(&pointer).map_or(false, |name| is_ending(name)),
+                Some(pointer) => module.imports.get(&pointer).map_or(false, |name| never_returns_by_name(name)),
                 None => self.code_never_returns(module, address, depth),
             },
             _ => false,
@@ -117,7 +117,7 @@ impl Callees {
         // While it is read, a function that calls itself is taken to return.
         self.never_returns.insert(address, false);
         let mut returns = false;
-        let was_read = read(self, module, address, |callees, instruction| match instruction.effect {
+        let was_read = read_callee(self, module, address, |callees, instruction| match instruction.effect {
             Effect::Stop => Next::End,
             Effect::Jump { target: Target::Code(target) } => Next::At(target),
             Effect::Jump { target: target @ Target::Pointer(_) } if callees.target_never_returns(module, target, 0) => {
@@ -153,7 +153,7 @@ impl Callees {
         }
         self.written.insert(address, all);
         let mut written = Registers::NONE;
-        let was_read = read(self, module, address, |callees, instruction| {
+        let was_read = read_callee(self, module, address, |callees, instruction| {
             let next = match instruction.effect {
                 Effect::Return | Effect::Stop => Next::End,
                 Effect::Jump { target: Target::Code(target) } => Next::At(target),
@@ -201,7 +201,7 @@ pub fn leads_elsewhere(module: &Module<'_>, address: u64) -> bool {
 
 /// Reads the code from an address along all ways, each instruction once. Returns false if there is
 /// too much of it, or some isn't in the file.
-fn read(
+fn read_callee(
     callees: &mut Callees,
     module: &Module<'_>,
     address: u64,
@@ -238,7 +238,7 @@ fn read(
 }
 
 /// Whether a function of another module doesn't return, by its name.
-fn is_ending(name: &str) -> bool {
+fn never_returns_by_name(name: &str) -> bool {
     let throws = name.starts_with("_ZSt") && (name.contains("__throw_") || name == "_ZSt9terminatev");
     let raises = name.starts_with("__gnat_rcheck_") || name.starts_with("__gnat_raise_");
     throws || raises || ENDING.contains(&name)

@@ -1,4 +1,4 @@
-//! The instructions of an FDE, and where blocks of them begin.
+//! The instructions of an FDE, decoded: the next and the one before, and the leaders where blocks begin.
 
 use crate::instruction::{Effect, Instruction};
 use crate::machine::Machine;

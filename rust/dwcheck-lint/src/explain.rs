@@ -33,7 +33,7 @@ pub fn explain(lint: &mut Lint<'_>, address: u64) -> Result<Vec<Line>, Error> {
     let mut flow = lint.flow(address)?;
     let mut listing = Listing(Vec::new());
     for leader in flow.reached_leaders() {
-        flow.walk(leader, &mut listing);
+        flow.walk_block(leader, &mut listing);
     }
     listing.0.sort_by_key(|line| line.address);
     Ok(listing.0)

@@ -63,7 +63,7 @@ impl Group<'_> {
 }
 
 /// Groups the wrong rows of an FDE.
-pub fn grouped(mut marks: Vec<Mark<'_>>) -> Vec<Group<'_>> {
+pub fn group_marks(mut marks: Vec<Mark<'_>>) -> Vec<Group<'_>> {
     marks.sort_by_key(|mark| (mark.address, mark.way != Way::Here));
     let mut groups: Vec<Group<'_>> = Vec::new();
     for mark in marks {
@@ -99,7 +99,7 @@ pub fn findings<'m>(module: &Module<'m>, fde: &Fde, outcome: Outcome<'m>) -> Vec
             None => findings.push(Finding {
                 fde: fde.begin,
                 kind,
-                severity: severity(kind, wrong),
+                severity: severity_of_finding(kind, wrong),
                 wrong,
                 addresses: group.addresses,
                 places: 1,
@@ -113,7 +113,7 @@ pub fn findings<'m>(module: &Module<'m>, fde: &Fde, outcome: Outcome<'m>) -> Vec
     findings
 }
 
-fn severity(kind: Kind, wrong: Facts) -> Severity {
+fn severity_of_finding(kind: Kind, wrong: Facts) -> Severity {
     match kind {
         Kind::Private => Severity::Private,
         _ if wrong.has_frame() => Severity::BacktraceBroken,
@@ -136,7 +136,7 @@ fn is_same_defect(finding: &Finding<'_>, kind: Kind, group: &Group<'_>) -> bool 
 impl<'m> Finding<'m> {
     /// Adds a further place. If the kind until now is a general one, the place may know better.
     fn add(&mut self, kind: Kind, group: Group<'m>) {
-        self.severity = self.severity.max(severity(kind, group.mark.verdict.wrong));
+        self.severity = self.severity.max(severity_of_finding(kind, group.mark.verdict.wrong));
         self.wrong.add(group.mark.verdict.wrong);
         self.addresses += group.addresses;
         self.places += usize::from(self.end != group.mark.address);

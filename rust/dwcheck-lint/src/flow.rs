@@ -1,12 +1,13 @@
-//! Follows the flow of control through an FDE's code until nothing new is found.
+//! Follows the flow of control through an FDE's code until nothing new is found: which blocks are reached, and in
+//! which states.
 
-use crate::assume::{assumed, entered, unsaved};
+use crate::assume::{assumed_state, state_at_entry, unsaved_slots};
 use crate::callees::{leads_elsewhere, Callees};
 use crate::code::{Code, Lists, USUAL_BYTES};
 use crate::error::Error;
 use crate::follow::{Follow, Tally};
 use crate::instruction::Effect;
-use crate::judge::{unjudged, Judge, Said, Verdict};
+use crate::judge::{why_unjudged, Judge, Said, Verdict};
 use crate::module::Module;
 use crate::register::Registers;
 use crate::rules::{has_rows_for_calls, is_only_padding};
@@ -134,7 +135,7 @@ impl<'m, 'c> Flow<'m, 'c> {
             callees,
             fde,
             said: Said::of(module.machine, &rows),
-            unsaved: unsaved(module.machine, &rows),
+            unsaved: unsaved_slots(module.machine, &rows),
             is_for_calls: has_rows_for_calls(module, &rows),
             rows,
             stores: Stores::new(module.machine),
@@ -206,9 +207,9 @@ impl<'m, 'c> Flow<'m, 'c> {
         let machine = self.module.machine;
         let is_called = |row| is_entry_row(self.module, row) || self.fde.is_called;
         match (self.rows.first(), brought.get(&self.fde.begin)) {
-            (Some(row), _) if is_called(row) => entered(machine, row, &self.unsaved),
+            (Some(row), _) if is_called(row) => state_at_entry(machine, row, &self.unsaved),
             (_, Some(state)) => state.clone(),
-            (Some(row), None) => assumed(machine, row, self.fde, 0),
+            (Some(row), None) => assumed_state(machine, row, self.fde, 0),
             (None, None) => State::unknown(true),
         }
     }
@@ -219,7 +220,7 @@ impl<'m, 'c> Flow<'m, 'c> {
             let index = self.blocks[leader as usize] as usize;
             self.room.reached[index].is_waiting = false;
             follow.tally = Tally::default();
-            self.walk(leader, follow);
+            self.walk_block(leader, follow);
             self.room.reached[index].tally = follow.tally;
         }
     }
@@ -254,7 +255,7 @@ impl<'m, 'c> Flow<'m, 'c> {
     fn assume(&mut self, follow: &mut Follow, offset: u32) {
         if let Some(row) = row_at(&self.rows, self.code.address(offset)) {
             self.region += 1;
-            let state = assumed(self.module.machine, &self.rows[row], self.fde, offset);
+            let state = assumed_state(self.module.machine, &self.rows[row], self.fde, offset);
             self.follow(follow, offset, &state);
         }
     }
@@ -380,7 +381,7 @@ impl<'m, 'c> Flow<'m, 'c> {
 
     /// What a row that is judged says wrongly of a state. Empty if the row isn't judged.
     pub fn disagreement(&self, row: &Row<'_>, state: &State, address: u64) -> Verdict {
-        match unjudged(self.module.machine, row) {
+        match why_unjudged(self.module.machine, row) {
             Some(_) => Verdict::default(),
             None => self.verdict(row, state, address),
         }

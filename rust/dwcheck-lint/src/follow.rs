@@ -93,7 +93,9 @@ impl<'m> Visitor<'m> for Follow {
     fn exit(&mut self, flow: &mut Flow<'m, '_>, _: u32, exit: Exit, state: &State) {
         match exit {
             Exit::To(_) => self.tally.is_open |= self.verdicts.is_judged(),
-            Exit::Return | Exit::Unknown if is_at_return_address(flow, state) => self.tally.lost.add(lost(flow, state)),
+            Exit::Return | Exit::Unknown if is_at_return_address(flow, state) => {
+                self.tally.lost.add(lost_registers(flow, state))
+            }
             Exit::Return => self.tally.odd_returns += odd_return(flow, state),
             Exit::Unknown => self.tally.unknown_jumps += u32::from(self.verdicts.is_judged()),
         }
@@ -112,7 +114,7 @@ pub fn odd_return(flow: &Flow<'_, '_>, state: &State) -> u32 {
 }
 
 /// The registers that hold something else where the function ends.
-pub fn lost(flow: &Flow<'_, '_>, state: &State) -> Facts {
+pub fn lost_registers(flow: &Flow<'_, '_>, state: &State) -> Facts {
     let mut lost = Facts::NONE;
     for (index, register) in flow.module.machine.callee_saved.iter().enumerate() {
         let value = state.get(*register);

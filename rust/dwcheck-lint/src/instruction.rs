@@ -1,4 +1,5 @@
-//! What an instruction does to what the lint follows, whatever the processor.
+//! What an instruction does to what the lint follows, whatever the processor: its effect, what it writes, whether it
+//! ends a block.
 //!
 //! The decoder of a processor makes these. Nothing else knows any instruction by its bytes.
 

@@ -1,4 +1,4 @@
-//! Compares a row with what is known.
+//! Compares a row with a state of the code: the CFA, the return address, each register and its slot.
 
 use crate::expression::Context;
 use crate::machine::{Machine, MOST_CALLEE_SAVED};
@@ -129,7 +129,7 @@ pub enum Unjudged {
 }
 
 /// Why a row isn't judged, if it isn't.
-pub fn unjudged(machine: &Machine, row: &Row<'_>) -> Option<Unjudged> {
+pub fn why_unjudged(machine: &Machine, row: &Row<'_>) -> Option<Unjudged> {
     let mut data = machine.exception_data.iter();
     let is_above = row.rules.iter().any(|(_, rule)| matches!(rule, Rule::Offset(offset) if *offset >= 0));
     if row.rule(machine.stack_pointer).is_some() || is_above && machine.return_slot.is_none() {
@@ -165,7 +165,7 @@ impl Said {
             Cfa::Expression(_) => None,
         };
         rows.iter().filter_map(by_register).for_each(|register| said.frame.insert(register));
-        said.returns_to_handler = rows.iter().any(|row| unjudged(machine, row) == Some(Unjudged::ExceptionReturn));
+        said.returns_to_handler = rows.iter().any(|row| why_unjudged(machine, row) == Some(Unjudged::ExceptionReturn));
         said
     }
 }

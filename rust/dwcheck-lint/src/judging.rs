@@ -4,14 +4,14 @@ use crate::correct_row::CorrectRow;
 use crate::coverage::Coverage;
 use crate::crossing::Crossing;
 use crate::flow::{is_entry_row, Flow};
-use crate::follow::{is_at_return_address, lost, odd_return, Tally};
+use crate::follow::{is_at_return_address, lost_registers, odd_return, Tally};
 use crate::instruction::Effect;
-use crate::judge::{unjudged, Facts, Verdict};
+use crate::judge::{why_unjudged, Facts, Verdict};
 use crate::register::Register;
 use crate::rules::is_unreachable_end;
 use crate::state::State;
 use crate::table::{row_at, Row};
-use crate::verdicts::{unknown_cfa, Judged, Verdicts};
+use crate::verdicts::{why_cfa_is_unknown, Judged, Verdicts};
 use crate::walk::{Edge, EdgeKind, Exit, Here, Visitor};
 use std::collections::HashSet;
 
@@ -81,7 +81,7 @@ impl<'m, 'x> Judging<'m, 'x> {
     pub fn run(&mut self, flow: &mut Flow<'m, '_>) {
         flow.tallies().for_each(|tally| self.add(tally));
         for leader in flow.open_leaders() {
-            flow.walk(leader, self);
+            flow.walk_block(leader, self);
         }
         // Rule "calls that can't throw": a landing pad isn't entered by calls for which its row is wrong, if
         // it is right for another one.
@@ -100,7 +100,7 @@ impl<'m, 'x> Judging<'m, 'x> {
 
     fn count(&mut self, row: &Row<'_>, verdict: &Verdict, stack_pointer: Register) {
         if verdict.unknown.has(Facts::CFA) {
-            return self.coverage.skip(unknown_cfa(row, stack_pointer));
+            return self.coverage.skip(why_cfa_is_unknown(row, stack_pointer));
         }
         self.coverage.judged += 1;
         self.coverage.partly += u32::from(!verdict.unknown.is_empty());
@@ -114,7 +114,7 @@ impl<'m, 'x> Judging<'m, 'x> {
         };
         let is_begin = fde.begin == target;
         let is_entry = is_begin && is_entry_row(flow.module, &row);
-        let is_judged = unjudged(flow.module.machine, &row).is_none();
+        let is_judged = why_unjudged(flow.module.machine, &row).is_none();
         let mut verdict = flow.disagreement(&row, state, target);
         if is_begin && !is_entry && is_judged && verdict.wrong.is_empty() {
             self.crossing.fit(target);
@@ -145,7 +145,7 @@ impl<'m, 'x> Judging<'m, 'x> {
     /// pointer is at the return address.
     fn lose_at_tail(&mut self, flow: &Flow<'_, '_>, state: &State) {
         if is_at_return_address(flow, state) {
-            self.lost.add(lost(flow, state));
+            self.lost.add(lost_registers(flow, state));
         }
     }
 
@@ -203,7 +203,7 @@ impl<'m> Visitor<'m> for Judging<'m, '_> {
         }
         let mut verdict = self.verdicts.at_edge(flow, row, &edge, state);
         let row = &flow.rows[row];
-        if verdict.wrong.is_empty() || unjudged(flow.module.machine, row).is_some() {
+        if verdict.wrong.is_empty() || why_unjudged(flow.module.machine, row).is_some() {
             if is_landing {
                 self.fitting_pads.insert(address);
             }
@@ -220,7 +220,9 @@ impl<'m> Visitor<'m> for Judging<'m, '_> {
         match exit {
             Exit::To(target) if self.verdicts.is_judged() => self.leave(flow, at, target, state),
             Exit::To(_) => {}
-            Exit::Return | Exit::Unknown if is_at_return_address(flow, state) => self.lost.add(lost(flow, state)),
+            Exit::Return | Exit::Unknown if is_at_return_address(flow, state) => {
+                self.lost.add(lost_registers(flow, state))
+            }
             Exit::Return => self.odd_returns += odd_return(flow, state),
             Exit::Unknown => self.coverage.unknown_jumps += u32::from(self.verdicts.is_judged()),
         }

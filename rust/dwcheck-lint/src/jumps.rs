@@ -29,7 +29,7 @@ pub struct Table {
 
 /// Rule "bounded tables": the number of entries of the table that a jump uses, by the comparison with
 /// a number and the conditional jump before it.
-pub fn bound(code: &Code<'_>, jump: u32) -> Option<u64> {
+pub fn jump_table_bound(code: &Code<'_>, jump: u32) -> Option<u64> {
     let (mut at, mut has_condition) = (jump, false);
     for _ in 0..FARTHEST {
         at = code.before(at)?;

@@ -1,4 +1,4 @@
-//! The kinds of defects, by their names.
+//! The kinds of defects, by their names, and how a finding's kind is found.
 
 use crate::finding::Group;
 use crate::flow::is_entry_row;
@@ -122,7 +122,9 @@ impl Kind {
     fn of_instruction(module: &Module<'_>, group: &Group<'_>) -> Kind {
         use Kind::{PopWithoutRow, PushWithoutRow, SubtractionWithoutRow};
         match Kind::of_motion(module, group) {
-            PopWithoutRow | PushWithoutRow | SubtractionWithoutRow if has_row(module, group) => Kind::WrongCfa,
+            PopWithoutRow | PushWithoutRow | SubtractionWithoutRow if has_row_of_its_own(module, group) => {
+                Kind::WrongCfa
+            }
             kind => kind,
         }
     }
@@ -133,14 +135,14 @@ impl Kind {
         let moved = |transfer: &Transfer| if transfer.place.base == pointer { transfer.added } else { 0 };
         match group.mark.before.map(|(_, effect)| effect) {
             Some(Effect::Transfer(transfer)) if moved(&transfer) > 0 => Kind::PopWithoutRow,
-            Some(Effect::Transfer(transfer)) if moved(&transfer) < 0 && is_late(module, group) => Kind::LatePush,
+            Some(Effect::Transfer(transfer)) if moved(&transfer) < 0 && is_late_row(module, group) => Kind::LatePush,
             Some(Effect::Transfer(transfer)) if moved(&transfer) < 0 => Kind::PushWithoutRow,
-            Some(effect) if effect.is_push() && is_late(module, group) => Kind::LatePush,
+            Some(effect) if effect.is_push() && is_late_row(module, group) => Kind::LatePush,
             Some(effect) if effect.is_push() => Kind::PushWithoutRow,
             Some(Effect::Pop { .. } | Effect::PopOther { .. } | Effect::PopFlags | Effect::Leave) => {
                 Kind::PopWithoutRow
             }
-            Some(Effect::Add { to, number, .. }) if to == pointer => match (number > 0, is_late(module, group)) {
+            Some(Effect::Add { to, number, .. }) if to == pointer => match (number > 0, is_late_row(module, group)) {
                 (true, _) => Kind::MovedEpilogue,
                 (false, true) => Kind::MovedPrologue,
                 (false, false) => Kind::SubtractionWithoutRow,
@@ -194,13 +196,13 @@ fn is_in_part(module: &Module<'_>, address: u64) -> bool {
 
 /// Whether the row of a group gives the CFA otherwise than that of the instruction before it, so that it follows, if
 /// wrongly.
-fn has_row(module: &Module<'_>, group: &Group<'_>) -> bool {
+fn has_row_of_its_own(module: &Module<'_>, group: &Group<'_>) -> bool {
     let before = group.mark.before.and_then(|(address, _)| module.rows.row(address));
     before.map_or(false, |row| row.cfa != group.mark.row.cfa)
 }
 
 /// Whether the row after a group is the one that would have been right in it.
-fn is_late(module: &Module<'_>, group: &Group<'_>) -> bool {
+fn is_late_row(module: &Module<'_>, group: &Group<'_>) -> bool {
     match (group.mark.row.cfa, group.mark.verdict.cfa, module.rows.row(group.end).map(|row| row.cfa)) {
         (
             Cfa::RegisterOffset { register, offset },

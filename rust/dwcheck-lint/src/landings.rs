@@ -9,7 +9,7 @@ use dwcheck_types::target::Target;
 const OMITTED: u8 = 0xff;
 
 /// Reads an offset with an encoding that has no base.
-fn offset(reader: &mut Cursor<'_>, encoding: u8) -> Option<u64> {
+fn read_encoded_offset(reader: &mut Cursor<'_>, encoding: u8) -> Option<u64> {
     match encoding & 0xf {
         0x0 | 0x4 => reader.number(8).ok(),
         0x1 => reader.uleb().ok(),
@@ -23,12 +23,12 @@ fn offset(reader: &mut Cursor<'_>, encoding: u8) -> Option<u64> {
 /// the bytes from the area's first one on. Call sites that can't be read are left out.
 pub fn landings(area: &[u8], function: u64) -> Vec<Landing> {
     let mut reader = Cursor::new(area, Target::LITTLE_64);
-    let mut found = read(&mut reader, function).unwrap_or_default();
+    let mut found = read_call_sites(&mut reader, function).unwrap_or_default();
     found.sort_by_key(|landing| landing.begin);
     found
 }
 
-fn read(reader: &mut Cursor<'_>, function: u64) -> Option<Vec<Landing>> {
+fn read_call_sites(reader: &mut Cursor<'_>, function: u64) -> Option<Vec<Landing>> {
     // Where landing pads begin: compilers leave it out, so that it is the function.
     if reader.byte().ok()? != OMITTED {
         return None;
@@ -41,7 +41,7 @@ fn read(reader: &mut Cursor<'_>, function: u64) -> Option<Vec<Landing>> {
     let after = reader.rest().len().saturating_sub(length);
     let mut found = Vec::new();
     while reader.rest().len() > after {
-        match site(reader, encoding, function) {
+        match read_call_site(reader, encoding, function) {
             Some(Some(landing)) => found.push(landing),
             Some(None) => {}
             None => break,
@@ -51,9 +51,9 @@ fn read(reader: &mut Cursor<'_>, function: u64) -> Option<Vec<Landing>> {
 }
 
 /// Reads a call site. `Some(None)` if it has no landing pad.
-fn site(reader: &mut Cursor<'_>, encoding: u8, function: u64) -> Option<Option<Landing>> {
-    let (begin, length) = (offset(reader, encoding)?, offset(reader, encoding)?);
-    let pad = offset(reader, encoding)?;
+fn read_call_site(reader: &mut Cursor<'_>, encoding: u8, function: u64) -> Option<Option<Landing>> {
+    let (begin, length) = (read_encoded_offset(reader, encoding)?, read_encoded_offset(reader, encoding)?);
+    let pad = read_encoded_offset(reader, encoding)?;
     reader.uleb().ok()?;
     let begin = function.wrapping_add(begin);
     let landing = Landing { begin, end: begin.wrapping_add(length), pad: function.wrapping_add(pad) };

@@ -7,7 +7,7 @@ use crate::register::Registers;
 use crate::state::State;
 
 /// A verdict, and what it was given on.
-struct Given {
+struct Remembered {
     row: usize,
     is_signed: bool,
     state: State,
@@ -16,7 +16,7 @@ struct Given {
 
 /// The last verdict, if there is one.
 #[derive(Default)]
-pub struct LastVerdict(Option<Given>);
+pub struct LastVerdict(Option<Remembered>);
 
 impl LastVerdict {
     /// The verdict on a row, by its index, at an address. It depends on these registers, on the slots and on
@@ -24,13 +24,14 @@ impl LastVerdict {
     pub fn verdict(&mut self, flow: &Flow<'_, '_>, row: usize, watched: Registers, at: (u64, &State)) -> Verdict {
         let (address, state) = at;
         let is_signed = flow.is_signed(address);
-        let is_same =
-            |last: &&Given| (last.row, last.is_signed) == (row, is_signed) && last.state.is_same_for(state, watched);
+        let is_same = |last: &&Remembered| {
+            (last.row, last.is_signed) == (row, is_signed) && last.state.is_same_for(state, watched)
+        };
         if let Some(last) = self.0.as_ref().filter(is_same) {
             return last.verdict;
         }
         let verdict = flow.verdict(&flow.rows[row], state, address);
-        self.0 = Some(Given { row, is_signed, state: state.clone(), verdict });
+        self.0 = Some(Remembered { row, is_signed, state: state.clone(), verdict });
         verdict
     }
 }

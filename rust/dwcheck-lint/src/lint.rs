@@ -5,7 +5,7 @@ use crate::callees::Callees;
 use crate::coverage::Coverage;
 use crate::crossing::Crossing;
 use crate::error::Error;
-use crate::finding::{findings, grouped, Finding, Group};
+use crate::finding::{findings, group_marks, Finding, Group};
 use crate::flow::{is_entry_row, Flow, Room};
 use crate::judge::Facts;
 use crate::judging::{Judging, Way};
@@ -109,7 +109,7 @@ impl<'m> Lint<'m> {
         let mut judging = Judging::new(&mut self.crossing);
         judging.run(&mut flow);
         let Judging { marks, coverage, lost, odd_returns, .. } = judging;
-        Outcome { groups: grouped(marks), lost, odd_returns, coverage, has_assumptions }
+        Outcome { groups: group_marks(marks), lost, odd_returns, coverage, has_assumptions }
     }
 
     /// The flow of the FDE that contains an address, with all that other FDEs bring.

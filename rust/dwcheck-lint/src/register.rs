@@ -1,4 +1,4 @@
-//! Registers, by numbers, and sets of them.
+//! Registers, by numbers, and sets of them: what a set contains, with or without others.
 
 use std::fmt;
 

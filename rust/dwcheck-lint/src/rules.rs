@@ -6,7 +6,7 @@
 use crate::code::Code;
 use crate::flow::{is_entry_row, Flow};
 use crate::instruction::{Effect, Target};
-use crate::judge::{unjudged, Facts};
+use crate::judge::{why_unjudged, Facts};
 use crate::module::Module;
 use crate::state::State;
 use crate::table::{Cfa, Row};
@@ -31,7 +31,7 @@ pub fn is_only_padding(code: &Code<'_>, offset: u32) -> Option<u32> {
 
 /// Rule "data in code": whether there is no code at an offset, whose instruction does this, or none that can be
 /// decoded. Functions written by hand have data between their instructions.
-pub fn is_data(code: &Code<'_>, offset: u32, effect: &Effect, state: &State) -> bool {
+pub fn is_data_in_code(code: &Code<'_>, offset: u32, effect: &Effect, state: &State) -> bool {
     matches!(effect, Effect::Invalid) || state.is_assumed && code.has_zeros(offset)
 }
 
@@ -43,7 +43,7 @@ pub fn runs_over_padding(flow: &Flow<'_, '_>, to: u32, state: &State) -> bool {
 }
 
 /// Rule "exits": whether a system call ends the program or the handler of a signal.
-pub fn is_exit(flow: &Flow<'_, '_>, state: &State) -> bool {
+pub fn is_exit_call(flow: &Flow<'_, '_>, state: &State) -> bool {
     let (register, numbers) = flow.module.machine.exits;
     matches!(state.get(register), Value::Number(number) if numbers.contains(&number))
 }
@@ -63,7 +63,7 @@ pub fn row_changes_after_call(flow: &Flow<'_, '_>, call: u32, state: &State) -> 
 
 /// Rule "rows that follow": whether the row after an instruction that moves the stack pointer by a number that isn't
 /// known has another offset from it. Then whoever wrote the row knew the number.
-pub fn row_follows(flow: &Flow<'_, '_>, at: u32) -> bool {
+pub fn row_follows_stack_pointer(flow: &Flow<'_, '_>, at: u32) -> bool {
     let offset = |at| match flow.row(flow.code.address(at))?.cfa {
         Cfa::RegisterOffset { register, offset } => {
             Some(offset).filter(|_| register == flow.module.machine.stack_pointer)
@@ -79,7 +79,7 @@ pub fn row_follows(flow: &Flow<'_, '_>, at: u32) -> bool {
 /// Rule "calls that can't throw": whether a call in a range with a landing pad has arguments on the
 /// stack that the landing pad's row doesn't know of. Compilers merge ranges over calls that can't
 /// throw.
-pub fn never_lands(flow: &Flow<'_, '_>, call: u64, pad: u64, state: &State) -> bool {
+pub fn call_never_throws(flow: &Flow<'_, '_>, call: u64, pad: u64, state: &State) -> bool {
     let elsewhere = if flow.fde.contains(pad) { None } else { flow.module.rows.row(pad) };
     let (row, landing) = match (flow.row(call), flow.row(pad).or(elsewhere.as_ref())) {
         (Some(row), Some(landing)) => (row, landing),
@@ -94,8 +94,9 @@ pub fn never_lands(flow: &Flow<'_, '_>, call: u64, pad: u64, state: &State) -> b
 pub fn is_past_table(flow: &Flow<'_, '_>, jump: u32, to: u32, state: &State) -> bool {
     let (from, address) = (flow.code.address(jump), flow.code.address(to));
     let is_wrong = |row, address| !flow.verdict(row, state, address).wrong.is_empty();
-    let is_target_wrong =
-        flow.row(address).map_or(false, |row| unjudged(flow.module.machine, row).is_none() && is_wrong(row, address));
+    let is_target_wrong = flow
+        .row(address)
+        .map_or(false, |row| why_unjudged(flow.module.machine, row).is_none() && is_wrong(row, address));
     is_target_wrong && !flow.row(from).map_or(false, |row| is_wrong(row, from))
 }
 

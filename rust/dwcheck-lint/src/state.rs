@@ -1,4 +1,4 @@
-//! What is known of the registers and the stack at a place in the code.
+//! What is known of the registers and of the stack's slots at a place in the code, and how two such states are merged.
 
 use crate::machine::MOST_FOLLOWED;
 use crate::register::{Register, Registers};

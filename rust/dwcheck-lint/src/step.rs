@@ -1,4 +1,4 @@
-//! How an instruction changes what is known.
+//! How an instruction changes what is known: it moves, adds, loads, stores, pushes or pops.
 
 use crate::instruction::{Effect, Entry, MemoryOperand, Scale, Transfer};
 use crate::machine::Machine;
@@ -42,21 +42,6 @@ impl Step<'_> {
                 let merged = self.state.get(register).merged(Value::Clobbered);
                 self.state.set(register, merged);
             }),
-            Effect::Move { to, from } => {
-                let value = self.state.get(from);
-                self.stores.note_copy(value);
-                self.state.set(to, value);
-            }
-            Effect::ToVector { from } => self.stores.note_vector(self.state.get(from)),
-            Effect::FromVector { to } => {
-                let value = self.stores.of_vector();
-                self.set_loaded(to, value);
-            }
-            Effect::MayMove { to, from } => {
-                let merged = self.state.get(to).merged(self.state.get(from));
-                self.state.set(to, merged);
-            }
-            Effect::Exchange { one, other } => self.exchange(one, other),
             Effect::Set { to, number } => self.state.set(to, Value::Number(number)),
             Effect::Add { to, from, number } => self.state.set(to, self.state.get(from).plus(number)),
             Effect::Calculate { register, operation, is_half } => match self.state.get(register) {
@@ -75,6 +60,29 @@ impl Step<'_> {
             Effect::Strip { to } if matches!(self.state.get(to), Value::SignedReturn { .. }) => {
                 self.state.set(to, self.return_address());
             }
+            Effect::Transfer(transfer) => self.transfer(&transfer),
+            _ => self.apply_move(effect),
+        }
+    }
+
+    /// The instructions that move a value as it is: between registers, or between a register and memory.
+    fn apply_move(&mut self, effect: &Effect) {
+        match *effect {
+            Effect::Move { to, from } => {
+                let value = self.state.get(from);
+                self.stores.note_copy(value);
+                self.state.set(to, value);
+            }
+            Effect::ToVector { from } => self.stores.note_vector(self.state.get(from)),
+            Effect::FromVector { to } => {
+                let value = self.stores.of_vector();
+                self.set_loaded(to, value);
+            }
+            Effect::MayMove { to, from } => {
+                let merged = self.state.get(to).merged(self.state.get(from));
+                self.state.set(to, merged);
+            }
+            Effect::Exchange { one, other } => self.exchange(one, other),
             Effect::Load { to, from } => {
                 let value = self.stores.load(self.state, from);
                 self.set_loaded(to, value);
@@ -82,7 +90,6 @@ impl Step<'_> {
             Effect::LoadEntry { to, base, offset, entry } => self.load_entry(to, base, offset, entry),
             Effect::Store { from, to } => self.store(to, self.state.get(from)),
             Effect::StoreNumber { to, bytes } => self.overwrite(to, bytes, Value::Clobbered),
-            Effect::Transfer(transfer) => self.transfer(&transfer),
             _ => self.apply_to_stack(effect),
         }
     }

@@ -1,4 +1,4 @@
-//! What a function stores, anywhere in it.
+//! What a function stores anywhere in it, and what is so known of memory.
 //!
 //! "This slot never held the value" needs to know every slot to which the function ever stores an
 //! entry value. "This slot doesn't hold the value here" needs to know whether the function stores one where

@@ -1,4 +1,4 @@
-//! Unwind tables, as the lint takes them.
+//! Unwind tables, as the lint takes them: FDEs and their rows.
 
 use crate::error::Error;
 use crate::register::Register;

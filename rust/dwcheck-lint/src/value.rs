@@ -1,4 +1,4 @@
-//! What is known of a value: the lattice of the data flow.
+//! What is known of a value: the lattice of the data flow, in which values are joined, merged, derived, masked.
 
 use crate::instruction::Entry;
 use crate::register::Register;

@@ -4,7 +4,7 @@
 use crate::coverage::Reason;
 use crate::flow::Flow;
 use crate::instruction::Effect;
-use crate::judge::{unjudged, Unjudged, Verdict};
+use crate::judge::{why_unjudged, Unjudged, Verdict};
 use crate::last_verdict::LastVerdict;
 use crate::register::{Register, Registers};
 use crate::state::{Changes, State};
@@ -109,8 +109,8 @@ impl Verdicts {
         self.current = Current { row, is_signed, ..Current::default() };
         if let Some(row) = self.current.row.map(|index| &flow.rows[index]) {
             self.current.addresses = row.begin..row.end;
-            self.current.unjudged = unjudged(flow.module.machine, row);
-            self.current.watched = watched(flow, row);
+            self.current.unjudged = why_unjudged(flow.module.machine, row);
+            self.current.watched = watched_registers(flow, row);
         }
     }
 
@@ -122,7 +122,7 @@ impl Verdicts {
 }
 
 /// Why the CFA of a row isn't judged that isn't known.
-pub fn unknown_cfa(row: &Row<'_>, stack_pointer: Register) -> Reason {
+pub fn why_cfa_is_unknown(row: &Row<'_>, stack_pointer: Register) -> Reason {
     match row.cfa {
         Cfa::Expression(_) => Reason::Expression,
         Cfa::RegisterOffset { register, .. } if register == stack_pointer => Reason::StackPointer,
@@ -131,7 +131,7 @@ pub fn unknown_cfa(row: &Row<'_>, stack_pointer: Register) -> Reason {
 }
 
 /// The registers on which the verdict on a row depends. `None` if an expression may read any.
-fn watched(flow: &Flow<'_, '_>, row: &Row<'_>) -> Option<Registers> {
+fn watched_registers(flow: &Flow<'_, '_>, row: &Row<'_>) -> Option<Registers> {
     let machine = flow.module.machine;
     let mut watched = Registers::NONE;
     // A register with another rule than these isn't read.

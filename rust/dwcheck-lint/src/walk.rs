@@ -1,8 +1,8 @@
-//! Walks through a block, and finds the edges that lead out of it.
+//! Walks through a block, and finds the edges that lead out of it: jumps, calls, landing pads, falling through.
 
 use crate::flow::Flow;
 use crate::instruction::{Condition, Effect, Entry, Target};
-use crate::jumps::{bound, Table};
+use crate::jumps::{jump_table_bound, Table};
 use crate::register::Register;
 use crate::rules;
 use crate::state::{Changes, State};
@@ -104,7 +104,7 @@ struct Walk<'v, V> {
 
 impl<'m> Flow<'m, '_> {
     /// Walks through the block at an offset, which was reached.
-    pub fn walk<V: Visitor<'m>>(&mut self, leader: u32, visitor: &mut V) {
+    pub fn walk_block<V: Visitor<'m>>(&mut self, leader: u32, visitor: &mut V) {
         let mut state = self.room.state.take().unwrap_or_else(|| Box::new(State::unknown(false)));
         if let Some(known) = self.state_at(leader) {
             State::clone_from(&mut state, known);
@@ -116,7 +116,7 @@ impl<'m> Flow<'m, '_> {
     }
 
     /// What a call may change, if it returns.
-    fn called(&mut self, target: Target) -> Called {
+    fn effect_of_call(&mut self, target: Target) -> Called {
         match target {
             // Code of the same module may follow a convention of its own.
             Target::Code(address) if !self.is_elsewhere(address) => {
@@ -135,7 +135,7 @@ impl<'m, V: Visitor<'m>> Walk<'_, V> {
                 return self.fall(flow, before.unwrap_or(self.leader));
             }
             let effect = flow.code.effect(self.at);
-            if rules::is_data(&flow.code, self.at, effect, &self.state) {
+            if rules::is_data_in_code(&flow.code, self.at, effect, &self.state) {
                 return self.visitor.data(flow, self.at);
             }
             self.is_padding &= matches!(effect, Effect::Padding);
@@ -164,7 +164,7 @@ impl<'m, V: Visitor<'m>> Walk<'_, V> {
     fn trust_row(&mut self, flow: &Flow<'m, '_>) {
         let pointer = flow.module.machine.stack_pointer;
         let made = Value::Address { base: Base::made_at(self.at), offset: 0 };
-        if self.state.get(pointer) == made && rules::row_follows(flow, self.at) {
+        if self.state.get(pointer) == made && rules::row_follows_stack_pointer(flow, self.at) {
             self.state.set(pointer, Value::Unknown);
         }
     }
@@ -185,7 +185,7 @@ impl<'m, V: Visitor<'m>> Walk<'_, V> {
     /// Passes an instruction that may end the block. Returns whether the next one follows in it.
     fn pass(&mut self, flow: &mut Flow<'m, '_>, effect: Effect) -> bool {
         match effect {
-            Effect::System { .. } if !rules::is_exit(flow, &self.state) => {
+            Effect::System { .. } if !rules::is_exit_call(flow, &self.state) => {
                 self.compared = None;
                 self.step(flow).apply(&effect);
                 return true;
@@ -239,7 +239,7 @@ impl<'m, V: Visitor<'m>> Walk<'_, V> {
         if let Err(place) = flow.tables.binary_search(&address) {
             flow.tables.insert(place, address);
         }
-        let bound = bound(&flow.code, self.at);
+        let bound = jump_table_bound(&flow.code, self.at);
         let table = Table { address, anchor, entry, bound, limit: flow.entries_left };
         let targets = table.targets(flow.module, &flow.code, &flow.tables);
         flow.entries_left -= (targets.len() as u64).min(flow.entries_left);
@@ -302,7 +302,7 @@ impl<'m, V: Visitor<'m>> Walk<'_, V> {
     }
 
     fn call(&mut self, flow: &mut Flow<'m, '_>, target: Target) {
-        let called = flow.called(target);
+        let called = flow.effect_of_call(target);
         self.step(flow).call(called);
         let address = flow.code.address(self.at);
         if let Some(pad) = flow.fde.landing(address) {
@@ -321,7 +321,7 @@ impl<'m, V: Visitor<'m>> Walk<'_, V> {
         let before = self.state.get(pointer);
         let arguments = flow.fde.arguments_at(call) as i64;
         self.state.set(pointer, before.plus(arguments));
-        if !rules::never_lands(flow, call, pad, &self.state) {
+        if !rules::call_never_throws(flow, call, pad, &self.state) {
             self.go(flow, pad, EdgeKind::Landing);
         }
         self.state.set(pointer, before);

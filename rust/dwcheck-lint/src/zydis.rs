@@ -215,7 +215,7 @@ impl Decoded {
 }
 
 /// Makes Zydis's decoder and formatter, once.
-fn start() {
+fn start_zydis() {
     static START: Once = Once::new();
     START.call_once(|| {
         // SAFETY: the call has no arguments, and no other call is made before it has ended.
@@ -225,8 +225,8 @@ fn start() {
 }
 
 /// Decodes the instruction at the first byte. `None` if there is none.
-pub(crate) fn decoded(bytes: &[u8], address: u64) -> Option<Decoded> {
-    start();
+pub(crate) fn decode_by_zydis(bytes: &[u8], address: u64) -> Option<Decoded> {
+    start_zydis();
     let mut out = Decoded::default();
     let length = bytes.len().min(LONGEST);
     // SAFETY: the bytes are only read, `out` is a local, and the decoder has been made.
@@ -235,8 +235,8 @@ pub(crate) fn decoded(bytes: &[u8], address: u64) -> Option<Decoded> {
 }
 
 /// The text of the instruction at the first byte. `None` if there is none.
-pub(crate) fn text(bytes: &[u8], address: u64) -> Option<String> {
-    start();
+pub(crate) fn text_by_zydis(bytes: &[u8], address: u64) -> Option<String> {
+    start_zydis();
     let mut text = [0u8; 256];
     let length = bytes.len().min(LONGEST);
     // SAFETY: the bytes are only read, `text` is a local, and the formatter has been made.

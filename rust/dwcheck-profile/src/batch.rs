@@ -82,7 +82,7 @@ impl Walked {
 }
 
 /// Walks the stacks of samples, and gives each to `done`, in the order of the samples.
-pub(super) fn walk(
+pub(super) fn walk_samples(
     shared: &mut Shared,
     tree: &mut Tree,
     features: &Features,
@@ -97,14 +97,14 @@ pub(super) fn walk(
     for (jobs, walked) in jobs.chunks(CHUNK).zip(walked) {
         let nodes = walked.add_to(shared, tree);
         for (job, outcome) in jobs.iter().zip(walked.outcomes) {
-            let stack = add(shared, tree, features, job, outcome, &nodes);
+            let stack = add_stack(shared, tree, features, job, outcome, &nodes);
             done(job, stack);
         }
     }
 }
 
 /// Adds a stack to the tree. One that lacks something is walked again; it may lack something else then.
-fn add(
+fn add_stack(
     shared: &mut Shared,
     tree: &mut Tree,
     features: &Features,

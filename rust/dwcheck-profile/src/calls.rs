@@ -81,7 +81,7 @@ impl Calls {
         let mut nodes: FxHashMap<Call, u32> = FxHashMap::default();
         for node in profile.tree.nodes() {
             let mut caller = calls.of_stack.get(node.caller as usize).copied().unwrap_or(0);
-            for called in of_frame(profile, names, node.frame) {
+            for called in functions_of_frame(profile, names, node.frame) {
                 let next = calls.functions.len() as u32;
                 let function = *functions.entry(called).or_insert(next);
                 if function == next {
@@ -140,7 +140,7 @@ impl Calls {
 }
 
 /// The functions of a frame, the outermost first.
-fn of_frame<'n>(profile: &Profile, names: &'n Names, frame: u32) -> impl Iterator<Item = Called> + 'n {
+fn functions_of_frame<'n>(profile: &Profile, names: &'n Names, frame: u32) -> impl Iterator<Item = Called> + 'n {
     let kind = profile.frames.get(frame as usize).and_then(|frame| profile.object(frame)).map(|object| object.kind);
     names.of(frame).iter().rev().map(move |function| Called {
         name: function.name,

@@ -1,6 +1,6 @@
 //! Reads the records of a recording, and walks the stack of each sample.
 
-use super::batch::{walk, Job};
+use super::batch::{walk_samples, Job};
 use super::objects::Objects;
 use super::recording::{About, Batch, Mapped, Record, Recording, Sample as Recorded};
 use super::space::{Mapping, NameId, Processes};
@@ -114,7 +114,7 @@ impl<'o> Collector<'o> {
     /// Walks the stacks of samples, and drops these.
     fn walk(&mut self, jobs: &mut Vec<Job<'_>>, about: &About) {
         let (samples, counts) = (&mut self.samples, &mut self.counts);
-        walk(&mut self.shared, &mut self.tree, &about.features, jobs, |job, stack| {
+        walk_samples(&mut self.shared, &mut self.tree, &about.features, jobs, |job, stack| {
             *counts.ends.entry(stack.end).or_default() += 1;
             counts.frames += stack.frames;
             counts.by_frame_pointer += stack.by_frame_pointer;

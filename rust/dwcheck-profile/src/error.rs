@@ -1,4 +1,4 @@
-//! Why a file or a part of its unwind tables isn't used.
+//! Why a file or a part of its unwind tables isn't used for a profile.
 
 use std::{error, fmt, io};
 

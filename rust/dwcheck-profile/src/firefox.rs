@@ -6,7 +6,7 @@ use super::frame_names::Names;
 use super::recording::BuildId;
 use super::tree::Tree;
 use super::{Profile, Sample};
-use dwcheck_elf::internal::page::separated;
+use dwcheck_elf::internal::page::write_separated;
 use rustc_hash::FxHashMap;
 use serde_json::{json, Value};
 use std::collections::{BTreeMap, HashMap};
@@ -24,22 +24,28 @@ const LIBRARY: u32 = 1;
 /// # Errors
 ///
 /// Those of `out`.
-pub fn write(profile: &Profile, names: &Names, event: usize, title: &str, out: &mut impl Write) -> io::Result<()> {
+pub fn write_firefox(
+    profile: &Profile,
+    names: &Names,
+    event: usize,
+    title: &str,
+    out: &mut impl Write,
+) -> io::Result<()> {
     let calls = Calls::of(profile, names);
     let libraries = Libraries::of(profile, names, &calls);
     let mut threads: BTreeMap<(u32, u32), Vec<&Sample>> = BTreeMap::new();
     profile.samples_of(event).for_each(|sample| threads.entry((sample.pid, sample.tid)).or_default().push(sample));
     let first = profile.samples_of(event).map(|sample| sample.time).min().unwrap_or(0);
-    write!(out, "{{\"meta\":{},\"libs\":[", meta(title, profile.event_name(event)))?;
-    separated(out, libraries.all.iter(), |library, out| write!(out, "{}", library))?;
+    write!(out, "{{\"meta\":{},\"libs\":[", firefox_meta(title, profile.event_name(event)))?;
+    write_separated(out, libraries.all.iter(), |library, out| write!(out, "{}", library))?;
     out.write_all(b"],\"pages\":[],\"profilerOverhead\":[],\"counters\":[],\"threads\":[")?;
     let whole = Whole { profile, names, calls: &calls, libraries: &libraries, event, first };
-    separated(out, threads.values(), |samples, out| Thread::of(&whole, samples).write(out))?;
+    write_separated(out, threads.values(), |samples, out| Thread::of(&whole, samples).write(out))?;
     out.write_all(b"]}\n")
 }
 
 /// What the profile says of itself. The first category is what the profiler takes for a frame without one.
-fn meta(title: &str, event: &str) -> Value {
+fn firefox_meta(title: &str, event: &str) -> Value {
     let category = |name: &str, color: &str| json!({"name": name, "color": color, "subcategories": ["Other"]});
     json!({
         "categories": [
@@ -68,8 +74,8 @@ fn meta(title: &str, event: &str) -> Value {
     })
 }
 
-/// The category of a function, by its index in [`meta`].
-fn category(code: Code) -> u32 {
+/// The category of a function, by its index in [`firefox_meta`].
+fn firefox_category(code: Code) -> u32 {
     match code {
         Code::File => 1,
         Code::Inlined => 2,
@@ -95,7 +101,11 @@ impl Libraries {
             if *libraries.ids.entry(called.object).or_insert(next) == next {
                 let path = names.text(called.object);
                 let architecture = profile.features.architecture.as_deref().unwrap_or("");
-                libraries.all.push(library(path, architecture, build_ids.get(path).map_or(&[], |id| id.bytes())));
+                libraries.all.push(firefox_library(
+                    path,
+                    architecture,
+                    build_ids.get(path).map_or(&[], |id| id.bytes()),
+                ));
             }
         }
         libraries
@@ -103,7 +113,7 @@ impl Libraries {
 }
 
 /// A library. Its code's id is the build id; the other id has the same bytes as a GUID, and 0 as its age.
-fn library(path: &str, architecture: &str, build_id: &[u8]) -> Value {
+fn firefox_library(path: &str, architecture: &str, build_id: &[u8]) -> Value {
     let hex = |bytes: &[u8]| bytes.iter().map(|byte| format!("{:02x}", byte)).collect::<String>();
     let name = path.rsplit('/').next().unwrap_or(path);
     let mut guid = build_id.to_vec();
@@ -280,7 +290,7 @@ impl<'p> Thread<'p> {
         let is_time = self.whole.profile.is_in_nanoseconds(self.whole.event);
         let weight = |sample: &&Sample| if is_time { sample.weight as f64 / 1e6 } else { sample.weight as f64 };
         let mut table = Table::begin("samples", self.samples.len(), out)?;
-        table.column("stack", self.stack_of.iter().map(|stack| or_null(*stack)))?;
+        table.column("stack", self.stack_of.iter().map(|stack| number_or_null(*stack)))?;
         table.column("time", self.samples.iter().map(|sample| self.milliseconds(sample)))?;
         table.column("weight", self.samples.iter().map(weight))?;
         write!(table.out, ",\"weightType\":\"{}\"", if is_time { "tracing-ms" } else { "samples" })?;
@@ -288,9 +298,9 @@ impl<'p> Thread<'p> {
     }
 
     fn write_stacks<W: Write>(&self, out: &mut W) -> io::Result<()> {
-        let categories: Vec<u32> = self.called().map(|called| category(called.code)).collect();
+        let categories: Vec<u32> = self.called().map(|called| firefox_category(called.code)).collect();
         let mut table = Table::begin("stackTable", self.stacks.len(), out)?;
-        table.column("prefix", self.stacks.iter().map(|(caller, _)| or_null(*caller)))?;
+        table.column("prefix", self.stacks.iter().map(|(caller, _)| number_or_null(*caller)))?;
         table.column("frame", self.stacks.iter().map(|(_, frame)| *frame))?;
         table.column("category", self.stacks.iter().map(|(_, frame)| categories[*frame]))?;
         table.same("subcategory", "0")?;
@@ -303,12 +313,12 @@ impl<'p> Thread<'p> {
         let mut table = Table::begin("frameTable", self.functions.len(), out)?;
         table.same("address", "-1")?;
         table.same("inlineDepth", "0")?;
-        table.column("category", self.called().map(|called| category(called.code)))?;
+        table.column("category", self.called().map(|called| firefox_category(called.code)))?;
         table.same("subcategory", "0")?;
         table.column("func", 0..self.functions.len())?;
         let line =
             |called: &Called| called.line.and_then(|line| names.text(line).rsplit_once(':')?.1.parse::<u32>().ok());
-        table.column("line", self.called().map(|called| or_null(line(called))))?;
+        table.column("line", self.called().map(|called| number_or_null(line(called))))?;
         for column in ["nativeSymbol", "innerWindowID", "implementation", "column", "optimizations"] {
             table.same(column, "null")?;
         }
@@ -332,7 +342,7 @@ impl<'p> Thread<'p> {
         table.same("isJS", "false")?;
         table.same("relevantForJS", "false")?;
         table.column("resource", self.resource_of.iter())?;
-        table.column("fileName", files.iter().map(|file| or_null(*file)))?;
+        table.column("fileName", files.iter().map(|file| number_or_null(*file)))?;
         table.same("lineNumber", "null")?;
         table.same("columnNumber", "null")?;
         table.end()?;
@@ -350,7 +360,7 @@ impl<'p> Thread<'p> {
 }
 
 /// A number, or `null`.
-fn or_null(number: Option<impl Display>) -> String {
+fn number_or_null(number: Option<impl Display>) -> String {
     number.map_or_else(|| "null".to_string(), |number| number.to_string())
 }
 
@@ -368,7 +378,7 @@ impl<'w, W: Write> Table<'w, W> {
 
     fn column<T: Display>(&mut self, name: &str, cells: impl Iterator<Item = T>) -> io::Result<()> {
         write!(self.out, ",\"{}\":[", name)?;
-        separated(self.out, cells, |cell, out| write!(out, "{}", cell))?;
+        write_separated(self.out, cells, |cell, out| write!(out, "{}", cell))?;
         self.out.write_all(b"]")
     }
 

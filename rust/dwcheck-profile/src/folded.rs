@@ -13,7 +13,7 @@ use std::io::{self, Write};
 /// # Errors
 ///
 /// Those of `out`.
-pub fn write(profile: &Profile, names: &Names, event: usize, out: &mut impl Write) -> io::Result<()> {
+pub fn write_folded(profile: &Profile, names: &Names, event: usize, out: &mut impl Write) -> io::Result<()> {
     let calls = Calls::of(profile, names);
     let mut weights: FxHashMap<(u32, u32), u64> = FxHashMap::default();
     for sample in profile.samples_of(event) {
@@ -47,8 +47,8 @@ struct Texts {
 impl Texts {
     fn of(profile: &Profile, names: &Names, calls: &Calls) -> Texts {
         Texts {
-            comms: profile.comms.iter().map(|comm| one_line(comm)).collect(),
-            functions: calls.functions.iter().map(|called| text(names, called)).collect(),
+            comms: profile.comms.iter().map(|comm| folded_name(comm)).collect(),
+            functions: calls.functions.iter().map(|called| folded_text(names, called)).collect(),
         }
     }
 
@@ -63,12 +63,12 @@ impl Texts {
 }
 
 /// The text of a function, with a semicolon in front.
-fn text(names: &Names, called: &Called) -> String {
-    format!(";{}", one_line(&called.shown(names)))
+fn folded_text(names: &Names, called: &Called) -> String {
+    format!(";{}", folded_name(&called.shown(names)))
 }
 
 /// A name without what separates names and lines.
-fn one_line(name: &str) -> String {
+fn folded_name(name: &str) -> String {
     let shown = name.chars().filter(|c| !c.is_control());
     shown.map(|c| if c == ';' { ':' } else { c }).collect()
 }

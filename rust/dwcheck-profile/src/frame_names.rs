@@ -105,7 +105,7 @@ impl Names {
         let mut objects: Vec<_> = by_object.into_iter().collect();
         objects.sort_unstable_by_key(|(object, _)| *object);
         let read = |(object, frames): (u32, Vec<u32>)| match profile.objects.get(object as usize) {
-            Some(object) => of_object(profile, object, frames, options),
+            Some(object) => names_of_object(profile, object, frames, options),
             None => (Vec::new(), Vec::new()),
         };
         let read: Vec<_> = objects.into_par_iter().map(read).collect();
@@ -144,7 +144,7 @@ impl Names {
             let object = one.object.as_deref().unwrap_or(object);
             let name = match &one.name {
                 Some(name) => self.texts.id(name),
-                None => self.texts.id(&in_brackets(profile, frame, object)),
+                None => self.texts.id(&name_in_brackets(profile, frame, object)),
             };
             let function = Function {
                 name,
@@ -161,7 +161,7 @@ impl Names {
 }
 
 /// What stands for the name of a function that isn't known: the name of its object.
-fn in_brackets(profile: &Profile, frame: &Frame, name: &str) -> String {
+fn name_in_brackets(profile: &Profile, frame: &Frame, name: &str) -> String {
     let name = name.strip_prefix('[').and_then(|name| name.strip_suffix(']')).unwrap_or(name);
     match profile.object(frame).map(|object| object.kind) {
         Some(Kind::Memory(_)) | None => "[unknown]".to_string(),
@@ -170,7 +170,7 @@ fn in_brackets(profile: &Profile, frame: &Frame, name: &str) -> String {
 }
 
 /// The functions of frames of an object, and the problems with its files.
-fn of_object(
+fn names_of_object(
     profile: &Profile,
     object: &Object,
     frames: Vec<u32>,
@@ -178,14 +178,14 @@ fn of_object(
 ) -> (Vec<Named>, Vec<(String, String)>) {
     let address = |frame: &u32| profile.frames[*frame as usize].place.address;
     match object.kind {
-        Kind::File => of_file(profile, object, frames, options),
+        Kind::File => names_of_file(profile, object, frames, options),
         Kind::Kernel => {
             let listed = options.kernel.as_ref().and_then(|path| Kernel::of_file(path, profile.kernel_start).ok());
             let own = || Kernel::of_recording(&profile.features, &profile.search_paths, profile.kernel_start);
             let kernel = listed.unwrap_or_else(own);
             let named = frames.into_iter().filter_map(|frame| {
                 let (name, module, offset) = kernel.at(address(&frame))?;
-                Some((frame, vec![known(name.to_string(), offset, module)]))
+                Some((frame, vec![found_name(name.to_string(), offset, module)]))
             });
             (named.collect(), Vec::new())
         }
@@ -195,19 +195,19 @@ fn of_object(
             let named = frames.into_iter().filter_map(|frame| {
                 let (name, offset) = memory.at(address(&frame))?;
                 let name = name.chars().filter(|c| !c.is_control()).collect();
-                Some((frame, vec![known(name, offset, None)]))
+                Some((frame, vec![found_name(name, offset, None)]))
             });
             (named.collect(), Vec::new())
         }
     }
 }
 
-fn known(name: String, offset: u64, object: Option<&str>) -> Found {
+fn found_name(name: String, offset: u64, object: Option<&str>) -> Found {
     Found { name: Some(name), is_inlined: false, offset, line: None, object: object.map(str::to_string) }
 }
 
 /// The functions of frames of a file.
-fn of_file(
+fn names_of_file(
     profile: &Profile,
     object: &Object,
     mut frames: Vec<u32>,

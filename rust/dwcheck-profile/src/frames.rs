@@ -1,4 +1,4 @@
-//! The frames of stacks, and why stacks end.
+//! The frames of stacks, each stored once, and why stacks end.
 
 use super::objects::ObjectId;
 use super::tables::TableId;

@@ -4,7 +4,7 @@
 use super::calls::{Calls, Code};
 use super::frame_names::Names;
 use super::{Profile, Sample};
-use dwcheck_elf::internal::page::{self, separated};
+use dwcheck_elf::internal::page::{self, write_separated};
 use std::collections::HashMap;
 use std::io::{self, Write};
 
@@ -16,9 +16,9 @@ const PAGE: &str = include_str!("html/page.html");
 /// # Errors
 ///
 /// Those of `out`.
-pub fn write(profile: &Profile, names: &Names, event: usize, title: &str, out: &mut impl Write) -> io::Result<()> {
+pub fn write_html(profile: &Profile, names: &Names, event: usize, title: &str, out: &mut impl Write) -> io::Result<()> {
     let calls = Calls::of(profile, names);
-    page::write(PAGE, out, |out| Data { profile, names, calls: &calls, event, out }.write(title))
+    page::write_page(PAGE, out, |out| Data { profile, names, calls: &calls, event, out }.write(title))
 }
 
 /// What the page shows.
@@ -45,10 +45,10 @@ impl<W: Write> Data<'_, W> {
         write!(self.out, ",\"duration\":{},\"functions\":[", since.last().copied().unwrap_or(0))?;
         self.functions()?;
         self.out.write_all(b"],\"callers\":[")?;
-        separated(self.out, self.calls.nodes.iter(), |call, out| write!(out, "{}", call.caller))?;
+        write_separated(self.out, self.calls.nodes.iter(), |call, out| write!(out, "{}", call.caller))?;
         self.out.write_all(b"],\"calls\":[")?;
         // That of the first node has no meaning.
-        separated(self.out, self.calls.nodes.iter(), |call, out| write!(out, "{}", call.function as i32))?;
+        write_separated(self.out, self.calls.nodes.iter(), |call, out| write!(out, "{}", call.function as i32))?;
         self.out.write_all(b"],")?;
         self.samples(&samples, &since)
     }
@@ -61,7 +61,7 @@ impl<W: Write> Data<'_, W> {
     /// Each function: its name, its object, and what it is.
     fn functions(&mut self) -> io::Result<()> {
         let names = self.names;
-        separated(self.out, self.calls.functions.iter(), |called, out| {
+        write_separated(self.out, self.calls.functions.iter(), |called, out| {
             let code = match called.code {
                 Code::File => 0,
                 Code::Inlined => 1,
@@ -93,16 +93,16 @@ impl<W: Write> Data<'_, W> {
         serde_json::to_writer(&mut *self.out, &shown).map_err(io::Error::from)?;
         let calls = self.calls;
         self.out.write_all(b",\"samples\":{\"node\":[")?;
-        separated(self.out, samples.iter(), |sample, out| write!(out, "{}", calls.of_stack(sample.stack)))?;
+        write_separated(self.out, samples.iter(), |sample, out| write!(out, "{}", calls.of_stack(sample.stack)))?;
         self.out.write_all(b"],\"thread\":[")?;
-        separated(self.out, of_samples.iter(), |thread, out| write!(out, "{}", thread))?;
+        write_separated(self.out, of_samples.iter(), |thread, out| write!(out, "{}", thread))?;
         self.out.write_all(b"],\"time\":[")?;
         let before = std::iter::once(0).chain(since.iter().copied());
-        separated(self.out, since.iter().zip(before), |(now, before), out| {
+        write_separated(self.out, since.iter().zip(before), |(now, before), out| {
             write!(out, "{}", now.saturating_sub(before))
         })?;
         self.out.write_all(b"],\"weight\":[")?;
-        separated(self.out, samples.iter(), |sample, out| write!(out, "{}", sample.weight))?;
+        write_separated(self.out, samples.iter(), |sample, out| write!(out, "{}", sample.weight))?;
         self.out.write_all(b"]}}")
     }
 }

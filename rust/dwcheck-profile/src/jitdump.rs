@@ -34,26 +34,26 @@ const LONGEST: u64 = 1 << 16;
 pub(super) type Functions = Vec<(u64, u64, Vec<u8>)>;
 
 /// Whether a process that maps a file with this path says so that it writes such a file.
-pub(super) fn is_dump(path: &[u8]) -> bool {
+pub(super) fn is_jitdump_path(path: &[u8]) -> bool {
     let name = path.rsplit(|byte| *byte == b'/').next().unwrap_or(path);
     let pid = name.strip_prefix(b"jit-").and_then(|rest| rest.strip_suffix(b".dump"));
     pid.map_or(false, |pid| !pid.is_empty() && pid.iter().all(u8::is_ascii_digit))
 }
 
 /// The functions that a file has, as far as it can be read, of at most `most` bytes of names.
-pub(super) fn functions(path: &Path, most: usize) -> Functions {
+pub(super) fn read_jitdump(path: &Path, most: usize) -> Functions {
     let is_file = path.metadata().map_or(false, |file| file.is_file());
     match File::open(path) {
-        Ok(file) if is_file => read(BufReader::new(file), most),
+        Ok(file) if is_file => read_jitdump_records(BufReader::new(file), most),
         _ => Functions::new(),
     }
 }
 
-fn read<R: Read + Seek>(mut file: R, most: usize) -> Functions {
+fn read_jitdump_records<R: Read + Seek>(mut file: R, most: usize) -> Functions {
     let mut functions = Functions::new();
     let mut by_index: HashMap<u64, Vec<u8>> = HashMap::new();
     let mut size = 0;
-    let target = match begin(&mut file) {
+    let target = match read_jitdump_header(&mut file) {
         Ok(Some(target)) => target,
         _ => return functions,
     };
@@ -77,7 +77,7 @@ fn read<R: Read + Seek>(mut file: R, most: usize) -> Functions {
 }
 
 /// Reads the header. Returns the byte order, or `None` if it is another file.
-fn begin<R: Read + Seek>(file: &mut R) -> io::Result<Option<Target>> {
+fn read_jitdump_header<R: Read + Seek>(file: &mut R) -> io::Result<Option<Target>> {
     let mut head = [0; HEADER];
     file.read_exact(&mut head)?;
     let orders = [Order::Little, Order::Big].map(|order| Target { order, address_size: AddressSize::Eight });
@@ -99,7 +99,7 @@ enum Record {
 }
 
 /// The error for what ends too early: the process is still writing it, or a length is wrong.
-fn ended() -> io::Error {
+fn ended_too_early() -> io::Error {
     io::ErrorKind::UnexpectedEof.into()
 }
 
@@ -113,14 +113,14 @@ impl Record {
             MOVE => MOVE_BODY,
             _ => 0,
         };
-        let mut rest = size.checked_sub((RECORD_HEAD + fixed) as u64).ok_or_else(ended)?;
+        let mut rest = size.checked_sub((RECORD_HEAD + fixed) as u64).ok_or_else(ended_too_early)?;
         let mut body = [0; MOVE_BODY];
         file.read_exact(&mut body[..fixed])?;
         let word = |place: usize| target.number(&body[8 * place..8 * place + 8]);
         let record = match kind {
             // The process and the thread, where the code is in memory, its address, length and index.
             LOAD => {
-                let (name, length) = name(file, rest.saturating_sub(word(3)))?;
+                let (name, length) = read_function_name(file, rest.saturating_sub(word(3)))?;
                 rest -= length;
                 Record::Load { index: word(4), begin: word(2), size: word(3), name }
             }
@@ -134,20 +134,20 @@ impl Record {
 }
 
 /// Reads a name that has at most this many bytes with the zero at its end. Returns the number of bytes that were read too.
-fn name<R: Read>(file: &mut R, most: u64) -> io::Result<(Vec<u8>, u64)> {
+fn read_function_name<R: Read>(file: &mut R, most: u64) -> io::Result<(Vec<u8>, u64)> {
     let mut name = Vec::new();
     let read = file.take(most.min(LONGEST)).read_to_end(&mut name)? as u64;
     match name.iter().position(|byte| *byte == 0) {
         Some(end) => name.truncate(end),
         None if read == LONGEST => {}
-        None => return Err(ended()),
+        None => return Err(ended_too_early()),
     }
     Ok((name, read))
 }
 
 #[cfg(test)]
 mod tests {
-    use super::{is_dump, read};
+    use super::{is_jitdump_path, read_jitdump_records};
     use std::io::Cursor;
 
     fn dump(records: &[(u32, Vec<u8>)]) -> Vec<u8> {
@@ -174,16 +174,20 @@ mod tests {
         let moved = words(5, &[0x8000, 0x7000, 0x8000, 4, 9]);
         let bytes = dump(&[(2, vec![1; 24]), (0, load), (1, moved), (3, Vec::new())]);
         let expected = vec![(0x7000, 4, b"fib".to_vec()), (0x8000, 4, b"fib".to_vec())];
-        assert_eq!(read(Cursor::new(&bytes), 100), expected);
+        assert_eq!(read_jitdump_records(Cursor::new(&bytes), 100), expected);
         for end in 0..bytes.len() {
-            assert!(expected.starts_with(&read(Cursor::new(&bytes[..end]), 100)));
+            assert!(expected.starts_with(&read_jitdump_records(Cursor::new(&bytes[..end]), 100)));
         }
-        assert_eq!(read(Cursor::new(&bytes), 2), []);
+        assert_eq!(read_jitdump_records(Cursor::new(&bytes), 2), []);
     }
 
     #[test]
     fn the_name_of_a_mapped_file_says_that_it_is_one() {
-        assert!(is_dump(b"/tmp/jit-12.dump") && is_dump(b"jit-1.dump"));
-        assert!(!is_dump(b"/tmp/jit-.dump") && !is_dump(b"/tmp/jit-12.dump/x") && !is_dump(b"/tmp/xjit-1.dump"));
+        assert!(is_jitdump_path(b"/tmp/jit-12.dump") && is_jitdump_path(b"jit-1.dump"));
+        assert!(
+            !is_jitdump_path(b"/tmp/jit-.dump")
+                && !is_jitdump_path(b"/tmp/jit-12.dump/x")
+                && !is_jitdump_path(b"/tmp/xjit-1.dump")
+        );
     }
 }

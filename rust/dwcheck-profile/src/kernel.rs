@@ -27,7 +27,7 @@ impl Kernel {
     pub fn of_recording(features: &Features, search_paths: &SearchPaths, start: Option<u64>) -> Kernel {
         let id = features.build_id(NAME);
         let cached = id.and_then(|id| fs::read(search_paths.cached(id, "kallsyms")?).ok());
-        let own = || fs::read("/proc/kallsyms").ok().filter(|_| is_own(id, features));
+        let own = || fs::read("/proc/kallsyms").ok().filter(|_| is_running_kernel(id, features));
         Kernel::of_list(cached.or_else(own).unwrap_or_default(), start)
     }
 
@@ -47,7 +47,7 @@ impl Kernel {
         let mut at = 0;
         for end in memchr::memchr_iter(b'\n', &text).chain([text.len()]) {
             let line = text.get(at..end).unwrap_or(&[]);
-            if let Some((address, kind, name)) = entry(line) {
+            if let Some((address, kind, name)) = parse_symbol_line(line) {
                 if line.get(name..) == Some(START) {
                     listed_start = Some(address);
                 }
@@ -74,7 +74,7 @@ impl Kernel {
 }
 
 /// A line of a list: the address, the kind, and where the name begins.
-fn entry(line: &[u8]) -> Option<(u64, u8, usize)> {
+fn parse_symbol_line(line: &[u8]) -> Option<(u64, u8, usize)> {
     let (mut address, mut space) = (0u64, 0);
     loop {
         let digit = match *line.get(space)? {
@@ -91,7 +91,7 @@ fn entry(line: &[u8]) -> Option<(u64, u8, usize)> {
 }
 
 /// Whether the kernel that runs is the recorded one: by its build id, or else by its version.
-fn is_own(id: Option<&BuildId>, features: &Features) -> bool {
+fn is_running_kernel(id: Option<&BuildId>, features: &Features) -> bool {
     match id {
         Some(id) => fs::read("/sys/kernel/notes")
             .map_or(false, |notes| notes.windows(id.bytes().len().max(1)).any(|window| window == id.bytes())),

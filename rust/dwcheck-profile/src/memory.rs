@@ -21,7 +21,7 @@ impl Memory {
     /// The functions that a process has listed. Empty if it has no list. `dump` is the file that it has mapped to
     /// say that it lists them there.
     pub fn of_process(pid: u32, root: &Path, dump: Option<&Path>) -> Memory {
-        let dumped = dump.map(|path| jitdump::functions(path, MOST as usize)).unwrap_or_default();
+        let dumped = dump.map(|path| jitdump::read_jitdump(path, MOST as usize)).unwrap_or_default();
         if !dumped.is_empty() {
             return Memory::of_dump(dumped);
         }
@@ -46,7 +46,7 @@ impl Memory {
         let mut functions = Vec::new();
         let mut at = 0;
         for line in text.split(|byte| *byte == b'\n') {
-            if let Some((begin, size, name)) = entry(line) {
+            if let Some((begin, size, name)) = parse_perf_map_line(line) {
                 functions.push((begin, size, at + name));
             }
             at += line.len() + 1;
@@ -65,7 +65,7 @@ impl Memory {
 }
 
 /// A line of a list: the first address, the number of bytes, and where the name begins.
-fn entry(line: &[u8]) -> Option<(u64, u64, usize)> {
+fn parse_perf_map_line(line: &[u8]) -> Option<(u64, u64, usize)> {
     let text = String::from_utf8_lossy(line);
     let mut words = text.splitn(3, ' ');
     let mut number = || {

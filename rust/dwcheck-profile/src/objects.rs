@@ -1,11 +1,11 @@
-//! The files whose code samples pass, and other code that has an owner: the kernel, and code that a
-//! compiler made at run time.
+//! The files whose code samples pass, and other code that has an owner: the kernel, the vDSO, and code that a compiler
+//! made at run time; where each is looked for.
 
 use super::error::Error;
-use super::jitdump::is_dump;
+use super::jitdump::is_jitdump_path;
 use super::recording::{BuildId, Features, Mapped};
 use super::tables::Tables;
-use dwcheck_elf::internal::without_row::{sigpanic, SignalReturn};
+use dwcheck_elf::internal::without_row::{address_of_sigpanic, SignalReturn};
 use dwcheck_elf::internal::SectionTable;
 use dwcheck_elf::mapped::Bytes;
 use dwcheck_elf::program::{Program, Segment};
@@ -93,7 +93,8 @@ impl Loaded {
                 loaded.code = program.segments().into_iter().filter(|segment| segment.is_executable).collect();
                 let (sections, problems) = SectionTable::all(&program);
                 loaded.signals = sections.iter().flat_map(|section| section.signal_frames()).collect();
-                let sigpanic = sigpanic(&program).and_then(|begin| sections.iter().find_map(|one| one.find(begin)));
+                let sigpanic =
+                    address_of_sigpanic(&program).and_then(|begin| sections.iter().find_map(|one| one.find(begin)));
                 loaded.signals.extend(sigpanic.map(|piece| piece.range));
                 loaded.problems = problems;
                 if sections.is_empty() && loaded.problems.is_empty() {
@@ -220,7 +221,7 @@ impl Objects {
 
     /// Memory of a process that is no file's, which has this name.
     fn memory(&mut self, pid: u32, name: &[u8]) -> ObjectId {
-        let (name, kind) = match is_anonymous(name) {
+        let (name, kind) = match is_anonymous_memory(name) {
             true => (format!("/tmp/perf-{}.map", pid).into_bytes(), Kind::Memory(pid)),
             false if name.starts_with(MEMORY_FILE) => (name.to_vec(), Kind::MemoryFile(pid)),
             false => (name.to_vec(), Kind::Memory(pid)),
@@ -246,10 +247,10 @@ impl Objects {
 
     /// What a process mapped.
     pub fn mapped(&mut self, mapped: &Mapped<'_>, features: &Features) -> ObjectId {
-        if is_dump(mapped.name) {
+        if is_jitdump_path(mapped.name) {
             self.dumps.extend(self.search_paths.inside(mapped.name).map(|path| (mapped.pid, path)));
         }
-        let is_memory = is_anonymous(mapped.name) || mapped.name.starts_with(MEMORY_FILE);
+        let is_memory = is_anonymous_memory(mapped.name) || mapped.name.starts_with(MEMORY_FILE);
         let is_file = mapped.name == VDSO || self.search_paths.inside(mapped.name).is_some() && !is_memory;
         if !is_file {
             return self.memory(mapped.pid, mapped.name);
@@ -281,7 +282,7 @@ const MEMORY_FILE: &[u8] = b"/memfd:";
 
 /// Whether the name is one that the kernel gives to memory without a name of its own. perf shows such memory by the name
 /// of the file in which the process may list its code.
-fn is_anonymous(name: &[u8]) -> bool {
+fn is_anonymous_memory(name: &[u8]) -> bool {
     const NAMES: [&[u8]; 6] = [b"//", b"/dev/zero", b"/anon_hugepage", b"/SYSV", b"[heap]", b"[stack"];
     name.is_empty() || NAMES.into_iter().any(|begin| name.starts_with(begin))
 }
@@ -304,9 +305,9 @@ impl Object {
         let name = self.recorded.strip_suffix(DELETED).unwrap_or(&self.recorded);
         let cached = || {
             let path = search_paths.cached(self.build_id.as_ref()?, "elf")?;
-            content(&path).ok().filter(|bytes| self.is_same(bytes))
+            map_regular_file(&path).ok().filter(|bytes| self.is_same(bytes))
         };
-        match content(&search_paths.inside(name).unwrap_or_default()) {
+        match map_regular_file(&search_paths.inside(name).unwrap_or_default()) {
             Ok(bytes) if self.is_same(&bytes) => Loaded::of(bytes),
             other => match (cached(), other) {
                 (Some(bytes), _) => Loaded::of(bytes),
@@ -319,7 +320,7 @@ impl Object {
     /// The vDSO: that of perf's cache, or that of this program, which is the same if the kernel is.
     fn open_vdso(&self, search_paths: &SearchPaths) -> Loaded {
         let cached = self.build_id.as_ref().and_then(|id| search_paths.cached(id, "vdso"));
-        let cached = cached.and_then(|path| content(&path).ok());
+        let cached = cached.and_then(|path| map_regular_file(&path).ok());
         let bytes = cached.or_else(own_vdso).filter(|bytes| self.is_same(bytes));
         match bytes {
             Some(bytes) => Loaded::of(bytes),
@@ -339,7 +340,7 @@ impl Object {
 }
 
 /// The bytes of a regular file.
-fn content(path: &Path) -> Result<Bytes, Error> {
+fn map_regular_file(path: &Path) -> Result<Bytes, Error> {
     let metadata = path.metadata().map_err(Error::Read)?;
     if !metadata.is_file() {
         return Err(Error::NotRegular);

@@ -1,4 +1,4 @@
-//! Registers that a function has popped before it returns.
+//! Registers that a function has popped before it returns, and the slots from which it did.
 //!
 //! After `pop %rbp` or `leave`, tables of compilers still say that the register is in its slot. In the process it is,
 //! but the slot is below the stack pointer now, and perf copies only what is above. The register has the same value.
@@ -20,8 +20,8 @@ impl Slot {
 }
 
 /// The slots from which the innermost function, which is at this address as linked, has popped registers.
-pub(super) fn slots(process: &Process, address: u64, task: &Task<'_>, registers: &Registers) -> Vec<Slot> {
-    let found = process.row(address).and_then(|row| Some((cfa(&row, registers)?, row)));
+pub(super) fn popped_slots(process: &Process, address: u64, task: &Task<'_>, registers: &Registers) -> Vec<Slot> {
+    let found = process.row(address).and_then(|row| Some((cfa_by_registers(&row, registers)?, row)));
     let (cfa, row) = match found {
         Some(found) => found,
         None => return Vec::new(),
@@ -37,13 +37,13 @@ pub(super) fn slots(process: &Process, address: u64, task: &Task<'_>, registers:
         let value = registers.get(*register).filter(|_| is_below)?;
         let mut bytes = Vec::new();
         task.target.push(&mut bytes, value, size);
-        was_pushed(process, &row, *register, offset, task.abi.stack_pointer).then_some(Slot { address, bytes })
+        was_pushed_earlier(process, &row, *register, offset, task.abi.stack_pointer).then_some(Slot { address, bytes })
     };
     row.rules.iter().filter_map(slot).collect()
 }
 
 /// The CFA, if it is a register plus an offset.
-fn cfa(row: &Row, registers: &Registers) -> Option<u64> {
+fn cfa_by_registers(row: &Row, registers: &Registers) -> Option<u64> {
     match row.cfa {
         CfaRule::RegisterAndOffset { register, offset } => Some(registers.get(register)?.wrapping_add(offset as u64)),
         _ => None,
@@ -52,8 +52,8 @@ fn cfa(row: &Row, registers: &Registers) -> Option<u64> {
 
 /// Whether the slot of a register was above the stack pointer earlier in the function. If it never was, the register
 /// may be saved below the stack pointer, in the red zone, and have another value now.
-fn was_pushed(process: &Process, row: &Row, register: u16, offset: i64, stack_pointer: u16) -> bool {
-    let earlier = std::iter::successors(before(process, row), |row| before(process, row));
+fn was_pushed_earlier(process: &Process, row: &Row, register: u16, offset: i64, stack_pointer: u16) -> bool {
+    let earlier = std::iter::successors(row_before(process, row), |row| row_before(process, row));
     let is_above = |row: &Row| match row.cfa {
         CfaRule::RegisterAndOffset { register, offset: size } => {
             register == stack_pointer && size.checked_add(offset).map_or(false, |above| above >= 0)
@@ -67,6 +67,6 @@ fn was_pushed(process: &Process, row: &Row, register: u16, offset: i64, stack_po
 const MOST_ROWS: usize = 1 << 12;
 
 /// The row before another one of the same function.
-fn before(process: &Process, row: &Row) -> Option<Row> {
+fn row_before(process: &Process, row: &Row) -> Option<Row> {
     process.row(row.addresses.start.checked_sub(1)?)
 }

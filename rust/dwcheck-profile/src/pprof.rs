@@ -60,7 +60,7 @@ mod field {
 /// # Errors
 ///
 /// Those of `out`.
-pub fn write(profile: &Profile, names: &Names, out: &mut impl Write) -> io::Result<()> {
+pub fn write_pprof(profile: &Profile, names: &Names, out: &mut impl Write) -> io::Result<()> {
     let mut message = Message::default();
     let mut writer = Writer { profile, names, texts: Texts::new(), functions: HashMap::new() };
     let events = profile.sampled_events();

@@ -319,11 +319,11 @@ impl<'r> Recording<'r> {
         let bytes = body.of(files, queue.copied());
         if head.kind >= kind::ATTRIBUTE {
             // What can't be read of them is left out; the records tell for themselves.
-            let _ = describe(head, bytes, self.target, about);
+            let _ = describe_recording(head, bytes, self.target, about);
             queue.drop_last(body);
             return (head.kind == kind::FINISHED_ROUND).then_some(Pause::Round);
         }
-        let time = record::time(head, Cursor::new(bytes, self.target), &about.events);
+        let time = record::time_of_record(head, Cursor::new(bytes, self.target), &about.events);
         part.saw(time);
         queue.push(Held { time, head, body });
         queue.is_full().then_some(Pause::Full)
@@ -355,7 +355,7 @@ impl<'b> Batch<'b> {
 }
 
 /// Uses a record that is about the recording.
-fn describe(head: RecordHead, body: &[u8], target: Target, about: &mut About) -> Result<(), Damage> {
+fn describe_recording(head: RecordHead, body: &[u8], target: Target, about: &mut About) -> Result<(), Damage> {
     let About { events, features } = about;
     let mut cursor = Cursor::new(body, target);
     match head.kind {
@@ -371,7 +371,7 @@ fn describe(head: RecordHead, body: &[u8], target: Target, about: &mut About) ->
             const NAME: u64 = 2;
             let (what, id) = (cursor.number(8)?, cursor.number(8)?);
             if what == NAME {
-                events.rename(id, features::text(cursor.rest()));
+                events.rename(id, features::text_until_zero(cursor.rest()));
             }
         }
         kind::FEATURE => {

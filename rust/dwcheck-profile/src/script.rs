@@ -28,7 +28,7 @@ const GROUP: usize = 32 * CHUNK;
 /// # Errors
 ///
 /// Those of `out`.
-pub fn write(profile: &Profile, names: &Names, options: ScriptOptions, out: &mut impl Write) -> io::Result<()> {
+pub fn write_script(profile: &Profile, names: &Names, options: ScriptOptions, out: &mut impl Write) -> io::Result<()> {
     let script = Script::new(profile, names, options);
     for group in profile.samples.chunks(GROUP) {
         let texts: Vec<String> = group.par_chunks(CHUNK).map(|samples| script.text(samples)).collect();

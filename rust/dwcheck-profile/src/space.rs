@@ -1,4 +1,4 @@
-//! Processes over time: what each has mapped, and how its threads are named.
+//! Processes over time: what each has mapped, forks and exits, and how its threads are named.
 
 use super::objects::ObjectId;
 use super::recording::{Comm, Fork};

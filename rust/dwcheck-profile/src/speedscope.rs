@@ -4,7 +4,7 @@
 use super::calls::Calls;
 use super::frame_names::Names;
 use super::{Profile, Sample};
-use dwcheck_elf::internal::page::separated;
+use dwcheck_elf::internal::page::write_separated;
 use serde_json::json;
 use std::collections::BTreeMap;
 use std::io::{self, Write};
@@ -14,23 +14,31 @@ use std::io::{self, Write};
 /// # Errors
 ///
 /// Those of `out`.
-pub fn write(profile: &Profile, names: &Names, event: usize, out: &mut impl Write) -> io::Result<()> {
+pub fn write_speedscope(profile: &Profile, names: &Names, event: usize, out: &mut impl Write) -> io::Result<()> {
     let calls = Calls::of(profile, names);
     let frames = calls
         .functions
         .iter()
         .map(|called| json!({"name": names.text(called.name), "file": names.text(called.object)}));
     write!(out, "{{\"$schema\":\"https://www.speedscope.app/file-format-schema.json\",\"shared\":{{\"frames\":[")?;
-    separated(out, frames, |frame, out| serde_json::to_writer(out, &frame).map_err(io::Error::from))?;
+    write_separated(out, frames, |frame, out| serde_json::to_writer(out, &frame).map_err(io::Error::from))?;
     write!(out, "]}},\"exporter\":\"dwcheck-elf\",\"name\":{},\"profiles\":[", json!(profile.event_name(event)))?;
     let mut threads: BTreeMap<(u32, u32), Vec<&Sample>> = BTreeMap::new();
     profile.samples_of(event).for_each(|sample| threads.entry((sample.pid, sample.tid)).or_default().push(sample));
-    separated(out, threads.into_iter(), |(_, samples), out| thread(profile, &calls, event, &samples, out))?;
+    write_separated(out, threads.into_iter(), |(_, samples), out| {
+        write_speedscope_thread(profile, &calls, event, &samples, out)
+    })?;
     out.write_all(b"]}\n")
 }
 
 /// Writes the samples of a thread.
-fn thread(profile: &Profile, calls: &Calls, event: usize, samples: &[&Sample], out: &mut impl Write) -> io::Result<()> {
+fn write_speedscope_thread(
+    profile: &Profile,
+    calls: &Calls,
+    event: usize,
+    samples: &[&Sample],
+    out: &mut impl Write,
+) -> io::Result<()> {
     let (first, last) = match (samples.first(), samples.last()) {
         (Some(first), Some(last)) => (first, last),
         _ => return Ok(()),
@@ -46,12 +54,12 @@ fn thread(profile: &Profile, calls: &Calls, event: usize, samples: &[&Sample], o
         unit,
         sum
     )?;
-    separated(out, samples.iter(), |sample, out| {
+    write_separated(out, samples.iter(), |sample, out| {
         let mut functions: Vec<u32> = calls.functions_of(calls.of_stack(sample.stack)).collect();
         functions.reverse();
         serde_json::to_writer(out, &functions).map_err(io::Error::from)
     })?;
     out.write_all(b"],\"weights\":[")?;
-    separated(out, samples.iter(), |sample, out| write!(out, "{}", sample.weight))?;
+    write_separated(out, samples.iter(), |sample, out| write!(out, "{}", sample.weight))?;
     out.write_all(b"]}")
 }

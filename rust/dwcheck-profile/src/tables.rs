@@ -1,11 +1,11 @@
-//! The unwind tables of files.
+//! The unwind tables of files, one for each FDE, compiled when they are first needed.
 //!
 //! There is one table for each FDE, at the addresses as linked, wherever and however often processes mapped the
 //! file. An FDE is checked and compiled when a frame first needs it, by whichever thread walks there first.
 
 use super::error::Error;
 use dwcheck::Process;
-use dwcheck_elf::internal::{add as add_fde, SectionTable};
+use dwcheck_elf::internal::{add_fde, SectionTable};
 use dwcheck_types::target::Target;
 use once_cell::sync::OnceCell;
 
@@ -91,7 +91,7 @@ impl Section {
 
     /// Checks and compiles an FDE.
     fn compile(&self, fde: usize) -> Result<Process, Error> {
-        let one = self.table.one(fde).map_err(Error::Fde)?;
+        let one = self.table.table_of_one_fde(fde).map_err(Error::Fde)?;
         let mut process = Process::new(one.format.target);
         let addresses = self.table.addresses(fde);
         let module = one.format.module(&one.bytes, 0).range(addresses.start..=addresses.end.saturating_sub(1));

@@ -13,7 +13,7 @@ use std::io::{self, Write};
 /// # Errors
 ///
 /// Those of `out`.
-pub fn write(profile: &Profile, names: &Names, event: usize, limit: usize, out: &mut impl Write) -> io::Result<()> {
+pub fn write_top(profile: &Profile, names: &Names, event: usize, limit: usize, out: &mut impl Write) -> io::Result<()> {
     let calls = Calls::of(profile, names);
     let weights = calls.weights(profile, event);
     let all = profile.samples_of(event).fold(0u64, |sum, sample| sum.saturating_add(sample.weight));

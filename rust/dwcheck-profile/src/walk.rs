@@ -1,4 +1,4 @@
-//! Walks the stack of a sample.
+//! Walks the stack of a sample: the kernel's chain, then the task's frames by rows, by frame pointers or by guesses.
 //!
 //! Walks only read what they share, so that any number of threads may walk at once. A walk that needs something
 //! which isn't there yet says so and ends; it is done again when that was added.
@@ -159,7 +159,7 @@ impl<'w> Walker<'w> {
 
     /// The frames of the kernel.
     fn chained_kernel(&mut self, sample: &Sample<'_>) -> Result<(), Missing> {
-        let mut addresses = chain(sample, Of::Kernel);
+        let mut addresses = recorded_chain(sample, Of::Kernel);
         if addresses.is_empty() && sample.mode == Mode::Kernel {
             addresses.extend(sample.address);
         }
@@ -177,7 +177,7 @@ impl<'w> Walker<'w> {
 
     /// The frames of a task that the processor or the kernel found, where there is no copy of the stack.
     fn chained_task(&mut self, sample: &Sample<'_>, space: &Space) -> Result<End, Missing> {
-        let mut addresses = chain(sample, Of::Task);
+        let mut addresses = recorded_chain(sample, Of::Task);
         let calls: Vec<u64> = sample.calls.iter().collect();
         if !calls.is_empty() {
             // Of each call, the last one first: from where, to where, and flags.
@@ -310,7 +310,7 @@ impl<'w> Walker<'w> {
             None => return Step::End(End::NoTable),
         };
         let address = cursor.address();
-        let stepped = match stepped(process, frame.place.address, cursor, state, task) {
+        let stepped = match step_to_caller(process, frame.place.address, cursor, state, task) {
             Some(stepped) => stepped,
             None => return Step::End(End::Unreadable),
         };
@@ -382,7 +382,13 @@ const MOST_REGISTERS: u16 = 96;
 
 /// Steps from a frame that is at this address as linked. What the innermost one has popped is read as if the stack still
 /// had it.
-fn stepped(process: &Process, linked: u64, cursor: &mut Cursor, state: &State<'_>, task: &Task<'_>) -> Option<Stepped> {
+fn step_to_caller(
+    process: &Process,
+    linked: u64,
+    cursor: &mut Cursor,
+    state: &State<'_>,
+    task: &Task<'_>,
+) -> Option<Stepped> {
     let is_innermost = cursor.is_exact()
         && cursor.address() == task.program_counter
         && cursor.register(task.abi.stack_pointer) == Some(task.stack_pointer);
@@ -392,7 +398,7 @@ fn stepped(process: &Process, linked: u64, cursor: &mut Cursor, state: &State<'_
     if !is_innermost || !task.abi.callee_saved.iter().any(is_lost) {
         return stepped;
     }
-    let slots = popped::slots(process, linked, task, state.registers);
+    let slots = popped::popped_slots(process, linked, task, state.registers);
     if slots.is_empty() {
         return stepped;
     }
@@ -403,7 +409,7 @@ fn stepped(process: &Process, linked: u64, cursor: &mut Cursor, state: &State<'_
 }
 
 /// The addresses of a sample's chain that are of the kernel or of the task.
-fn chain(sample: &Sample<'_>, wanted: Of) -> Vec<u64> {
+fn recorded_chain(sample: &Sample<'_>, wanted: Of) -> Vec<u64> {
     let mut of = if sample.mode == Mode::Kernel { Of::Kernel } else { Of::Task };
     let mut found = Vec::new();
     for address in sample.chain.iter() {

@@ -32,24 +32,24 @@ pub enum Asked {
     Noted,
 }
 
-extern "C" fn note(signal: i32) {
+extern "C" fn note_alarm(signal: i32) {
     ASKED.store(signal, Ordering::Relaxed);
 }
 
-extern "C" fn ignore(_: i32) {}
+extern "C" fn ignore_signal(_: i32) {}
 
 impl Alarm {
     /// Installs the handlers, and starts the timer.
     pub fn install(asked: Asked) -> Alarm {
         ASKED.store(0, Ordering::Relaxed);
         let mut alarm = Alarm { before: Vec::new(), timer: None };
-        let terminal = if asked == Asked::Noted { note } else { ignore };
-        alarm.handle(Signal::SIGALRM, ignore);
-        alarm.handle(Signal::SIGTERM, note);
+        let terminal = if asked == Asked::Noted { note_alarm } else { ignore_signal };
+        alarm.handle(Signal::SIGALRM, ignore_signal);
+        alarm.handle(Signal::SIGTERM, note_alarm);
         for signal in [Signal::SIGINT, Signal::SIGQUIT, Signal::SIGHUP] {
             alarm.handle(signal, terminal);
         }
-        alarm.timer = timer().ok();
+        alarm.timer = alarm_timer().ok();
         alarm
     }
 
@@ -78,7 +78,7 @@ impl Drop for Alarm {
 }
 
 /// A timer that sends `SIGALRM` to this program.
-fn timer() -> Result<Timer, Errno> {
+fn alarm_timer() -> Result<Timer, Errno> {
     let event = SigEvent::new(SigevNotify::SigevSignal { signal: Signal::SIGALRM, si_value: 0 });
     let mut timer = Timer::new(ClockId::CLOCK_MONOTONIC, event)?;
     timer.set(Expiration::Interval(PERIOD.into()), TimerSetTimeFlags::empty())?;

@@ -1,4 +1,4 @@
-//! Batches: instructions that a thread runs at once, up to a breakpoint.
+//! Batches: instructions that a thread runs at once, up to a breakpoint; which may be in one, and where it ends.
 //!
 //! A batch begins where a row was right. No row of it finds anything by a register that was written since in a way
 //! that isn't followed, and none of its instructions enters the kernel. What pushes, pops and sums of the stack
@@ -72,7 +72,7 @@ impl Batch {
 
     /// Takes its traps out of the code. It still knows where they were.
     pub fn lift(&self, space: &Space) {
-        self.traps.iter().for_each(|traps| traps.lift(space));
+        self.traps.iter().for_each(|traps| traps.lift_traps(space));
     }
 
     /// Whether one of its traps is at an address.
@@ -104,21 +104,21 @@ impl Batch {
 
 impl Tracer<'_, '_> {
     /// Whether a thread that is stepped runs a batch next.
-    pub(super) fn begins_stretch(&mut self, thread: &mut Thread) -> bool {
+    pub(super) fn begins_batch(&mut self, thread: &mut Thread) -> bool {
         // A trap would stop other threads, too.
         let is_alone = Rc::strong_count(&thread.space) == 1;
         let space = Rc::clone(&thread.space);
         let mut space = space.borrow_mut();
-        thread.batch = self.batch(thread, &mut space).and_then(|mut batch| {
-            batch.traps = if is_alone { Traps::set(&space, batch.ends()) } else { None };
-            let is_set = batch.traps.is_some() || thread.hardware.set(thread.tid, batch.ends());
+        thread.batch = self.batch_at(thread, &mut space).and_then(|mut batch| {
+            batch.traps = if is_alone { Traps::set_traps(&space, batch.ends()) } else { None };
+            let is_set = batch.traps.is_some() || thread.hardware.set_hardware_breakpoints(thread.tid, batch.ends());
             is_set.then_some(batch)
         });
         thread.batch.is_some()
     }
 
     /// The batch that begins where a thread is. `None` if it isn't worth it.
-    fn batch(&mut self, thread: &Thread, space: &mut Space) -> Option<Batch> {
+    fn batch_at(&mut self, thread: &Thread, space: &mut Space) -> Option<Batch> {
         let (address, site) = (thread.program_counter(), thread.here.site);
         if !thread.is_right || space.breakpoints.at(address).is_some() {
             return None;
@@ -131,9 +131,9 @@ impl Tracer<'_, '_> {
         let mut batch = Batch { points: vec![begin], states, traps: None };
         let (mut open, mut ends) = (VecDeque::from([0]), 1);
         while let Some(index) = open.pop_front() {
-            let next = match self.crossing(thread, space, &batch, index) {
+            let next = match self.way_across(thread, space, &batch, index) {
                 Some(point) => vec![point],
-                None => self.next_points(thread, space, &mut batch, index),
+                None => self.next_points_of_batch(thread, space, &mut batch, index),
             };
             let added = next.len().saturating_sub(1);
             if next.is_empty() || ends + added > MOST_ENDS || batch.points.len() + next.len() > MOST_PLACES {
@@ -153,37 +153,43 @@ impl Tracer<'_, '_> {
 
     /// Where a call of a function that is stepped, or a return, leads: a batch ends there. `None` if that isn't known
     /// before, or if it isn't code of a file.
-    fn crossing(&mut self, thread: &Thread, space: &mut Space, batch: &Batch, index: usize) -> Option<Point> {
+    fn way_across(&mut self, thread: &Thread, space: &mut Space, batch: &Batch, index: usize) -> Option<Point> {
         let from = batch.points[index];
         let (site, state) = (self.sites.at(from.site), &batch.states[from.state]);
         let address = match site.effect {
             Effect::Call { target: Target::Code(callee) } => {
                 let callee = callee.wrapping_add(from.address.wrapping_sub(site.address));
-                Some(callee).filter(|callee| self.options.all || !self.is_done_at(space, *callee))?
+                Some(callee).filter(|callee| self.options.all || !self.is_done_from(space, *callee))?
             }
-            Effect::Return if site.length <= PLAIN_RETURN => returns_to(thread, state)?,
+            Effect::Return if site.length <= PLAIN_RETURN => predicted_return(thread, state)?,
             _ => return None,
         };
-        let site = self.here(space, address).site;
+        let site = self.instruction_at(space, address).site;
         let is_new = self.sites.at(site).file.is_some() && batch.point_at(address).is_none();
         is_new.then_some(Point { site, address, before: index, depth: from.depth + 1, is_end: true, ..from })
     }
 
     /// Where an instruction leads, if it may be in a batch.
-    fn ways(&self, thread: &Thread, batch: &Batch, point: &Point) -> Ways {
+    fn ways_of_instruction(&self, thread: &Thread, batch: &Batch, point: &Point) -> Ways {
         let site = self.sites.at(point.site);
         let next = site.address.wrapping_add(u64::from(site.length));
         match site.effect {
             Effect::Jump { target: Target::Code(target) } => [Some(target), None],
             Effect::JumpIf { target, .. } => [Some(next), Some(target)],
-            effect if !is_plain(&effect, site.length) || effect.written().contains(STACK) => [None, None],
-            _ if may_overwrite(thread, point, site, &batch.states[point.state]) => [None, None],
+            effect if !only_goes_on(&effect, site.length) || effect.written().contains(STACK) => [None, None],
+            _ if may_overwrite_saved(thread, point, site, &batch.states[point.state]) => [None, None],
             _ => [Some(next), None],
         }
     }
 
     /// The instructions to which one leads, as places of a batch. Empty if the batch can't go on there.
-    fn next_points(&mut self, thread: &Thread, space: &mut Space, batch: &mut Batch, index: usize) -> Vec<Point> {
+    fn next_points_of_batch(
+        &mut self,
+        thread: &Thread,
+        space: &mut Space,
+        batch: &mut Batch,
+        index: usize,
+    ) -> Vec<Point> {
         let from = batch.points[index];
         let site = self.sites.at(from.site);
         let (bias, fde, effect) = (from.address.wrapping_sub(site.address), site.fde, site.effect);
@@ -193,7 +199,7 @@ impl Tracer<'_, '_> {
                 batch.states.push(predicted);
                 ([Some(after), None], from.written.without(effect.written()), batch.states.len() - 1)
             }
-            None => (self.ways(thread, batch, &from), from.written.with(effect.written()), from.state),
+            None => (self.ways_of_instruction(thread, batch, &from), from.written.with(effect.written()), from.state),
         };
         let mut found = Vec::new();
         for linked in ways.into_iter().flatten() {
@@ -204,7 +210,7 @@ impl Tracer<'_, '_> {
             if !is_new || !range.map_or(false, |range| range.contains(linked)) {
                 return Vec::new();
             }
-            let site = self.here(space, address).site;
+            let site = self.instruction_at(space, address).site;
             let point = Point { site, address, before: index, depth: from.depth + 1, written, state, is_end: true };
             let is_end = !self.goes_on_at(thread, space, batch, &point);
             found.push(Point { is_end, ..point });
@@ -243,10 +249,10 @@ impl Tracer<'_, '_> {
     }
 
     /// A thread that ran a batch has stopped, and has these registers.
-    pub(super) fn arrived(&mut self, thread: &mut Thread, space: &mut Space, batch: &Batch, new: &Registers) {
+    pub(super) fn batch_arrived(&mut self, thread: &mut Thread, space: &mut Space, batch: &Batch, new: &Registers) {
         let point = match batch.point_at(new.program_counter()) {
             Some(point) => point,
-            None => return self.stepped(thread, space, new),
+            None => return self.thread_stepped(thread, space, new),
         };
         if point.depth == 0 {
             return;
@@ -254,7 +260,7 @@ impl Tracer<'_, '_> {
         // The instruction before this one was the last step.
         let last = &batch.points[point.before];
         thread.registers = batch.states[last.state].registers.at(last.address);
-        thread.here = self.here(space, last.address);
+        thread.here = self.instruction_at(space, last.address);
         let pushed = match thread.here.effect {
             Effect::Call { .. } => Some(8),
             Effect::Return => Some(8_u64.wrapping_neg()),
@@ -270,20 +276,27 @@ impl Tracer<'_, '_> {
             passed.clear();
         } else if let (Some(pushed), Some(_)) = (pushed, passed.first()) {
             let old = new.with(STACK.0.into(), new.stack_pointer().wrapping_add(pushed));
-            self.judge_before(thread, space, batch, last, &old);
+            self.judge_before_batch(thread, space, batch, last, &old);
             passed.remove(0);
             self.count_if_right(thread, &passed);
-            return self.stepped(thread, space, new);
+            return self.thread_stepped(thread, space, new);
         }
-        self.stepped(thread, space, new);
+        self.thread_stepped(thread, space, new);
         self.count_if_right(thread, &passed);
     }
 
     /// Judges the row of the call or the return that a thread has just executed, before which it had these registers.
-    fn judge_before(&mut self, thread: &mut Thread, space: &mut Space, batch: &Batch, last: &Point, old: &Registers) {
-        thread.before = self.here(space, batch.points[last.before].address);
+    fn judge_before_batch(
+        &mut self,
+        thread: &mut Thread,
+        space: &mut Space,
+        batch: &Batch,
+        last: &Point,
+        old: &Registers,
+    ) {
+        thread.before = self.instruction_at(space, batch.points[last.before].address);
         thread.registers = old.at(last.address);
-        self.judge(thread, space);
+        self.judge_row(thread, space);
     }
 
     /// Counts instructions of a batch: what was right where it began, and is right where it ended, was right between.
@@ -295,7 +308,7 @@ impl Tracer<'_, '_> {
 }
 
 /// Where the function on top returns to, if a thread is before its return when it has this.
-fn returns_to(thread: &Thread, state: &Predicted) -> Option<u64> {
+fn predicted_return(thread: &Thread, state: &Predicted) -> Option<u64> {
     let frame = thread.shadow.frames.last().filter(|frame| frame.origin != Origin::Signal)?;
     let is_there = state.registers.stack_pointer() == frame.slot;
     let return_address = state.below.as_ref()?.word(frame.slot).filter(|_| is_there);
@@ -303,9 +316,9 @@ fn returns_to(thread: &Thread, state: &Predicted) -> Option<u64> {
 }
 
 /// Whether an instruction stores where its row finds something, as far as its address is known.
-fn may_overwrite(thread: &Thread, point: &Point, site: &Site, state: &Predicted) -> bool {
+fn may_overwrite_saved(thread: &Thread, point: &Point, site: &Site, state: &Predicted) -> bool {
     let lowest = site.row.map_or(0, |judged| judged.lowest);
-    let (frame, stored) = match (thread.shadow.frames.last(), stored(&site.effect)) {
+    let (frame, stored) = match (thread.shadow.frames.last(), stored_operand(&site.effect)) {
         (Some(frame), Some(stored)) => (frame, stored),
         _ => return false,
     };
@@ -316,7 +329,7 @@ fn may_overwrite(thread: &Thread, point: &Point, site: &Site, state: &Predicted)
 }
 
 /// Whether an instruction only goes on to the next one. `int3`, which has one byte, counts as padding.
-fn is_plain(effect: &Effect, length: u8) -> bool {
+fn only_goes_on(effect: &Effect, length: u8) -> bool {
     match effect {
         Effect::Padding => length > 1,
         Effect::Nothing
@@ -346,7 +359,7 @@ fn is_plain(effect: &Effect, length: u8) -> bool {
 }
 
 /// Where an instruction stores, if that is at a register plus an offset, and how many bytes.
-fn stored(effect: &Effect) -> Option<(MemoryOperand, u64)> {
+fn stored_operand(effect: &Effect) -> Option<(MemoryOperand, u64)> {
     match effect {
         Effect::Store { to: Some(point), .. } => Some((*point, 8)),
         Effect::StoreNumber { to, bytes } => Some((*to, u64::from(*bytes))),

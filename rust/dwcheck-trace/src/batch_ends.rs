@@ -38,16 +38,16 @@ pub(super) struct Hardware {
 
 impl Traps {
     /// Sets traps at these addresses. `None` if they can't be set.
-    pub fn set(space: &Space, ends: impl Iterator<Item = u64>) -> Option<Traps> {
+    pub fn set_traps(space: &Space, ends: impl Iterator<Item = u64>) -> Option<Traps> {
         let mut ends: Vec<u64> = ends.collect();
         ends.sort_unstable();
         let mut traps = Traps::default();
         while let Some(first) = ends.first() {
             let near = ends.partition_point(|end| end - first < WIDEST);
-            match Part::set(space, &ends[..near]) {
+            match Part::set_debug_registers(space, &ends[..near]) {
                 Some(part) => traps.0.push(part),
                 None => {
-                    traps.lift(space);
+                    traps.lift_traps(space);
                     return None;
                 }
             }
@@ -57,7 +57,7 @@ impl Traps {
     }
 
     /// Takes them out.
-    pub fn lift(&self, space: &Space) {
+    pub fn lift_traps(&self, space: &Space) {
         // If the code isn't there anymore, there is nothing to take out.
         self.0.iter().for_each(|part| drop(space.write(part.begin, &part.code)));
     }
@@ -65,7 +65,7 @@ impl Traps {
 
 impl Part {
     /// Sets traps at these addresses, which ascend.
-    fn set(space: &Space, ends: &[u64]) -> Option<Part> {
+    fn set_debug_registers(space: &Space, ends: &[u64]) -> Option<Part> {
         let (begin, last) = (*ends.first()?, *ends.last()?);
         let mut code = vec![0; (last - begin + 1) as usize];
         if !space.read(begin, &mut code) {
@@ -81,7 +81,7 @@ impl Part {
 impl Hardware {
     /// Sets breakpoints at these addresses, at most [`MOST_ENDS`], for a stopped thread. Others may stay.
     /// Returns false if it can't have them.
-    pub fn set(&mut self, tid: Tid, ends: impl Iterator<Item = u64> + Clone) -> bool {
+    pub fn set_hardware_breakpoints(&mut self, tid: Tid, ends: impl Iterator<Item = u64> + Clone) -> bool {
         for end in ends.clone() {
             if self.addresses.contains(&Some(end)) {
                 continue;
@@ -100,16 +100,16 @@ impl Hardware {
         }
         let used = (0..).zip(&self.addresses).filter(|(_, address)| address.is_some());
         let wanted = used.fold(0, |bits, (index, _)| bits | 1 << (2 * index));
-        self.is_set(tid, wanted)
+        self.has_hardware_breakpoint(tid, wanted)
     }
 
     /// Takes all breakpoints out.
-    pub fn clear(&mut self, tid: Tid) {
-        self.is_set(tid, 0);
+    pub fn clear_hardware_breakpoints(&mut self, tid: Tid) {
+        self.has_hardware_breakpoint(tid, 0);
     }
 
     /// Sets which breakpoints stop the thread.
-    fn is_set(&mut self, tid: Tid, control: u64) -> bool {
+    fn has_hardware_breakpoint(&mut self, tid: Tid, control: u64) -> bool {
         if self.control != control && ptrace::set_debug_register(tid, CONTROL, control).is_ok() {
             self.control = control;
         }

@@ -80,7 +80,7 @@ impl Breakpoints {
 impl Space {
     /// Sets breakpoints in the code that has been loaded since the last time: where functions begin that
     /// were called fewer than `calls` times, and where modules are loaded.
-    pub fn plant(&mut self, files: &Files<'_, '_>, sites: &Sites, calls: u64) {
+    pub fn plant_breakpoints(&mut self, files: &Files<'_, '_>, sites: &Sites, calls: u64) {
         for code in self.code.clone() {
             let file = match code.file {
                 Some(file) if !self.breakpoints.planted.contains(&(code.range.clone(), file)) => file,
@@ -94,14 +94,14 @@ impl Space {
             let entries = module.entries.iter().map(placed).filter(is_here);
             let entries: Vec<u64> = entries.filter(|(linked, _)| is_new(*linked)).map(|(_, address)| address).collect();
             let loads: Vec<u64> = module.loads.iter().map(placed).filter(is_here).map(|(_, address)| address).collect();
-            self.set_all(&entries, |breakpoint| breakpoint.is_entry = true);
-            self.set_all(&loads, |breakpoint| breakpoint.is_load = true);
+            self.set_breakpoints(&entries, |breakpoint| breakpoint.is_entry = true);
+            self.set_breakpoints(&loads, |breakpoint| breakpoint.is_load = true);
         }
     }
 
     /// Sets breakpoints at these addresses of one part of executable memory, which ascend. All are
     /// written at once.
-    fn set_all(&mut self, addresses: &[u64], mark: impl Fn(&mut Breakpoint)) {
+    fn set_breakpoints(&mut self, addresses: &[u64], mark: impl Fn(&mut Breakpoint)) {
         let (first, last) = match (addresses.first(), addresses.last()) {
             (Some(first), Some(last)) => (*first, *last),
             _ => return,
@@ -125,26 +125,26 @@ impl Space {
     pub fn await_return(&mut self, address: u64) {
         match self.breakpoints.all.get_mut(&address).filter(|breakpoint| breakpoint.is_wanted()) {
             Some(breakpoint) => breakpoint.returns += 1,
-            None => self.set_all(&[address], |breakpoint| breakpoint.returns = 1),
+            None => self.set_breakpoints(&[address], |breakpoint| breakpoint.returns = 1),
         }
     }
 
     /// Doesn't wait there anymore.
     pub fn forget_return(&mut self, address: u64) {
-        self.change(address, |breakpoint| breakpoint.returns = breakpoint.returns.saturating_sub(1));
+        self.change_breakpoint(address, |breakpoint| breakpoint.returns = breakpoint.returns.saturating_sub(1));
     }
 
     /// Takes out the breakpoint where a function begins.
     pub fn forget_entry(&mut self, address: u64) {
-        self.change(address, |breakpoint| breakpoint.is_entry = false);
+        self.change_breakpoint(address, |breakpoint| breakpoint.is_entry = false);
     }
 
     /// Notes that a thread came to a function in another way than by a call.
-    pub fn miss(&mut self, address: u64) {
-        self.change(address, |breakpoint| breakpoint.misses = breakpoint.misses.saturating_add(1));
+    pub fn note_missed_call(&mut self, address: u64) {
+        self.change_breakpoint(address, |breakpoint| breakpoint.misses = breakpoint.misses.saturating_add(1));
     }
 
-    fn change(&mut self, address: u64, change: impl Fn(&mut Breakpoint)) {
+    fn change_breakpoint(&mut self, address: u64, change: impl Fn(&mut Breakpoint)) {
         let breakpoint = match self.breakpoints.all.get_mut(&address) {
             Some(breakpoint) => breakpoint,
             None => return,
@@ -152,16 +152,16 @@ impl Space {
         change(breakpoint);
         if !breakpoint.is_wanted() {
             let original = breakpoint.original;
-            self.put(address, original);
+            self.put_breakpoint_byte(address, original);
         }
     }
 
     /// Takes out the breakpoint at an address for a time, so that the instruction there can be executed.
     /// Returns whether there was one.
-    pub fn lift(&mut self, address: u64) -> bool {
+    pub fn lift_breakpoint(&mut self, address: u64) -> bool {
         match self.breakpoints.at(address) {
             Some(breakpoint) => {
-                self.put(address, breakpoint.original);
+                self.put_breakpoint_byte(address, breakpoint.original);
                 true
             }
             None => false,
@@ -169,51 +169,51 @@ impl Space {
     }
 
     /// Sets the breakpoint at an address again, if it is still wanted.
-    pub fn lower(&mut self, address: u64) {
+    pub fn lower_breakpoint(&mut self, address: u64) {
         if self.breakpoints.at(address).is_some() {
-            self.put(address, TRAP);
+            self.put_breakpoint_byte(address, TRAP);
         }
     }
 
     /// Writes a byte of code, unless all breakpoints are out of it. Code that isn't there anymore needs
     /// no breakpoints.
-    fn put(&self, address: u64, byte: u8) {
+    fn put_breakpoint_byte(&self, address: u64, byte: u8) {
         if self.breakpoints.out == 0 {
             let _ = self.write(address, &[byte]);
         }
     }
 
     /// Takes all breakpoints out of the code.
-    pub fn take_out(&mut self) {
+    pub fn take_out_breakpoints(&mut self) {
         if self.breakpoints.out == 0 {
-            self.put_all(|breakpoint| breakpoint.original);
+            self.put_all_breakpoints(|breakpoint| breakpoint.original);
         }
         self.breakpoints.out += 1;
     }
 
     /// Puts all breakpoints back, if there is no other reason for which they are out.
-    pub fn put_back(&mut self) {
+    pub fn put_back_breakpoints(&mut self) {
         if self.breakpoints.out == 1 {
-            self.put_all(Breakpoint::byte);
+            self.put_all_breakpoints(Breakpoint::byte);
         }
         self.breakpoints.out = self.breakpoints.out.saturating_sub(1);
     }
 
     /// Takes all breakpoints out of a copy of a process, which is let go. The copy may have some that have
     /// been forgotten meanwhile.
-    pub fn clear(&mut self) {
-        self.put_all(|breakpoint| breakpoint.original);
+    pub fn clear_breakpoints(&mut self) {
+        self.put_all_breakpoints(|breakpoint| breakpoint.original);
     }
 
     /// Begins with a copy of a process, whose threads wait for no return.
-    pub fn adopt(&mut self) {
+    pub fn adopt_breakpoints(&mut self) {
         self.breakpoints.out = 0;
         self.breakpoints.all.values_mut().for_each(|breakpoint| breakpoint.returns = 0);
-        self.put_all(Breakpoint::byte);
+        self.put_all_breakpoints(Breakpoint::byte);
     }
 
     /// Writes the byte of each breakpoint, also of those that aren't wanted anymore, all of a part of executable memory at once.
-    fn put_all(&self, byte: impl Fn(&Breakpoint) -> u8) {
+    fn put_all_breakpoints(&self, byte: impl Fn(&Breakpoint) -> u8) {
         let mut all: Vec<(u64, &Breakpoint)> = self.breakpoints.all.iter().map(|(at, found)| (*at, found)).collect();
         all.sort_by_key(|(address, _)| *address);
         for code in &self.code {

@@ -53,7 +53,7 @@ pub struct Confirmation<'a> {
 }
 
 /// What the lint finds in a module, but for registers that functions never give back.
-pub(super) fn suspects(module: &Module<'_>, functions: &Functions<'_>) -> Vec<Suspect> {
+pub(super) fn suspects_of_lint(module: &Module<'_>, functions: &Functions<'_>) -> Vec<Suspect> {
     let report = Lint::run(module).report();
     let names = |address| FunctionOffset::at(functions, address).map(|spot| spot.to_string());
     let suspect = |finding: &Finding<'_>| Suspect {
@@ -71,7 +71,7 @@ impl Tracer<'_, '_> {
         let files = self.files.all().iter().enumerate();
         let all = files.flat_map(|(index, file)| file.suspects.iter().map(move |suspect| (index, file, suspect)));
         all.map(|(index, file, suspect)| {
-            let confirmed = self.confirmed(index, suspect);
+            let confirmed = self.confirmation_of_suspect(index, suspect);
             Confirmation { path: &file.path, suspect, confirmed }
         })
         .collect()
@@ -79,7 +79,7 @@ impl Tracer<'_, '_> {
 
     /// Any instruction of the function that is wrong confirms a finding there: its first one may be on a
     /// way that the run didn't take.
-    fn confirmed(&self, file: usize, suspect: &Suspect) -> Confirmed {
+    fn confirmation_of_suspect(&self, file: usize, suspect: &Suspect) -> Confirmed {
         let fde = self.files.at(file).module.fde_at(suspect.address);
         let is_in = |site: &&Site| site.fde == fde.map(|fde| (file, fde));
         let first = self.sites.find(file, suspect.address).map(|site| self.sites.at(site));

@@ -1,6 +1,7 @@
-//! The files whose code processes run: their FDEs, rows and functions.
+//! The files whose code processes run: their FDEs, rows and functions, which of them are selected, and the sites that
+//! rows are judged at.
 
-use super::confirm::{suspects, Suspect};
+use super::confirm::{suspects_of_lint, Suspect};
 use super::registers::{CALLEE_SAVED, SAVED_COUNT};
 use super::rules::Rule;
 use super::site::{Judged, SavedAt, Site};
@@ -12,7 +13,7 @@ use dwcheck_elf::mapped::Bytes;
 use dwcheck_elf::names::FunctionOffset;
 use dwcheck_elf::program::{Program, ProgramError, Segment};
 use dwcheck_lint::flow::is_entry_row;
-use dwcheck_lint::judge::unjudged;
+use dwcheck_lint::judge::why_unjudged;
 use dwcheck_lint::machine::Machine;
 use dwcheck_lint::module::{Convention, Module};
 use dwcheck_lint::register::{Register, Registers};
@@ -65,7 +66,7 @@ struct LastRow {
 
 /// Why a file can't be read.
 #[derive(Debug)]
-pub enum FileError {
+pub enum ModuleFileError {
     /// It can't be opened.
     Unread(io::Error),
     /// It isn't an ELF file that can be read.
@@ -97,7 +98,7 @@ pub(super) struct Files<'b, 's> {
     /// The index of each file, by its path and its number. `None` if it can't be read.
     known: HashMap<(Vec<u8>, u64), Option<usize>>,
     /// Why files can't be read.
-    pub unread: Vec<(PathBuf, FileError)>,
+    pub unread: Vec<(PathBuf, ModuleFileError)>,
     selection: Selection,
 }
 
@@ -141,7 +142,7 @@ impl<'b: 's, 's> Files<'b, 's> {
         let inside = path.strip_prefix("/").unwrap_or(path);
         let root = PathBuf::from(format!("/proc/{}/root", pid)).join(inside);
         let bytes = Bytes::of_elf(Path::new(&mapped)).or_else(|_| Bytes::of_elf(&root));
-        bytes.map_err(|error| self.unread.push((path.to_path_buf(), FileError::Unread(error)))).ok()
+        bytes.map_err(|error| self.unread.push((path.to_path_buf(), ModuleFileError::Unread(error)))).ok()
     }
 
     fn add(&mut self, path: &[u8], bytes: Bytes) -> Option<usize> {
@@ -166,11 +167,11 @@ impl<'s> ModuleFile<'s> {
         bytes: &'b [u8],
         arena: &'s Arena<Sections<'b>>,
         selection: &Selection,
-    ) -> Result<Self, FileError> {
-        let program = Program::read(bytes).map_err(FileError::Program)?;
+    ) -> Result<Self, ModuleFileError> {
+        let program = Program::read(bytes).map_err(ModuleFileError::Program)?;
         let functions = program.functions();
         let sections: &'s Sections<'s> = arena.alloc(Sections::read(&program));
-        let module = sections.module(&program, &functions).map_err(FileError::Code)?;
+        let module = sections.module(&program, &functions).map_err(ModuleFileError::Code)?;
         // The stacks of Go move while functions are on them.
         let is_stepped = selection.selects(&path) && module.convention != Convention::Go;
         let load = functions.all().iter().find(|function| function.name == MODULES_CHANGED);
@@ -203,7 +204,7 @@ impl<'s> ModuleFile<'s> {
             self.entries = entries;
             return;
         }
-        self.suspects = suspects(&self.module, &self.functions);
+        self.suspects = suspects_of_lint(&self.module, &self.functions);
         let wanted = self.suspects.iter().filter_map(|suspect| self.function_of_part(suspect.fde));
         self.entries = wanted.filter(|begin| entries.contains(begin)).collect();
     }
@@ -281,7 +282,7 @@ impl<'s> ModuleFile<'s> {
         let section = section.ok_or(Rule::NoRow)?;
         let is_signal = fde.map_or(false, |fde| self.module.fdes[fde].is_signal);
         if !is_signal {
-            unjudged(self.module.machine, row).map_or(Ok(()), |reason| Err(Rule::from(reason)))?;
+            why_unjudged(self.module.machine, row).map_or(Ok(()), |reason| Err(Rule::from(reason)))?;
         }
         let keeps = self.module.convention == Convention::KeepsRegisters;
         let callee_saved = CALLEE_SAVED.map(|number| match row.rule(Register(number as u8)) {
@@ -290,14 +291,14 @@ impl<'s> ModuleFile<'s> {
             None | Some(RowRule::SameValue) => SavedAt::InPlace,
             Some(_) => SavedAt::Elsewhere,
         });
-        let reads = reads(self.module.machine, row, &callee_saved);
-        Ok(Judged { section, callee_saved, begin: row.begin, reads, lowest: lowest(row), is_signal })
+        let reads = registers_of_row(self.module.machine, row, &callee_saved);
+        Ok(Judged { section, callee_saved, begin: row.begin, reads, lowest: lowest_saved_offset(row), is_signal })
     }
 }
 
 /// The registers by which a row finds the CFA, the return address and the callee-saved registers. `None` if it has
 /// an expression for one of them.
-fn reads(machine: &Machine, row: &Row<'_>, callee_saved: &[SavedAt; SAVED_COUNT]) -> Option<Registers> {
+fn registers_of_row(machine: &Machine, row: &Row<'_>, callee_saved: &[SavedAt; SAVED_COUNT]) -> Option<Registers> {
     let mut reads = Registers::NONE;
     match row.cfa {
         Cfa::RegisterOffset { register, .. } => reads.insert(register),
@@ -317,7 +318,7 @@ fn reads(machine: &Machine, row: &Row<'_>, callee_saved: &[SavedAt; SAVED_COUNT]
 }
 
 /// The lowest offset from the CFA at which a row finds a register.
-fn lowest(row: &Row<'_>) -> i64 {
+fn lowest_saved_offset(row: &Row<'_>) -> i64 {
     let offsets = row.rules.iter().filter_map(|(_, rule)| match rule {
         RowRule::Offset(offset) => Some(*offset),
         _ => None,
@@ -333,22 +334,22 @@ impl Selection {
     }
 }
 
-impl fmt::Display for FileError {
+impl fmt::Display for ModuleFileError {
     fn fmt(&self, f: &mut fmt::Formatter<'_>) -> fmt::Result {
         match self {
-            FileError::Unread(error) => write!(f, "cannot read: {}", error),
-            FileError::Program(error) => error.fmt(f),
-            FileError::Code(error) => error.fmt(f),
+            ModuleFileError::Unread(error) => write!(f, "cannot read: {}", error),
+            ModuleFileError::Program(error) => error.fmt(f),
+            ModuleFileError::Code(error) => error.fmt(f),
         }
     }
 }
 
-impl std::error::Error for FileError {
+impl std::error::Error for ModuleFileError {
     fn source(&self) -> Option<&(dyn std::error::Error + 'static)> {
         match self {
-            FileError::Unread(error) => Some(error),
-            FileError::Program(error) => Some(error),
-            FileError::Code(error) => Some(error),
+            ModuleFileError::Unread(error) => Some(error),
+            ModuleFileError::Program(error) => Some(error),
+            ModuleFileError::Code(error) => Some(error),
         }
     }
 }

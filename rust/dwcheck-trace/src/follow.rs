@@ -27,7 +27,7 @@ pub(super) struct Left {
 
 impl Tracer<'_, '_> {
     /// The instruction at an address.
-    pub(super) fn here(&mut self, space: &mut Space, address: u64) -> Here {
+    pub(super) fn instruction_at(&mut self, space: &mut Space, address: u64) -> Here {
         let site = space.site(address, &mut self.sites, &mut self.files);
         let found = self.sites.at(site);
         let next = found.address.wrapping_add(u64::from(found.length));
@@ -35,7 +35,7 @@ impl Tracer<'_, '_> {
     }
 
     /// Notes what one instruction did, after which the thread has these registers.
-    pub(super) fn follow(&mut self, thread: &mut Thread, space: &mut Space, new: &Registers) -> Left {
+    pub(super) fn follow_instruction(&mut self, thread: &mut Thread, space: &mut Space, new: &Registers) -> Left {
         let (old, stack) = (thread.registers, new.stack_pointer());
         if std::mem::take(&mut thread.got_signal) && self.enter_handler(thread, space, new) {
             return Left::default();
@@ -43,7 +43,7 @@ impl Tracer<'_, '_> {
         let is_call = matches!(thread.here.effect, Effect::Call { .. });
         if is_call && stack == old.stack_pointer().wrapping_sub(8) {
             if let Some(return_address) = space.word(stack) {
-                self.call(thread, space, new, return_address, Origin::Call);
+                self.enter_call(thread, space, new, return_address, Origin::Call);
                 return Left::default();
             }
         }
@@ -60,15 +60,15 @@ impl Tracer<'_, '_> {
         if self.keeps_return_address(thread, space, new) {
             return Left::default();
         }
-        let left = self.leave(thread, space, new);
-        if left.count == 0 && may_switch(&thread.here.effect) {
+        let left = self.leave_frames(thread, space, new);
+        if left.count == 0 && may_switch_stacks(&thread.here.effect) {
             thread.shadow.distrust();
         }
         left
     }
 
     /// Adds the frame of a function that was just called.
-    pub(super) fn call(
+    pub(super) fn enter_call(
         &mut self,
         thread: &mut Thread,
         space: &mut Space,
@@ -76,7 +76,7 @@ impl Tracer<'_, '_> {
         return_address: u64,
         origin: Origin,
     ) {
-        let entered = self.here(space, new.program_counter()).fde;
+        let entered = self.instruction_at(space, new.program_counter()).fde;
         if !thread.shadow.is_on(new.stack_pointer()) {
             thread.shadow.switch(space.stack_at(new.stack_pointer(), &mut self.files));
         }
@@ -102,7 +102,7 @@ impl Tracer<'_, '_> {
             thread.shadow.switch(space.stack_at(stack, &mut self.files));
         }
         thread.shadow.frames.push(Frame::interrupted(&old, stack));
-        self.call(thread, space, new, return_address, Origin::Call);
+        self.enter_call(thread, space, new, return_address, Origin::Call);
         self.counts.signals += 1;
         true
     }
@@ -117,7 +117,7 @@ impl Tracer<'_, '_> {
         if matches!(thread.here.effect, Effect::Return) || new.stack_pointer() != frame.cfa {
             return false;
         }
-        let site = self.here(space, new.program_counter());
+        let site = self.instruction_at(space, new.program_counter());
         let file = match self.sites.at(site.site).file {
             Some(file) => self.files.at(file),
             None => return false,
@@ -128,7 +128,7 @@ impl Tracer<'_, '_> {
     }
 
     /// Takes off the frames that the stack pointer has left.
-    pub(super) fn leave(&mut self, thread: &mut Thread, space: &mut Space, new: &Registers) -> Left {
+    pub(super) fn leave_frames(&mut self, thread: &mut Thread, space: &mut Space, new: &Registers) -> Left {
         let mut left = Left::default();
         let mut last = None;
         while let Some(frame) = thread.shadow.pop_left(new.stack_pointer()) {
@@ -140,18 +140,18 @@ impl Tracer<'_, '_> {
             last = Some(frame);
         }
         if let Some(frame) = last {
-            self.left(thread, &frame, left.count, new);
+            self.frames_left(thread, &frame, left.count, new);
         }
         left
     }
 
     /// After frames were left, of which this is the outermost one: unless it returned as functions do, the
     /// frame that is on top now may not be the one that goes on.
-    fn left(&mut self, thread: &mut Thread, frame: &Frame, count: usize, new: &Registers) {
+    fn frames_left(&mut self, thread: &mut Thread, frame: &Frame, count: usize, new: &Registers) {
         let is_return =
             matches!(thread.here.effect, Effect::Return) && count == 1 && frame.slot == thread.stack_pointer();
         if is_return && new.program_counter() == frame.return_address {
-            self.returned(thread, frame, new);
+            self.note_returned(thread, frame, new);
             return;
         }
         let is_signal_return = frame.origin == Origin::Signal && matches!(thread.here.effect, Effect::System { .. });
@@ -162,7 +162,7 @@ impl Tracer<'_, '_> {
     }
 
     /// Notes the registers that a function didn't give back.
-    fn returned(&mut self, thread: &Thread, frame: &Frame, new: &Registers) {
+    fn note_returned(&mut self, thread: &Thread, frame: &Frame, new: &Registers) {
         let lost: Vec<usize> = new
             .callee_saved()
             .iter()
@@ -181,7 +181,7 @@ impl Tracer<'_, '_> {
     }
 
     /// Whether what is known of the frame on top is true where the thread is. If not, it is counted.
-    pub(super) fn trusts_top(&mut self, thread: &mut Thread) -> bool {
+    pub(super) fn trusts_top_frame(&mut self, thread: &mut Thread) -> bool {
         let fde = thread.here.fde;
         let frame = match thread.shadow.frames.last_mut() {
             Some(frame) => frame,
@@ -204,7 +204,7 @@ impl Tracer<'_, '_> {
 
 /// Whether an instruction that changes the stack pointer, but leaves no frame, may have gone to another stack
 /// in the same memory: it sets the stack pointer to something else than a sum, or returns from no frame.
-fn may_switch(effect: &Effect) -> bool {
+fn may_switch_stacks(effect: &Effect) -> bool {
     let is_stack = |register: &Register| *register == X86_64.stack_pointer;
     match effect {
         Effect::Return => true,

@@ -20,7 +20,7 @@ const LOST: u8 = 3;
 /// # Errors
 ///
 /// If no process can be made.
-pub fn guarded(run: impl FnOnce() -> u8) -> Result<u8, Errno> {
+pub fn run_guarded(run: impl FnOnce() -> u8) -> Result<u8, Errno> {
     let own = getpid();
     // SAFETY: this program has one thread when it begins to trace.
     match unsafe { fork() }? {
@@ -30,12 +30,12 @@ pub fn guarded(run: impl FnOnce() -> u8) -> Result<u8, Errno> {
             let is_orphan = getppid() != own;
             exit(i32::from(if is_orphan { LOST } else { run() }))
         }
-        ForkResult::Parent { child } => Ok(wait(child)),
+        ForkResult::Parent { child } => Ok(wait_for_child(child)),
     }
 }
 
 /// Waits for the other process, which gets the signals of the terminal, too, and decides.
-fn wait(child: Pid) -> u8 {
+fn wait_for_child(child: Pid) -> u8 {
     for terminal in [Signal::SIGINT, Signal::SIGQUIT, Signal::SIGHUP] {
         // SAFETY: no handler is installed.
         let _ = unsafe { signal(terminal, SigHandler::SigIgn) };

@@ -1,4 +1,4 @@
-//! Compares a row with what is true of a frame.
+//! Compares a row with what is true of a frame, by unwinding it: the verdict, and memory below the CFA.
 
 use super::registers::{Registers, CALLEE_SAVED, COUNT, SAVED_COUNT};
 use super::rules::Rule;
@@ -135,11 +135,11 @@ impl Caller {
 
 impl Tracer<'_, '_> {
     /// Judges the row of the instruction before which a thread is.
-    pub(super) fn judge(&mut self, thread: &mut Thread, space: &mut Space) {
+    pub(super) fn judge_row(&mut self, thread: &mut Thread, space: &mut Space) {
         self.counts.steps += 1;
         self.sites.at_mut(thread.here.site).visits += 1;
         thread.is_right = false;
-        if !self.trusts_top(thread) {
+        if !self.trusts_top_frame(thread) {
             return;
         }
         let frame = match thread.shadow.frames.last() {
@@ -209,7 +209,7 @@ impl Tracer<'_, '_> {
         let quick = below.map(|below| self.verdict_by(site, judged, registers, frame, below));
         quick.filter(|verdict| verdict.wrong.is_empty()).unwrap_or_else(|| {
             let unwound = self.unwind_in(site, judged, registers, space);
-            verdict(judged, &unwound, frame)
+            verdict_on_unwound(judged, &unwound, frame)
         })
     }
 
@@ -225,7 +225,7 @@ impl Tracer<'_, '_> {
         let unwound = self.unwind(site, judged, registers, |process, address, known| {
             Unwound::by(process, address, known, below.block())
         });
-        verdict(judged, &unwound, frame)
+        verdict_on_unwound(judged, &unwound, frame)
     }
 
     /// What `dwcheck` computes by the row of an instruction, whose frame has these registers.
@@ -251,7 +251,7 @@ impl Tracer<'_, '_> {
     fn note_wrong(&mut self, thread: &Thread, space: &mut Space, verdict: Verdict) {
         let count = self.sites.at(thread.here.site).wrong.as_ref().map_or(0, |wrong| wrong.count);
         let breaks_walk = verdict.wrong.has_frame() || count < MOST_WALKS && self.is_walk_broken(thread, space);
-        let locations = if count < MOST_LOOKS { locations(thread, space, verdict) } else { None };
+        let locations = if count < MOST_LOOKS { true_locations(thread, space, verdict) } else { None };
         let before = Some((thread.before.address, thread.before.effect))
             .filter(|_| thread.mode == Mode::Stepping && thread.before.next == thread.here.address);
         let wrong = &mut self.sites.at_mut(thread.here.site).wrong;
@@ -271,7 +271,7 @@ impl Tracer<'_, '_> {
         let mut is_after_call = false;
         for frame in thread.shadow.frames.iter().rev() {
             let address = registers.program_counter().wrapping_sub(u64::from(is_after_call));
-            let site = self.here(space, address).site;
+            let site = self.instruction_at(space, address).site;
             let judged = match self.sites.at(site).row {
                 Ok(judged) if !frame.is_distrusted => judged,
                 _ => return false,
@@ -295,7 +295,7 @@ impl Tracer<'_, '_> {
 
 /// Compares what was computed with what is true. Registers are compared only where the CFA is right, because
 /// their rules build on it.
-fn verdict(judged: Judged, unwound: &Unwound, frame: &Frame) -> Verdict {
+fn verdict_on_unwound(judged: Judged, unwound: &Unwound, frame: &Frame) -> Verdict {
     let mut verdict = Verdict::default();
     if unwound.cfa != Some(frame.cfa) {
         verdict.wrong.add(Facts::CFA);
@@ -329,7 +329,7 @@ fn verdict(judged: Judged, unwound: &Unwound, frame: &Frame) -> Verdict {
 }
 
 /// Where things are, of which some are wrong.
-fn locations(thread: &Thread, space: &Space, verdict: Verdict) -> Option<Locations> {
+fn true_locations(thread: &Thread, space: &Space, verdict: Verdict) -> Option<Locations> {
     let frame = thread.shadow.frames.last()?;
     let mut distances = [None; 16];
     let all = distances.iter_mut().zip(thread.registers.iter());

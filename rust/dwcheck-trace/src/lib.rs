@@ -44,8 +44,8 @@ mod tracer;
 mod windows;
 
 pub use confirm::{Confirmation, Confirmed, Suspect};
-pub use files::{FileError, ModuleFile};
-pub use guard::guarded;
+pub use files::{ModuleFile, ModuleFileError};
+pub use guard::run_guarded;
 pub use rules::{Rule, RuleCounts};
 pub use trace_findings::{Counts, Coverage, FdeCoverage, FileReport, Found};
 pub use tracer::Tracer;

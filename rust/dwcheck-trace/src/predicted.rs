@@ -1,5 +1,5 @@
-//! What the instructions of a batch make of the registers and the stack: it follows from what a thread has where
-//! the batch begins.
+//! Predicts what the instructions of a batch make of the registers and the stack: it follows from what a thread has
+//! where the batch begins.
 
 use super::judge::Below;
 use super::registers::Registers;

@@ -1,4 +1,4 @@
-//! Requests of ptrace, and what traced threads report.
+//! Requests of ptrace: seize, interrupt, step, run, registers, words; and waiting for what traced threads report.
 //!
 //! nix has no real-time signals, so whatever names a signal calls the C library itself.
 //!
@@ -63,7 +63,7 @@ pub enum Creation {
 }
 
 /// What is wanted of each traced thread.
-pub fn options(kills: bool) -> ptrace::Options {
+pub fn trace_options(kills: bool) -> ptrace::Options {
     use ptrace::Options;
     let wanted = Options::PTRACE_O_TRACECLONE
         | Options::PTRACE_O_TRACEFORK
@@ -89,22 +89,22 @@ pub fn interrupt(tid: Tid) {
 
 /// Lets a thread run one instruction. It gets the signal, if that isn't 0.
 pub fn step(tid: Tid, signal: i32) {
-    request(libc::PTRACE_SINGLESTEP, tid, signal);
+    signal_request(libc::PTRACE_SINGLESTEP, tid, signal);
 }
 
 /// Lets a thread run. It gets the signal, if that isn't 0.
 pub fn run(tid: Tid, signal: i32) {
-    request(libc::PTRACE_CONT, tid, signal);
+    signal_request(libc::PTRACE_CONT, tid, signal);
 }
 
 /// Lets a thread whose process was stopped by a signal wait for `SIGCONT`.
 pub fn listen(tid: Tid) {
-    request(libc::PTRACE_LISTEN, tid, 0);
+    signal_request(libc::PTRACE_LISTEN, tid, 0);
 }
 
 /// Ends the tracing of a stopped thread, which runs on. It gets the signal, if that isn't 0.
 pub fn detach(tid: Tid, signal: i32) {
-    request(libc::PTRACE_DETACH, tid, signal);
+    signal_request(libc::PTRACE_DETACH, tid, signal);
 }
 
 /// Sends a signal to a process.
@@ -150,7 +150,7 @@ pub fn system_call(tid: Tid) -> Result<(u64, u64, u64), Errno> {
 }
 
 /// What comes with the last event of a thread: the id of the thread that it made, for example.
-pub fn message(tid: Tid) -> Result<Tid, Errno> {
+pub fn event_message(tid: Tid) -> Result<Tid, Errno> {
     Ok(ptrace::getevent(Pid::from_raw(tid))? as Tid)
 }
 
@@ -196,10 +196,10 @@ fn wait_with(tid: Tid, flags: i32) -> Result<(Tid, Report), Errno> {
     let mut status = 0;
     // SAFETY: the kernel writes the status to a local.
     let tid = Errno::result(unsafe { libc::waitpid(tid, &mut status, flags) })?;
-    Ok((tid, report(status)))
+    Ok((tid, report_of_status(status)))
 }
 
-fn report(status: i32) -> Report {
+fn report_of_status(status: i32) -> Report {
     if libc::WIFEXITED(status) {
         return Report::Exited(libc::WEXITSTATUS(status));
     }
@@ -220,7 +220,7 @@ fn report(status: i32) -> Report {
 }
 
 /// A request of ptrace that has a signal.
-fn request(request: c_uint, tid: Tid, signal: i32) {
+fn signal_request(request: c_uint, tid: Tid, signal: i32) {
     // SAFETY: these requests take no pointers.
     unsafe { libc::ptrace(request, tid, null_mut::<libc::c_void>(), libc::c_long::from(signal)) };
 }

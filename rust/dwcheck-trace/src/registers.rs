@@ -1,4 +1,4 @@
-//! The registers of a stopped thread.
+//! The registers of a stopped thread, by DWARF number.
 
 use dwcheck_types::abi::{callee_saved, X86_64};
 use libc::user_regs_struct;

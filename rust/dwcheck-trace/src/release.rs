@@ -23,10 +23,10 @@ impl Tracer<'_, '_> {
         for thread in &mut threads {
             let mut space = thread.space.borrow_mut();
             thread.batch.take().iter().for_each(|batch| batch.lift(&space));
-            space.take_out();
+            space.take_out_breakpoints();
         }
         for thread in threads.iter_mut().filter(|thread| thread.is_stopped) {
-            thread.hardware.clear(thread.tid);
+            thread.hardware.clear_hardware_breakpoints(thread.tid);
             thread.end_steps();
             ptrace::detach(thread.tid, signals.get(&thread.tid).copied().unwrap_or(0));
         }
@@ -44,7 +44,7 @@ impl Tracer<'_, '_> {
             |tracer: &Self| !tracer.births.is_empty() || tracer.threads.values().any(|thread| !thread.is_stopped);
         while is_left(self) && begin.elapsed() < PATIENCE {
             match ptrace::poll() {
-                Ok(Some((tid, report))) => self.stopped_last(tid, report, &mut signals),
+                Ok(Some((tid, report))) => self.let_go_stopped(tid, report, &mut signals),
                 Ok(None) => std::thread::sleep(Duration::from_micros(200)),
                 Err(Errno::EINTR) => {}
                 Err(_) => break,
@@ -54,9 +54,9 @@ impl Tracer<'_, '_> {
     }
 
     /// A thread has stopped that is let go.
-    fn stopped_last(&mut self, tid: Tid, report: Report, signals: &mut HashMap<Tid, i32>) {
+    fn let_go_stopped(&mut self, tid: Tid, report: Report, signals: &mut HashMap<Tid, i32>) {
         match report {
-            Report::Exited(_) | Report::Killed(_) | Report::Exec => return self.handle(tid, report),
+            Report::Exited(_) | Report::Killed(_) | Report::Exec => return self.handle_report(tid, report),
             _ => {}
         }
         let thread = match self.threads.get_mut(&tid) {
@@ -69,14 +69,15 @@ impl Tracer<'_, '_> {
         }
         thread.is_stopped = true;
         match report {
-            Report::Signal(libc::SIGTRAP) if rewind(thread) => {}
+            Report::Signal(libc::SIGTRAP) if rewind_to_breakpoint(thread) => {}
             Report::Signal(signal) => {
                 signals.insert(tid, signal);
             }
-            Report::VforkDone => thread.space.borrow_mut().put_back(),
+            Report::VforkDone => thread.space.borrow_mut().put_back_breakpoints(),
             Report::Created(_) => {
-                let copy =
-                    ptrace::message(tid).ok().and_then(|made| Some((made, thread.space.borrow().forked(made).ok()?)));
+                let copy = ptrace::event_message(tid)
+                    .ok()
+                    .and_then(|made| Some((made, thread.space.borrow().forked(made).ok()?)));
                 if let Some((made, copy)) = copy {
                     self.births.insert(made, Birth::LetGo(copy));
                     if self.early.remove(&made) {
@@ -100,7 +101,7 @@ impl Tracer<'_, '_> {
     fn let_go_first(&mut self, tid: Tid) {
         match self.births.remove(&tid) {
             Some(Birth::LetGo(mut copy) | Birth::Copy(mut copy)) => {
-                copy.clear();
+                copy.clear_breakpoints();
                 ptrace::detach(tid, 0);
             }
             Some(Birth::Thread(_) | Birth::Borrower) => ptrace::detach(tid, 0),
@@ -112,7 +113,7 @@ impl Tracer<'_, '_> {
 }
 
 /// Sets a thread that has executed a breakpoint back to it. Returns false if the trap is the program's own.
-fn rewind(thread: &mut Thread) -> bool {
+fn rewind_to_breakpoint(thread: &mut Thread) -> bool {
     let code = ptrace::signal_code(thread.tid).unwrap_or(BY_KERNEL);
     let ends_stretch = thread.batch.is_some() && code == BY_KERNEL;
     if thread.mode != Mode::Running && code > 0 && !ends_stretch {

@@ -1,4 +1,4 @@
-//! The rules that prevent false alarms: why an instruction that was stepped isn't judged. Each has its name
+//! The rules that prevent false alarms of `trace`: why an instruction that was stepped isn't judged. Each has its name
 //! in docs/TRACE.md.
 
 use dwcheck_lint::judge::Unjudged;

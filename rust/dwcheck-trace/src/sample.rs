@@ -8,7 +8,7 @@ use super::alarm::{Alarm, Asked};
 use super::ptrace::{self, Report, Tid};
 use super::space::Space;
 use super::thread::{Mode, Thread};
-use super::tracer::{refusal, Tracer};
+use super::tracer::{why_not_traced, Tracer};
 use super::{End, TraceError};
 use dwcheck_elf::internal::Process;
 use dwcheck_elf::live::LiveError;
@@ -31,7 +31,7 @@ const PATIENCE: Duration = Duration::from_secs(1);
 impl Tracer<'_, '_> {
     /// Steps the threads of a process in turn, until it ends, the time is over, or this program is asked
     /// to end. Only threads that run are stopped: one that waits in the kernel could see that it was.
-    pub fn sample(&mut self, pid: u32) -> Result<End, TraceError> {
+    pub fn sample_process(&mut self, pid: u32) -> Result<End, TraceError> {
         let failed = |error: LiveError| match error {
             LiveError::NotTraced(Some(tracer)) => TraceError::TracedBy(tracer),
             LiveError::NotTraced(None) => TraceError::NotTraced(Errno::EPERM),
@@ -39,7 +39,7 @@ impl Tracer<'_, '_> {
         };
         self.main = Tid::try_from(pid).map_err(|_| TraceError::NoProcess)?;
         let process = Process::read(pid).map_err(failed)?;
-        if let Some(refusal) = refusal(self.main) {
+        if let Some(refusal) = why_not_traced(self.main) {
             return Err(refusal);
         }
         if let Some(tracer) = process.tracer() {
@@ -54,7 +54,9 @@ impl Tracer<'_, '_> {
                 Ok(threads) => threads,
                 Err(_) => break,
             };
-            for tid in threads.into_iter().filter_map(|tid| Tid::try_from(tid).ok()).filter(|tid| runs(pid, *tid)) {
+            for tid in
+                threads.into_iter().filter_map(|tid| Tid::try_from(tid).ok()).filter(|tid| is_running_thread(pid, *tid))
+            {
                 self.sample_thread(tid)?;
             }
             std::thread::sleep(PAUSE);
@@ -101,7 +103,7 @@ impl Tracer<'_, '_> {
         let mut thread = Thread::new(tid, Rc::new(RefCell::new(other)));
         thread.mode = Mode::Stepping;
         thread.registers = ptrace::registers(tid).ok()?;
-        thread.here = self.here(&mut space, thread.program_counter());
+        thread.here = self.instruction_at(&mut space, thread.program_counter());
         self.counts.windows += 1;
         for _ in 0..WINDOW {
             let may_wait = matches!(thread.here.effect, Effect::System { .. } | Effect::Stop);
@@ -113,7 +115,7 @@ impl Tracer<'_, '_> {
             match ptrace::wait_for_stop(tid).ok()? {
                 Report::Signal(libc::SIGTRAP) => {
                     let registers = ptrace::registers(tid).ok()?;
-                    self.stepped(&mut thread, &mut space, &registers);
+                    self.thread_stepped(&mut thread, &mut space, &registers);
                 }
                 Report::Signal(other) => signal = other,
                 Report::Exited(_) | Report::Killed(_) => return None,
@@ -134,7 +136,7 @@ impl Tracer<'_, '_> {
 }
 
 /// Whether a thread runs, and doesn't wait in the kernel.
-fn runs(pid: u32, tid: Tid) -> bool {
+fn is_running_thread(pid: u32, tid: Tid) -> bool {
     let line = std::fs::read_to_string(format!("/proc/{}/task/{}/stat", pid, tid)).unwrap_or_default();
     // The state follows the name, which is in parentheses.
     line.rsplit_once(") ").map_or(false, |(_, rest)| rest.starts_with('R'))

@@ -1,4 +1,4 @@
-//! The instructions that were stepped, and what was seen at each.
+//! The sites: instructions that were stepped, and what was seen and judged at each.
 
 use super::registers::SAVED_COUNT;
 use super::rules::Rule;

@@ -102,7 +102,7 @@ impl Space {
         };
         self.writable = maps.iter().filter(|map| map.is_writable).map(stack_range).collect();
         let code: Vec<Code> = maps.iter().filter(|map| map.is_executable).map(|map| self.place(map, files)).collect();
-        let is_there = |address: &u64, old: &[Code]| find(old, *address) == find(&code, *address);
+        let is_there = |address: &u64, old: &[Code]| find_code(old, *address) == find_code(&code, *address);
         let old = std::mem::take(&mut self.code);
         self.breakpoints.retain(|address| is_there(&address, &old));
         self.code = code;
@@ -123,7 +123,7 @@ impl Space {
 
     /// The part of executable memory that has an address.
     pub fn code_at(&self, address: u64) -> Option<&Code> {
-        find(&self.code, address)
+        find_code(&self.code, address)
     }
 
     /// The addresses of the stack that a stack pointer is on.
@@ -159,7 +159,7 @@ impl Space {
 }
 
 /// The part of executable memory that has an address.
-fn find(code: &[Code], address: u64) -> Option<&Code> {
+fn find_code(code: &[Code], address: u64) -> Option<&Code> {
     let next = code.partition_point(|code| code.range.start <= address);
     code.get(next.checked_sub(1)?).filter(|code| code.range.contains(&address))
 }

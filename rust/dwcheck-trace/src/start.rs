@@ -16,7 +16,7 @@ use std::thread;
 
 /// Starts a program with its arguments. It is traced, and runs up to its first instruction, where it
 /// reports [`Exec`](super::ptrace::Report::Exec). If this program is killed, the other one is too.
-pub fn start(words: &[OsString]) -> Result<Tid, TraceError> {
+pub fn start_program(words: &[OsString]) -> Result<Tid, TraceError> {
     let empty = || TraceError::NotStarted(io::ErrorKind::InvalidInput.into());
     let (program, arguments) = words.split_first().ok_or_else(empty)?;
     let (own, theirs) = UnixStream::pair().map_err(TraceError::NotStarted)?;
@@ -27,17 +27,17 @@ pub fn start(words: &[OsString]) -> Result<Tid, TraceError> {
     unsafe { command.pre_exec(move || await_tracer(&theirs, own_end)) };
     // `spawn` returns when the other program runs, for which that has to be traced first.
     let started = thread::spawn(move || command.spawn().map(drop));
-    let seized = seize(&own);
+    let seized = seize_child(&own);
     let started = started.join().unwrap_or_else(|_| Err(io::ErrorKind::Other.into()));
     started.map_err(TraceError::NotStarted).and(seized)
 }
 
 /// Traces the process that says its id, and then lets it go on.
-fn seize(mut own: &UnixStream) -> Result<Tid, TraceError> {
+fn seize_child(mut own: &UnixStream) -> Result<Tid, TraceError> {
     let mut bytes = [0; 4];
     own.read_exact(&mut bytes).map_err(TraceError::NotStarted)?;
     let tid = Tid::from_ne_bytes(bytes);
-    let seized = ptrace::seize(tid, ptrace::options(true)).map_err(TraceError::NotTraced);
+    let seized = ptrace::seize(tid, ptrace::trace_options(true)).map_err(TraceError::NotTraced);
     let told = match seized {
         Ok(()) => own.write_all(&[1]),
         Err(_) => own.shutdown(Shutdown::Both),

@@ -1,4 +1,4 @@
-//! The threads that are traced.
+//! The threads that are traced: what each does, and its shadow stack.
 
 use super::batch::Batch;
 use super::batch_ends::Hardware;

@@ -7,7 +7,7 @@ use super::site::{Locations, Site, Wrong};
 use super::tracer::Tracer;
 use dwcheck_elf::text::Escaped;
 use dwcheck_lint::correct_row::{CorrectRow, Location};
-use dwcheck_lint::finding::{findings, grouped, Finding, Severity};
+use dwcheck_lint::finding::{findings, group_marks, Finding, Severity};
 use dwcheck_lint::judge::{Facts, Verdict};
 use dwcheck_lint::judging::{Mark, Way};
 use dwcheck_lint::lint::Outcome;
@@ -166,8 +166,9 @@ impl<'s> Tracer<'_, 's> {
 
     /// Why files, parts of their frame sections, or processes aren't looked at.
     pub fn problems(&self) -> Vec<String> {
-        let unread = self.files.unread.iter().map(|(path, error)| said(path, error));
-        let unused = self.files.all().iter().flat_map(|file| file.unused.iter().map(|why| said(&file.path, why)));
+        let unread = self.files.unread.iter().map(|(path, error)| problem_line(path, error));
+        let unused =
+            self.files.all().iter().flat_map(|file| file.unused.iter().map(|why| problem_line(&file.path, why)));
         unread.chain(unused).chain(self.notes.iter().cloned()).collect()
     }
 
@@ -186,43 +187,48 @@ impl<'s> Tracer<'_, 's> {
             judged: judged().count(),
             wrong: sites.iter().filter(|site| site.wrong.is_some()).count(),
         };
-        FileReport { file, found: self.found(index, file, sites), coverage, fdes: fdes(file, sites) }
+        FileReport {
+            file,
+            found: self.findings_of_file(index, file, sites),
+            coverage,
+            fdes: coverage_of_fdes(file, sites),
+        }
     }
 
     /// What was wrong in a file.
-    fn found<'t>(&'t self, index: usize, file: &'t ModuleFile<'s>, sites: &[&Site]) -> Vec<Found<'t>> {
+    fn findings_of_file<'t>(&'t self, index: usize, file: &'t ModuleFile<'s>, sites: &[&Site]) -> Vec<Found<'t>> {
         let mut wrong: BTreeMap<usize, Vec<(&Site, &Wrong)>> = BTreeMap::new();
         for site in sites {
             if let (Some((_, fde)), Some(found)) = (site.fde, site.wrong.as_deref()) {
                 wrong.entry(fde).or_default().push((site, found));
             }
         }
-        wrong.into_iter().flat_map(|(fde, sites)| self.found_in_fde(index, file, fde, &sites)).collect()
+        wrong.into_iter().flat_map(|(fde, sites)| self.findings_of_fde(index, file, fde, &sites)).collect()
     }
 
-    fn found_in_fde<'t>(
+    fn findings_of_fde<'t>(
         &'t self,
         index: usize,
         file: &'t ModuleFile<'s>,
         fde: usize,
         sites: &[(&Site, &Wrong)],
     ) -> Vec<Found<'t>> {
-        let marks = sites.iter().filter_map(|(site, wrong)| mark(file, site, wrong)).collect();
+        let marks = sites.iter().filter_map(|(site, wrong)| mark_of_wrong(file, site, wrong)).collect();
         let mut outcome = Outcome::default();
-        outcome.groups = grouped(marks);
-        outcome.lost = self.lost.get(&(index, fde)).map_or(Facts::NONE, lost);
+        outcome.groups = group_marks(marks);
+        outcome.lost = self.lost.get(&(index, fde)).map_or(Facts::NONE, lost_facts);
         let breaks_walk = sites.iter().any(|(_, wrong)| wrong.breaks_walk);
         let counted = |finding: Finding<'t>| {
             let first = sites.iter().find(|(site, _)| site.address == finding.mark.address);
             let (judged, wrong) = first.map_or((0, 0), |(site, wrong)| (site.judged, wrong.count));
-            Found { finding: with_walk(finding, breaks_walk), judged, wrong }
+            Found { finding: with_walk_severity(finding, breaks_walk), judged, wrong }
         };
         findings(&file.module, &file.module.fdes[fde], outcome).into_iter().map(counted).collect()
     }
 }
 
 /// What was seen of each FDE of a file.
-fn fdes(file: &ModuleFile<'_>, sites: &[&Site]) -> Vec<FdeCoverage> {
+fn coverage_of_fdes(file: &ModuleFile<'_>, sites: &[&Site]) -> Vec<FdeCoverage> {
     let none = |fde: &Fde| FdeCoverage { begin: fde.begin, bytes: fde.end - fde.begin, judged_bytes: 0, wrong: 0 };
     let mut all: Vec<_> = file.module.fdes.iter().map(none).collect();
     for site in sites {
@@ -235,19 +241,19 @@ fn fdes(file: &ModuleFile<'_>, sites: &[&Site]) -> Vec<FdeCoverage> {
 }
 
 /// A finding that is as bad as a walk shows it to be.
-fn with_walk(mut finding: Finding<'_>, breaks_walk: bool) -> Finding<'_> {
+fn with_walk_severity(mut finding: Finding<'_>, breaks_walk: bool) -> Finding<'_> {
     if breaks_walk && finding.severity == Severity::RegisterLost {
         finding.severity = Severity::BacktraceBroken;
     }
     finding
 }
 
-fn said(path: &Path, why: &dyn std::fmt::Display) -> String {
+fn problem_line(path: &Path, why: &dyn std::fmt::Display) -> String {
     format!("{}: {}", Escaped(&path.to_string_lossy()), why)
 }
 
 /// The registers that a function didn't give back.
-fn lost(is_lost: &[bool; SAVED_COUNT]) -> Facts {
+fn lost_facts(is_lost: &[bool; SAVED_COUNT]) -> Facts {
     let mut lost = Facts::NONE;
     let locations = is_lost.iter().enumerate().filter(|(_, is_lost)| **is_lost);
     locations.for_each(|(index, _)| lost.add(Facts::callee_saved(index)));
@@ -255,7 +261,7 @@ fn lost(is_lost: &[bool; SAVED_COUNT]) -> Facts {
 }
 
 /// What was wrong at an instruction, in the lint's form.
-fn mark<'t>(file: &'t ModuleFile<'_>, site: &Site, wrong: &Wrong) -> Option<Mark<'t>> {
+fn mark_of_wrong<'t>(file: &'t ModuleFile<'_>, site: &Site, wrong: &Wrong) -> Option<Mark<'t>> {
     let row = file.module.rows.row(site.address)?;
     Some(Mark {
         address: site.address,
@@ -264,14 +270,14 @@ fn mark<'t>(file: &'t ModuleFile<'_>, site: &Site, wrong: &Wrong) -> Option<Mark
         before: wrong.before,
         way: Way::Here,
         verdict: wrong.verdict,
-        correct_row: correct_row(&row, &wrong.locations),
+        correct_row: correct_row_at(&row, &wrong.locations),
         is_assumed: false,
         row,
     })
 }
 
 /// What is true where a row is wrong.
-fn correct_row(row: &Row<'_>, locations: &Locations) -> CorrectRow {
+fn correct_row_at(row: &Row<'_>, locations: &Locations) -> CorrectRow {
     let of_row = match row.cfa {
         Cfa::RegisterOffset { register: Register(number), .. } => Some(usize::from(number)),
         Cfa::Expression(_) => None,

@@ -1,4 +1,4 @@
-//! Handles what the threads report that are traced.
+//! Handles what the threads report that are traced: signals, traps, new threads and processes, their ends.
 
 use super::alarm::{Alarm, Asked};
 use super::batch::Batch;
@@ -9,7 +9,7 @@ use super::registers::{Registers, SAVED_COUNT};
 use super::shadow::FdeId;
 use super::site::Sites;
 use super::space::Space;
-use super::start::start;
+use super::start::start_program;
 use super::thread::{Mode, Thread};
 use super::trace_findings::Counts;
 use super::{End, Options, TraceError};
@@ -102,7 +102,7 @@ impl Tracer<'_, '_> {
     ///
     /// If the program can't be started or traced. Then nothing of it has run.
     pub fn run(&mut self, words: &[OsString]) -> Result<End, TraceError> {
-        self.main = start(words)?;
+        self.main = start_program(words)?;
         let alarm = Alarm::install(Asked::Passed);
         let begin = Instant::now();
         self.begin_program()?;
@@ -115,7 +115,7 @@ impl Tracer<'_, '_> {
                 self.options.time = None;
             }
             match ptrace::wait() {
-                Ok((tid, report)) => self.handle(tid, report),
+                Ok((tid, report)) => self.handle_report(tid, report),
                 Err(Errno::EINTR) => {}
                 Err(_) => break,
             }
@@ -142,7 +142,7 @@ impl Tracer<'_, '_> {
                 Err(error) => return Err(TraceError::NotTraced(error)),
             }
         }
-        if let Some(refusal) = refusal(self.main) {
+        if let Some(refusal) = why_not_traced(self.main) {
             ptrace::send(self.main, libc::SIGKILL);
             let _ = ptrace::wait();
             return Err(refusal);
@@ -153,11 +153,11 @@ impl Tracer<'_, '_> {
     }
 
     /// Handles what a thread reports.
-    pub(super) fn handle(&mut self, tid: Tid, report: Report) {
+    pub(super) fn handle_report(&mut self, tid: Tid, report: Report) {
         match report {
-            Report::Exited(status) => return self.ended(tid, End::Exited(status)),
-            Report::Killed(signal) => return self.ended(tid, End::Killed(signal)),
-            Report::Exec => return self.executed(tid),
+            Report::Exited(status) => return self.thread_ended(tid, End::Exited(status)),
+            Report::Killed(signal) => return self.thread_ended(tid, End::Killed(signal)),
+            Report::Exec => return self.process_executed(tid),
             _ => {}
         }
         let mut thread = match self.threads.remove(&tid) {
@@ -173,34 +173,39 @@ impl Tracer<'_, '_> {
         }
         thread.is_stopped = true;
         if report != Report::Signal(libc::SIGTRAP) {
-            self.interrupted(&mut thread);
+            self.batch_interrupted(&mut thread);
         }
-        let signal = match report {
-            Report::Signal(libc::SIGTRAP) => self.trapped(&mut thread),
-            Report::Signal(signal) => Some(signal),
-            Report::Created(creation) => {
-                self.created(&thread, creation);
-                Some(0)
-            }
-            Report::VforkDone => {
-                thread.space.borrow_mut().put_back();
-                Some(0)
-            }
-            Report::GroupStop => {
-                ptrace::listen(tid);
-                thread.is_stopped = false;
-                None
-            }
-            _ => Some(0),
-        };
-        if let Some(signal) = signal {
-            self.resume(&mut thread, signal);
+        if let Some(signal) = self.signal_after(&mut thread, report) {
+            self.resume_thread(&mut thread, signal);
         }
         self.threads.insert(tid, thread);
     }
 
+    /// Handles what a stopped thread reports. Returns the signal with which it goes on, 0 if none. `None` if it stays
+    /// stopped.
+    fn signal_after(&mut self, thread: &mut Thread, report: Report) -> Option<i32> {
+        match report {
+            Report::Signal(libc::SIGTRAP) => self.thread_trapped(thread),
+            Report::Signal(signal) => Some(signal),
+            Report::Created(creation) => {
+                self.thread_created(thread, creation);
+                Some(0)
+            }
+            Report::VforkDone => {
+                thread.space.borrow_mut().put_back_breakpoints();
+                Some(0)
+            }
+            Report::GroupStop => {
+                ptrace::listen(thread.tid);
+                thread.is_stopped = false;
+                None
+            }
+            _ => Some(0),
+        }
+    }
+
     /// A thread stopped for another reason than a trap. If it ran a batch, this ends that.
-    fn interrupted(&mut self, thread: &mut Thread) {
+    fn batch_interrupted(&mut self, thread: &mut Thread) {
         let batch = match thread.batch.take() {
             Some(batch) => batch,
             None => return,
@@ -208,12 +213,12 @@ impl Tracer<'_, '_> {
         let space = Rc::clone(&thread.space);
         batch.lift(&space.borrow());
         if let Ok(registers) = ptrace::registers(thread.tid) {
-            self.arrived(thread, &mut space.borrow_mut(), &batch, &registers);
+            self.batch_arrived(thread, &mut space.borrow_mut(), &batch, &registers);
         }
     }
 
     /// A thread that ran a batch got the signal of a trap. Returns the signal that it gets, 0 if none.
-    fn ran(&mut self, thread: &mut Thread, space: &mut Space, batch: &Batch, registers: Registers) -> i32 {
+    fn batch_trapped(&mut self, thread: &mut Thread, space: &mut Space, batch: &Batch, registers: Registers) -> i32 {
         batch.lift(space);
         let at_breakpoint = registers.program_counter().wrapping_sub(1);
         let code = ptrace::signal_code(thread.tid).unwrap_or(BY_KERNEL);
@@ -227,7 +232,7 @@ impl Tracer<'_, '_> {
         if is_rewound {
             ptrace::set_program_counter(thread.tid, at_breakpoint);
         }
-        self.arrived(thread, space, batch, &registers);
+        self.batch_arrived(thread, space, batch, &registers);
         let is_own = code <= 0 || code == BY_KERNEL && !is_rewound;
         if is_own {
             libc::SIGTRAP
@@ -237,20 +242,20 @@ impl Tracer<'_, '_> {
     }
 
     /// A thread got the signal of a trap. Returns the signal that it gets, 0 if none; `None` if it ended.
-    fn trapped(&mut self, thread: &mut Thread) -> Option<i32> {
+    fn thread_trapped(&mut self, thread: &mut Thread) -> Option<i32> {
         let registers = ptrace::registers(thread.tid).ok()?;
         let space = Rc::clone(&thread.space);
         let mut space = space.borrow_mut();
         // The thread by which the memory was known may have ended.
         space.pid = thread.tid;
         match thread.batch.take() {
-            Some(batch) => Some(self.ran(thread, &mut space, &batch, registers)),
-            None => self.trapped_at(thread, &mut space, registers),
+            Some(batch) => Some(self.batch_trapped(thread, &mut space, &batch, registers)),
+            None => self.stepping_trapped(thread, &mut space, registers),
         }
     }
 
     /// A thread that made a step, or runs, got the signal of a trap, and has these registers.
-    fn trapped_at(&mut self, thread: &mut Thread, space: &mut Space, registers: Registers) -> Option<i32> {
+    fn stepping_trapped(&mut self, thread: &mut Thread, space: &mut Space, registers: Registers) -> Option<i32> {
         let address = thread.program_counter();
         // Traps that are the program's own, and system calls by which it sends itself the signal.
         let is_own_trap = matches!(thread.here.effect, Effect::Stop | Effect::Padding | Effect::System { .. });
@@ -277,14 +282,14 @@ impl Tracer<'_, '_> {
             return Some(sent);
         }
         if let Some(address) = thread.lifted.take() {
-            space.lower(address);
+            space.lower_breakpoint(address);
         }
         match thread.mode {
             Mode::Passing => {
                 thread.registers = registers;
                 thread.mode = Mode::Running;
             }
-            _ => self.stepped(thread, space, &registers),
+            _ => self.thread_stepped(thread, space, &registers),
         }
         Some(sent)
     }
@@ -303,14 +308,14 @@ impl Tracer<'_, '_> {
         thread.registers = registers.at(address);
         ptrace::set_program_counter(thread.tid, address);
         if let Some(breakpoint) = breakpoint {
-            self.hit(thread, space, breakpoint);
+            self.breakpoint_hit(thread, space, breakpoint);
         }
         0
     }
 
     /// A thread made another thread or process.
-    fn created(&mut self, thread: &Thread, creation: Creation) {
-        let tid = match ptrace::message(thread.tid) {
+    fn thread_created(&mut self, thread: &Thread, creation: Creation) {
+        let tid = match ptrace::event_message(thread.tid) {
             Ok(tid) => tid,
             Err(_) => return,
         };
@@ -318,7 +323,7 @@ impl Tracer<'_, '_> {
         let shares = shares_memory(thread, creation);
         let birth = match (shares, creation, self.options.follows_forks) {
             (true, Creation::Vfork, false) => {
-                space.borrow_mut().take_out();
+                space.borrow_mut().take_out_breakpoints();
                 Birth::Borrower
             }
             (true, ..) => Birth::Thread(space),
@@ -330,7 +335,7 @@ impl Tracer<'_, '_> {
             },
         };
         if self.early.remove(&tid) {
-            self.born(tid, birth);
+            self.new_thread_stopped(tid, birth);
         } else {
             self.births.insert(tid, birth);
         }
@@ -339,7 +344,7 @@ impl Tracer<'_, '_> {
     /// A thread that isn't known stopped.
     fn stopped_first(&mut self, tid: Tid) {
         match self.births.remove(&tid) {
-            Some(birth) => self.born(tid, birth),
+            Some(birth) => self.new_thread_stopped(tid, birth),
             None => {
                 self.early.insert(tid);
             }
@@ -347,11 +352,11 @@ impl Tracer<'_, '_> {
     }
 
     /// A thread or a process that was made has stopped for the first time.
-    fn born(&mut self, tid: Tid, birth: Birth) {
+    fn new_thread_stopped(&mut self, tid: Tid, birth: Birth) {
         let space = match birth {
             Birth::Borrower => return ptrace::detach(tid, 0),
             Birth::LetGo(mut copy) => {
-                copy.clear();
+                copy.clear_breakpoints();
                 return ptrace::detach(tid, 0);
             }
             Birth::Thread(space) => {
@@ -359,33 +364,33 @@ impl Tracer<'_, '_> {
                 space
             }
             Birth::Copy(mut copy) => {
-                copy.adopt();
+                copy.adopt_breakpoints();
                 self.counts.processes += 1;
                 Rc::new(RefCell::new(copy))
             }
         };
         let mut thread = Thread::new(tid, space);
-        self.set_out(&mut thread);
-        self.resume(&mut thread, 0);
+        self.set_out_to_trace(&mut thread);
+        self.resume_thread(&mut thread, 0);
         self.threads.insert(tid, thread);
     }
 
     /// Sets out to trace a thread of which nothing is known.
-    fn set_out(&mut self, thread: &mut Thread) {
+    fn set_out_to_trace(&mut self, thread: &mut Thread) {
         if let Ok(registers) = ptrace::registers(thread.tid) {
             thread.registers = registers;
         }
         if self.options.all {
             let space = Rc::clone(&thread.space);
             thread.mode = Mode::Stepping;
-            thread.here = self.here(&mut space.borrow_mut(), thread.program_counter());
+            thread.here = self.instruction_at(&mut space.borrow_mut(), thread.program_counter());
         }
     }
 
     /// A process runs another program.
-    fn executed(&mut self, tid: Tid) {
+    fn process_executed(&mut self, tid: Tid) {
         // Its other threads are gone, and so is the id of the one that asked for it.
-        let former = ptrace::message(tid).unwrap_or(tid);
+        let former = ptrace::event_message(tid).unwrap_or(tid);
         let old = self.threads.get(&former).map(|thread| Rc::clone(&thread.space));
         let is_of_process = |thread: &Thread| {
             let is_near = old.as_ref().map_or(false, |space| Rc::ptr_eq(space, &thread.space));
@@ -396,7 +401,7 @@ impl Tracer<'_, '_> {
         self.threads.remove(&tid);
         self.births.remove(&tid);
         let is_wanted = tid == self.main || self.options.follows_forks;
-        match refusal(tid).filter(|_| is_wanted) {
+        match why_not_traced(tid).filter(|_| is_wanted) {
             None if is_wanted => {
                 self.counts.programs += 1;
                 self.begin_memory(tid);
@@ -414,21 +419,21 @@ impl Tracer<'_, '_> {
             Ok(space) => space,
             Err(_) => return ptrace::detach(tid, 0),
         };
-        self.plant(&mut space);
+        self.plant_in_loaded_code(&mut space);
         let mut thread = Thread::new(tid, Rc::new(RefCell::new(space)));
-        self.set_out(&mut thread);
-        self.resume(&mut thread, 0);
+        self.set_out_to_trace(&mut thread);
+        self.resume_thread(&mut thread, 0);
         self.threads.insert(tid, thread);
     }
 
     /// Lets a thread go on. It gets the signal, if that isn't 0.
-    fn resume(&mut self, thread: &mut Thread, signal: i32) {
+    fn resume_thread(&mut self, thread: &mut Thread, signal: i32) {
         thread.got_signal = signal != 0 && thread.mode == Mode::Stepping;
         thread.is_stopped = false;
         let is_quick =
-            thread.mode == Mode::Stepping && signal == 0 && (self.passes_call(thread) || self.begins_stretch(thread));
+            thread.mode == Mode::Stepping && signal == 0 && (self.pass_call(thread) || self.begins_batch(thread));
         if thread.mode != Mode::Stepping {
-            thread.hardware.clear(thread.tid);
+            thread.hardware.clear_hardware_breakpoints(thread.tid);
         }
         if thread.mode == Mode::Running || is_quick {
             thread.end_steps();
@@ -436,16 +441,16 @@ impl Tracer<'_, '_> {
             return;
         }
         let address = thread.program_counter();
-        if thread.space.borrow_mut().lift(address) {
+        if thread.space.borrow_mut().lift_breakpoint(address) {
             thread.lifted = Some(address);
         }
         let space = Rc::clone(&thread.space);
         thread.step(&space.borrow(), signal);
     }
 
-    fn ended(&mut self, tid: Tid, end: End) {
+    fn thread_ended(&mut self, tid: Tid, end: End) {
         if let Some(Thread { lifted: Some(address), space, .. }) = self.threads.remove(&tid) {
-            space.borrow_mut().lower(address);
+            space.borrow_mut().lower_breakpoint(address);
         }
         self.early.remove(&tid);
         self.births.remove(&tid);
@@ -474,7 +479,7 @@ fn is_thread_of_other(tid: Tid, process: Tid) -> bool {
 }
 
 /// Why the program of a process isn't traced.
-pub(super) fn refusal(pid: Tid) -> Option<TraceError> {
+pub(super) fn why_not_traced(pid: Tid) -> Option<TraceError> {
     let link = format!("/proc/{}/exe", pid);
     let name = || std::fs::read_link(&link).map_or_else(|_| link.clone(), |path| path.display().to_string());
     let machine = Process::read(pid as u32).and_then(|process| process.machine());

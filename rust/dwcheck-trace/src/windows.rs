@@ -1,4 +1,4 @@
-//! Decides what is stepped: the first calls of each function, up to their returns. Functions that were
+//! Decides what is stepped, in windows: the first calls of each function, up to their returns. Functions that were
 //! stepped already run at full speed.
 
 use super::breakpoints::Breakpoint;
@@ -21,17 +21,17 @@ const MOST_MISSES: u8 = 8;
 
 impl Tracer<'_, '_> {
     /// A thread that runs has come to a breakpoint, and its registers are those before that.
-    pub(super) fn hit(&mut self, thread: &mut Thread, space: &mut Space, breakpoint: Breakpoint) {
+    pub(super) fn breakpoint_hit(&mut self, thread: &mut Thread, space: &mut Space, breakpoint: Breakpoint) {
         let (address, stack) = (thread.program_counter(), thread.stack_pointer());
         if breakpoint.is_load {
-            self.plant(space);
+            self.plant_in_loaded_code(space);
         }
         if !thread.shadow.is_on(stack) {
             thread.shadow.switch(space.stack_at(stack, &mut self.files));
         }
-        self.drop_left(thread, space);
+        self.drop_left_frames(thread, space);
         thread.before = Here::NOWHERE;
-        thread.here = self.here(space, address);
+        thread.here = self.instruction_at(space, address);
         let awaited = Some(Awaited { address, stack_pointer: stack });
         let is_awaited = thread.shadow.frames.last().map_or(false, |frame| frame.awaited == awaited);
         let goes_on = if is_awaited {
@@ -41,20 +41,20 @@ impl Tracer<'_, '_> {
         };
         thread.mode = if goes_on { Mode::Stepping } else { Mode::Passing };
         if goes_on {
-            self.judge(thread, space);
+            self.judge_row(thread, space);
         }
     }
 
     /// Looks which code is loaded, and sets breakpoints in what wasn't before.
-    pub(super) fn plant(&mut self, space: &mut Space) {
+    pub(super) fn plant_in_loaded_code(&mut self, space: &mut Space) {
         space.refresh(&mut self.files);
         if !self.options.all {
-            space.plant(&self.files, &self.sites, self.options.calls);
+            space.plant_breakpoints(&self.files, &self.sites, self.options.calls);
         }
     }
 
     /// Takes off the frames that a thread that ran has left.
-    fn drop_left(&mut self, thread: &mut Thread, space: &mut Space) {
+    fn drop_left_frames(&mut self, thread: &mut Thread, space: &mut Space) {
         while let Some(frame) = thread.shadow.pop_left(thread.registers.stack_pointer()) {
             frame.awaited.iter().for_each(|awaited| space.forget_return(awaited.address));
             thread.shadow.distrust();
@@ -102,12 +102,12 @@ impl Tracer<'_, '_> {
                 return false;
             }
             None => {
-                space.miss(address);
+                space.note_missed_call(address);
                 return false;
             }
         };
         let registers = thread.registers;
-        self.call(thread, space, &registers, return_address, Origin::UnknownCall);
+        self.enter_call(thread, space, &registers, return_address, Origin::UnknownCall);
         self.counts.windows += 1;
         if visits + 1 >= self.options.calls {
             space.forget_entry(address);
@@ -122,38 +122,38 @@ impl Tracer<'_, '_> {
         if space.read_code(begin, &mut code) == code.len() && ends_with_call(&code) {
             return true;
         }
-        let site = self.here(space, address).site;
+        let site = self.instruction_at(space, address).site;
         self.sites.at(site).row.map_or(false, |judged| judged.is_signal)
     }
 
     /// A thread has made a step, after which it has these registers.
-    pub(super) fn stepped(&mut self, thread: &mut Thread, space: &mut Space, new: &Registers) {
+    pub(super) fn thread_stepped(&mut self, thread: &mut Thread, space: &mut Space, new: &Registers) {
         let address = new.program_counter();
         let is_same = address == thread.program_counter() && new.stack_pointer() == thread.stack_pointer();
-        let left = if is_same { Default::default() } else { self.follow(thread, space, new) };
+        let left = if is_same { Default::default() } else { self.follow_instruction(thread, space, new) };
         thread.registers = *new;
         if !is_same {
-            hide_step(thread, space);
+            hide_trap_flag(thread, space);
             thread.before = thread.here;
-            thread.here = self.here(space, address);
+            thread.here = self.instruction_at(space, address);
             if self.sites.at(thread.here.site).is_load {
-                self.plant(space);
+                self.plant_in_loaded_code(space);
             }
         }
         if self.options.all {
-            return self.judge(thread, space);
+            return self.judge_row(thread, space);
         }
-        if left.has_unknown_caller || !self.stays(thread, space) {
+        if left.has_unknown_caller || !self.stays_in_window(thread, space) {
             thread.mode = Mode::Running;
-        } else if self.is_enough(thread, space) {
-            self.run_out(thread, space);
+        } else if self.is_window_enough(thread, space) {
+            self.run_out_of_function(thread, space);
         } else {
-            self.judge(thread, space);
+            self.judge_row(thread, space);
         }
     }
 
     /// Whether the frame on top is one that is stepped: not one that waits for a callee.
-    fn stays(&mut self, thread: &mut Thread, space: &mut Space) -> bool {
+    fn stays_in_window(&mut self, thread: &mut Thread, space: &mut Space) -> bool {
         let here = Awaited { address: thread.program_counter(), stack_pointer: thread.stack_pointer() };
         match thread.shadow.frames.last_mut() {
             Some(frame) if frame.awaited == Some(here) => {
@@ -168,9 +168,9 @@ impl Tracer<'_, '_> {
 
     /// Whether enough of the function on top was stepped: it begins, and was stepped before, or nothing new
     /// has been seen in it for a time.
-    fn is_enough(&mut self, thread: &mut Thread, space: &mut Space) -> bool {
+    fn is_window_enough(&mut self, thread: &mut Thread, space: &mut Space) -> bool {
         let (site, stack) = (self.sites.at(thread.here.site), thread.stack_pointer());
-        let is_stepped = self.is_stepped(site);
+        let is_stepped = self.is_frame_stepped(site);
         let frame = match thread.shadow.frames.last_mut() {
             Some(frame) => frame,
             None => return true,
@@ -181,22 +181,22 @@ impl Tracer<'_, '_> {
             space.forget_entry(thread.registers.program_counter());
         }
         let is_idle = frame.idle > self.options.idle;
-        is_begin && self.is_done(self.sites.at(thread.here.site)) || is_idle
+        is_begin && self.is_function_done(self.sites.at(thread.here.site)) || is_idle
     }
 
-    fn is_stepped(&self, site: &Site) -> bool {
+    fn is_frame_stepped(&self, site: &Site) -> bool {
         site.file.map_or(false, |file| self.files.at(file).is_stepped)
     }
 
     /// Whether a function that begins at an instruction isn't stepped, or not anymore.
-    fn is_done(&self, site: &Site) -> bool {
+    fn is_function_done(&self, site: &Site) -> bool {
         let is_known = site.is_entry && site.visits >= self.options.calls;
-        is_known || site.fde.is_none() || !self.is_stepped(site)
+        is_known || site.fde.is_none() || !self.is_frame_stepped(site)
     }
 
     /// Lets a call of a function that isn't stepped run at full speed, up to its return. Returns whether a thread is
     /// before such a call.
-    pub(super) fn passes_call(&mut self, thread: &mut Thread) -> bool {
+    pub(super) fn pass_call(&mut self, thread: &mut Thread) -> bool {
         let target = match thread.here.effect {
             Effect::Call { target } if !self.options.all => target,
             _ => return false,
@@ -206,8 +206,8 @@ impl Tracer<'_, '_> {
         let (address, stack_pointer) = (thread.program_counter(), thread.stack_pointer());
         let bias = address.wrapping_sub(thread.here.address);
         let is_free = space.breakpoints.at(address).is_none();
-        let callee = pointed_to(target, bias, &thread.registers, &space).filter(|_| is_free);
-        if !callee.map_or(false, |callee| self.is_done_at(&mut space, callee)) {
+        let callee = branch_destination(target, bias, &thread.registers, &space).filter(|_| is_free);
+        if !callee.map_or(false, |callee| self.is_done_from(&mut space, callee)) {
             return false;
         }
         let frame = match thread.shadow.frames.last_mut().filter(|frame| frame.awaited.is_none()) {
@@ -222,26 +222,26 @@ impl Tracer<'_, '_> {
     }
 
     /// Whether a function at an address isn't stepped, also if a stub that was stepped before jumps to it.
-    pub(super) fn is_done_at(&mut self, space: &mut Space, address: u64) -> bool {
-        let here = self.here(space, address);
+    pub(super) fn is_done_from(&mut self, space: &mut Space, address: u64) -> bool {
+        let here = self.instruction_at(space, address);
         let site = self.sites.at(here.site);
         let (effect, is_seen, linked) = (site.effect, site.visits > 0, site.address);
-        if self.is_done(site) {
+        if self.is_function_done(site) {
             return true;
         }
         let end = match effect {
             Effect::Jump { target: target @ Target::Pointer(_) } if is_seen => {
-                pointed_to(target, address.wrapping_sub(linked), &Registers::default(), space)
+                branch_destination(target, address.wrapping_sub(linked), &Registers::default(), space)
             }
             _ => None,
         };
-        let end = end.map(|end| self.here(space, end).site);
-        end.map_or(false, |end| self.is_done(self.sites.at(end)))
+        let end = end.map(|end| self.instruction_at(space, end).site);
+        end.map_or(false, |end| self.is_function_done(self.sites.at(end)))
     }
 
     /// Lets the function on top run to its end at full speed. Its caller, if that is stepped, waits for its
     /// return.
-    fn run_out(&mut self, thread: &mut Thread, space: &mut Space) {
+    fn run_out_of_function(&mut self, thread: &mut Thread, space: &mut Space) {
         thread.mode = Mode::Running;
         let frame = match thread.shadow.frames.pop() {
             Some(frame) if frame.origin == Origin::Call => frame,
@@ -256,7 +256,7 @@ impl Tracer<'_, '_> {
 
 /// Where a call or a jump goes to, in code that is loaded so much higher than its file says. `None` if that isn't known
 /// before.
-fn pointed_to(target: Target, bias: u64, registers: &Registers, space: &Space) -> Option<u64> {
+fn branch_destination(target: Target, bias: u64, registers: &Registers, space: &Space) -> Option<u64> {
     match target {
         Target::Code(address) => Some(address.wrapping_add(bias)),
         Target::Pointer(address) => space.word(address.wrapping_add(bias)),
@@ -267,7 +267,7 @@ fn pointed_to(target: Target, bias: u64, registers: &Registers, space: &Space) -
 
 /// Takes the flag of stepping out of the flags that the thread has just pushed. Popped at full speed, they
 /// would stop it.
-fn hide_step(thread: &Thread, space: &Space) {
+fn hide_trap_flag(thread: &Thread, space: &Space) {
     let stack = thread.stack_pointer();
     if thread.here.effect == Effect::PushFlags {
         let flags = space.word(stack).filter(|flags| flags & TRAP_FLAG != 0);

@@ -1,4 +1,5 @@
-//! Reads the numbers of a section one after another: numbers of fixed size, and LEB128 numbers.
+//! A cursor that reads the numbers of a section one after another: bytes, numbers of fixed size, initial lengths, and
+//! LEB128 numbers, which are also written here.
 
 use crate::target::Target;
 

@@ -73,7 +73,7 @@ impl<E: Default, R> Default for Row<E, R> {
     }
 }
 
-fn hex(f: &mut fmt::Formatter<'_>, bytes: &[u8]) -> fmt::Result {
+fn write_hex(f: &mut fmt::Formatter<'_>, bytes: &[u8]) -> fmt::Result {
     bytes.iter().try_for_each(|byte| write!(f, "{:02x}", byte))
 }
 
@@ -83,7 +83,7 @@ impl<E: AsRef<[u8]>> fmt::Display for Cfa<E> {
             Cfa::RegisterOffset { register, offset } => write!(f, "r{}{:+}", register, offset),
             Cfa::Expression(bytes) => {
                 f.write_str("expr(")?;
-                hex(f, bytes.as_ref())?;
+                write_hex(f, bytes.as_ref())?;
                 f.write_str(")")
             }
         }
@@ -100,12 +100,12 @@ impl<E: AsRef<[u8]>> fmt::Display for Rule<E> {
             Rule::Register(register) => write!(f, "r{}", register),
             Rule::Expression(bytes) => {
                 f.write_str("[expr(")?;
-                hex(f, bytes.as_ref())?;
+                write_hex(f, bytes.as_ref())?;
                 f.write_str(")]")
             }
             Rule::ValExpression(bytes) => {
                 f.write_str("expr(")?;
-                hex(f, bytes.as_ref())?;
+                write_hex(f, bytes.as_ref())?;
                 f.write_str(")")
             }
             Rule::Architectural => f.write_str("a"),

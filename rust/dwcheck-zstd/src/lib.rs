@@ -46,7 +46,7 @@ extern "C" {
 pub struct ZstdError(&'static str);
 
 /// The result of a call: a number, or an error.
-fn result(code: usize) -> Result<usize, ZstdError> {
+fn zstd_result(code: usize) -> Result<usize, ZstdError> {
     // SAFETY: both take any number, and the name is a constant text that ends with a zero.
     let (is_error, name) = unsafe { (ZSTD_isError(code) != 0, CStr::from_ptr(ZSTD_getErrorName(code))) };
     match is_error {
@@ -64,7 +64,7 @@ pub fn decompress(frames: &[u8], capacity: usize) -> Result<Vec<u8>, ZstdError> 
     let mut bytes: Vec<u8> = Vec::with_capacity(capacity);
     // SAFETY: `bytes` has room for `capacity` bytes, which needn't be initialized, and `frames` is borrowed meanwhile.
     let code = unsafe { ZSTD_decompress(bytes.as_mut_ptr().cast(), capacity, frames.as_ptr().cast(), frames.len()) };
-    let size = result(code)?;
+    let size = zstd_result(code)?;
     // SAFETY: that many bytes were written, at most `capacity`.
     unsafe { bytes.set_len(size) };
     Ok(bytes)
@@ -90,7 +90,7 @@ impl Decoder {
         let stream = NonNull::new(unsafe { ZSTD_createDStream() }).ok_or(ZstdError("not enough memory"))?;
         let decoder = Decoder(stream);
         // SAFETY: the stream is one of libzstd.
-        result(unsafe { ZSTD_initDStream(decoder.0.as_ptr()) })?;
+        zstd_result(unsafe { ZSTD_initDStream(decoder.0.as_ptr()) })?;
         Ok(decoder)
     }
 
@@ -101,7 +101,7 @@ impl Decoder {
         let mut output = Output { bytes: output.as_mut_ptr().cast(), size: output.len(), position: 0 };
         // SAFETY: the stream is one of libzstd, and both buffers have that many bytes.
         let code = unsafe { ZSTD_decompressStream(self.0.as_ptr(), &mut output, &mut input) };
-        (input.position, output.position, result(code).map(drop))
+        (input.position, output.position, zstd_result(code).map(drop))
     }
 }
 

@@ -154,7 +154,12 @@ struct Asked<F> {
 /// # Safety
 ///
 /// `data` points to an `Asked<F>` that nothing else uses, and `bytes` to `length` bytes.
-unsafe extern "C" fn ask<F>(data: *mut c_void, address: u64, bytes: *mut u8, length: usize) -> bool
+unsafe extern "C" fn read_by_closure<F>(
+    data: *mut c_void,
+    address: u64,
+    bytes: *mut u8,
+    length: usize,
+) -> bool
 where
     F: FnMut(u64, &mut [u8]) -> bool,
 {
@@ -180,7 +185,7 @@ where
 }
 
 /// What a step gives that returned this status and wrote this frame.
-fn frame_of(status: u32, slot: [Frame; 1]) -> Result<Option<Frame>, Error> {
+fn frame_of_step(status: u32, slot: [Frame; 1]) -> Result<Option<Frame>, Error> {
     if status == ffi::NONE {
         return Ok(None);
     }
@@ -212,7 +217,7 @@ impl Process {
                 Frame::raw_slots(&mut slot),
             )
         };
-        frame_of(status, slot)
+        frame_of_step(status, slot)
     }
 
     /// Steps as [`step`](Process::step) does, but asks for the memory that the step needs: `read` is
@@ -268,13 +273,13 @@ impl Process {
         let mut asked = Asked { read, panic: None };
         let target = self.target();
         let reader = ffi::Reader {
-            read: Some(ask::<F>),
+            read: Some(read_by_closure::<F>),
             data: (&mut asked as *mut Asked<F>).cast(),
             order: ffi::order_number(target),
             address_size: target.address_size.bytes().into(),
         };
         // SAFETY: the process is only read, the cursor is borrowed exclusively, the state's pointers
-        // are those of slices that are only read, the others are to locals, and `ask` takes what
+        // are those of slices that are only read, the others are to locals, and `read_by_closure` takes what
         // `data` is.
         let status = unsafe {
             ffi::dwcheck_cursor_step_with(
@@ -289,7 +294,7 @@ impl Process {
             *cursor = before;
             resume_unwind(panic);
         }
-        frame_of(status, slot)
+        frame_of_step(status, slot)
     }
 
     /// The frames of a stack one by one, from the frame at an address: an iterator that allocates

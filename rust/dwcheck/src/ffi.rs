@@ -1,4 +1,4 @@
-//! The calls of the C interface.
+//! The calls of the C interface, and the numbers that stand for a target in it.
 //!
 //! Its header has rules for the caller of every call. This is why this crate follows them:
 //!

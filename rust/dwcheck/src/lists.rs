@@ -109,7 +109,7 @@ fn all_locations(
         let more = slots - found.len();
         found.try_reserve_exact(more).map_err(|_| Error::NoMemory)?;
         found.resize(slots, Span::default());
-        match look_up(call, lists, target, lookup, &mut found)? {
+        match look_up_into(call, lists, target, lookup, &mut found)? {
             None => return Ok(None),
             Some(count) if count < slots => {
                 found.truncate(count);
@@ -122,7 +122,7 @@ fn all_locations(
 
 /// Writes to `slots` the expressions that apply at the address, as many as fit, and returns the
 /// number written. `None` if the call says that there is no list.
-fn look_up(
+fn look_up_into(
     call: Call,
     lists: &[u8],
     target: Target,

@@ -28,7 +28,7 @@ pub struct Registers {
 
 /// For a register, where `known` says whether it is known: the index of the byte, and the mask of
 /// the bit in that byte.
-fn flag(number: u16) -> (usize, u8) {
+fn known_bit(number: u16) -> (usize, u8) {
     (usize::from(number / 8), 1 << (number % 8))
 }
 
@@ -44,7 +44,7 @@ impl Registers {
     /// Sets a register's content.
     pub fn set(&mut self, number: u16, content: u64) {
         let place = usize::from(number);
-        let (byte, bit) = flag(number);
+        let (byte, bit) = known_bit(number);
         if place >= self.contents.len() {
             self.contents.resize(place + 1, 0);
         }
@@ -57,7 +57,7 @@ impl Registers {
 
     /// A register's content. `None` if the register isn't known.
     pub fn get(&self, number: u16) -> Option<u64> {
-        let (byte, bit) = flag(number);
+        let (byte, bit) = known_bit(number);
         if self.known.get(byte)? & bit == 0 {
             return None;
         }
@@ -68,7 +68,7 @@ impl Registers {
     /// known.
     pub fn remove(&mut self, number: u16) -> Option<u64> {
         let had = self.get(number)?;
-        let (byte, bit) = flag(number);
+        let (byte, bit) = known_bit(number);
         self.known[byte] &= !bit;
         Some(had)
     }

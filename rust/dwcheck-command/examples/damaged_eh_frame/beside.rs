@@ -5,6 +5,7 @@ use dwcheck::{AddressSize, CfaRule, Order, Process, Record, RecordKind, Rows, Ru
 use gimli::{
     BaseAddresses, EndianSlice, Register, RegisterRule, RunTimeEndian, UnwindContext, UnwindSection, UnwindTableRow,
 };
+use std::fmt;
 use std::ops::Range;
 
 type Bytes<'a> = EndianSlice<'a, RunTimeEndian>;
@@ -35,7 +36,54 @@ pub enum Compared {
     /// gimli can't read it.
     Unread(Limit),
     /// What differs.
-    Differs(String),
+    Differs(Difference),
+}
+
+/// What gimli reads otherwise of an FDE.
+#[derive(Debug)]
+pub enum Difference {
+    /// The record is no FDE.
+    NoFde,
+    /// gimli refuses it, and isn't known to.
+    Refused(gimli::Error),
+    /// gimli's addresses: the first, and their number.
+    Addresses(u64, u64),
+    /// Only one of the two is of a signal frame.
+    SignalFrame,
+    /// The row at this address is another; gimli's, as it shows it.
+    Row(u64, String),
+    /// gimli has no row at this address.
+    NoRow(u64),
+}
+
+impl fmt::Display for Difference {
+    fn fmt(&self, f: &mut fmt::Formatter<'_>) -> fmt::Result {
+        match self {
+            Difference::NoFde => f.write_str("it is no FDE"),
+            Difference::Refused(why) => write!(f, "gimli can't read it: {}", why),
+            Difference::Addresses(first, count) => {
+                write!(f, "gimli's addresses are {:#x} and {:#x} more", first, count)
+            }
+            Difference::SignalFrame => f.write_str("one is a signal frame"),
+            Difference::Row(address, row) => write!(f, "the row of {:#x} differs: gimli {}", address, row),
+            Difference::NoRow(address) => write!(f, "gimli has no row of {:#x}", address),
+        }
+    }
+}
+
+impl std::error::Error for Difference {
+    fn source(&self) -> Option<&(dyn std::error::Error + 'static)> {
+        match self {
+            Difference::Refused(why) => Some(why),
+            _ => None,
+        }
+    }
+}
+
+impl From<gimli::Error> for Difference {
+    fn from(why: gimli::Error) -> Self {
+        Difference::Refused(why)
+    }
 }
 
 /// A section as gimli reads it, beside the process that has it.
@@ -67,38 +115,33 @@ impl<'a> Beside<'a> {
     pub fn compare(&mut self, fde: &Record, cie: &Record) -> Compared {
         let addresses = match &fde.kind {
             RecordKind::Fde { addresses, .. } => addresses.clone(),
-            _ => return Compared::Differs("it is no FDE".to_string()),
+            _ => return Compared::Differs(Difference::NoFde),
         };
         if matches!(cie.kind, RecordKind::Cie { version: 4, .. }) {
             return Compared::Unread(Limit::Version4);
         }
         let offset = gimli::EhFrameOffset(fde.offset as usize);
         let read = self.frames.fde_from_offset(&self.bases, offset, gimli::EhFrame::cie_from_offset);
-        let compared = read.map(|read| self.compare_rows(&read, fde, addresses));
-        match compared.and_then(|compared| compared) {
-            Ok(Ok(rows)) => Compared::Equal(rows),
-            Ok(Err(what)) => Compared::Differs(what),
-            Err(error) => match self.limit(error, cie) {
+        let compared = read.map_err(Difference::Refused).and_then(|read| self.compare_rows(&read, fde, addresses));
+        match compared {
+            Ok(rows) => Compared::Equal(rows),
+            Err(Difference::Refused(why)) => match self.limit(why, cie) {
                 Some(limit) => Compared::Unread(limit),
-                None => Compared::Differs(format!("gimli can't read it: {}", error)),
+                None => Compared::Differs(Difference::Refused(why)),
             },
+            Err(difference) => Compared::Differs(difference),
         }
     }
 
-    /// The number of rows, what differs, or why gimli can't read a row.
-    fn compare_rows(
-        &mut self,
-        read: &Fde<'a>,
-        fde: &Record,
-        addresses: Range<u64>,
-    ) -> gimli::Result<Result<usize, String>> {
+    /// The number of rows, or what differs.
+    fn compare_rows(&mut self, read: &Fde<'a>, fde: &Record, addresses: Range<u64>) -> Result<usize, Difference> {
         let top = self.section.top();
         let theirs = read.initial_address() & top;
         if (theirs, theirs.checked_add(read.len())) != (addresses.start, Some(addresses.end)) {
-            return Ok(Err(format!("gimli's addresses are {:#x} and {:#x} more", theirs, read.len())));
+            return Err(Difference::Addresses(theirs, read.len()));
         }
         if read.is_signal_trampoline() != fde.is_signal_frame {
-            return Ok(Err("one is a signal frame".to_string()));
+            return Err(Difference::SignalFrame);
         }
         let register = read.cie().return_address_register().0;
         let mut table = read.rows(&self.frames, &self.bases, &mut self.context)?;
@@ -110,12 +153,16 @@ impl<'a> Beside<'a> {
                 continue;
             }
             if extent.start != next || !is_same(self.process, &mut rows, theirs, &extent, register) {
-                return Ok(Err(format!("the row of {:#x} differs: gimli {:?}", next, theirs)));
+                return Err(Difference::Row(next, format!("{:?}", theirs)));
             }
             next = extent.end;
             count += 1;
         }
-        Ok(if next == addresses.end { Ok(count) } else { Err(format!("gimli has no row of {:#x}", next)) })
+        if next == addresses.end {
+            Ok(count)
+        } else {
+            Err(Difference::NoRow(next))
+        }
     }
 
     /// Why gimli can't read an FDE with this CIE, if the error comes from what is known of gimli.

@@ -2,6 +2,8 @@
 
 use crate::beside::Limit;
 use crate::check::Outcome;
+use crate::problem::Problem;
+use crate::sections::Section;
 use dwcheck::FaultKind;
 use std::collections::BTreeMap;
 use std::fmt;
@@ -25,8 +27,8 @@ pub struct Counts {
 }
 
 impl Counts {
-    /// Counts a case that took so long.
-    pub fn add(&mut self, outcome: Result<Outcome, String>, took: Duration) {
+    /// Counts a case: the section, what came of it, and how long it took.
+    pub fn add(&mut self, section: &Section, outcome: Result<Outcome, Problem>, took: Duration) {
         self.cases += 1;
         self.longest = self.longest.max(took);
         match outcome {
@@ -37,9 +39,9 @@ impl Counts {
                 add_all(&mut self.unread, accepted.unread);
             }
             Ok(Outcome::Refused(fault)) => *self.refused.entry(fault.number()).or_default() += 1,
-            Err(what) => {
+            Err(problem) => {
                 self.problems += 1;
-                self.texts.push(what);
+                self.texts.push(format!("{}\n    {}", problem, section.line()));
                 self.texts.truncate(KEPT);
             }
         }

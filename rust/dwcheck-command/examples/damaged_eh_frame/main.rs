@@ -18,13 +18,16 @@ mod counts;
 mod damage;
 mod made;
 mod numbers;
+mod problem;
 mod sections;
 
 use counts::Counts;
 use dwcheck::{Process, Target};
 use numbers::Numbers;
+use problem::Problem;
 use rayon::prelude::*;
 use sections::Section;
+use std::error::Error;
 use std::panic::{catch_unwind, AssertUnwindSafe};
 use std::process::ExitCode;
 use std::time::{Duration, Instant};
@@ -36,13 +39,18 @@ const IN_A_BATCH: u64 = 5_000;
 /// The least number of sections that are made.
 const MADE: usize = 2_000;
 
+/// Small sections from that of a program.
+fn read_pieces(name: &str, numbers: &mut Numbers) -> Result<Vec<Section>, Box<dyn Error>> {
+    let bytes = std::fs::read(name)?;
+    Ok(sections::pieces(&bytes, numbers)?)
+}
+
 /// The sections of the programs, and made ones.
 fn seeds(seed: u64, names: &[String]) -> Vec<Section> {
     let mut numbers = Numbers::of(seed, u64::MAX);
     let mut found = Vec::new();
     for name in names {
-        let pieces = std::fs::read(name).map_err(|why| why.to_string());
-        match pieces.and_then(|bytes| sections::pieces(&bytes, &mut numbers)) {
+        match read_pieces(name, &mut numbers) {
             Ok(pieces) => found.extend(pieces),
             Err(why) => eprintln!("{}: {}", name, why),
         }
@@ -63,9 +71,9 @@ fn case(seeds: &[Section], numbers: &mut Numbers, process: &mut Process, counts:
     let outcome = catch_unwind(AssertUnwindSafe(|| check::outcome(&section, process)));
     let took = begun.elapsed();
     process.clear();
-    let outcome = outcome.unwrap_or_else(|_| Err("a panic".to_string()));
-    let outcome = if took > LONGEST { Err(format!("it took {:?}", took)) } else { outcome };
-    counts.add(outcome.map_err(|what| format!("{}\n    {}", what, section.line())), took);
+    let outcome = outcome.unwrap_or(Err(Problem::Panic));
+    let outcome = if took > LONGEST { Err(Problem::TooSlow(took)) } else { outcome };
+    counts.add(&section, outcome, took);
 }
 
 fn batch(seeds: &[Section], seed: u64, first: u64, last: u64) -> Counts {

@@ -3,10 +3,41 @@
 use crate::numbers::Numbers;
 use dwcheck::{AddressSize, EhFrame, FrameSection, Order, Record, RecordKind, Target};
 use object::{Architecture, Object, ObjectSection};
+use std::fmt;
 use std::ops::Range;
 
 /// The most small sections that are taken from a program's section.
 const FROM_A_PROGRAM: usize = 500;
+
+/// Why no sections are taken from a program.
+#[derive(Debug)]
+pub enum NoPieces {
+    /// It has no `.eh_frame`.
+    NoSection,
+    /// A record can't be read.
+    Record(dwcheck::Error),
+    /// Its `.eh_frame` has no FDEs.
+    NoFdes,
+}
+
+impl fmt::Display for NoPieces {
+    fn fmt(&self, f: &mut fmt::Formatter<'_>) -> fmt::Result {
+        match self {
+            NoPieces::NoSection => f.write_str("no .eh_frame"),
+            NoPieces::Record(why) => why.fmt(f),
+            NoPieces::NoFdes => f.write_str("no FDEs"),
+        }
+    }
+}
+
+impl std::error::Error for NoPieces {
+    fn source(&self) -> Option<&(dyn std::error::Error + 'static)> {
+        match self {
+            NoPieces::Record(why) => Some(why),
+            NoPieces::NoSection | NoPieces::NoFdes => None,
+        }
+    }
+}
 
 /// A section, and how it is read.
 #[derive(Clone)]
@@ -67,13 +98,12 @@ fn section_of(file: &[u8]) -> Option<Section> {
 /// # Errors
 ///
 /// Why there are none.
-pub fn pieces(file: &[u8], numbers: &mut Numbers) -> Result<Vec<Section>, String> {
-    let whole = section_of(file).ok_or("no .eh_frame")?;
-    let records = whole.frames().records().collect::<Result<Vec<_>, _>>();
-    let records = records.map_err(|why| why.to_string())?;
+pub fn pieces(file: &[u8], numbers: &mut Numbers) -> Result<Vec<Section>, NoPieces> {
+    let whole = section_of(file).ok_or(NoPieces::NoSection)?;
+    let records = whole.frames().records().collect::<Result<Vec<_>, _>>().map_err(NoPieces::Record)?;
     let fdes: Vec<usize> = (0..records.len()).filter(|place| cie_of(&records[*place]).is_some()).collect();
     if fdes.is_empty() {
-        return Err("no FDEs".to_string());
+        return Err(NoPieces::NoFdes);
     }
     let count = FROM_A_PROGRAM.min(fdes.len());
     let firsts = (0..count).map(|_| numbers.choice(&fdes)).collect::<Vec<_>>();

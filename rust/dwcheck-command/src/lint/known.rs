@@ -1,7 +1,7 @@
 //! Findings that are known: a baseline, so that a run shows only what is new.
 
-use crate::end::{shown, Failure};
-use crate::opened::read;
+use crate::end::{shown_path, Failure};
+use crate::opened::open_elf;
 use dwcheck_lint::finding::Severity;
 use dwcheck_lint::kinds::KINDS;
 use std::collections::HashMap;
@@ -26,14 +26,14 @@ pub struct Remaining(Vec<Key>);
 impl Known {
     /// Reads the findings in the output of an earlier run, which has to be text. Other lines are passed over.
     pub fn read(path: &Path) -> Result<Known, Failure> {
-        let bytes = read(path)?;
+        let bytes = open_elf(path)?;
         if bytes.starts_with(b"{") {
             let reason = "it is JSON; known findings are read from text, as lint writes it without --json and --sarif";
-            return Err(Failure::File(format!("cannot read {}: {}", shown(path), reason)));
+            return Err(Failure::File(format!("cannot read {}: {}", shown_path(path), reason)));
         }
         let mut known = Known::default();
         for line in String::from_utf8_lossy(&bytes).lines() {
-            if let Some((file, key)) = parsed(line) {
+            if let Some((file, key)) = parse_finding_line(line) {
                 known.0.entry(file).or_default().push(key);
             }
         }
@@ -58,18 +58,18 @@ impl Remaining {
 /// The file's name and the key in the first line of a finding:
 /// `FILE: KIND at FUNCTION+0x4 (0x1234): SEVERITY: ..`. In an unlinked object a section and an offset are
 /// in parentheses.
-fn parsed(line: &str) -> Option<(String, Key)> {
+fn parse_finding_line(line: &str) -> Option<(String, Key)> {
     let found = KINDS.iter().find_map(|(_, kind)| Some((*kind, line.split_once(&format!(": {} at ", kind))?)));
     let (kind, (path, rest)) = found?;
     let severities = [Severity::BacktraceBroken, Severity::RegisterLost, Severity::Private];
     let until = severities.iter().find_map(|severity| Some(rest.split_once(&format!("): {}: ", severity))?.0))?;
     let (name, place) = until.rsplit_once(" (")?;
     let file = Path::new(path).file_name()?.to_string_lossy().into_owned();
-    Some((file, Key { kind: kind.to_string(), function: function(name, place) }))
+    Some((file, Key { kind: kind.to_string(), function: function_of_finding(name, place) }))
 }
 
 /// The name without its offset, or the place if there is no name.
-fn function(name: &str, place: &str) -> String {
+fn function_of_finding(name: &str, place: &str) -> String {
     match name {
         super::linted::NAMELESS => place.to_string(),
         name => name.rsplit_once("+0x").map_or(name, |(name, _)| name).to_string(),
@@ -80,6 +80,6 @@ impl Key {
     /// The key of the finding whose first line this is.
     pub fn of(line: &str) -> Key {
         let nothing = || Key { kind: String::new(), function: String::new() };
-        parsed(line).map_or_else(nothing, |(_, key)| key)
+        parse_finding_line(line).map_or_else(nothing, |(_, key)| key)
     }
 }

@@ -1,8 +1,8 @@
-//! Lints one file.
+//! Lints one file: its findings as they are written, and how much of it was judged.
 
 use super::known::Key;
 use super::sarif;
-use crate::survey::files::content;
+use crate::survey::files::map_file;
 use dwcheck_elf::functions::Functions;
 use dwcheck_elf::lines::Lines;
 use dwcheck_elf::lint::{LintError, Sections};
@@ -45,7 +45,7 @@ pub struct Linted {
 }
 
 /// A finding, as it is written.
-pub struct Written {
+pub struct WrittenFinding {
     pub key: Key,
     pub severity: Severity,
     pub text: String,
@@ -56,7 +56,7 @@ pub struct Written {
 /// The result for a file.
 pub enum Outcome {
     /// The file was judged. `text` says how much of it.
-    Judged { findings: Vec<Written>, coverage: Box<Coverage>, unused: Vec<String>, text: String },
+    Judged { findings: Vec<WrittenFinding>, coverage: Box<Coverage>, unused: Vec<String>, text: String },
     /// The file's code isn't read.
     Other(LintError),
     /// The file can't be read.
@@ -64,15 +64,15 @@ pub enum Outcome {
 }
 
 /// Lints a file.
-pub fn linted(path: &Path, shown: &Shown) -> Linted {
-    let outcome = match content(path) {
-        Ok(data) => judged(path, &data, shown),
+pub fn lint_file(path: &Path, shown: &Shown) -> Linted {
+    let outcome = match map_file(path) {
+        Ok(data) => lint_bytes(path, &data, shown),
         Err(error) => Outcome::Unread(format!("cannot read: {}", error)),
     };
     Linted { path: path.to_path_buf(), outcome }
 }
 
-fn judged(path: &Path, data: &[u8], shown: &Shown) -> Outcome {
+fn lint_bytes(path: &Path, data: &[u8], shown: &Shown) -> Outcome {
     let program = match Program::read(data) {
         Ok(program) => program,
         Err(error) => return Outcome::Unread(error.to_string()),
@@ -114,26 +114,26 @@ impl<'m> File<'_, 'm> {
         FunctionOffset::at(self.functions, address).map(|spot| spot.to_string())
     }
 
-    fn written(&self, finding: &Finding<'m>, lint: &mut Lint<'m>, shown: &Shown) -> Written {
+    fn written(&self, finding: &Finding<'m>, lint: &mut Lint<'m>, shown: &Shown) -> WrittenFinding {
         let names = |address| self.name(address);
-        let mut text = format!("{}: {}", crate::end::shown(self.path), Text(self.module, finding, &names));
+        let mut text = format!("{}: {}", crate::end::shown_path(self.path), Text(self.module, finding, &names));
         let key = Key::of(text.lines().next().unwrap_or(""));
         if shown.json {
             let object = Json(self.module, finding, &names).to_string();
             text = format!("{{\"file\":{},{}", Quoted(&self.path.to_string_lossy()), &object[1..]);
         } else if shown.explain {
-            text.push_str(&explained(&explain(lint, finding.fde).unwrap_or_default()));
+            text.push_str(&explained_lines(&explain(lint, finding.fde).unwrap_or_default()));
         }
         let sarif = shown.sarif.then(|| self.result(finding, &text));
-        Written { key, severity: finding.severity, text, sarif }
+        WrittenFinding { key, severity: finding.severity, text, sarif }
     }
 
     /// A finding, whose text this is, as a result of SARIF.
     fn result(&self, finding: &Finding<'m>, text: &str) -> serde_json::Value {
         let address = finding.mark.address;
         let line = self.lines.as_ref().and_then(|lines| lines.line(address));
-        let message = text.get(crate::end::shown(self.path).len() + 2..).unwrap_or(text);
-        sarif::result(self.path, self.module, finding, message, self.name(address), line)
+        let message = text.get(crate::end::shown_path(self.path).len() + 2..).unwrap_or(text);
+        sarif::finding_as_result(self.path, self.module, finding, message, self.name(address), line)
     }
 
     /// How much of the file was judged.
@@ -144,12 +144,12 @@ impl<'m> File<'_, 'm> {
             let file = Quoted(&self.path.to_string_lossy()).to_string();
             return format!("{{\"file\":{},\"coverage\":{{{}}}}}", file, counts.join(","));
         }
-        format!("{}: {}", crate::end::shown(self.path), coverage)
+        format!("{}: {}", crate::end::shown_path(self.path), coverage)
     }
 }
 
 /// The lines around each change of what is wrong. An exclamation mark is before each wrong row.
-fn explained(lines: &[Line]) -> String {
+fn explained_lines(lines: &[Line]) -> String {
     let is_change = |at: usize| {
         let line = &lines[at];
         let before = at.checked_sub(1).map(|before| &lines[before]);

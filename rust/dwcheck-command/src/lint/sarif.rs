@@ -1,6 +1,6 @@
 //! Writes findings as SARIF.
 
-use crate::sarif::place;
+use crate::sarif::sarif_location;
 use dwcheck_elf::lines::SourceLine;
 use dwcheck_lint::coverage::Coverage;
 use dwcheck_lint::finding::{Finding, Severity};
@@ -12,7 +12,7 @@ use std::path::Path;
 
 /// A finding as a result. `text` is its first line, without the file, and `function` names the function with
 /// its offset.
-pub fn result(
+pub fn finding_as_result(
     path: &Path,
     module: &Module<'_>,
     finding: &Finding<'_>,
@@ -24,10 +24,10 @@ pub fn result(
     let logical = function.unwrap_or_else(|| ShownAddress(module, address).to_string());
     let fingerprint = logical.rsplit_once("+0x").map_or(logical.as_str(), |(name, _)| name).to_string();
     let file = path.file_name().map_or_else(String::new, |name| name.to_string_lossy().into_owned());
-    let place = place(path, Some(address), line.as_ref());
+    let place = sarif_location(path, Some(address), line.as_ref());
     json!({
         "ruleId": finding.kind.to_string(),
-        "level": level(finding.severity),
+        "level": level_of_severity(finding.severity),
         "message": { "text": text },
         "locations": [{ "physicalLocation": place, "logicalLocations": [{ "fullyQualifiedName": logical }] }],
         "partialFingerprints": { "kindAndFunction": format!("{}: {} at {}", file, finding.kind, fingerprint) },
@@ -43,15 +43,15 @@ pub fn result(
 }
 
 /// The whole document.
-pub fn document(results: Vec<Value>, coverage: &Coverage) -> Value {
+pub fn lint_document(results: Vec<Value>, coverage: &Coverage) -> Value {
     let rule = |(kind, name): &(Kind, &str)| json!({ "id": name, "shortDescription": { "text": kind.meaning() } });
     let rules: Vec<_> = KINDS.iter().map(rule).collect();
     let counts: serde_json::Map<_, _> =
         coverage.named().into_iter().map(|(name, count)| (name.to_string(), json!(count))).collect();
-    crate::sarif::document(results, rules, json!({ "coverage": counts }))
+    crate::sarif::sarif_document(results, rules, json!({ "coverage": counts }))
 }
 
-fn level(severity: Severity) -> &'static str {
+fn level_of_severity(severity: Severity) -> &'static str {
     match severity {
         Severity::BacktraceBroken => "error",
         Severity::RegisterLost => "warning",

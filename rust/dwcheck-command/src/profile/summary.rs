@@ -1,7 +1,7 @@
-//! The lines on standard error that say what was read, and what wasn't.
+//! The lines on standard error that say what of a recording was read, what wasn't, and why stacks ended.
 
 use crate::arguments::{Format, ProfileArguments};
-use crate::end::shown;
+use crate::end::shown_path;
 use dwcheck_elf::text::Escaped;
 use dwcheck_profile::{End, Names, Profile};
 use std::collections::BTreeMap;
@@ -12,28 +12,28 @@ use std::io::{self, Write};
 const MOST_LINES: usize = 3;
 
 /// Writes the summary.
-pub fn write(arguments: &ProfileArguments, profile: &Profile, names: &Names) {
+pub fn write_summary(arguments: &ProfileArguments, profile: &Profile, names: &Names) {
     let mut text = String::new();
-    problems(profile, names, &mut text);
+    add_problems(profile, names, &mut text);
     if !arguments.quiet {
-        counts(profile, &mut text);
+        add_sample_counts(profile, &mut text);
     }
     if arguments.stops {
-        stops(profile, &mut text);
+        add_stop_reasons(profile, &mut text);
     }
-    events(arguments, profile, &mut text);
+    add_hidden_events(arguments, profile, &mut text);
     if let Some(damage) = &profile.damage {
-        let _ = writeln!(text, "dwcheck-elf: {}: {}", shown(&arguments.recording), damage);
+        let _ = writeln!(text, "dwcheck-elf: {}: {}", shown_path(&arguments.recording), damage);
     }
     if profile.samples.is_empty() {
-        let _ = writeln!(text, "dwcheck-elf: {}: no samples", shown(&arguments.recording));
+        let _ = writeln!(text, "dwcheck-elf: {}: no samples", shown_path(&arguments.recording));
     }
     // If standard error is closed, nobody can read it.
     let _ = io::stderr().write_all(text.as_bytes());
 }
 
 /// What isn't used of files: the first lines of each, and how many more there are.
-fn problems(profile: &Profile, names: &Names, text: &mut String) {
+fn add_problems(profile: &Profile, names: &Names, text: &mut String) {
     let mut by_file: BTreeMap<&str, Vec<&str>> = BTreeMap::new();
     for (file, problem) in profile.problems.iter().chain(&names.problems) {
         by_file.entry(file).or_default().push(problem);
@@ -48,7 +48,7 @@ fn problems(profile: &Profile, names: &Names, text: &mut String) {
     }
 }
 
-fn counts(profile: &Profile, text: &mut String) {
+fn add_sample_counts(profile: &Profile, text: &mut String) {
     let counts = &profile.counts;
     let _ = write!(text, "samples {} frames {}", profile.samples.len(), counts.frames);
     let _ = write!(text, " truncated {}", counts.truncated());
@@ -66,7 +66,7 @@ fn counts(profile: &Profile, text: &mut String) {
 }
 
 /// How many stacks ended for each reason.
-fn stops(profile: &Profile, text: &mut String) {
+fn add_stop_reasons(profile: &Profile, text: &mut String) {
     for end in End::ALL {
         if let Some(count) = profile.counts.ends.get(&end) {
             let _ = writeln!(text, "stop {}: {}", end, count);
@@ -75,7 +75,7 @@ fn stops(profile: &Profile, text: &mut String) {
 }
 
 /// Which events aren't shown.
-fn events(arguments: &ProfileArguments, profile: &Profile, text: &mut String) {
+fn add_hidden_events(arguments: &ProfileArguments, profile: &Profile, text: &mut String) {
     let sampled = profile.sampled_events();
     if matches!(arguments.format, Format::Script | Format::Pprof) || sampled.len() < 2 {
         return;

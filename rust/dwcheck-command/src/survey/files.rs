@@ -53,7 +53,7 @@ impl Files {
         let mut walk = Walk::default();
         paths.iter().for_each(|path| walk.start(path));
         let Walk { found, links, mut unread, .. } = walk;
-        let checked: Vec<_> = found.into_par_iter().map(|one| (is_elf(&one.path), one)).collect();
+        let checked: Vec<_> = found.into_par_iter().map(|one| (is_elf_file(&one.path), one)).collect();
         let mut elf = Vec::new();
         for (answer, candidate) in checked {
             match answer {
@@ -62,7 +62,7 @@ impl Files {
                 Err(error) => unread.push((candidate.path, error.to_string())),
             }
         }
-        let marks = marks(&elf);
+        let marks = content_hashes(&elf);
         let count = elf.len();
         let mut seen = HashSet::new();
         let first =
@@ -90,7 +90,7 @@ impl Walk {
             return;
         }
         if !self.seen.insert((metadata.dev(), metadata.ino())) {
-            self.links += usize::from(metadata.is_file() && is_elf(&path).unwrap_or(false));
+            self.links += usize::from(metadata.is_file() && is_elf_file(&path).unwrap_or(false));
         } else if metadata.is_dir() {
             self.folder(&path);
         } else {
@@ -115,8 +115,8 @@ impl Walk {
     }
 }
 
-fn is_elf(path: &Path) -> io::Result<bool> {
-    Ok(start(path)?.starts_with(MAGIC))
+fn is_elf_file(path: &Path) -> io::Result<bool> {
+    Ok(first_bytes(path)?.starts_with(MAGIC))
 }
 
 /// Why a file that was named isn't an ELF file. `None` if it is one, or a folder.
@@ -127,7 +127,7 @@ fn why_not_elf(path: &Path, metadata: &Metadata) -> io::Result<Option<String>> {
     if !metadata.is_file() {
         return Ok(Some("neither a regular file nor a folder".to_string()));
     }
-    let start = start(path)?;
+    let start = first_bytes(path)?;
     if start.starts_with(MAGIC) {
         return Ok(None);
     }
@@ -135,7 +135,7 @@ fn why_not_elf(path: &Path, metadata: &Metadata) -> io::Result<Option<String>> {
 }
 
 /// The first bytes of a file, by which its kind is known.
-fn start(path: &Path) -> io::Result<Vec<u8>> {
+fn first_bytes(path: &Path) -> io::Result<Vec<u8>> {
     let mut start = Vec::with_capacity(OtherFile::STARTS);
     File::open(path)?.take(OtherFile::STARTS as u64).read_to_end(&mut start)?;
     Ok(start)
@@ -144,7 +144,7 @@ fn start(path: &Path) -> io::Result<Vec<u8>> {
 /// For each file, a 128-bit hash of its bytes, or `None` if no other file has the same size or the
 /// file can't be read. Two files with different bytes have the same hash with a probability of about
 /// 2^-128.
-fn marks(files: &[Candidate]) -> Vec<Option<u128>> {
+fn content_hashes(files: &[Candidate]) -> Vec<Option<u128>> {
     let mut sizes: HashMap<u64, usize> = HashMap::new();
     files.iter().for_each(|file| *sizes.entry(file.size).or_insert(0) += 1);
     let keys = (RandomState::new(), RandomState::new());
@@ -152,7 +152,7 @@ fn marks(files: &[Candidate]) -> Vec<Option<u128>> {
         let repeats = sizes.get(&file.size).map_or(false, |count| *count > 1);
         // If the file can't be read, that is reported later, when it is checked.
         if repeats {
-            mark(&file.path, &keys).ok()
+            hash_of_content(&file.path, &keys).ok()
         } else {
             None
         }
@@ -160,7 +160,7 @@ fn marks(files: &[Candidate]) -> Vec<Option<u128>> {
     files.par_iter().map(mark).collect()
 }
 
-fn mark(path: &Path, keys: &(RandomState, RandomState)) -> io::Result<u128> {
+fn hash_of_content(path: &Path, keys: &(RandomState, RandomState)) -> io::Result<u128> {
     let mut file = File::open(path)?;
     let (mut one, mut other) = (keys.0.build_hasher(), keys.1.build_hasher());
     let mut bytes = vec![0; 1 << 16];
@@ -176,7 +176,7 @@ fn mark(path: &Path, keys: &(RandomState, RandomState)) -> io::Result<u128> {
 }
 
 /// The bytes of a file of at most [`LARGEST`] bytes, which is mapped.
-pub fn content(path: &Path) -> io::Result<Bytes> {
+pub fn map_file(path: &Path) -> io::Result<Bytes> {
     let size = path.metadata()?.len();
     if size > LARGEST {
         return Err(io::Error::new(io::ErrorKind::Other, format!("it has {} bytes", size)));

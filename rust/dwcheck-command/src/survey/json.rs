@@ -9,41 +9,41 @@ use serde_json::{json, Map, Value};
 use std::io::{self, Write};
 
 /// Writes an object for each file and folder that can't be read.
-pub fn write_unread(out: &mut impl Write, files: &Files) -> io::Result<()> {
+pub fn write_json_unread(out: &mut impl Write, files: &Files) -> io::Result<()> {
     let mut unread = files.unread.iter();
     unread.try_for_each(|(path, error)| writeln!(out, "{}", json!({ "file": path.to_string_lossy(), "error": error })))
 }
 
 /// Writes the object for a file.
-pub fn write_file(out: &mut impl Write, surveyed: &Surveyed) -> io::Result<()> {
-    writeln!(out, "{}", file(surveyed))
+pub fn write_json_file(out: &mut impl Write, surveyed: &Surveyed) -> io::Result<()> {
+    writeln!(out, "{}", json_file(surveyed))
 }
 
 /// Writes the last object.
-pub fn write_totals(out: &mut impl Write, all: &Totals) -> io::Result<()> {
-    writeln!(out, "{}", json!({ "totals": totals(all) }))
+pub fn write_json_totals(out: &mut impl Write, all: &Totals) -> io::Result<()> {
+    writeln!(out, "{}", json!({ "totals": json_totals(all) }))
 }
 
 /// The counts of all files, by their names.
-pub fn totals(totals: &Totals) -> Value {
+pub fn json_totals(totals: &Totals) -> Value {
     let counts: Map<_, _> = totals.named().iter().map(|(name, count)| (name.to_string(), json!(count))).collect();
     Value::Object(counts)
 }
 
-fn file(one: &Surveyed) -> Value {
+fn json_file(one: &Surveyed) -> Value {
     let Surveyed { path, machine, outcome } = one;
     let mut object = json!({ "file": path.to_string_lossy() });
     if let Some(machine) = machine {
         object["machine"] = json!(machine);
     }
     match outcome {
-        Ok(sections) => object["sections"] = sections.iter().map(section).collect(),
+        Ok(sections) => object["sections"] = sections.iter().map(json_section).collect(),
         Err(error) => object["error"] = json!(error.to_string()),
     }
     object
 }
 
-fn section(section: &Section) -> Value {
+fn json_section(section: &Section) -> Value {
     let name = section.name.to_string();
     let bytes = section.bytes;
     if let Some(error) = &section.error {
@@ -57,18 +57,18 @@ fn section(section: &Section) -> Value {
             json!({ "section": name, "bytes": bytes, "accepted": true, "lists": lists, "expressions": expressions })
         }
         Held::Unknown => {
-            let faults: Vec<_> = section.defects.iter().map(fault).collect();
+            let faults: Vec<_> = section.defects.iter().map(json_fault).collect();
             json!({ "section": name, "bytes": bytes, "accepted": false, "faults": faults })
         }
     };
     if let Some(lists) = &section.lists {
-        add_lists(&mut object, lists);
+        add_list_counts(&mut object, lists);
     }
     object
 }
 
 /// Adds what location lists have that were found by `.debug_info`.
-fn add_lists(object: &mut Value, lists: &lists::Contents) {
+fn add_list_counts(object: &mut Value, lists: &lists::Contents) {
     let numbers = [
         ("units", lists.units),
         ("entries", lists.entries),
@@ -84,7 +84,7 @@ fn add_lists(object: &mut Value, lists: &lists::Contents) {
     object["doubtful"] = lists.lints.all().map(|(lint, count)| (lint.to_string(), json!(count))).collect();
 }
 
-fn fault(defect: &Defect) -> Value {
+fn json_fault(defect: &Defect) -> Value {
     let Defect { offset, at, fault, what, record, function, rule, .. } = defect;
     let mut object = json!({ "record": at, "offset": offset, "fault": fault, "what": what, "rule": rule });
     if let Some(Within::Fde(range)) = record {

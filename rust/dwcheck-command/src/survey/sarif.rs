@@ -1,7 +1,7 @@
 //! Writes what a survey refuses as SARIF, each fault at the source line of its FDE's first address.
 
 use super::{Section, Surveyed};
-use crate::sarif::{document, place};
+use crate::sarif::{sarif_document, sarif_location};
 use dwcheck_elf::fault::{Defect, Within};
 use dwcheck_elf::lines::SourceLine;
 use serde_json::{json, Value};
@@ -25,7 +25,7 @@ impl Results {
             section.defects.iter().for_each(|defect| {
                 self.rules.entry(defect.fault).or_insert_with(|| defect.rule.clone());
             });
-            self.results.extend(results(&surveyed.path, section));
+            self.results.extend(sarif_results(&surveyed.path, section));
         }
     }
 
@@ -33,17 +33,17 @@ impl Results {
     pub fn write(self, out: &mut impl Write, totals: Value) -> io::Result<()> {
         let rule = |(name, rule): (&str, String)| json!({ "id": name, "shortDescription": { "text": rule } });
         let rules = self.rules.into_iter().map(rule).collect();
-        writeln!(out, "{:#}", document(self.results, rules, json!({ "totals": totals })))
+        writeln!(out, "{:#}", sarif_document(self.results, rules, json!({ "totals": totals })))
     }
 }
 
-fn results<'a>(path: &'a Path, section: &'a Section) -> impl Iterator<Item = Value> + 'a {
+fn sarif_results<'a>(path: &'a Path, section: &'a Section) -> impl Iterator<Item = Value> + 'a {
     let lines = section.lines.iter().map(Option::as_ref).chain(std::iter::repeat(None));
-    section.defects.iter().zip(lines).map(|(defect, line)| result(path, defect, line))
+    section.defects.iter().zip(lines).map(|(defect, line)| sarif_result(path, defect, line))
 }
 
-fn result(path: &Path, defect: &Defect, line: Option<&SourceLine>) -> Value {
-    let place = place(path, address(defect), line);
+fn sarif_result(path: &Path, defect: &Defect, line: Option<&SourceLine>) -> Value {
+    let place = sarif_location(path, address_of_fde(defect), line);
     let file = path.file_name().map_or_else(String::new, |name| name.to_string_lossy().into_owned());
     let name = defect.function.clone().unwrap_or_else(|| format!("{}+{:#x}", defect.section, defect.at));
     json!({
@@ -62,7 +62,7 @@ fn result(path: &Path, defect: &Defect, line: Option<&SourceLine>) -> Value {
 }
 
 /// The first address of the FDE that has a fault.
-pub fn address(defect: &Defect) -> Option<u64> {
+pub fn address_of_fde(defect: &Defect) -> Option<u64> {
     match &defect.record {
         Some(Within::Fde(range)) => Some(range.start),
         _ => None,

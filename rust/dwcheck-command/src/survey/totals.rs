@@ -1,4 +1,4 @@
-//! The totals of a survey.
+//! The totals of a survey: counts of files and sections.
 
 use super::files::Files;
 use super::{Held, Section, Surveyed};

@@ -135,13 +135,13 @@ fn recording(bytes: &[u8], root: &Path) -> bool {
     let names = Names::read(&profile, &Default::default());
     let event = profile.sampled_events().first().copied().unwrap_or(0);
     let mut out = Vec::new();
-    folded::write(&profile, &names, event, &mut out).unwrap();
-    script::write(&profile, &names, ScriptOptions { stops: true }, &mut out).unwrap();
-    html::write(&profile, &names, event, "title", &mut out).unwrap();
-    speedscope::write(&profile, &names, event, &mut out).unwrap();
-    pprof::write(&profile, &names, &mut out).unwrap();
-    firefox::write(&profile, &names, event, "title", &mut out).unwrap();
-    top::write(&profile, &names, event, 10, &mut out).unwrap();
+    folded::write_folded(&profile, &names, event, &mut out).unwrap();
+    script::write_script(&profile, &names, ScriptOptions { stops: true }, &mut out).unwrap();
+    html::write_html(&profile, &names, event, "title", &mut out).unwrap();
+    speedscope::write_speedscope(&profile, &names, event, &mut out).unwrap();
+    pprof::write_pprof(&profile, &names, &mut out).unwrap();
+    firefox::write_firefox(&profile, &names, event, "title", &mut out).unwrap();
+    top::write_top(&profile, &names, event, 10, &mut out).unwrap();
     assert!(out.len() < 10_000_000, "{}", out.len());
     true
 }

@@ -3,7 +3,7 @@
 use crate::common::run::{dwcheck_elf, Ran};
 use crate::common::waiting::Waiting;
 use crate::common::{has, may_trace, Folder};
-use std::process::{Command, Stdio};
+use std::process::{Child, Command, Stdio};
 
 const WAITS: &str = "
 #define _GNU_SOURCE
@@ -79,6 +79,22 @@ fn a_handler_on_another_stack() {
     }
 }
 
+/// Has gdb trace a process.
+fn trace_by_gdb(process: &Waiting) -> Child {
+    let mut gdb = Command::new("gdb");
+    let gdb = gdb
+        .args(["-q", "--batch", "-p", &process.id().to_string(), "-ex", "shell sleep 5"])
+        .stdout(Stdio::null())
+        .stderr(Stdio::null())
+        .stdin(Stdio::null())
+        .spawn()
+        .unwrap();
+    while process.state() != 't' {
+        std::thread::sleep(std::time::Duration::from_millis(10));
+    }
+    gdb
+}
+
 /// The stacks of a process are those of eu-stack, also after its file was removed. The process goes
 /// on. A process that another program traces is left alone.
 #[test]
@@ -107,17 +123,7 @@ fn a_process_that_waits() {
     std::fs::remove_file(folder.file("waits")).unwrap();
     let removed = dwcheck_elf(&folder, &format!("stack --no-inline --no-source --pid {}", pid));
     assert_eq!(removed.out.replace(" (deleted)", ""), ran.out, "{}", removed.error);
-    let mut gdb = Command::new("gdb");
-    let mut gdb = gdb
-        .args(["-q", "--batch", "-p", &pid.to_string(), "-ex", "shell sleep 5"])
-        .stdout(Stdio::null())
-        .stderr(Stdio::null())
-        .stdin(Stdio::null())
-        .spawn()
-        .unwrap();
-    while process.state() != 't' {
-        std::thread::sleep(std::time::Duration::from_millis(10));
-    }
+    let mut gdb = trace_by_gdb(&process);
     let traced = dwcheck_elf(&folder, &format!("stack --pid {}", pid));
     assert_eq!(
         (traced.status, traced.error),

@@ -1,4 +1,5 @@
-//! What is wrong with a section, in terms of the ELF file. `check` finds out which words to use.
+//! What is wrong with a frame section, or with one of its FDEs, in terms of the ELF file. `check` finds out which
+//! words to use.
 
 use crate::elf::format::Name;
 use std::fmt;

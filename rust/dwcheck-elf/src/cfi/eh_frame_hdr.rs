@@ -42,17 +42,17 @@ pub struct Mismatches {
 /// Why gimli can't read the table.
 pub fn mismatches(program: &Program<'_>, frames: &Frames<'_>) -> gimli::Result<Vec<Mismatches>> {
     let entries = match program.eh_frame_header().filter(|_| frames.name() == Name::EhFrame) {
-        Some((address, bytes)) => entries(address, bytes, frames)?,
+        Some((address, bytes)) => search_table_entries(address, bytes, frames)?,
         None => None,
     };
-    Ok(entries.map_or_else(Vec::new, |entries| compared(&entries, frames)))
+    Ok(entries.map_or_else(Vec::new, |entries| compare_entries(&entries, frames)))
 }
 
 /// An entry of the table: the first address of an FDE, and the FDE's own address.
 type Entry = (u64, u64);
 
 /// The entries of the table. `None` if the header has no table.
-fn entries(address: u64, bytes: &[u8], frames: &Frames<'_>) -> gimli::Result<Option<Vec<Entry>>> {
+fn search_table_entries(address: u64, bytes: &[u8], frames: &Frames<'_>) -> gimli::Result<Option<Vec<Entry>>> {
     let target = frames.target();
     let bases = BaseAddresses::default().set_eh_frame_hdr(address);
     let header = EhFrameHdr::new(bytes, target.gimli_order()).parse(&bases, target.address_size.bytes())?;
@@ -71,7 +71,7 @@ fn entries(address: u64, bytes: &[u8], frames: &Frames<'_>) -> gimli::Result<Opt
     Ok(Some(entries))
 }
 
-fn compared(entries: &[Entry], frames: &Frames<'_>) -> Vec<Mismatches> {
+fn compare_entries(entries: &[Entry], frames: &Frames<'_>) -> Vec<Mismatches> {
     let target = frames.target();
     let mut found: BTreeMap<Mismatch, Mismatches> = BTreeMap::new();
     let mut add = |kind, first| found.entry(kind).or_insert(Mismatches { kind, count: 0, first }).count += 1;

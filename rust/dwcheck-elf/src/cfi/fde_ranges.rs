@@ -1,4 +1,4 @@
-//! Which FDE counts at which address.
+//! Which FDE counts at which address, where several cover it.
 
 use std::cmp::Reverse;
 use std::collections::BinaryHeap;
@@ -25,7 +25,7 @@ impl FdeRanges {
         let mut pieces: Vec<_> = pieces.filter(|piece| piece.range.start < piece.range.end).collect();
         pieces.sort_by_key(|piece| piece.range.start);
         let overlap = pieces.windows(2).any(|pair| pair[1].range.start < pair[0].range.end);
-        FdeRanges(if overlap { swept(&pieces) } else { pieces })
+        FdeRanges(if overlap { without_overlaps(&pieces) } else { pieces })
     }
 
     /// For each of these ranges, the first FDE that shares an address with it. `None` for a range
@@ -50,7 +50,7 @@ impl FdeRanges {
 }
 
 /// Cuts ranges that overlap into pieces. `all` is in ascending order of the first address.
-fn swept(all: &[FdeRange]) -> Vec<FdeRange> {
+fn without_overlaps(all: &[FdeRange]) -> Vec<FdeRange> {
     let mut bounds: Vec<u64> = all.iter().flat_map(|piece| [piece.range.start, piece.range.end]).collect();
     bounds.sort_unstable();
     bounds.dedup();

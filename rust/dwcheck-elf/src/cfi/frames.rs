@@ -1,4 +1,5 @@
-//! The frame sections of a program, in the form that the library takes.
+//! The frame sections of a program, in the form that the library takes: their bytes as edited, the records that are
+//! used, what is unresolved or signed.
 //!
 //! The library gets the bytes of the file, at their offsets. Only what it would refuse and is harmless, or
 //! is left out, is changed in place; `edits` has the list.
@@ -17,8 +18,8 @@ pub use expressions::{Expression, Measured};
 pub use notes::Notes;
 pub use records::{Kind, Record, RecordStatus};
 
-pub(crate) use records::{body, find};
-use signing::signed;
+pub(crate) use records::{find_record, range_of_body};
+use signing::signed_ranges;
 
 pub use crate::elf::format::{Format, Name};
 
@@ -26,7 +27,7 @@ use crate::elf::program::{Program, ProgramError, Section};
 use copies::mark_copies;
 use dwcheck::{Error, Fault, FaultKind, Process};
 use dwcheck_types::target::Target;
-use edits::{edited, Edited};
+use edits::{edit_records, Edited};
 use std::borrow::Cow;
 use std::collections::HashSet;
 use std::fmt;
@@ -97,7 +98,7 @@ impl<'data> FrameSection<'data> {
 
 /// Changes what is harmless in these records of a section, or of a part of it.
 pub(crate) fn edited_bytes<'a>(format: &Format, bytes: &'a [u8], records: &[Record]) -> Cow<'a, [u8]> {
-    edited(format, bytes, records).bytes
+    edit_records(format, bytes, records).bytes
 }
 
 /// Why a frame section can't be passed to the library.
@@ -133,7 +134,8 @@ impl<'data> Frames<'data> {
 
     /// Makes the bytes that the library takes.
     fn edited(mut self) -> Self {
-        let Edited { bytes, length, changes } = edited(&self.section.format, &self.section.source.bytes, &self.records);
+        let Edited { bytes, length, changes } =
+            edit_records(&self.section.format, &self.section.source.bytes, &self.records);
         self.length = length;
         self.changes = changes;
         self.changed = match bytes {
@@ -185,7 +187,7 @@ impl<'data> Frames<'data> {
 
     /// The record that begins at an offset.
     pub fn record(&self, offset: u64) -> Option<&Record> {
-        find(&self.records, offset)
+        find_record(&self.records, offset)
     }
 
     /// Whether FDEs are used.
@@ -218,7 +220,7 @@ impl<'data> Frames<'data> {
     /// This takes time in proportion to the section's length.
     pub fn signed(&self) -> Vec<Range<u64>> {
         match self.section.format.is_aarch64() {
-            true => signed(&self.section.source.bytes, &self.records, self.target()),
+            true => signed_ranges(&self.section.source.bytes, &self.records, self.target()),
             false => Vec::new(),
         }
     }
@@ -298,7 +300,7 @@ fn mark_unresolved(records: &mut [Record], format: &Format, source: &Section<'_>
     // With a wrong address the library may not be able to read an FDE.
     let may_be_fde = |record: &&mut Record| matches!(record.kind, Kind::Fde { .. } | Kind::Unread(_));
     for record in records.iter_mut().filter(may_be_fde) {
-        let place = body(&source.bytes, record.offset, format.target).map(|body| body.start as u64 + 4);
+        let place = range_of_body(&source.bytes, record.offset, format.target).map(|body| body.start as u64 + 4);
         if place.map_or(false, |place| source.unresolved.binary_search(&place).is_ok()) {
             record.status = RecordStatus::LeftOut;
             marked.push(record.offset);

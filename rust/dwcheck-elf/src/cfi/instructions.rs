@@ -38,8 +38,8 @@ pub(crate) const NEGATE_RA_STATE_WITH_PC: u8 = 0x2c;
 pub(crate) const GNU_ARGS_SIZE: u8 = dw::DW_CFA_GNU_args_size.0;
 
 /// The operands of the instruction with this code. `None` if the code isn't known.
-pub(crate) fn operands(code: u8) -> Option<Operands> {
-    Some(match dw::DwCfa(primary(code)) {
+pub(crate) fn operands_of_instruction(code: u8) -> Option<Operands> {
+    Some(match dw::DwCfa(primary_opcode(code)) {
         dw::DW_CFA_advance_loc | dw::DW_CFA_restore => Operands::None,
         dw::DW_CFA_offset => Operands::Leb,
         dw::DW_CFA_nop | dw::DW_CFA_remember_state | dw::DW_CFA_restore_state => Operands::None,
@@ -63,7 +63,7 @@ pub(crate) fn operands(code: u8) -> Option<Operands> {
 }
 
 /// The code without the operand that instructions with one of the two highest bits have in the others.
-fn primary(code: u8) -> u8 {
+fn primary_opcode(code: u8) -> u8 {
     if code & 0xc0 == 0 {
         code
     } else {
@@ -73,20 +73,24 @@ fn primary(code: u8) -> u8 {
 
 /// Moves past the operands of an instruction. Returns the length of the block that they end with,
 /// or `None` if they have no block. An address has the target's address size, as in `.debug_frame`.
-pub(crate) fn skip(cursor: &mut Cursor<'_>, operands: Operands, target: Target) -> Result<Option<usize>, ReadError> {
+pub(crate) fn skip_operands(
+    cursor: &mut Cursor<'_>,
+    operands: Operands,
+    target: Target,
+) -> Result<Option<usize>, ReadError> {
     match operands {
         Operands::None => {}
         Operands::Address => cursor.take(u64::from(target.address_size.bytes())).map(|_| ())?,
         Operands::Bytes(count) => cursor.take(count).map(|_| ())?,
         Operands::Leb => cursor.skip_leb()?,
         Operands::TwoLebs => cursor.skip_leb().and_then(|()| cursor.skip_leb())?,
-        Operands::Block => return block(cursor).map(Some),
-        Operands::LebAndBlock => return cursor.skip_leb().and_then(|()| block(cursor)).map(Some),
+        Operands::Block => return skip_block(cursor).map(Some),
+        Operands::LebAndBlock => return cursor.skip_leb().and_then(|()| skip_block(cursor)).map(Some),
     }
     Ok(None)
 }
 
-fn block(cursor: &mut Cursor<'_>) -> Result<usize, ReadError> {
+fn skip_block(cursor: &mut Cursor<'_>) -> Result<usize, ReadError> {
     let length = cursor.uleb()?;
     cursor.take(length).map(<[u8]>::len)
 }
@@ -94,8 +98,8 @@ fn block(cursor: &mut Cursor<'_>) -> Result<usize, ReadError> {
 /// The name of the instruction with this code, without `DW_CFA_`. It is the name in DWARF 5,
 /// section 7.24, or a vendor's. Vendors use some codes for different instructions; `machine`
 /// (`e_machine`) then decides which one is meant. `None` if the code has no name.
-pub(crate) fn name_of(code: u8, machine: u16) -> Option<&'static str> {
-    let code = primary(code);
+pub(crate) fn instruction_name(code: u8, machine: u16) -> Option<&'static str> {
+    let code = primary_opcode(code);
     match dw::DwCfa(code) {
         dw::DW_CFA_lo_user | dw::DW_CFA_hi_user => None,
         _ if code == NEGATE_RA_STATE && machine == EM_AARCH64 => Some("AARCH64_negate_ra_state"),

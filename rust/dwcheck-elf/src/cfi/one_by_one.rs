@@ -2,7 +2,7 @@
 //! as a whole.
 
 use crate::cfi::fde_ranges::FdeRanges;
-use crate::cfi::frames::{body, Format, Frames, Kind, Name, Record, RecordStatus};
+use crate::cfi::frames::{range_of_body, Format, Frames, Kind, Name, Record, RecordStatus};
 use dwcheck::{Error, Fault, FaultKind, Process, Section};
 use std::collections::{HashMap, HashSet};
 use std::fmt;
@@ -23,7 +23,7 @@ impl OwnSection {
     /// A section that has only this CIE of a section with these bytes.
     pub fn cie(format: &Format, bytes: &[u8], cie: &Record) -> Option<Self> {
         let records = vec![cie.at(0)];
-        Some(OwnSection { bytes: bytes.get(cie.range())?.to_vec(), format: format.moved(cie.offset), records })
+        Some(OwnSection { bytes: bytes.get(cie.range())?.to_vec(), format: format.moved_by(cie.offset), records })
     }
 
     /// A section that has only this FDE of a section with these bytes, and its CIE. The FDE's pointer to the CIE
@@ -32,7 +32,7 @@ impl OwnSection {
         let mut alone = bytes.get(cie.range())?.to_vec();
         let start = alone.len();
         alone.extend_from_slice(bytes.get(fde.range())?);
-        let pointer = body(&alone, start as u64, format.target)?.start;
+        let pointer = range_of_body(&alone, start as u64, format.target)?.start;
         let is_long = pointer - start > 4;
         let mut written = Vec::with_capacity(8);
         match format.is_eh_frame() {
@@ -42,7 +42,7 @@ impl OwnSection {
         }
         alone.get_mut(pointer..pointer + written.len())?.copy_from_slice(&written);
         let records = vec![cie.at(0), fde.at(start as u64)];
-        Some(OwnSection { bytes: alone, format: format.moved(fde.offset.wrapping_sub(start as u64)), records })
+        Some(OwnSection { bytes: alone, format: format.moved_by(fde.offset.wrapping_sub(start as u64)), records })
     }
 
     /// The first fault, if it is refused, with its offset in the whole section, where the last record is at
@@ -85,7 +85,7 @@ pub fn every_fault(frames: &Frames<'_>, first: Fault) -> Vec<Found> {
         Kind::Empty => None,
     };
     let found = |record: &Record| Some(Found { record: record.offset, fault: fault(record)? });
-    let mut faults: Vec<_> = frames.used().filter_map(found).chain(overlaps(frames)).collect();
+    let mut faults: Vec<_> = frames.used().filter_map(found).chain(overlapping_fdes(frames)).collect();
     faults.sort_by_key(|found| (found.fault.offset, found.fault.number()));
     faults.dedup_by_key(|found| (found.fault.offset, found.fault.kind));
     if !faults.iter().any(|found| found.fault.offset == first.offset && found.fault.kind == first.kind) {
@@ -133,7 +133,7 @@ impl std::error::Error for NotUsed {
 
 /// A section without the CIEs and FDEs that are refused, and its rows. If there are such, the last part of the
 /// result says how many.
-pub(crate) fn accepted(frames: Frames<'_>) -> Result<(Frames<'_>, Process, Option<String>), NotUsed> {
+pub(crate) fn accepted_part_with_rows(frames: Frames<'_>) -> Result<(Frames<'_>, Process, Option<String>), NotUsed> {
     let name = frames.name();
     let (frames, process, fault) = match frames.process(0) {
         Ok(process) => (frames, process, None),
@@ -171,7 +171,7 @@ impl Judge<'_> {
         if self.frames.record(cie).map_or(false, |record| matches!(record.kind, Kind::Unread(_))) {
             return None;
         }
-        let body = body(self.frames.whole(), fde.offset, self.frames.target())?;
+        let body = range_of_body(self.frames.whole(), fde.offset, self.frames.target())?;
         Some(Fault { kind: FaultKind::NoSuchCie, offset: body.start as u32, section: Section::Frame })
     }
 
@@ -189,13 +189,13 @@ impl Judge<'_> {
     /// Whether a record that can't be read has the id of a CIE of `.eh_frame`.
     fn is_cie(&self, record: &Record) -> bool {
         let (bytes, target) = (self.frames.whole(), self.frames.target());
-        let id = body(bytes, record.offset, target).and_then(|body| bytes.get(body.start..body.start + 4));
+        let id = range_of_body(bytes, record.offset, target).and_then(|body| bytes.get(body.start..body.start + 4));
         matches!(record.kind, Kind::Unread(_)) && id == Some(&[0; 4])
     }
 }
 
 /// The fault Overlap for each FDE that shares an address with an earlier FDE of the section.
-fn overlaps<'a>(frames: &'a Frames<'_>) -> impl Iterator<Item = Found> + 'a {
+fn overlapping_fdes<'a>(frames: &'a Frames<'_>) -> impl Iterator<Item = Found> + 'a {
     let shared = Shared::of(frames);
     let later = frames.used().filter(move |record| shared.first(record.offset).is_some());
     later.map(|record| Found {

@@ -1,7 +1,7 @@
 //! The FDEs of a frame section, each of which can be used alone.
 
 use crate::cfi::fde_ranges::{FdeRange, FdeRanges};
-use crate::cfi::frames::{edited_bytes, find, Format, FrameSection, Kind, Name, Record};
+use crate::cfi::frames::{edited_bytes, find_record, Format, FrameSection, Kind, Name, Record};
 use crate::cfi::instructions::{instructions, with_nops, REMEMBER_STATE, RESTORE_STATE};
 use crate::cfi::one_by_one::OwnSection;
 use crate::elf::program::Program;
@@ -78,11 +78,11 @@ impl<'a> SectionTable<'a> {
     }
 
     /// An FDE with its CIE, or why it can't be used.
-    pub fn one(&self, fde: usize) -> Result<OneFde, &'static str> {
+    pub fn table_of_one_fde(&self, fde: usize) -> Result<OneFde, &'static str> {
         let FrameSection { format, source } = &self.section;
         let fde = &self.records[fde];
         let (cie, is_signal_frame) = match fde.kind {
-            Kind::Fde { cie, is_signal_frame, .. } => (find(&self.records, cie), is_signal_frame),
+            Kind::Fde { cie, is_signal_frame, .. } => (find_record(&self.records, cie), is_signal_frame),
             _ => (None, false),
         };
         let alone = cie.filter(|cie| cie.is_cie()).and_then(|cie| OwnSection::fde(format, &source.bytes, cie, fde));
@@ -121,7 +121,7 @@ impl OneFde {
 /// Adds an FDE to a process, for the addresses of `loaded`, or, if another FDE answers for one of
 /// these, for `address` alone. A remember_state that is left over at the end of the FDE changes no
 /// row, so the rows of such an FDE are used too.
-pub fn add(process: &mut Process, one: &OneFde, loaded: &dwcheck::Module, address: u64) -> Result<(), Error> {
+pub fn add_fde(process: &mut Process, one: &OneFde, loaded: &dwcheck::Module, address: u64) -> Result<(), Error> {
     let mut add = |bytes: &[u8]| match process.add(bytes, loaded.clone()) {
         Err(Error::Overlaps(_)) => process.add(bytes, loaded.clone().range(address..=address)),
         added => added,

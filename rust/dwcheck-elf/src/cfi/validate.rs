@@ -12,7 +12,7 @@ use crate::cfi::row::Row;
 use dwcheck_types::cursor::Cursor;
 use std::fmt;
 
-pub(crate) use comparable::comparable;
+pub(crate) use comparable::comparable_bytes;
 pub use dwcheck_rows::{validate_rows, DwcheckRows};
 pub use gimli_rows::GimliRows;
 
@@ -118,18 +118,24 @@ pub fn compare_rows<'a, 'b>(
     loop {
         let (one, other) = (gimli.next_row(left), library.next_row(right));
         match (&one, &other) {
-            (Ok(true), Ok(true)) if same(left, right) => number += 1,
+            (Ok(true), Ok(true)) if is_same_row(left, right) => number += 1,
             (Ok(false), Ok(false)) => return Ok(number),
-            _ => return Err(What::Row { number, gimli: shown(&one, left), library: shown(&other, right) }),
+            _ => {
+                return Err(What::Row {
+                    number,
+                    gimli: shown_row_outcome(&one, left),
+                    library: shown_row_outcome(&other, right),
+                })
+            }
         }
     }
 }
 
-fn same<'r>(one: &Row<'r>, other: &Row<'r>) -> bool {
+fn is_same_row<'r>(one: &Row<'r>, other: &Row<'r>) -> bool {
     one == other
 }
 
-fn shown(outcome: &Result<bool, RowError>, row: &Row<'_>) -> String {
+fn shown_row_outcome(outcome: &Result<bool, RowError>, row: &Row<'_>) -> String {
     match outcome {
         Ok(true) => row.to_string(),
         Ok(false) => "no more rows".to_string(),
@@ -139,7 +145,7 @@ fn shown(outcome: &Result<bool, RowError>, row: &Row<'_>) -> String {
 
 /// Moves past the next CIE or FDE, which is a record whose length isn't 0, and returns its offset.
 /// `None` if there is no further one, or if a length can't be read.
-fn next_record(cursor: &mut Cursor<'_>) -> Option<usize> {
+fn skip_record(cursor: &mut Cursor<'_>) -> Option<usize> {
     while !cursor.is_at_end() {
         let record = cursor.at();
         let length = cursor.initial_length()?;

@@ -37,7 +37,7 @@ impl<'a> Terms<'a> {
     }
 
     fn described(&self, fault: Fault, record: Option<&Record>) -> Defect {
-        let what = record.map_or_else(|| "a record".to_string(), |record| what(self, &fault, record));
+        let what = record.map_or_else(|| "a record".to_string(), |record| what_is_at_fault(self, &fault, record));
         let within = record.map(Within::of);
         let offset = u64::from(fault.offset);
         Defect {
@@ -134,7 +134,7 @@ fn entry_hint(code: u8) -> Option<&'static str> {
 
 /// Says in words what is at a fault: an instruction, an operation, a field, or the end of the
 /// instructions of a CIE or FDE.
-fn what(terms: &Terms<'_>, fault: &Fault, record: &Record) -> String {
+fn what_is_at_fault(terms: &Terms<'_>, fault: &Fault, record: &Record) -> String {
     let field = match fault.kind {
         FaultKind::Version => "version",
         FaultKind::Augmentation => "augmentation",
@@ -144,8 +144,8 @@ fn what(terms: &Terms<'_>, fault: &Fault, record: &Record) -> String {
         FaultKind::NoSuchCie => "CIE_pointer",
         FaultKind::RangePastTop => "address_range",
         FaultKind::Unrestored => "the end of the program",
-        FaultKind::Overlap => return overlap(&terms.shared, record),
-        _ => return in_program(terms.frames, fault, record),
+        FaultKind::Overlap => return describe_overlap(&terms.shared, record),
+        _ => return fault_in_program(terms.frames, fault, record),
     };
     field.to_string()
 }
@@ -153,7 +153,7 @@ fn what(terms: &Terms<'_>, fault: &Fault, record: &Record) -> String {
 /// Names the instruction or operation at a fault's offset. If the offset is before the instructions
 /// of the CIE or FDE, or if these can't be found, this is `a field`. If it is after them, this is
 /// `the end of the program`.
-fn in_program(frames: &Frames<'_>, fault: &Fault, record: &Record) -> String {
+fn fault_in_program(frames: &Frames<'_>, fault: &Fault, record: &Record) -> String {
     let offset = fault.offset as usize;
     // `EndsEmpty` is reported where the expression ends, which is where the next instruction
     // begins.
@@ -169,14 +169,14 @@ fn in_program(frames: &Frames<'_>, fault: &Fault, record: &Record) -> String {
     let all = instructions(frames.whole(), program, target);
     let holds = |instruction: &Instruction| instruction.offset + usize::from(is_end) <= offset;
     match all.take_while(holds).last() {
-        Some(instruction) => named(frames, &instruction, offset),
+        Some(instruction) => instruction_at_fault(frames, &instruction, offset),
         None => "an instruction".to_string(),
     }
 }
 
 /// The name of an instruction. If `offset` is in its expression, also the name of the operation
 /// there. If `offset` is where the expression ends, this says so.
-fn named(frames: &Frames<'_>, instruction: &Instruction, offset: usize) -> String {
+fn instruction_at_fault(frames: &Frames<'_>, instruction: &Instruction, offset: usize) -> String {
     let machine = frames.format().machine;
     let (begin, length) = match instruction.expression {
         Some((begin, length)) if offset > instruction.offset => (begin, length),
@@ -194,7 +194,7 @@ fn named(frames: &Frames<'_>, instruction: &Instruction, offset: usize) -> Strin
 
 /// Says which FDE before `record` shares an address with it, and which addresses that FDE covers.
 /// If there are several, this is the first one in the section.
-fn overlap(shared: &Shared, record: &Record) -> String {
+fn describe_overlap(shared: &Shared, record: &Record) -> String {
     match shared.first(record.offset).and_then(|first| Some((first, first.addresses()?))) {
         Some((first, range)) => {
             format!("shares addresses with {:#x}..{:#x} of the FDE at {:#x}", range.start, range.end, first.offset)

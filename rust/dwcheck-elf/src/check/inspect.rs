@@ -1,7 +1,7 @@
 //! Checks the frame sections and the location lists of a program.
 
 pub use super::verdict::{Check, InspectError, Inspected, Verdict};
-use crate::cfi::frames::{body, Counts, FrameSection, Frames, FramesError, Kind, Name, Record, RecordStatus};
+use crate::cfi::frames::{range_of_body, Counts, FrameSection, Frames, FramesError, Kind, Name, Record, RecordStatus};
 use crate::cfi::one_by_one::{accepted_part, every_fault};
 use crate::check::fault::{Defect, Terms};
 use crate::elf::debug_files::DebugFiles;
@@ -118,7 +118,7 @@ fn unread_frames<'data>(error: FramesError) -> Inspected<'data> {
 }
 
 fn inspect_frames<'data>(program: &Program<'data>, frames: Frames<'data>, check: Check) -> Inspected<'data> {
-    let verdict = verdict_on(program, &frames, check).unwrap_or_else(Verdict::Unread);
+    let verdict = verdict_on_frames(program, &frames, check).unwrap_or_else(Verdict::Unread);
     Inspected {
         name: frames.name(),
         file: None,
@@ -129,14 +129,16 @@ fn inspect_frames<'data>(program: &Program<'data>, frames: Frames<'data>, check:
     }
 }
 
-fn verdict_on(program: &Program<'_>, frames: &Frames<'_>, check: Check) -> Result<Verdict, InspectError> {
+fn verdict_on_frames(program: &Program<'_>, frames: &Frames<'_>, check: Check) -> Result<Verdict, InspectError> {
     let fault = match frames.check() {
-        Ok(counts) if frames.unresolved().is_empty() => return compared(frames, counts, check).map(Verdict::Frames),
+        Ok(counts) if frames.unresolved().is_empty() => {
+            return counts_of_accepted(frames, counts, check).map(Verdict::Frames)
+        }
         Ok(_) => None,
         Err(Error::Refused(fault)) => Some(fault),
         Err(error) => return Err(InspectError::Dwcheck(frames.name(), error)),
     };
-    let mut defects = unresolved(frames);
+    let mut defects = unresolved_fdes(frames);
     if let Some(fault) = fault {
         let functions = program.functions();
         let terms = Terms::of(frames, &functions);
@@ -153,10 +155,10 @@ fn verdict_on(program: &Program<'_>, frames: &Frames<'_>, check: Check) -> Resul
 }
 
 /// The FDEs whose first address isn't known, as defects.
-fn unresolved(frames: &Frames<'_>) -> Vec<Defect> {
+fn unresolved_fdes(frames: &Frames<'_>) -> Vec<Defect> {
     let (name, target, bytes) = (frames.name(), frames.target(), &frames.source().bytes);
     let defect = |record: &u64| {
-        let pointer = body(bytes, *record, target).map_or(*record, |body| body.start as u64);
+        let pointer = range_of_body(bytes, *record, target).map_or(*record, |body| body.start as u64);
         Defect::unresolved(name, *record, pointer + 4)
     };
     frames.unresolved().iter().map(defect).collect()
@@ -164,7 +166,7 @@ fn unresolved(frames: &Frames<'_>) -> Vec<Defect> {
 
 /// What an accepted section has. If it was asked for, the rows of `.eh_frame`, and of a section that had to be
 /// changed, are compared with gimli's first.
-fn compared(frames: &Frames<'_>, counts: Counts, check: Check) -> Result<Counts, InspectError> {
+fn counts_of_accepted(frames: &Frames<'_>, counts: Counts, check: Check) -> Result<Counts, InspectError> {
     if !check.compare || !(frames.name() == Name::EhFrame || frames.is_changed()) {
         return Ok(counts);
     }

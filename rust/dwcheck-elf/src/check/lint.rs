@@ -4,8 +4,8 @@
 //! [`Module`](dwcheck_lint::module::Module), which [`dwcheck_lint::lint`] judges.
 
 use crate::cfi::frames::{Frames, Kind, Name, Record};
-use crate::cfi::one_by_one::accepted;
-use crate::cfi::validate::comparable;
+use crate::cfi::one_by_one::accepted_part_with_rows;
+use crate::cfi::validate::comparable_bytes;
 use crate::elf::functions::Functions;
 use crate::elf::image::{Image, Part};
 use crate::elf::program::Program;
@@ -46,7 +46,7 @@ impl<'data> Sections<'data> {
     pub fn read(program: &Program<'data>) -> Self {
         let mut sections = Sections { all: Vec::new(), image: program.image(), unused: Vec::new() };
         for frames in Frames::all(program) {
-            match frames.map(accepted) {
+            match frames.map(accepted_part_with_rows) {
                 Ok(Ok((frames, process, problem))) => {
                     sections.all.push((frames, process));
                     sections.unused.extend(problem);
@@ -74,7 +74,7 @@ impl<'data> Sections<'data> {
             sections: parts.iter().filter_map(section).collect(),
             fdes: Vec::new(),
             imports: self.image.imports.iter().copied().collect(),
-            convention: convention(program, functions, &self.image),
+            convention: register_convention(program, functions, &self.image),
             rows: Box::new(SectionRows::of(self, machine)),
         };
         module.fdes = self.fdes(&module);
@@ -89,7 +89,7 @@ impl<'data> Sections<'data> {
     /// The FDEs of all sections, ascending. If two share an address, the one that begins first is
     /// taken, or the one of `.eh_frame`.
     fn fdes(&self, module: &Module<'_>) -> Vec<Fde> {
-        let mut fdes: Vec<Fde> = self.all.iter().flat_map(|(frames, _)| fdes(frames, module)).collect();
+        let mut fdes: Vec<Fde> = self.all.iter().flat_map(|(frames, _)| fdes_of_section(frames, module)).collect();
         // Linkers leave FDEs of functions that they drop at address 0.
         let is_linked = module.sections.is_empty();
         fdes.retain(|fde| (fde.begin != 0 || !is_linked) && fde.begin < fde.end);
@@ -105,7 +105,7 @@ impl<'data> Sections<'data> {
 }
 
 /// What the functions of a program do with registers: those of Go and OCaml keep none.
-fn convention(program: &Program<'_>, functions: &Functions<'_>, image: &Image<'_>) -> Convention {
+fn register_convention(program: &Program<'_>, functions: &Functions<'_>, image: &Image<'_>) -> Convention {
     let is_caml = |name: &str| matches!(name, "caml_call_gc" | "caml_start_program");
     let is_defined = functions.all().iter().any(|function| is_caml(&function.name));
     if program.has_section(".gopclntab") || program.has_section(".go.buildinfo") {
@@ -118,7 +118,7 @@ fn convention(program: &Program<'_>, functions: &Functions<'_>, image: &Image<'_
 }
 
 /// The FDEs of a section.
-fn fdes(frames: &Frames<'_>, module: &Module<'_>) -> Vec<Fde> {
+fn fdes_of_section(frames: &Frames<'_>, module: &Module<'_>) -> Vec<Fde> {
     let signs = Signs::of(frames.signed());
     if frames.name() == Name::EhFrame {
         return eh_frame_fdes(frames, module, &signs);
@@ -151,7 +151,7 @@ impl Signs {
 
 /// The FDEs of `.eh_frame`, with what only their headers have.
 fn eh_frame_fdes(frames: &Frames<'_>, module: &Module<'_>, signs: &Signs) -> Vec<Fde> {
-    let bytes = comparable(frames);
+    let bytes = comparable_bytes(frames);
     let bases = frames.format().bases();
     let mut section = gimli::EhFrame::new(&bytes, frames.target().gimli_order());
     section.set_address_size(frames.target().address_size.bytes());

@@ -4,16 +4,16 @@ mod list_report;
 
 use crate::cfi::frames::Name;
 use crate::check::verdict::{Check, InspectError, Inspected};
-use crate::debug::debug_info::{ranges_of, section, Slice, SplitFile, Units};
+use crate::debug::debug_info::{debug_section_bytes, ranges_of, Slice, SplitFile, Units};
 use crate::debug::lists::{
-    abbreviations_length, checked, every_problem, references, validate, LookUps, Problem, Reference, References, Scope,
-    Section, Source, Surroundings, UnitLists,
+    abbreviations_length, every_problem, first_fault_of_tables, references_of_unit, validate_unit_lists, LookUps,
+    Problem, Reference, References, Scope, Section, Source, Surroundings, UnitLists,
 };
 use crate::elf::debug_files::DebugFiles;
 use crate::elf::program::Program;
 use dwcheck_types::target::Target;
 use gimli::{DebugAddrIndex, Dwarf, Reader, Section as _, SectionId, Unit, UnitHeader, UnitSectionOffset};
-use list_report::{report, units, NAMES};
+use list_report::{report_lists, units_with_names, NAMES};
 use std::collections::HashMap;
 use std::rc::Rc;
 use typed_arena::Arena;
@@ -99,8 +99,8 @@ pub fn inspect_lists<'d>(
     });
     match checked {
         Ok(Lists { sections, split, lowest, .. }) => {
-            let names = || units(program, shared, &unpacked);
-            let mut results = report(sections, names, check.all);
+            let names = || units_with_names(program, shared, &unpacked);
+            let mut results = report_lists(sections, names, check.all);
             if !split.is_empty() {
                 results.extend(inspect_split(names(), files, (&split, lowest), check));
             }
@@ -124,7 +124,7 @@ fn inspect_split<'d, 'a>(
         let root = units.as_ref().and_then(|units| units.root(*index));
         let opened = files.and_then(|files| SplitFile::open(root.as_ref()?, files, &[]));
         match opened.filter(|opened| opened.skeleton.encoding().version >= 5) {
-            Some(opened) => results.extend(of_split(&opened, lowest, check)),
+            Some(opened) => results.extend(inspect_split_file(&opened, lowest, check)),
             None => missing.push(root.and_then(|root| root.split_file())),
         }
     }
@@ -135,13 +135,13 @@ fn inspect_split<'d, 'a>(
 }
 
 /// Checks the lists in the file of a unit.
-fn of_split<'d>(opened: &SplitFile<'_>, lowest: u64, check: Check) -> Vec<Inspected<'d>> {
+fn inspect_split_file<'d>(opened: &SplitFile<'_>, lowest: u64, check: Check) -> Vec<Inspected<'d>> {
     let checked = Lists::open_split(opened, lowest, check).and_then(|mut lists| {
         lists.check()?;
         Ok(lists.sections)
     });
     let results = match checked {
-        Ok(sections) => report(sections, || opened.units(&NAMES), check.all),
+        Ok(sections) => report_lists(sections, || opened.units(&NAMES), check.all),
         Err(error) => vec![Inspected::unread(Name::DebugLoclists, error)],
     };
     let in_file = |result| Inspected { file: Some(opened.path.clone()), ..result };
@@ -167,7 +167,7 @@ impl<'a> Lists<'a> {
         let empty = Slice::new(&[], program.target().gimli_order());
         let (mut loc, mut loclists) = (empty, empty);
         let dwarf = Dwarf::load(|id| {
-            let bytes = if NEEDED.contains(&id) { section(program, id, unpacked)? } else { empty };
+            let bytes = if NEEDED.contains(&id) { debug_section_bytes(program, id, unpacked)? } else { empty };
             match id {
                 SectionId::DebugLoc => loc = bytes,
                 SectionId::DebugLocLists => loclists = bytes,
@@ -232,7 +232,7 @@ impl<'a> Lists<'a> {
             None if unit.dwo_id.is_some() => self.split.push(index),
             None => {}
         }
-        let references = match references(&self.dwarf, &unit) {
+        let references = match references_of_unit(&self.dwarf, &unit) {
             Ok(references) => references,
             Err(error) => return Err(fail(error.to_string())),
         };
@@ -254,7 +254,7 @@ impl<'a> Lists<'a> {
         let scope = Scope { target: self.target, version, offset_size, address: &address, load, known };
         let source = Source { bytes: section.bytes, section: name, scope, base: unit.low_pc };
         let (lists, problems) = read_lists(&references.all, &source, section.left)?;
-        let compared = validate(dwarf, unit, &lists, name, source.new_base(unit.low_pc));
+        let compared = validate_unit_lists(dwarf, unit, &lists, name, source.new_base(unit.low_pc));
         section.contents.not_compared += compared.map_err(|difference| InspectError::List(name, difference))?;
         if let Some(look_ups) = &mut self.look_ups {
             let compared = look_ups.compare(dwarf, unit, &lists, &source);
@@ -282,7 +282,7 @@ fn read_lists(
     let mut lists = UnitLists::default();
     let mut problems = Vec::new();
     for reference in references {
-        match lists.add(*reference, source, |_| false) {
+        match lists.add_list(*reference, source, |_| false) {
             Ok(found) => problems.extend(found),
             Err(problem) => problems.push(problem),
         }
@@ -291,7 +291,7 @@ fn read_lists(
         }
     }
     let failed = |error| InspectError::Dwcheck(name, error);
-    if checked(&lists.bytes, target).map_err(failed)?.is_some() {
+    if first_fault_of_tables(&lists.bytes, target).map_err(failed)?.is_some() {
         problems.extend(every_problem(&lists, source, target).map_err(failed)?);
     }
     Ok((lists, problems))

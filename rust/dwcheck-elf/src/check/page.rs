@@ -1,4 +1,4 @@
-//! What pages of HTML with data in them share.
+//! What pages of HTML with data in them share: the page is written up to a mark, then the data, then the rest.
 
 use std::io::{self, Write};
 
@@ -10,7 +10,7 @@ const MARK: &str = "@DATA@";
 /// # Errors
 ///
 /// Those of `out`.
-pub fn write<W: Write>(
+pub fn write_page<W: Write>(
     page: &str,
     out: &mut W,
     data: impl FnOnce(&mut Escaped<'_, W>) -> io::Result<()>,
@@ -44,7 +44,7 @@ impl<W: Write> Write for Escaped<'_, W> {
 }
 
 /// Writes items with commas between them.
-pub fn separated<T, W: Write>(
+pub fn write_separated<T, W: Write>(
     out: &mut W,
     all: impl Iterator<Item = T>,
     mut one: impl FnMut(T, &mut W) -> io::Result<()>,

@@ -17,7 +17,7 @@ pub use frame_section::{Held, Section, SectionStatus};
 pub use refusal::Refusal;
 
 use crate::cfi::frames::{Frames, Kind, Name};
-use crate::cfi::one_by_one::accepted;
+use crate::cfi::one_by_one::accepted_part_with_rows;
 use crate::cfi::row::Row;
 use crate::cfi::validate::{DwcheckRows, RowSource};
 use crate::check::inspect::{inspect_frame_sections, Check, Inspected};
@@ -111,7 +111,7 @@ impl<'data> Report<'data> {
         self.sections.push(section);
         self.refusals.extend(Refusal::all(inspected, &self.memory));
         let frames = inspected.frames.as_ref().filter(|_| is_read);
-        if let Some((frames, process, _)) = frames.and_then(|frames| accepted(frames.clone()).ok()) {
+        if let Some((frames, process, _)) = frames.and_then(|frames| accepted_part_with_rows(frames.clone()).ok()) {
             let left_out = frames.records().iter().filter(|record| !record.is_used());
             let addresses = left_out.filter_map(|record| record.addresses());
             addresses.filter(|range| !range.is_empty()).for_each(|range| refused.insert(range.start, range.end));

@@ -21,16 +21,16 @@ pub(crate) type Slice<'a> = EndianSlice<'a, RunTimeEndian>;
 
 /// The bytes of a section of a program, empty if the program doesn't have it. If it is compressed, it is
 /// decompressed into `unpacked`.
-pub(crate) fn section<'a>(
+pub(crate) fn debug_section_bytes<'a>(
     program: &Program<'a>,
     id: SectionId,
     unpacked: &'a Arena<Vec<u8>>,
 ) -> Result<Slice<'a>, ProgramError> {
-    named(program, id.name(), unpacked)
+    debug_section_by_name(program, id.name(), unpacked)
 }
 
 /// The same by the section's name.
-fn named<'a>(
+fn debug_section_by_name<'a>(
     program: &Program<'a>,
     name: &'static str,
     unpacked: &'a Arena<Vec<u8>>,
@@ -44,13 +44,13 @@ fn named<'a>(
 }
 
 /// Opens the sections of debug information of a program that are `needed`. The others are empty.
-pub(crate) fn dwarf<'a>(
+pub(crate) fn open_dwarf<'a>(
     program: &Program<'a>,
     needed: &[SectionId],
     unpacked: &'a Arena<Vec<u8>>,
 ) -> Result<Dwarf<Slice<'a>>, ProgramError> {
     let empty = EndianSlice::new(&[][..], program.target().gimli_order());
-    Dwarf::load(|id| if needed.contains(&id) { section(program, id, unpacked) } else { Ok(empty) })
+    Dwarf::load(|id| if needed.contains(&id) { debug_section_bytes(program, id, unpacked) } else { Ok(empty) })
 }
 
 /// The ranges of addresses that aren't empty, up to one that can't be read.

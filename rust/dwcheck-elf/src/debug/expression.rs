@@ -51,11 +51,11 @@ impl Measure {
             }
             branches.retain(|(place, _)| *place > at);
             let code = cursor.byte().unwrap_or(0);
-            let operand = match skip(&mut cursor, code) {
+            let operand = match skip_operation_operands(&mut cursor, code) {
                 Ok(operand) => operand,
                 Err(_) => break,
             };
-            now = match change(code) {
+            now = match stack_change(code) {
                 Change::By(change) if change < 0 => now.saturating_sub(change.unsigned_abs()),
                 Change::By(change) => now.saturating_add(change.unsigned_abs()),
                 Change::Empty => 0,
@@ -88,7 +88,7 @@ pub fn operations(expression: &[u8], target: Target) -> Vec<Operation> {
         let offset = cursor.at();
         let code = cursor.byte().unwrap_or(0);
         all.push(Operation { offset, code });
-        if skip(&mut cursor, code).is_err() {
+        if skip_operation_operands(&mut cursor, code).is_err() {
             break;
         }
     }
@@ -97,7 +97,7 @@ pub fn operations(expression: &[u8], target: Target) -> Vec<Operation> {
 
 /// Moves past the operands of an operation. For a branch, returns the distance in bytes from the
 /// end of the branch to its target. For any other operation, returns 0.
-pub(crate) fn skip(cursor: &mut Cursor<'_>, code: u8) -> Result<u64, ReadError> {
+pub(crate) fn skip_operation_operands(cursor: &mut Cursor<'_>, code: u8) -> Result<u64, ReadError> {
     let size = cursor.target().address_size.bytes();
     match code {
         op::ADDR => cursor.take(u64::from(size)).map(|_| 0),
@@ -127,7 +127,7 @@ pub(crate) fn skip(cursor: &mut Cursor<'_>, code: u8) -> Result<u64, ReadError> 
 }
 
 /// How an operation changes the height of the stack.
-fn change(code: u8) -> Change {
+fn stack_change(code: u8) -> Change {
     match code {
         op::PIECE | op::BIT_PIECE => Change::Empty,
         op::ADDR

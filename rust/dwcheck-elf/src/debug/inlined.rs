@@ -56,14 +56,14 @@ impl<'s> Info<'s> {
 
     /// The index of the unit that has an offset of `.debug_info`. `None` if no unit does.
     fn unit_at(&self, offset: usize) -> Option<usize> {
-        let next = self.headers.partition_point(|header| begin(header) <= offset);
+        let next = self.headers.partition_point(|header| unit_begin(header) <= offset);
         let header = self.headers.get(next.checked_sub(1)?)?;
-        Some(next - 1).filter(|_| offset - begin(header) < header.length_including_self())
+        Some(next - 1).filter(|_| offset - unit_begin(header) < header.length_including_self())
     }
 }
 
 /// The offset at which a unit begins.
-fn begin(header: &UnitHeader<Slice<'_>>) -> usize {
+fn unit_begin(header: &UnitHeader<Slice<'_>>) -> usize {
     match header.offset() {
         UnitSectionOffset::DebugInfoOffset(offset) => offset.0,
         UnitSectionOffset::DebugTypesOffset(_) => usize::MAX,
@@ -104,12 +104,13 @@ impl<'s> Search<'s> {
 
     /// The addresses of all units: those that are listed, and those that units say themselves.
     fn covers(&self, listed: &Covers) -> Covers {
-        let others = self.info.headers.par_iter().filter(|header| is_program(header) && !listed.has(begin(header)));
+        let others =
+            self.info.headers.par_iter().filter(|header| is_unit_with_code(header) && !listed.has(unit_begin(header)));
         let said = others.flat_map_iter(|header| {
-            let unit = unit_functions::unit(&self.info.dwarf, *header).ok();
+            let unit = unit_functions::read_unit_without_lines(&self.info.dwarf, *header).ok();
             let ranges = unit.and_then(|unit| self.info.dwarf.unit_ranges(&unit).ok());
             let ranges = ranges.map_or_else(Vec::new, crate::debug::debug_info::ranges_of);
-            ranges.into_iter().map(move |range| (range, begin(header)))
+            ranges.into_iter().map(move |range| (range, unit_begin(header)))
         });
         listed.with(said.collect())
     }
@@ -145,6 +146,6 @@ impl<'s> Search<'s> {
 }
 
 /// Whether a unit has code, and not only types.
-fn is_program(header: &UnitHeader<Slice<'_>>) -> bool {
+fn is_unit_with_code(header: &UnitHeader<Slice<'_>>) -> bool {
     !matches!(header.type_(), UnitType::Type { .. } | UnitType::SplitType { .. })
 }

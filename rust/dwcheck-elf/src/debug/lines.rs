@@ -62,7 +62,7 @@ impl<'a> Lines<'a> {
         }
         let section = |program: &Program<'a>, id: SectionId| {
             let empty = EndianSlice::new(&[][..], program.target().gimli_order());
-            let read = NEEDED.contains(&id).then(|| debug_info::section(program, id, unpacked));
+            let read = NEEDED.contains(&id).then(|| debug_info::debug_section_bytes(program, id, unpacked));
             Ok::<_, gimli::Error>(read.and_then(Result::ok).unwrap_or(empty))
         };
         let mut dwarf = Dwarf::load(|id| section(program, id)).ok()?;
@@ -81,7 +81,7 @@ impl<'a> Lines<'a> {
     /// inlined.
     pub fn functions(&self, address: u64) -> Vec<At> {
         let mut found = Vec::new();
-        if *self.is_deep.get_or_init(|| is_deep(self.context.dwarf())) {
+        if *self.is_deep.get_or_init(|| is_unit_too_deep(self.context.dwarf())) {
             return found;
         }
         if let Ok(mut frames) = self.context.find_frames(address) {
@@ -122,7 +122,7 @@ impl<'a> Lines<'a> {
 }
 
 /// Whether the entries of a unit are too deep.
-fn is_deep(dwarf: &Dwarf<Slice<'_>>) -> bool {
+fn is_unit_too_deep(dwarf: &Dwarf<Slice<'_>>) -> bool {
     let mut units = dwarf.units();
     let mut headers = std::iter::from_fn(|| units.next().ok().flatten());
     headers.any(|header| dwarf.unit(header).and_then(|unit| is_deep_unit(&unit)).unwrap_or(false))

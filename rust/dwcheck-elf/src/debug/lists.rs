@@ -32,12 +32,12 @@ pub use problem::Limit;
 pub use unsupported::{Unsupported, UnsupportedAt};
 pub use validate::Difference;
 
-pub(crate) use describe::described;
-pub(crate) use expression::{rewrite, Rewritten, Scope};
+pub(crate) use describe::describe_variables;
+pub(crate) use expression::{rewrite_expression, Rewritten, Scope};
 pub(crate) use lints::Surroundings;
-pub(crate) use list_section::{checked, every_problem, Section};
+pub(crate) use list_section::{every_problem, first_fault_of_tables, Section};
 pub(crate) use problem::{Kind, Problem};
-pub(crate) use references::{abbreviations_length, references, Reference, References};
+pub(crate) use references::{abbreviations_length, references_of_unit, Reference, References};
 pub(crate) use single::expression_at;
 pub(crate) use unit::{Source, UnitLists};
-pub(crate) use validate::validate;
+pub(crate) use validate::validate_unit_lists;

@@ -22,7 +22,7 @@ pub use thread_local::Loaded;
 pub use value::{Shape, Value};
 pub use value_location::{Machine, Missing, Pointee, ValueLocation};
 
-use crate::debug::debug_info::{dwarf, section, Package, Units};
+use crate::debug::debug_info::{debug_section_bytes, open_dwarf, Package, Units};
 use crate::elf::debug_files::DebugFiles;
 use crate::elf::program::{Program, ProgramError};
 use dwcheck::{Block, Registers};
@@ -30,7 +30,7 @@ use dwcheck_types::target::Target;
 use functions::FunctionIndex;
 use gimli::SectionId;
 use location::Locator;
-use scopes::{scopes, Scope};
+use scopes::{scopes_at, Scope};
 use std::cell::RefCell;
 use std::collections::HashMap;
 use std::fmt;
@@ -124,7 +124,7 @@ impl<'f> Frame<'f> {
 
     /// Where the thread's variables of the file are.
     fn thread_block(&self) -> Option<u64> {
-        thread_local::block(self.file.as_ref()?, self.thread_pointer?, &self.machine()?)
+        thread_local::thread_local_block(self.file.as_ref()?, self.thread_pointer?, &self.machine()?)
     }
 
     /// The registers and the memory.
@@ -184,10 +184,10 @@ impl<'a> Variables<'a> {
         files: &'a DebugFiles,
     ) -> Result<Self, VariablesError> {
         let (fail, unpacked) = (VariablesError::Program, files.unpacked());
-        let loc = section(program, SectionId::DebugLoc, unpacked).map_err(fail)?.slice();
-        let loclists = section(program, SectionId::DebugLocLists, unpacked).map_err(fail)?.slice();
-        let shared = shared.map(|shared| dwarf(shared, &NEEDED, unpacked)).transpose().map_err(fail)?;
-        let units = Units::read(dwarf(program, &NEEDED, unpacked).map_err(fail)?, shared);
+        let loc = debug_section_bytes(program, SectionId::DebugLoc, unpacked).map_err(fail)?.slice();
+        let loclists = debug_section_bytes(program, SectionId::DebugLocLists, unpacked).map_err(fail)?.slice();
+        let shared = shared.map(|shared| open_dwarf(shared, &NEEDED, unpacked)).transpose().map_err(fail)?;
+        let units = Units::read(open_dwarf(program, &NEEDED, unpacked).map_err(fail)?, shared);
         let units = units.map_err(|error| VariablesError::DebugInfo(error.to_string()))?;
         let functions = FunctionIndex::of(&units);
         let (target, machine) = (program.target(), program.machine());
@@ -208,7 +208,7 @@ impl<'a> Variables<'a> {
             _ => return Vec::new(),
         };
         let locator = Locator::new(self, function.clone(), *frame, machine);
-        let scopes = scopes(function, frame.looked_up());
+        let scopes = scopes_at(function, frame.looked_up());
         scopes.iter().map(|scope| self.function(scope, &locator, shape)).collect()
     }
 
@@ -221,13 +221,13 @@ impl<'a> Variables<'a> {
 
     fn function(&self, scope: &Scope<'_, 'a>, locator: &Locator<'_, 'a>, shape: Shape) -> Function {
         let variables = scope.variables.iter().map(|variable| {
-            let place = locator.place(&variable.die, variable.is_abstract);
+            let place = locator.locate_variable(&variable.die, variable.is_abstract);
             let kind = types::type_of(&variable.die);
-            let value = place.clone().and_then(|place| locator.value(kind.as_ref(), &place, shape));
+            let value = place.clone().and_then(|place| locator.value_of_variable(kind.as_ref(), &place, shape));
             Variable {
                 name: variable.die.name(),
                 is_parameter: variable.is_parameter,
-                type_name: types::name_of(kind),
+                type_name: types::type_name(kind),
                 place,
                 value,
             }

@@ -32,7 +32,7 @@ impl<'data> Loaded<'_, 'data> {
     /// The constants. Bytes that aren't known are left out. This takes time and memory in proportion to the
     /// relocations and to `.data.rel.ro`.
     pub fn constants(&self) -> Constants<'data> {
-        let read_only = self.file.segments().filter(|segment| !is_writable(segment.flags()));
+        let read_only = self.file.segments().filter(|segment| !is_writable_segment(segment.flags()));
         let part =
             |segment: object::Segment<'data, '_>| self.part(segment.address(), Cow::Borrowed(segment.data().ok()?));
         let mut all: Constants<'data> = read_only.filter_map(part).collect();
@@ -58,7 +58,7 @@ impl<'data> Loaded<'_, 'data> {
         let mut bytes = bytes.to_vec();
         let mut known = 0;
         let mut parts = Vec::new();
-        for (at, value) in self.stored(address..address.saturating_add(bytes.len() as u64), &bytes) {
+        for (at, value) in self.relocations_in(address..address.saturating_add(bytes.len() as u64), &bytes) {
             let begin = (at - address) as usize;
             let end = bytes.len().min(begin + width);
             match value {
@@ -84,7 +84,7 @@ impl<'data> Loaded<'_, 'data> {
     }
 
     /// What the dynamic linker stores in a range of addresses of the file that has these bytes, ascending.
-    fn stored(&self, range: Range<u64>, bytes: &[u8]) -> Vec<Stored> {
+    fn relocations_in(&self, range: Range<u64>, bytes: &[u8]) -> Vec<Stored> {
         let symbols = self.file.dynamic_symbol_table();
         let width = usize::from(self.target.address_size.bytes());
         let relocations = self.file.dynamic_relocations().into_iter().flatten();
@@ -108,7 +108,7 @@ impl<'data> Loaded<'_, 'data> {
     ) -> Option<u64> {
         let addend = if relocation.has_implicit_addend() { held } else { relocation.addend() as u64 };
         let base = match (relocation.kind(), relocation.target()) {
-            (RelocationKind::Elf(kind), _) if relative(self.machine) == Some(kind) => 0,
+            (RelocationKind::Elf(kind), _) if relative_relocation_type(self.machine) == Some(kind) => 0,
             (RelocationKind::Absolute, RelocationTarget::Symbol(index)) if self.is_program => {
                 let symbol = symbols?.symbol_by_index(index).ok()?;
                 let is_word = relocation.size() == 8 * self.target.address_size.bytes();
@@ -120,12 +120,12 @@ impl<'data> Loaded<'_, 'data> {
     }
 }
 
-fn is_writable(flags: SegmentFlags) -> bool {
+fn is_writable_segment(flags: SegmentFlags) -> bool {
     !matches!(flags, SegmentFlags::Elf { p_flags } if p_flags & PF_W == 0)
 }
 
 /// The type of relocations that add where the file is loaded, of a machine.
-fn relative(machine: u16) -> Option<u32> {
+fn relative_relocation_type(machine: u16) -> Option<u32> {
     Some(match machine {
         elf::EM_X86_64 => elf::R_X86_64_RELATIVE,
         elf::EM_386 => elf::R_386_RELATIVE,

@@ -1,4 +1,4 @@
-//! Sets of addresses.
+//! Sets of addresses: which are covered, and which gaps are left.
 
 use std::collections::BTreeMap;
 use std::ops::Range;

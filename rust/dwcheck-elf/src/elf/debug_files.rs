@@ -58,9 +58,9 @@ impl DebugFiles {
     /// The same file, with its path.
     pub fn find(&self, path: &Path, program: &Program<'_>) -> Result<Option<(PathBuf, &Bytes)>, (PathBuf, NotUsed)> {
         if let Some(id) = program.build_id() {
-            let file = self.root.join(FOLDER).join(".build-id").join(name_of(id));
+            let file = self.root.join(FOLDER).join(".build-id").join(name_by_build_id(id));
             if let Some(bytes) = self.open(&file)? {
-                return checked(file, bytes, id);
+                return check_build_id(file, bytes, id);
             }
         }
         match program.debug_link() {
@@ -93,7 +93,7 @@ impl DebugFiles {
             let found = match self.open(&file) {
                 Ok(None) => continue,
                 Ok(Some(bytes)) if crc32fast::hash(bytes) != checksum => Err((file, NotUsed::Checksum)),
-                Ok(Some(bytes)) => checked(file, bytes, program.build_id().unwrap_or(&[])),
+                Ok(Some(bytes)) => check_build_id(file, bytes, program.build_id().unwrap_or(&[])),
                 Err(why) => Err(why),
             };
             match found {
@@ -112,7 +112,7 @@ impl DebugFiles {
             None => return Ok(None),
         };
         let name = Path::new(OsStr::from_bytes(name));
-        let by_id = self.root.join(FOLDER).join(".build-id").join(name_of(id));
+        let by_id = self.root.join(FOLDER).join(".build-id").join(name_by_build_id(id));
         let has_id = |bytes: &&Bytes| Program::read(bytes).map_or(false, |program| program.build_id() == Some(id));
         let mut found = std::iter::once(by_id).chain(self.named_by(path, name));
         let found = found.find_map(|file| self.open(&file).ok().flatten().filter(has_id));
@@ -128,7 +128,8 @@ impl DebugFiles {
         };
         let (inner, central) = (self.root.join(folder), self.root.join(FOLDER));
         let by_name = [inner.join(&name), inner.join(".debug").join(&name), central.join(folder).join(&name)];
-        let by_id = program.build_id().map(|id| central.join(".build-id").join(name_of(id)).with_extension("dwp"));
+        let by_id =
+            program.build_id().map(|id| central.join(".build-id").join(name_by_build_id(id)).with_extension("dwp"));
         let all = by_name.into_iter().chain([central.join(&name)]).chain(by_id);
         all.filter_map(|file| Some((file.clone(), self.open(&file).ok()??))).collect()
     }
@@ -138,7 +139,7 @@ impl DebugFiles {
         let whole = path.canonicalize().ok();
         let near = [Some(path), whole.as_deref()].into_iter().flatten().filter_map(Path::parent);
         let inside = |path: PathBuf| path.strip_prefix(&self.root).map_or_else(|_| path.clone(), Path::to_path_buf);
-        near.map(|folder| self.root.join(without_turns(&inside(folder.join(name))))).collect()
+        near.map(|folder| self.root.join(without_parent_folders(&inside(folder.join(name))))).collect()
     }
 
     /// The file at an absolute path. `None` if it isn't there, or can't be read.
@@ -171,7 +172,7 @@ impl DebugFiles {
 }
 
 /// A path without `..`, relative to the folder that stands for `/`.
-fn without_turns(path: &Path) -> PathBuf {
+fn without_parent_folders(path: &Path) -> PathBuf {
     let mut straight = PathBuf::new();
     for part in path.components() {
         match part {
@@ -193,27 +194,31 @@ fn package_name(program: &OsStr) -> OsString {
 }
 
 /// The name of a file by its build id, such as `3f/2ab01c.debug`.
-fn name_of(id: &[u8]) -> String {
-    let digits = hex(id);
+fn name_by_build_id(id: &[u8]) -> String {
+    let digits = build_id_hex(id);
     let (first, rest) = digits.split_at(digits.len().min(2));
     format!("{}/{}.debug", first, rest)
 }
 
 /// A build id in hex digits.
-pub(crate) fn hex(id: &[u8]) -> String {
+pub(crate) fn build_id_hex(id: &[u8]) -> String {
     id.iter().map(|byte| format!("{:02x}", byte)).collect()
 }
 
 /// Returns a file if it has this build id, or none.
-fn checked<'b>(file: PathBuf, bytes: &'b Bytes, id: &[u8]) -> Result<Option<(PathBuf, &'b Bytes)>, (PathBuf, NotUsed)> {
-    match same_id(bytes, id) {
+fn check_build_id<'b>(
+    file: PathBuf,
+    bytes: &'b Bytes,
+    id: &[u8],
+) -> Result<Option<(PathBuf, &'b Bytes)>, (PathBuf, NotUsed)> {
+    match require_build_id(bytes, id) {
         Ok(bytes) => Ok(Some((file, bytes))),
         Err(why) => Err((file, why)),
     }
 }
 
 /// Returns the bytes of a file if it has this build id, or none.
-fn same_id<'b>(bytes: &'b Bytes, id: &[u8]) -> Result<&'b Bytes, NotUsed> {
+fn require_build_id<'b>(bytes: &'b Bytes, id: &[u8]) -> Result<&'b Bytes, NotUsed> {
     let program = Program::read(bytes).map_err(|error| NotUsed::Unreadable(error.to_string()))?;
     match program.build_id() {
         Some(other) if other != id && !id.is_empty() => Err(NotUsed::BuildId(other.to_vec(), id.to_vec())),
@@ -249,7 +254,12 @@ impl fmt::Display for NotUsed {
         match self {
             NotUsed::Unreadable(error) => write!(f, "can't be read: {}", error),
             NotUsed::BuildId(own, program) => {
-                write!(f, "not used: its build id is {}, that of the program is {}", hex(own), hex(program))
+                write!(
+                    f,
+                    "not used: its build id is {}, that of the program is {}",
+                    build_id_hex(own),
+                    build_id_hex(program)
+                )
             }
             NotUsed::Checksum => f.write_str("not used: its checksum isn't the one in .gnu_debuglink"),
         }

@@ -45,13 +45,13 @@ fn demangled_with(name: &str, form: Form) -> Cow<'_, str> {
         return Cow::Borrowed(name);
     }
     let written = match rustc_demangle::try_demangle(name) {
-        Ok(name) => rust(&name),
-        Err(_) => cpp::demangled(name, form),
+        Ok(name) => demangled_rust(&name),
+        Err(_) => cpp::demangled_cpp(name, form),
     };
     written.map_or(Cow::Borrowed(name), Cow::Owned)
 }
 
-fn rust(name: &rustc_demangle::Demangle<'_>) -> Option<String> {
+fn demangled_rust(name: &rustc_demangle::Demangle<'_>) -> Option<String> {
     let mut text = Bounded(String::new());
     write!(text, "{:#}", name).ok()?;
     Some(text.0)
@@ -59,41 +59,41 @@ fn rust(name: &rustc_demangle::Demangle<'_>) -> Option<String> {
 
 /// The characters of a demangled name that are shown. Control characters are left out, because a
 /// line feed in a name would begin a new line.
-pub(super) fn shown(demangled: &str) -> impl Iterator<Item = char> + '_ {
+pub(super) fn shown_characters(demangled: &str) -> impl Iterator<Item = char> + '_ {
     demangled.chars().filter(|c| !c.is_control())
 }
 
 /// A function's name as it is shown: demangled, without control characters.
 pub(crate) fn shown_name(symbol: &str) -> String {
-    shown(&demangled(symbol)).collect()
+    shown_characters(&demangled(symbol)).collect()
 }
 
 /// The same without the return type and the parameters of C++ functions, as perf shows names.
 pub fn short_name(symbol: &str) -> String {
-    shown(&demangled_with(symbol, Form::Short)).collect()
+    shown_characters(&demangled_with(symbol, Form::Short)).collect()
 }
 
 /// A function's name as it is in the file, without control characters.
 pub(crate) fn raw_name(symbol: &str) -> String {
     match symbol.contains(char::is_control) {
-        true => shown(symbol).collect(),
+        true => shown_characters(symbol).collect(),
         false => symbol.to_string(),
     }
 }
 
 /// Whether the function that has the name `symbol` in the file is shown as `name`.
 pub(crate) fn is_shown_as(symbol: &str, name: &str) -> bool {
-    shown(&demangled(symbol)).eq(name.chars())
+    shown_characters(&demangled(symbol)).eq(name.chars())
 }
 
 /// The shown name of the function that has the name `symbol` in the file, if `name` may be short
 /// for it: `leaf` is short for `leaf(int)`, `leaf<char>()` and `tree::leaf(int)`. Very long names
 /// aren't looked at.
-pub(crate) fn similar(symbol: &str, name: &str) -> Option<String> {
+pub(crate) fn similar_name(symbol: &str, name: &str) -> Option<String> {
     if symbol.len() > LONGEST || name.is_empty() {
         return None;
     }
-    let whole: String = shown(&demangled(symbol)).collect();
+    let whole: String = shown_characters(&demangled(symbol)).collect();
     let is_short = whole != name && whole.match_indices(name).any(|(at, _)| is_last_part(&whole, at, name));
     Some(whole).filter(|_| is_short)
 }

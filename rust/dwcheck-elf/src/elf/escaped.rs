@@ -1,4 +1,4 @@
-//! Texts of the input, as they are shown.
+//! Texts of the input, as they are shown: with escapes for control characters.
 
 use std::fmt;
 

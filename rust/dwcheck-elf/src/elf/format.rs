@@ -16,7 +16,7 @@ const ROOM_TIMES: usize = 64;
 const LEAST_ROOM: usize = 64 << 20;
 
 /// How many bytes the compiled rows of a section may take in memory.
-fn room(section: &[u8]) -> usize {
+fn room_for_rows(section: &[u8]) -> usize {
     section.len().saturating_mul(ROOM_TIMES).max(LEAST_ROOM)
 }
 
@@ -73,7 +73,7 @@ impl Format {
     /// A module with the section, which has these bytes, as the library takes it. It is loaded at `load`,
     /// and its compiled rows may take some 64 times as much memory as the bytes.
     pub fn module(&self, bytes: &[u8], load: u64) -> Module {
-        let module = Module::at(load).room(room(bytes));
+        let module = Module::at(load).room(room_for_rows(bytes));
         match self.eh_frame() {
             Some(section) => module.eh_frame(section),
             None => module,
@@ -101,7 +101,7 @@ impl Format {
     }
 
     /// The same, but the section begins `distance` bytes later, modulo 2^64.
-    pub(crate) fn moved(self, distance: u64) -> Self {
+    pub(crate) fn moved_by(self, distance: u64) -> Self {
         Format { address: self.target.wrap(self.address.wrapping_add(distance)), ..self }
     }
 }

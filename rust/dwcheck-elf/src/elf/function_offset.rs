@@ -1,6 +1,6 @@
 //! Addresses as they are shown: a function and an offset.
 
-use crate::elf::demangle::{demangled, shown};
+use crate::elf::demangle::{demangled, shown_characters};
 use crate::elf::functions::Functions;
 use std::fmt::{self, Write};
 
@@ -31,7 +31,7 @@ impl<'a> FunctionOffset<'a> {
 
 impl fmt::Display for FunctionOffset<'_> {
     fn fmt(&self, f: &mut fmt::Formatter<'_>) -> fmt::Result {
-        shown(&demangled(self.name)).try_for_each(|c| f.write_char(c))?;
+        shown_characters(&demangled(self.name)).try_for_each(|c| f.write_char(c))?;
         if self.offset == 0 {
             Ok(())
         } else {

@@ -1,8 +1,8 @@
-//! Looks up the functions of an ELF file, by address or by name.
+//! Looks up the functions of an ELF file, by address or by name, or similar names.
 
-use crate::elf::demangle::{is_shown_as, similar, STUB};
+use crate::elf::demangle::{is_shown_as, similar_name, STUB};
 use crate::elf::layout::Layout;
-use crate::elf::plt::stubs;
+use crate::elf::plt::plt_stubs;
 use dwcheck_types::target::Target;
 use object::elf;
 use object::read::{Object, ObjectSection, ObjectSymbol, SymbolSection};
@@ -72,8 +72,8 @@ impl<'data> Functions<'data> {
     pub(crate) fn read(file: &object::File<'data>, layout: &Layout, machine: u16, target: Target) -> Self {
         let code = code_sections(file, layout);
         let symbols = file.symbols().chain(file.dynamic_symbols());
-        let named = symbols.filter_map(|symbol| function(&symbol, layout, &code, machine, target));
-        let stubs = stubs(file, machine).into_iter().map(|stub| Function {
+        let named = symbols.filter_map(|symbol| function_of_symbol(&symbol, layout, &code, machine, target));
+        let stubs = plt_stubs(file, machine).into_iter().map(|stub| Function {
             name: Cow::Owned(format!("{}{}", stub.function, STUB)),
             begin: stub.range.start,
             size: stub.range.end - stub.range.start,
@@ -194,7 +194,7 @@ impl<'data> Functions<'data> {
     /// The names of up to [`SIMILAR`] functions that `name` may stand for, by address, each once.
     fn similar(&self, name: &str) -> Vec<String> {
         let mut found = Vec::new();
-        for shown in self.functions.iter().filter_map(|function| similar(&function.name, name)) {
+        for shown in self.functions.iter().filter_map(|function| similar_name(&function.name, name)) {
             if !found.contains(&shown) {
                 found.push(shown);
             }
@@ -215,11 +215,12 @@ impl<'data> Functions<'data> {
 /// Splits a text such as `main+4` into the name and the offset. If no number follows the last plus
 /// sign, the name is the whole text, and the offset is 0.
 fn split_offset(text: &str) -> (&str, u64) {
-    let split = text.rsplit_once('+').and_then(|(name, offset)| Some((name.trim_end(), number(offset.trim_start())?)));
+    let split =
+        text.rsplit_once('+').and_then(|(name, offset)| Some((name.trim_end(), parse_number(offset.trim_start())?)));
     split.unwrap_or((text, 0))
 }
 
-fn number(text: &str) -> Option<u64> {
+fn parse_number(text: &str) -> Option<u64> {
     let (digits, radix) = match text.strip_prefix("0x") {
         Some(digits) => (digits, 16),
         None => (text, 10),
@@ -240,7 +241,7 @@ fn code_sections(file: &object::File<'_>, layout: &Layout) -> FxHashMap<usize, u
 
 /// Makes a [`Function`] of a symbol. `None` if the symbol is neither a function nor a label in
 /// code, isn't in a section, or has no name in UTF-8.
-fn function<'data>(
+fn function_of_symbol<'data>(
     symbol: &object::Symbol<'data, '_>,
     layout: &Layout,
     code: &FxHashMap<usize, u64>,
@@ -282,7 +283,7 @@ fn function<'data>(
 }
 
 /// Writes names that may be meant, such as `; there are f(int) and f(long)`.
-fn write_similar(f: &mut fmt::Formatter<'_>, similar: &[String]) -> fmt::Result {
+fn write_similar_names(f: &mut fmt::Formatter<'_>, similar: &[String]) -> fmt::Result {
     match similar {
         [] => Ok(()),
         [only] => write!(f, "; there is {}", only),
@@ -298,7 +299,7 @@ impl fmt::Display for NameError {
                 if !name.is_empty() && name.bytes().all(|byte| byte.is_ascii_hexdigit()) {
                     f.write_str(" (an address begins with 0x)")?;
                 }
-                write_similar(f, similar)
+                write_similar_names(f, similar)
             }
             NameError::Ambiguous(name, addresses) => {
                 write!(f, "{} functions have the name {}:", addresses.len(), name)?;

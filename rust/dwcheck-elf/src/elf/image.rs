@@ -1,6 +1,6 @@
-//! The code and data of a program as they are in memory, for reading its code.
+//! The code and data of a program as they are in memory, and the imports by which code leads to other files.
 
-use crate::elf::layout::{is_loaded, Layout};
+use crate::elf::layout::{is_loaded_section, Layout};
 use crate::elf::relocate::{Object, Outside, APART};
 use object::elf::{PF_X, SHF_EXECINSTR};
 use object::read::{Object as _, ObjectSection, ObjectSegment, ObjectSymbol, RelocationTarget, SectionIndex};
@@ -46,14 +46,14 @@ impl<'data> Image<'data> {
                 section: None,
             })
         };
-        Image { parts: ascending(file.segments().filter_map(part)), imports: dynamic_imports(file) }
+        Image { parts: ascending_parts(file.segments().filter_map(part)), imports: dynamic_imports(file) }
     }
 
     /// The sections of an unlinked object, each at the address that the layout gives it.
     pub(crate) fn of_object(object: Object<'_, 'data>) -> Self {
         let Object { file, layout, .. } = object;
-        let outside = Outside { base: end(file, layout) };
-        let loaded = file.sections().filter(|section| is_loaded(section.flags()));
+        let outside = Outside { base: end_of_sections(file, layout) };
+        let loaded = file.sections().filter(|section| is_loaded_section(section.flags()));
         let mut left = MOST_RELOCATED;
         let parts = loaded.filter_map(|section| {
             let mut bytes = Cow::Borrowed(section.data().ok().filter(|bytes| !bytes.is_empty())?);
@@ -61,34 +61,34 @@ impl<'data> Image<'data> {
                 left = left.checked_sub(bytes.len())?;
                 object.relocate_all(&section, bytes.to_mut(), outside);
             }
-            let (address, is_executable) = (layout.address(section.index()), is_code(section.flags()));
+            let (address, is_executable) = (layout.address(section.index()), is_code_section(section.flags()));
             let name = String::from_utf8_lossy(section.name_bytes().unwrap_or(b"?")).into_owned();
             Some(Part { address, bytes, is_executable, section: Some(name) })
         });
-        Image { parts: ascending(parts), imports: undefined(file, outside) }
+        Image { parts: ascending_parts(parts), imports: undefined_symbols(file, outside) }
     }
 }
 
-fn ascending<'data>(parts: impl Iterator<Item = Part<'data>>) -> Vec<Part<'data>> {
+fn ascending_parts<'data>(parts: impl Iterator<Item = Part<'data>>) -> Vec<Part<'data>> {
     let mut parts: Vec<_> = parts.collect();
     parts.sort_by_key(|part| part.address);
     parts
 }
 
-fn is_code(flags: SectionFlags) -> bool {
+fn is_code_section(flags: SectionFlags) -> bool {
     matches!(flags, SectionFlags::Elf { sh_flags } if sh_flags & u64::from(SHF_EXECINSTR) != 0)
 }
 
 /// The first address after all sections of an object that is a multiple of [`APART`].
-fn end(file: &object::File<'_>, layout: &Layout) -> u64 {
+fn end_of_sections(file: &object::File<'_>, layout: &Layout) -> u64 {
     let end = |index: SectionIndex, size: u64| layout.address(index).saturating_add(size);
-    let loaded = file.sections().filter(|section| is_loaded(section.flags()));
+    let loaded = file.sections().filter(|section| is_loaded_section(section.flags()));
     let last = loaded.map(|section| end(section.index(), section.size())).max().unwrap_or(0);
     (last / APART).saturating_add(1).saturating_mul(APART)
 }
 
 /// The symbols that an object doesn't define, each by its address and by that of its pointer.
-fn undefined<'data>(file: &object::File<'data>, outside: Outside) -> Vec<(u64, &'data str)> {
+fn undefined_symbols<'data>(file: &object::File<'data>, outside: Outside) -> Vec<(u64, &'data str)> {
     let undefined = file.symbols().filter(|symbol| symbol.is_undefined());
     let named = undefined.filter_map(|symbol| Some((symbol.index(), symbol.name().ok()?)));
     named.flat_map(|(index, name)| [(outside.symbol(index), name), (outside.pointer(index), name)]).collect()

@@ -1,4 +1,4 @@
-//! The address of each section of a file in memory.
+//! The address of each section of a file in memory: those of an unlinked object are laid out one after another.
 
 use dwcheck_types::target::Target;
 use object::elf::{ET_REL, SHF_ALLOC, SHF_EXECINSTR};
@@ -29,13 +29,13 @@ impl Layout {
             let addresses = file.sections().map(|section| (section.index().0, section.address())).collect();
             return Ok(Layout { addresses, is_object: false });
         }
-        let mut sections: Vec<_> = file.sections().filter(|section| is_loaded(section.flags())).collect();
-        sections.sort_by_key(|section| rank(section.flags(), section.file_range().is_some()));
+        let mut sections: Vec<_> = file.sections().filter(|section| is_loaded_section(section.flags())).collect();
+        sections.sort_by_key(|section| section_rank(section.flags(), section.file_range().is_some()));
         let mut addresses = HashMap::new();
         let mut next = 0u64;
         for section in sections {
             let alignment = section.align().max(16);
-            let address = aligned(next, alignment).ok_or(TooLarge)?;
+            let address = align_up(next, alignment).ok_or(TooLarge)?;
             // Leave one byte free between two sections, so that the end of one isn't the start of
             // the next.
             next = address.checked_add(section.size()).and_then(|end| end.checked_add(1)).ok_or(TooLarge)?;
@@ -70,13 +70,13 @@ fn elf_flags(flags: SectionFlags) -> u64 {
 }
 
 /// Whether a section with these flags is loaded into memory.
-pub(crate) fn is_loaded(flags: SectionFlags) -> bool {
+pub(crate) fn is_loaded_section(flags: SectionFlags) -> bool {
     elf_flags(flags) & u64::from(SHF_ALLOC) != 0
 }
 
 /// The rank of a section in the order of addresses: 0 for code, 1 for data whose bytes the file
 /// has, 2 for data that starts as zeros.
-fn rank(flags: SectionFlags, has_bytes: bool) -> u8 {
+fn section_rank(flags: SectionFlags, has_bytes: bool) -> u8 {
     match (elf_flags(flags) & u64::from(SHF_EXECINSTR) != 0, has_bytes) {
         (true, _) => 0,
         (false, true) => 1,
@@ -84,7 +84,7 @@ fn rank(flags: SectionFlags, has_bytes: bool) -> u8 {
     }
 }
 
-fn aligned(address: u64, alignment: u64) -> Option<u64> {
+fn align_up(address: u64, alignment: u64) -> Option<u64> {
     let past = address.checked_rem(alignment)?;
     if past == 0 {
         Some(address)

@@ -22,7 +22,7 @@ pub(crate) struct Stub<'data> {
 
 /// The stubs of a linked file for x86-64 or aarch64, in its sections `.plt`, `.plt.sec` and
 /// `.plt.got`. A stub whose slot has no relocation with a name is left out. Empty for other machines.
-pub(crate) fn stubs<'data>(file: &object::File<'data>, machine: u16) -> Vec<Stub<'data>> {
+pub(crate) fn plt_stubs<'data>(file: &object::File<'data>, machine: u16) -> Vec<Stub<'data>> {
     let machine = match Machine::numbered(machine) {
         Some(machine) => machine,
         None => return Vec::new(),
@@ -33,16 +33,21 @@ pub(crate) fn stubs<'data>(file: &object::File<'data>, machine: u16) -> Vec<Stub
         return Vec::new();
     }
     let slots: HashMap<u64, &str> = dynamic_imports(file).into_iter().collect();
-    tables.flat_map(|(address, code)| stubs_of(machine, address, code, &slots)).collect()
+    tables.flat_map(|(address, code)| stubs_in_section(machine, address, code, &slots)).collect()
 }
 
 /// The stubs in the code of a section. Each begins at a multiple of 8 bytes, and ends where the next
 /// one begins.
-fn stubs_of<'data>(machine: &Machine, address: u64, code: &[u8], slots: &HashMap<u64, &'data str>) -> Vec<Stub<'data>> {
+fn stubs_in_section<'data>(
+    machine: &Machine,
+    address: u64,
+    code: &[u8],
+    slots: &HashMap<u64, &'data str>,
+) -> Vec<Stub<'data>> {
     let mut stubs: Vec<Stub<'data>> = Vec::new();
     for start in (0..code.len()).step_by(8) {
         let begin = address.saturating_add(start as u64);
-        let slot = slot(machine, &code[start..], begin);
+        let slot = slot_of_stub(machine, &code[start..], begin);
         let function = match slot.and_then(|slot| slots.get(&slot)) {
             Some(function) => function,
             None => continue,
@@ -58,7 +63,7 @@ fn stubs_of<'data>(machine: &Machine, address: u64, code: &[u8], slots: &HashMap
 
 /// The address of the slot by which the code at the first of these bytes jumps, if that is all it
 /// does, perhaps after an instruction that marks where jumps may lead.
-fn slot(machine: &Machine, code: &[u8], address: u64) -> Option<u64> {
+fn slot_of_stub(machine: &Machine, code: &[u8], address: u64) -> Option<u64> {
     let slot = (machine.stub)(code, address);
     slot.or_else(|| {
         let first = (machine.decode)(code, address);

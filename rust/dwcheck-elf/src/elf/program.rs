@@ -1,4 +1,5 @@
-//! An ELF file: its frame sections, location lists, functions and segments.
+//! An ELF file: its machine, its sections, also compressed ones, its frame sections, location lists, functions,
+//! segments, build id and debug links.
 
 mod by_segment;
 
@@ -6,7 +7,7 @@ use crate::elf::constants::{self, Constants};
 use crate::elf::format::{Format, Name};
 use crate::elf::functions::Functions;
 use crate::elf::image::Image;
-use crate::elf::layout::{is_loaded, Layout};
+use crate::elf::layout::{is_loaded_section, Layout};
 use crate::elf::other_file::OtherFile;
 use crate::elf::relocate::{self, RelocationError};
 use dwcheck_types::target::{AddressSize, Order, Target};
@@ -218,7 +219,7 @@ impl<'data> Program<'data> {
     /// there the local functions of programs without a `.symtab`.
     fn packed_functions(&self) -> Result<Option<Functions<'static>>, ProgramError> {
         let bytes = match self.section(PACKED)? {
-            Some(section) => unpacked(&section.bytes)?,
+            Some(section) => decompress_packed(&section.bytes)?,
             None => return Ok(None),
         };
         Ok(Some(Program::read(&bytes)?.own_functions().into_owned()))
@@ -316,7 +317,7 @@ impl<'data> Program<'data> {
         let range = |address: u64, size: u64| address..address.saturating_add(size);
         let is_code = |section: &object::Section<'_, '_>| {
             let flags = section.flags();
-            is_loaded(flags)
+            is_loaded_section(flags)
                 && matches!(flags, SectionFlags::Elf { sh_flags } if sh_flags & u64::from(elf::SHF_EXECINSTR) != 0)
         };
         let named = |section: object::Section<'_, '_>| {
@@ -369,8 +370,8 @@ impl<'data> Program<'data> {
             None => return Ok(None),
         };
         let mut section =
-            Section { bytes: uncompressed(&found, name, self.target)?, address: 0, unresolved: Vec::new() };
-        if is_loaded(found.flags()) {
+            Section { bytes: uncompressed_section(&found, name, self.target)?, address: 0, unresolved: Vec::new() };
+        if is_loaded_section(found.flags()) {
             section.address = self.layout.address(found.index());
         }
         if self.kind == Kind::Relocatable && found.relocations().next().is_some() {
@@ -385,13 +386,13 @@ impl<'data> Program<'data> {
 
 /// The bytes of a section. The size that a compressed section claims is checked before any memory
 /// is allocated for it.
-fn uncompressed<'data>(
+fn uncompressed_section<'data>(
     section: &object::Section<'data, '_>,
     name: &'static str,
     target: Target,
 ) -> Result<Cow<'data, [u8]>, ProgramError> {
     let fail = |error: object::Error| ProgramError::Section(name, error.to_string());
-    if let Some((data, size)) = by_zstd(section, target) {
+    if let Some((data, size)) = compressed_by_zstd(section, target) {
         return zstd_bytes(data, size, name).map(Cow::Owned);
     }
     let data = section.compressed_data().map_err(fail)?;
@@ -426,7 +427,7 @@ fn unzipped_before(section: &object::Section<'_, '_>, end: usize) -> Option<Vec<
 
 /// For a section that is compressed by zstd, which `object` doesn't know: the compressed bytes, and
 /// the size of the others.
-fn by_zstd<'data>(section: &object::Section<'data, '_>, target: Target) -> Option<(&'data [u8], u64)> {
+fn compressed_by_zstd<'data>(section: &object::Section<'data, '_>, target: Target) -> Option<(&'data [u8], u64)> {
     let flags = match section.flags() {
         SectionFlags::Elf { sh_flags } => sh_flags,
         _ => 0,
@@ -455,7 +456,7 @@ fn zstd_bytes(data: &[u8], size: u64, name: &'static str) -> Result<Vec<u8>, Pro
 }
 
 /// Decompresses the bytes of [`PACKED`].
-fn unpacked(bytes: &[u8]) -> Result<Vec<u8>, ProgramError> {
+fn decompress_packed(bytes: &[u8]) -> Result<Vec<u8>, ProgramError> {
     let fail = |error: String| ProgramError::Section(PACKED, error);
     let decoder = Stream::new_stream_decoder(PACKED_LIMIT, 0).map_err(|error| fail(error.to_string()))?;
     let mut unpacked = Vec::new();

@@ -94,7 +94,7 @@ impl Object<'_, '_> {
         let start = self.layout.address(section.index());
         for (offset, relocation) in section.relocations() {
             let fail = |error| (offset, error);
-            let step = step_of(self.machine, &relocation).map_err(fail)?;
+            let step = relocation_step(self.machine, &relocation).map_err(fail)?;
             let symbol = match self.symbol(&relocation).map_err(fail)? {
                 Some(symbol) => symbol,
                 None => {
@@ -102,7 +102,7 @@ impl Object<'_, '_> {
                     continue;
                 }
             };
-            let field = field(bytes, offset, step.bits).ok_or_else(|| fail(RelocationError::Place))?;
+            let field = field_bytes(bytes, offset, step.bits).ok_or_else(|| fail(RelocationError::Place))?;
             self.apply(field, start.wrapping_add(offset), symbol, step, &relocation);
         }
         unresolved.sort_unstable();
@@ -114,10 +114,11 @@ impl Object<'_, '_> {
     pub fn relocate_all(&self, section: &object::Section<'_, '_>, bytes: &mut [u8], outside: Outside) {
         let start = self.layout.address(section.index());
         for (offset, relocation) in section.relocations() {
-            if let Some(code) = aarch64::code(self.machine, relocation.kind()) {
-                if let (Some(field), Some(symbol)) = (field(bytes, offset, 32), self.known(&relocation, outside)) {
+            if let Some(code) = aarch64::instruction_relocation(self.machine, relocation.kind()) {
+                if let (Some(field), Some(symbol)) = (field_bytes(bytes, offset, 32), self.known(&relocation, outside))
+                {
                     let symbol = symbol.wrapping_add(relocation.addend() as u64);
-                    aarch64::apply(field, code, symbol, start.wrapping_add(offset));
+                    aarch64::relocate_instruction(field, code, symbol, start.wrapping_add(offset));
                 }
                 continue;
             }
@@ -125,7 +126,7 @@ impl Object<'_, '_> {
                 Some(found) => found,
                 None => continue,
             };
-            if let Some(field) = field(bytes, offset, step.bits) {
+            if let Some(field) = field_bytes(bytes, offset, step.bits) {
                 self.apply(field, start.wrapping_add(offset), symbol, step, &relocation);
             }
         }
@@ -140,7 +141,7 @@ impl Object<'_, '_> {
                 _ => None,
             };
         }
-        Some((step_of(self.machine, relocation).ok()?, self.known(relocation, outside)?))
+        Some((relocation_step(self.machine, relocation).ok()?, self.known(relocation, outside)?))
     }
 
     /// The address of the symbol that a relocation names, or the one that stands for it.
@@ -192,7 +193,7 @@ impl Object<'_, '_> {
 
 /// The bytes that hold the field of `bits` bits at an offset, at most 8 bytes. `None` if they
 /// aren't all in the section.
-fn field(bytes: &mut [u8], offset: u64, bits: u8) -> Option<&mut [u8]> {
+fn field_bytes(bytes: &mut [u8], offset: u64, bits: u8) -> Option<&mut [u8]> {
     let size = usize::from(bits.min(64).checked_add(7)? / 8);
     let begin = usize::try_from(offset).ok()?;
     bytes.get_mut(begin..begin.checked_add(size)?)
@@ -203,7 +204,7 @@ fn sign_extended(number: u64, bits: u8) -> u64 {
     (((number << unused) as i64) >> unused) as u64
 }
 
-fn step_of(machine: u16, relocation: &Relocation) -> Result<Step, RelocationError> {
+fn relocation_step(machine: u16, relocation: &Relocation) -> Result<Step, RelocationError> {
     let step = |action, bits| Ok(Step { action, bits });
     match relocation.kind() {
         RelocationKind::Absolute => step(Action::Absolute, relocation.size()),
@@ -247,7 +248,7 @@ fn machine_step(machine: u16, code: u32) -> Option<Step> {
         (elf::EM_PARISC, elf::R_PARISC_PCREL32) => (Action::RelativeAfterTwoWords, 32),
         (elf::EM_SPARC | elf::EM_SPARC32PLUS | elf::EM_SPARCV9, elf::R_SPARC_DISP32) => (Action::Relative, 32),
         (elf::EM_SPARC | elf::EM_SPARC32PLUS | elf::EM_SPARCV9, elf::R_SPARC_DISP64) => (Action::Relative, 64),
-        (elf::EM_RISCV, _) => riscv(code)?,
+        (elf::EM_RISCV, _) => riscv_action(code)?,
         _ => return None,
     };
     Some(Step { action, bits })
@@ -256,7 +257,7 @@ fn machine_step(machine: u16, code: u32) -> Option<Step> {
 /// What a RISC-V relocation does, and the size of its field in bits. A RISC-V assembler leaves the
 /// difference of two addresses to the linker: one relocation sets or adds the first address, and
 /// another one subtracts the second.
-fn riscv(code: u32) -> Option<(Action, u8)> {
+fn riscv_action(code: u32) -> Option<(Action, u8)> {
     Some(match code {
         elf::R_RISCV_ADD8 => (Action::Add, 8),
         elf::R_RISCV_ADD16 => (Action::Add, 16),

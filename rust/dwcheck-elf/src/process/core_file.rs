@@ -1,4 +1,5 @@
-//! A core file: the threads, the memory and the mapped files of a process that died.
+//! A core file: the threads, the memory, which of it is executable or writable, and the mapped files of a process that
+//! died.
 
 mod files;
 mod in_memory;
@@ -7,6 +8,7 @@ mod modules;
 mod notes;
 mod ranges;
 pub(crate) mod registers;
+mod segments;
 mod signal;
 
 pub use files::{FileError, Files, MappedFile};
@@ -22,11 +24,11 @@ use crate::process::without_row::signed_bits;
 use dwcheck_types::abi::{abi, Abi};
 use dwcheck_types::target::{AddressSize, Order, Target};
 use notes::Notes;
-use object::elf::{self, FileHeader32, FileHeader64, ELFMAG, ET_CORE, PF_W, PF_X, PT_LOAD};
+use object::elf::{self, FileHeader32, FileHeader64, ELFMAG, ET_CORE, PT_LOAD};
 use object::read::elf::{FileHeader, ProgramHeader};
 use object::read::FileKind;
 use object::Endianness;
-use ranges::Ranges;
+use segments::{Code, CoreSegment};
 use std::fmt;
 use std::ops::Range;
 
@@ -45,22 +47,6 @@ pub struct CoreFile<'data> {
     pac_mask: Option<u64>,
     segments: Vec<CoreSegment<'data>>,
     code: Code,
-}
-
-/// A segment of a core file (`PT_LOAD`): a part of the process's memory, with those of its bytes
-/// that the file has.
-#[derive(Clone, Copy, Debug)]
-struct CoreSegment<'data> {
-    address: u64,
-    bytes: &'data [u8],
-    /// The part's size in memory, including bytes that the core left out.
-    size: u64,
-    /// Whether the process could execute the part.
-    is_executable: bool,
-    /// Whether the process could write to the part.
-    is_writable: bool,
-    /// Whether the file is cut off: its headers give this part more bytes than the file has.
-    is_cut: bool,
 }
 
 /// What was copied of a process that runs.
@@ -146,27 +132,12 @@ impl<'data> CoreFile<'data> {
     /// The copy of a process as a core file. The bytes of its segments are those that were copied.
     pub(crate) fn of_live(copy: Copied<'data>) -> Self {
         let Copied { process, target, abi, threads, memory, pac_mask } = copy;
-        let copied = memory.iter().copied().flatten().map(|(address, bytes)| CoreSegment {
-            address: *address,
-            bytes,
-            size: bytes.len() as u64,
-            is_executable: false,
-            is_writable: false,
-            is_cut: false,
-        });
-        let listed = process.maps.iter().map(|map| CoreSegment {
-            address: map.begin,
-            bytes: &[],
-            size: map.end.saturating_sub(map.begin),
-            is_executable: map.is_executable,
-            is_writable: false,
-            is_cut: false,
-        });
-        let segments: Vec<_> = copied.chain(listed).collect();
+        let copied = memory.iter().copied().flatten().map(|(address, bytes)| CoreSegment::of_copy(*address, bytes));
+        let segments: Vec<_> = copied.chain(process.maps.iter().map(CoreSegment::of_map)).collect();
         let files = process.maps.iter().enumerate().filter(|(_, map)| map.path.starts_with(b"/"));
         let mapping = |(index, map)| Mapping::of_live(map, can_differ(&process.maps, index));
         let mappings: Vec<_> = files.map(mapping).collect();
-        let auxiliary = |kind| notes::auxiliary(&process.auxiliary, target, kind);
+        let auxiliary = |kind| notes::auxiliary_value(&process.auxiliary, target, kind);
         CoreFile {
             target,
             abi,
@@ -280,54 +251,6 @@ impl<'data> CoreFile<'data> {
             let past = usize::try_from(address.checked_sub(segment.address)?).ok()?;
             segment.bytes.get(past..).filter(|bytes| !bytes.is_empty())
         })
-    }
-}
-
-impl<'data> CoreSegment<'data> {
-    fn of<Header>(header: &Header, endian: Header::Endian, data: &'data [u8]) -> Self
-    where
-        Header: ProgramHeader,
-    {
-        let address = header.p_vaddr(endian).into();
-        let size = header.p_filesz(endian).into();
-        let begin = usize::try_from(header.p_offset(endian).into()).unwrap_or(usize::MAX);
-        let there = data.get(begin..).unwrap_or(&[]);
-        let held = usize::try_from(size).map_or(there, |size| there.get(..size).unwrap_or(there));
-        CoreSegment {
-            address,
-            bytes: held,
-            size: header.p_memsz(endian).into(),
-            is_executable: header.p_flags(endian) & PF_X != 0,
-            is_writable: header.p_flags(endian) & PF_W != 0,
-            is_cut: (held.len() as u64) < size,
-        }
-    }
-}
-
-/// What a core says about which memory is executable or writable.
-#[derive(Clone, Debug)]
-struct Code {
-    /// The executable segments.
-    executable: Ranges,
-    /// The segments to which the process could write.
-    writable: Ranges,
-    /// All segments.
-    listed: Ranges,
-    /// The mapped files.
-    mapped: Ranges,
-}
-
-impl Code {
-    fn of(segments: &[CoreSegment<'_>], mappings: &[Mapping<'_>]) -> Self {
-        let range = |segment: &CoreSegment<'_>| segment.address..segment.address.saturating_add(segment.size);
-        let executable = segments.iter().filter(|segment| segment.is_executable);
-        let writable = segments.iter().filter(|segment| segment.is_writable);
-        Code {
-            executable: Ranges::of(executable.map(range)),
-            writable: Ranges::of(writable.map(range)),
-            listed: Ranges::of(segments.iter().map(range)),
-            mapped: Ranges::of(mappings.iter().map(|mapping| mapping.begin..mapping.end)),
-        }
     }
 }
 

@@ -49,7 +49,7 @@ impl Snapshot {
     /// If no thread can be copied. Single threads that can't be copied are listed in
     /// [`skipped`](Self::skipped).
     pub fn take(pid: u32, wanted: &[u32]) -> Result<Snapshot, LiveError> {
-        in_thread(|| Snapshot::copy(pid, wanted, None))
+        run_in_own_thread(|| Snapshot::copy(pid, wanted, None))
     }
 
     /// Copies a process as [`take`](Self::take) does, and the memory that it can write to, up to
@@ -59,7 +59,7 @@ impl Snapshot {
     ///
     /// The same.
     pub fn take_with_data(pid: u32, wanted: &[u32]) -> Result<Snapshot, LiveError> {
-        in_thread(|| Snapshot::copy(pid, wanted, Some(Vec::new())))
+        run_in_own_thread(|| Snapshot::copy(pid, wanted, Some(Vec::new())))
     }
 
     fn copy(pid: u32, wanted: &[u32], data: Option<Vec<(u64, Vec<u8>)>>) -> Result<Snapshot, LiveError> {
@@ -145,7 +145,7 @@ impl Snapshot {
         let own = registers.as_ref().and_then(|registers| self.own_stack(tid, registers, stack.as_ref()));
         self.pac_mask = self.pac_mask.or_else(|| stopped.pac_mask());
         if let Some(data) = self.data.as_mut().filter(|data| data.is_empty()) {
-            *data = data::data(&self.process);
+            *data = data::copy_changeable_memory(&self.process);
         }
         self.longest = self.longest.max(stopped.resume());
         if let Some(registers) = registers {
@@ -187,6 +187,6 @@ impl Snapshot {
 
 /// Runs something in a thread of its own. When that ends, the kernel lets go what it traces, also threads that
 /// haven't stopped yet.
-fn in_thread<T: Send>(run: impl FnOnce() -> T + Send) -> T {
+fn run_in_own_thread<T: Send>(run: impl FnOnce() -> T + Send) -> T {
     std::thread::scope(|scope| scope.spawn(run).join()).unwrap_or_else(|panic| std::panic::resume_unwind(panic))
 }

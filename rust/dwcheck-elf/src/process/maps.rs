@@ -1,4 +1,4 @@
-//! What `/proc` says about a process.
+//! What `/proc` says about a process: its memory maps, threads, machine and tracer.
 
 use crate::elf::program::Program;
 use dwcheck_types::abi::{abi, Abi};
@@ -60,11 +60,11 @@ pub enum LiveError {
 impl Process {
     /// Reads what `/proc` has of a process.
     pub fn read(id: u32) -> Result<Process, LiveError> {
-        let alive = alive(id);
+        let alive = thread_with_memory(id);
         let folder = PathBuf::from(format!("/proc/{}", alive));
-        let maps = fs::read(folder.join("maps")).map_err(failure)?;
-        let auxiliary = fs::read(folder.join("auxv")).map_err(failure)?;
-        let maps: Vec<_> = maps.split(|byte| *byte == b'\n').filter_map(map).collect();
+        let maps = fs::read(folder.join("maps")).map_err(proc_failure)?;
+        let auxiliary = fs::read(folder.join("auxv")).map_err(proc_failure)?;
+        let maps: Vec<_> = maps.split(|byte| *byte == b'\n').filter_map(parse_map_line).collect();
         let mut process = Process { id, alive, maps, auxiliary, name: None };
         process.name = process.thread_name(id);
         Ok(process)
@@ -72,7 +72,7 @@ impl Process {
 
     /// The byte order, the address size and the calling convention, by the program's file.
     pub fn machine(&self) -> Result<(Target, &'static Abi), LiveError> {
-        let file = fs::File::open(format!("/proc/{}/exe", self.alive)).map_err(failure)?;
+        let file = fs::File::open(format!("/proc/{}/exe", self.alive)).map_err(proc_failure)?;
         let size = file.metadata().map_err(LiveError::Unreadable)?.len();
         let bytes = crate::elf::mapped::Bytes::of_file(&file, size).map_err(LiveError::Unreadable)?;
         let program = Program::read(&bytes).map_err(|_| LiveError::Machine)?;
@@ -83,7 +83,7 @@ impl Process {
 
     /// The ids of the threads, ascending.
     pub fn threads(&self) -> Result<Vec<u32>, LiveError> {
-        let folder = fs::read_dir(format!("/proc/{}/task", self.id)).map_err(failure)?;
+        let folder = fs::read_dir(format!("/proc/{}/task", self.id)).map_err(proc_failure)?;
         let names = folder.filter_map(|entry| entry.ok()?.file_name().to_str()?.parse().ok());
         let mut tids: Vec<u32> = names.collect();
         tids.sort_unstable();
@@ -123,7 +123,7 @@ impl Process {
 }
 
 /// A thread of a process that has its memory: the first one, unless that has ended before others.
-pub(crate) fn alive(id: u32) -> u32 {
+pub(crate) fn thread_with_memory(id: u32) -> u32 {
     let has_memory = |tid: &u32| fs::read(format!("/proc/{}/maps", tid)).map_or(false, |maps| !maps.is_empty());
     let listed = fs::read_dir(format!("/proc/{}/task", id)).into_iter().flatten();
     let others = listed.filter_map(|entry| entry.ok()?.file_name().to_str()?.parse().ok());
@@ -145,7 +145,7 @@ pub(crate) fn can_differ(maps: &[Map], index: usize) -> bool {
 }
 
 /// A file in `/proc` that isn't there belongs to a process that isn't there.
-fn failure(error: io::Error) -> LiveError {
+fn proc_failure(error: io::Error) -> LiveError {
     match error.kind() {
         io::ErrorKind::NotFound => LiveError::NoProcess,
         io::ErrorKind::PermissionDenied => LiveError::NotTraced(None),
@@ -155,7 +155,7 @@ fn failure(error: io::Error) -> LiveError {
 }
 
 /// Reads a line such as `7f00-7f01 r-xp 00001000 08:01 123      /bin/a b`.
-fn map(line: &[u8]) -> Option<Map> {
+fn parse_map_line(line: &[u8]) -> Option<Map> {
     let mut words = line.splitn(6, |byte| *byte == b' ');
     let mut word = || std::str::from_utf8(words.next()?).ok();
     let number = |text: &str| u64::from_str_radix(text, 16).ok();
@@ -193,7 +193,7 @@ impl std::error::Error for LiveError {
 
 #[cfg(test)]
 mod tests {
-    use super::{map, Map};
+    use super::{parse_map_line, Map};
 
     #[test]
     fn lines_of_maps() {
@@ -201,10 +201,10 @@ mod tests {
         let (begin, end) = (0x7f00_0000_1000, 0x7f00_0000_2000);
         let path = b"/usr/lib/a b (deleted)".to_vec();
         let code = Map { begin, end, is_writable: false, is_executable: true, offset: 0x3000, inode: 1234, path };
-        assert_eq!(map(line), Some(code.clone()));
+        assert_eq!(parse_map_line(line), Some(code.clone()));
         let line = b"7f0000001000-7f0000002000 rw-p 00000000 00:00 0 ";
         let data = Map { is_writable: true, is_executable: false, offset: 0, inode: 0, path: Vec::new(), ..code };
-        assert_eq!(map(line), Some(data));
-        assert_eq!(map(b""), None);
+        assert_eq!(parse_map_line(line), Some(data));
+        assert_eq!(parse_map_line(b""), None);
     }
 }

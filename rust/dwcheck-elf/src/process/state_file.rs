@@ -72,17 +72,17 @@ impl StateFile {
         let words: Vec<_> = std::str::from_utf8(line).ok()?.split(' ').collect();
         match *words.as_slice() {
             ["reg", register, value] => {
-                let (register, value) = (short(register)?, address(value, target)?);
+                let (register, value) = (parse_short_number(register)?, parse_address(value, target)?);
                 if self.registers.get(register).is_none() {
                     self.registers.set(register, value);
                 }
             }
-            ["mem", start, bytes] => self.add_memory(address(start, target)?, bytes, target)?,
-            ["cfa", value] => first(&mut self.context.cfa, address(value, target)?),
-            ["frame", value] => first(&mut self.context.frame_base, address(value, target)?),
-            ["object", value] => first(&mut self.context.object, address(value, target)?),
-            ["keep", register] => self.keep(short(register)?)?,
-            ["sp", register] => self.stack(short(register)?)?,
+            ["mem", start, bytes] => self.add_memory(parse_address(start, target)?, bytes, target)?,
+            ["cfa", value] => set_once(&mut self.context.cfa, parse_address(value, target)?),
+            ["frame", value] => set_once(&mut self.context.frame_base, parse_address(value, target)?),
+            ["object", value] => set_once(&mut self.context.object, parse_address(value, target)?),
+            ["keep", register] => self.keep(parse_short_number(register)?)?,
+            ["sp", register] => self.stack(parse_short_number(register)?)?,
             _ => return None,
         }
         Some(())
@@ -124,19 +124,19 @@ impl StateFile {
 }
 
 /// Sets a value, unless an earlier line has set it.
-fn first(held: &mut Option<u64>, value: u64) {
+fn set_once(held: &mut Option<u64>, value: u64) {
     *held = held.or(Some(value));
 }
 
 /// Reads a number of 1 to 5 decimal digits, at most 65535. `None` if the text isn't such a number.
-pub fn short(text: &str) -> Option<u16> {
+pub fn parse_short_number(text: &str) -> Option<u16> {
     let plain = (1..=5).contains(&text.len()) && text.bytes().all(|byte| byte.is_ascii_digit());
     text.parse().ok().filter(|_| plain)
 }
 
 /// Reads an address: `0x` and 1 to 16 hexadecimal digits, at most the target's highest address.
 /// `None` if the text isn't such an address.
-pub fn address(text: &str, target: Target) -> Option<u64> {
+pub fn parse_address(text: &str, target: Target) -> Option<u64> {
     let digits = text.strip_prefix("0x").filter(|digits| (1..=16).contains(&digits.len()))?;
     let plain = digits.bytes().all(|byte| byte.is_ascii_hexdigit());
     let number = u64::from_str_radix(digits, 16).ok().filter(|_| plain)?;

@@ -18,7 +18,7 @@ mod stub;
 
 pub use call::ends_with_call;
 pub use growth::{Growth, NotGrowing};
-pub use signal_return::{sigpanic, SignalReturn};
+pub use signal_return::{address_of_sigpanic, SignalReturn};
 
 use call::direct_target;
 use dwcheck::{Error, Registers};
@@ -206,7 +206,9 @@ impl<V: View> Guesser<'_, V> {
         let top = self.registers.get(self.view.abi().stack_pointer).and_then(|stack| self.word(stack));
         let mut code = [0; stub::LONGEST];
         let count = self.view.read(address, &mut code);
-        self.before(address).zip(top).map_or(0, |(before, top)| stub::pushed(&before, &code[..count], top as u32))
+        self.before(address)
+            .zip(top)
+            .map_or(0, |(before, top)| stub::words_pushed_by_stub(&before, &code[..count], top as u32))
     }
 
     /// Where the call of x86 before an address leads, if it is one to a fixed address.

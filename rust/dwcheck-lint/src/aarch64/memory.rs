@@ -1,6 +1,6 @@
-//! Loads and stores.
+//! Loads and stores of aarch64.
 
-use super::{vector, written, Word, SP};
+use super::{vector_register, write_of_register, Word, SP};
 use crate::instruction::{Effect, Entry, MemoryOperand, Transfer};
 use crate::register::{Register, Registers};
 
@@ -18,20 +18,20 @@ enum Mode {
 impl Word {
     pub(super) fn memory(self) -> Effect {
         match (self.bits(29, 27), self.bits(25, 24)) {
-            (0b001, _) if self.bit(26) => self.structures(),
-            (0b001, _) => self.exclusive(),
-            (0b011, 0b00) => written(self.moved(0)),
-            (0b011, _) if self.bit(21) => self.tags(),
+            (0b001, _) if self.bit(26) => self.vector_structures(),
+            (0b001, _) => self.exclusive_transfer(),
+            (0b011, 0b00) => write_of_register(self.loaded_or_stored(0)),
+            (0b011, _) if self.bit(21) => self.memory_tags(),
             (0b011, _) if self.bits(11, 10) == 0b01 => self.memory_copy(),
-            (0b011, _) => self.ordered(),
-            (0b101, _) => self.pair(),
-            (0b111, _) => self.single(),
+            (0b011, _) => self.ordered_transfer(),
+            (0b101, _) => self.pair_transfer(),
+            (0b111, _) => self.single_transfer(),
             _ => Effect::Invalid,
         }
     }
 
     /// The register that is loaded or stored: a general one or a vector.
-    fn moved(self, low: u32) -> Option<Register> {
+    fn loaded_or_stored(self, low: u32) -> Option<Register> {
         if self.bit(26) {
             self.vector(low)
         } else {
@@ -40,7 +40,7 @@ impl Word {
     }
 
     /// A transfer with this offset.
-    fn transfer(self, mode: Mode, offset: i32, transfer: Transfer) -> Effect {
+    fn memory_transfer(self, mode: Mode, offset: i32, transfer: Transfer) -> Effect {
         let base = self.general_or_sp(5);
         let place = MemoryOperand { base, offset: if mode == Mode::After { 0 } else { offset } };
         let added = if mode == Mode::Offset { 0 } else { offset };
@@ -51,12 +51,12 @@ impl Word {
         match (first, transfer.is_load, transfer.is_whole) {
             (Some(to), true, true) => Effect::Load { to, from: place },
             (Some(from), false, true) => Effect::Store { from, to: Some(place) },
-            (register, true, _) => written(register),
+            (register, true, _) => write_of_register(register),
             (_, false, _) => Effect::write(Registers::NONE, place, transfer.bytes),
         }
     }
 
-    fn pair(self) -> Effect {
+    fn pair_transfer(self) -> Effect {
         let (size, is_load) = (self.bits(31, 30), self.bit(22));
         let (bytes, is_whole) = match (self.bit(26), size) {
             (true, size) => (4 << size.min(2), size > 0),
@@ -69,14 +69,14 @@ impl Word {
             0b11 => Mode::Before,
             _ => Mode::Offset,
         };
-        let registers = [self.moved(0), self.moved(10), None, None].into();
+        let registers = [self.loaded_or_stored(0), self.loaded_or_stored(10), None, None].into();
         let place = MemoryOperand { base: SP, offset: 0 };
         let transfer = Transfer { is_load, registers, count: 2, bytes, is_whole, place, added: 0 };
-        self.transfer(mode, self.signed(21, 15) * i32::from(bytes), transfer)
+        self.memory_transfer(mode, self.signed(21, 15) * i32::from(bytes), transfer)
     }
 
     /// A load or a store of one register.
-    fn single(self) -> Effect {
+    fn single_transfer(self) -> Effect {
         let (size, operation, is_vector) = (self.bits(31, 30), self.bits(23, 22), self.bit(26));
         let is_wide_vector = is_vector && operation >= 0b10;
         let bytes = if is_wide_vector { 16 } else { 1 << size };
@@ -91,31 +91,31 @@ impl Word {
             (false, false, 0b01) => (Mode::After, self.signed(20, 12)),
             (false, false, 0b11) => (Mode::Before, self.signed(20, 12)),
             (false, false, _) => (Mode::Offset, self.signed(20, 12)),
-            (false, true, 0b10) => return self.indexed(bytes, is_load, is_whole),
-            (false, true, 0b00) => return self.atomic(bytes),
-            (false, true, _) => return self.authenticated(),
+            (false, true, 0b10) => return self.indexed_transfer(bytes, is_load, is_whole),
+            (false, true, 0b00) => return self.atomic_operation(bytes),
+            (false, true, _) => return self.authenticated_load(),
         };
-        let registers = [self.moved(0), None, None, None].into();
+        let registers = [self.loaded_or_stored(0), None, None, None].into();
         let place = MemoryOperand { base: SP, offset: 0 };
-        self.transfer(mode, offset, Transfer { is_load, registers, count: 1, bytes, is_whole, place, added: 0 })
+        self.memory_transfer(mode, offset, Transfer { is_load, registers, count: 1, bytes, is_whole, place, added: 0 })
     }
 
     /// A load or a store at the sum of two registers. Tables of jumps are read by such loads.
-    fn indexed(self, bytes: u8, is_load: bool, is_whole: bool) -> Effect {
+    fn indexed_transfer(self, bytes: u8, is_load: bool, is_whole: bool) -> Effect {
         let is_signed = self.bits(23, 22) >= 0b10;
-        match (self.moved(0), is_load) {
+        match (self.loaded_or_stored(0), is_load) {
             (Some(to), true) if !self.bit(26) => {
                 let entry = Entry { bytes, is_signed, shift: 0 };
                 Effect::LoadEntry { to, base: Some(self.general_or_sp(5)), offset: 0, entry }
             }
-            (to, true) => written(to),
+            (to, true) => write_of_register(to),
             (Some(from), false) if is_whole => Effect::Store { from, to: None },
             (_, false) => Effect::Nothing,
         }
     }
 
     /// An operation on memory, which loads the old value.
-    fn atomic(self, bytes: u8) -> Effect {
+    fn atomic_operation(self, bytes: u8) -> Effect {
         let mut registers = Registers::NONE;
         self.general(0).into_iter().for_each(|register| registers.insert(register));
         let place = MemoryOperand { base: self.general_or_sp(5), offset: 0 };
@@ -123,7 +123,7 @@ impl Word {
     }
 
     /// A load at an address that is authenticated first.
-    fn authenticated(self) -> Effect {
+    fn authenticated_load(self) -> Effect {
         let mut registers = Registers::NONE;
         self.general(0).into_iter().for_each(|register| registers.insert(register));
         if self.bit(11) {
@@ -133,7 +133,7 @@ impl Word {
     }
 
     /// Exclusive and ordered loads and stores, and `cas`.
-    fn exclusive(self) -> Effect {
+    fn exclusive_transfer(self) -> Effect {
         let (is_ordered, is_load, is_pair) = (self.bit(23), self.bit(22), self.bit(21));
         let mut registers = Registers::NONE;
         let mut add = |register: Option<Register>| register.into_iter().for_each(|register| registers.insert(register));
@@ -160,19 +160,19 @@ impl Word {
     }
 
     /// `ldapur` and `stlur`.
-    fn ordered(self) -> Effect {
+    fn ordered_transfer(self) -> Effect {
         let place = MemoryOperand { base: self.general_or_sp(5), offset: self.signed(20, 12) };
         match (self.bits(23, 22) != 0, self.general(0)) {
-            (true, to) => written(to),
+            (true, to) => write_of_register(to),
             (false, Some(from)) if self.bits(31, 30) == 3 => Effect::Store { from, to: Some(place) },
             (false, _) => Effect::write(Registers::NONE, place, 1 << self.bits(31, 30)),
         }
     }
 
     /// Loads and stores of the tags of memory.
-    fn tags(self) -> Effect {
+    fn memory_tags(self) -> Effect {
         match (self.bits(11, 10), self.general_or_sp(5)) {
-            (0b00, _) => written(self.general(0)),
+            (0b00, _) => write_of_register(self.general(0)),
             (0b10, _) => Effect::Nothing,
             (_, base) => Effect::Derive { to: base, from: base },
         }
@@ -186,7 +186,7 @@ impl Word {
     }
 
     /// Loads and stores of one to four vectors.
-    fn structures(self) -> Effect {
+    fn vector_structures(self) -> Effect {
         let (is_multiple, is_load, is_after) = (!self.bit(24), self.bit(22), self.bit(23));
         let (count, is_whole) = match (is_multiple, self.bits(15, 12)) {
             (true, 0b0000) => (4, false),
@@ -202,7 +202,7 @@ impl Word {
         let first = self.bits(4, 0);
         let mut registers = [None; 4];
         for (index, register) in registers.iter_mut().enumerate().take(count as usize) {
-            *register = vector((first + index as u32) % 32);
+            *register = vector_register((first + index as u32) % 32);
         }
         let bytes = match (is_multiple, self.bits(15, 14)) {
             (true, _) => 8 << self.bits(30, 30),

@@ -1,4 +1,4 @@
-//! Instructions that sign addresses, and authenticate them. Which key they use isn't followed.
+//! Instructions of aarch64 that sign addresses, and authenticate them. Which key they use isn't followed.
 
 use super::{Word, LINK, SP};
 use crate::instruction::Effect;

@@ -1,5 +1,5 @@
-//! The text of the instructions that matter to a frame, as objdump writes it. All others are shown as
-//! `.inst` with their 4 bytes as a number.
+//! The text of instructions of aarch64 that matter to a frame, as objdump writes it. All others are shown as `.inst`
+//! with their 4 bytes as a number.
 
 use super::{Word, SP};
 use crate::instruction::{Effect, Target};
@@ -30,7 +30,7 @@ const HINTS: [(u32, &str); 19] = [
     (20, "csdb"),
 ];
 
-pub(super) fn text(bytes: &[u8], address: u64) -> String {
+pub(super) fn aarch64_text(bytes: &[u8], address: u64) -> String {
     match Word::read(bytes) {
         Some(word) => word.text(address).unwrap_or_else(|| format!(".inst {:#010x}", word.0)),
         None => "(not an instruction)".to_string(),
@@ -38,7 +38,7 @@ pub(super) fn text(bytes: &[u8], address: u64) -> String {
 }
 
 /// A general register, where the last one is the stack pointer or is always zero.
-fn name(number: u32, is_wide: bool, is_sp: bool) -> String {
+fn aarch64_register_name(number: u32, is_wide: bool, is_sp: bool) -> String {
     match (number, is_wide, is_sp) {
         (31, true, true) => "sp".to_string(),
         (31, false, true) => "wsp".to_string(),
@@ -51,11 +51,11 @@ fn name(number: u32, is_wide: bool, is_sp: bool) -> String {
 
 impl Word {
     fn x(self, low: u32) -> String {
-        name(self.bits(low + 4, low), self.is_wide(), false)
+        aarch64_register_name(self.bits(low + 4, low), self.is_wide(), false)
     }
 
     fn sp(self, low: u32) -> String {
-        name(self.bits(low + 4, low), self.is_wide(), true)
+        aarch64_register_name(self.bits(low + 4, low), self.is_wide(), true)
     }
 
     fn text(self, address: u64) -> Option<String> {
@@ -73,7 +73,7 @@ impl Word {
         match (self.bits(25, 23), self.effect(address)) {
             (0b000 | 0b001, Effect::Set { number, .. }) => {
                 let word = if self.is_wide() { "adrp" } else { "adr" };
-                Some(format!("{} {}, {:#x}", word, name(self.bits(4, 0), true, false), number))
+                Some(format!("{} {}, {:#x}", word, aarch64_register_name(self.bits(4, 0), true, false), number))
             }
             (0b010, Effect::Move { to, from }) if to == SP || from == SP => {
                 Some(format!("mov {}, {}", self.sp(0), self.sp(5)))
@@ -146,12 +146,12 @@ impl Word {
             (true, 4) => format!("s{}", number),
             (true, 8) => format!("d{}", number),
             (true, 16) => format!("q{}", number),
-            (_, bytes) => name(number, bytes == 8, false),
+            (_, bytes) => aarch64_register_name(number, bytes == 8, false),
         }
     }
 
     fn memory_text(self) -> Option<String> {
-        let base = name(self.bits(9, 5), true, true);
+        let base = aarch64_register_name(self.bits(9, 5), true, true);
         let at = |is_before: bool, is_after: bool, offset: i32| match (is_before, is_after, offset) {
             (true, _, offset) => format!("[{}, #{}]!", base, offset),
             (_, true, offset) => format!("[{}], #{}", base, offset),

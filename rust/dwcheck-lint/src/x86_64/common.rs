@@ -5,7 +5,7 @@
 mod opcodes;
 
 use crate::zydis::{Decoded, Mnemonic, Operand, NO_REGISTER, RIP};
-use opcodes::{of_group, Opcode, Shape, OPCODES, PREFIXES};
+use opcodes::{opcode_of_group, Opcode, Shape, OPCODES, PREFIXES};
 use std::convert::TryInto;
 
 /// How many bytes there have to be, so that no instruction ends after them.
@@ -37,7 +37,7 @@ struct Head<'a> {
 }
 
 /// The instruction at the first byte, which is at this address. `None` if it isn't one that is read here.
-pub(super) fn common(bytes: &[u8], address: u64) -> Option<Decoded> {
+pub(super) fn decode_common(bytes: &[u8], address: u64) -> Option<Decoded> {
     let head = Head::read(bytes.get(..ENOUGH)?.try_into().ok()?)?;
     match head.opcode.shape {
         Shape::Unread => None,
@@ -122,7 +122,7 @@ impl Head<'_> {
         let modrm = self.code[self.at];
         let field = self.numbered(modrm >> 3, OF_FIELD);
         if self.opcode.shape == Shape::Either {
-            self.opcode = of_group(self.number, field & 7, self.opcode)?;
+            self.opcode = opcode_of_group(self.number, field & 7, self.opcode)?;
         }
         let (mut either, end) = match modrm >> 6 {
             3 => (self.register(self.numbered(modrm, OF_BASE)), self.at + 1),
@@ -175,7 +175,7 @@ impl Head<'_> {
 
 #[cfg(test)]
 mod tests {
-    use super::super::{by_zydis, instruction};
+    use super::super::{by_zydis, instruction_of_decoded};
     use super::*;
 
     /// Bytes after a ModRM byte that make each form of a SIB byte, with a displacement and an immediate number.
@@ -190,8 +190,8 @@ mod tests {
             let has_sib = modrm < 0xc0 && modrm & 7 == SIB;
             for sib in SIBS.into_iter().take(if has_sib { SIBS.len() } else { 1 }) {
                 bytes[begin.len()..begin.len() + 2].copy_from_slice(&[modrm, sib]);
-                if let Some(found) = common(&bytes, 0x1000) {
-                    assert_eq!(instruction(&found), by_zydis(&bytes, 0x1000).0, "{:x?}", bytes);
+                if let Some(found) = decode_common(&bytes, 0x1000) {
+                    assert_eq!(instruction_of_decoded(&found), by_zydis(&bytes, 0x1000).0, "{:x?}", bytes);
                     count += 1;
                 }
             }

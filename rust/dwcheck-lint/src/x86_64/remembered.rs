@@ -29,7 +29,7 @@ thread_local! {
 }
 
 /// The instruction at the first byte, as `decode` gives it together with whether its address matters.
-pub(super) fn remembered(bytes: &[u8], decode: impl FnOnce() -> (Instruction, bool)) -> Instruction {
+pub(super) fn remembered_instruction(bytes: &[u8], decode: impl FnOnce() -> (Instruction, bool)) -> Instruction {
     let word = match bytes.get(..LONGEST).and_then(|bytes| bytes.try_into().ok()) {
         Some(word) => u64::from_le_bytes(word),
         None => return decode().0,
@@ -54,9 +54,9 @@ impl Remembered {
     }
 
     fn find(&self, word: u64) -> Option<Instruction> {
-        let length = self.lengths[place(word & 0xff_ffff, LENGTHS)];
-        let word = first(word, length);
-        let place = place(word, ENTRIES);
+        let length = self.lengths[place_in_table(word & 0xff_ffff, LENGTHS)];
+        let word = first_bytes_of_word(word, length);
+        let place = place_in_table(word, ENTRIES);
         if length == 0 || self.words[place] != word {
             return None;
         }
@@ -64,21 +64,21 @@ impl Remembered {
     }
 
     fn add(&mut self, word: u64, instruction: Instruction) {
-        self.lengths[place(word & 0xff_ffff, LENGTHS)] = instruction.length;
-        let word = first(word, instruction.length);
-        let place = place(word, ENTRIES);
+        self.lengths[place_in_table(word & 0xff_ffff, LENGTHS)] = instruction.length;
+        let word = first_bytes_of_word(word, instruction.length);
+        let place = place_in_table(word, ENTRIES);
         self.words[place] = word;
         self.instructions[place] = instruction;
     }
 }
 
 /// The first bytes of a word.
-fn first(word: u64, length: u8) -> u64 {
+fn first_bytes_of_word(word: u64, length: u8) -> u64 {
     word & u64::MAX.checked_shr(64 - 8 * u32::from(length)).unwrap_or(0)
 }
 
 /// The place of a word in a table, by the golden ratio, which spreads words that are alike.
-fn place(word: u64, bits: u32) -> usize {
+fn place_in_table(word: u64, bits: u32) -> usize {
     (word.wrapping_mul(0x9e37_79b9_7f4a_7c15) >> (64 - bits)) as usize
 }
 
@@ -91,7 +91,7 @@ mod tests {
         let push = Instruction { length: 1, effect: Effect::PushFlags };
         let decoded = |bytes: [u8; 8], effect| {
             let mut is_decoded = false;
-            let found = remembered(&bytes, || {
+            let found = remembered_instruction(&bytes, || {
                 is_decoded = true;
                 (Instruction { effect, ..push }, false)
             });

@@ -1,4 +1,4 @@
-//! The events that were recorded, and what each of their samples has.
+//! The events that were recorded, their names and ids, and what each of their samples and trailers has.
 
 use super::Damage;
 use dwcheck_types::cursor::{Cursor, ReadError};

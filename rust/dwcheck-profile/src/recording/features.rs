@@ -61,19 +61,19 @@ pub struct Features {
 }
 
 /// The text up to the first zero byte.
-pub(super) fn text(bytes: &[u8]) -> String {
-    String::from_utf8_lossy(until_zero(bytes)).into_owned()
+pub(super) fn text_until_zero(bytes: &[u8]) -> String {
+    String::from_utf8_lossy(bytes_until_zero(bytes)).into_owned()
 }
 
 /// The bytes up to the first zero byte.
-pub(super) fn until_zero(bytes: &[u8]) -> &[u8] {
+pub(super) fn bytes_until_zero(bytes: &[u8]) -> &[u8] {
     bytes.split(|byte| *byte == 0).next().unwrap_or(bytes)
 }
 
 /// A text with its length in front.
-fn counted(cursor: &mut Cursor<'_>) -> Result<String, Damage> {
+fn counted_text(cursor: &mut Cursor<'_>) -> Result<String, Damage> {
     let size = cursor.number(4)?;
-    Ok(text(cursor.take(size)?))
+    Ok(text_until_zero(cursor.take(size)?))
 }
 
 impl Features {
@@ -85,7 +85,7 @@ impl Features {
     /// Reads a feature. What is damaged or not known is left out.
     pub(super) fn add(&mut self, number: u64, bytes: &[u8], target: Target, events: &mut Events) {
         let mut cursor = Cursor::new(bytes, target);
-        let first = || counted(&mut Cursor::new(bytes, target)).ok();
+        let first = || counted_text(&mut Cursor::new(bytes, target)).ok();
         match number {
             number::BUILD_ID => self.add_build_ids(cursor),
             number::HOST => self.host = first(),
@@ -94,7 +94,7 @@ impl Features {
             number::ARCHITECTURE => self.architecture = first(),
             number::COMMAND => {
                 let count = cursor.number(4).unwrap_or(0);
-                self.command = (0..count).map_while(|_| counted(&mut cursor).ok()).collect();
+                self.command = (0..count).map_while(|_| counted_text(&mut cursor).ok()).collect();
             }
             number::EVENTS => {
                 let _ = name_events(&mut cursor, events);
@@ -125,7 +125,7 @@ impl Features {
             cursor.take(3)?;
             let size = if head.misc & HAS_SIZE != 0 { size.min(LONGEST) } else { LONGEST };
             let id = id.get(..size).and_then(BuildId::of).ok_or(Damage::Short)?;
-            Ok((id, until_zero(cursor.rest()).to_vec()))
+            Ok((id, bytes_until_zero(cursor.rest()).to_vec()))
         };
         if let Ok((id, name)) = read() {
             self.build_ids.insert(name, id);
@@ -139,7 +139,7 @@ fn name_events(cursor: &mut Cursor<'_>, events: &mut Events) -> Result<(), Damag
     for place in 0..count.min(MOST_EVENTS) {
         let mut described = Cursor::new(cursor.take(size)?, cursor.target());
         let ids = cursor.number(4)?;
-        let name = counted(cursor)?;
+        let name = counted_text(cursor)?;
         let ids: Vec<_> = (0..ids).map_while(|_| cursor.number(8).ok()).collect();
         match ids.first() {
             Some(id) => events.rename(*id, name),

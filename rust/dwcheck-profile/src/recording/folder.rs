@@ -56,10 +56,12 @@ impl<'r> Recording<'r> {
     /// If a file or the header can't be read.
     pub fn of_folder(path: &Path) -> Result<Recording<'r>, Damage> {
         let file = |name: &str| {
-            mapped(&path.join(name)).map_err(|error| Damage::InFile(name.to_string(), Box::new(error.into())))
+            map_recording_file(&path.join(name))
+                .map_err(|error| Damage::InFile(name.to_string(), Box::new(error.into())))
         };
         let mut recording = Recording::of_bytes(file("data")?)?;
-        let mut threads: Vec<u32> = fs::read_dir(path)?.filter_map(|entry| thread(&entry.ok()?.file_name())).collect();
+        let mut threads: Vec<u32> =
+            fs::read_dir(path)?.filter_map(|entry| thread_of_file_name(&entry.ok()?.file_name())).collect();
         threads.sort_unstable();
         for thread in threads {
             let name = format!("data.{}", thread);
@@ -73,7 +75,7 @@ impl<'r> Recording<'r> {
 }
 
 /// The bytes of a regular file.
-fn mapped(path: &Path) -> io::Result<Bytes> {
+fn map_recording_file(path: &Path) -> io::Result<Bytes> {
     let metadata = path.metadata()?;
     match metadata.is_file() {
         true => Bytes::of_file(&File::open(path)?, metadata.len()),
@@ -82,6 +84,6 @@ fn mapped(path: &Path) -> io::Result<Bytes> {
 }
 
 /// The number of a thread's file.
-fn thread(name: &OsStr) -> Option<u32> {
+fn thread_of_file_name(name: &OsStr) -> Option<u32> {
     name.to_str()?.strip_prefix("data.")?.parse().ok()
 }

@@ -1,4 +1,4 @@
-//! Puts records into the order of their times.
+//! Puts records into the order of their times, in a queue that gives them in rounds.
 //!
 //! Each processor has a buffer of its own, and perf empties one after another. After each round it writes
 //! a record that says so. What comes after the end of a round isn't older than what was the newest at

@@ -1,7 +1,7 @@
-//! The records of a recording.
+//! The records of a recording: mappings, forks, names, losses, and others, and the time of each.
 
 use super::event::{part, Events};
-use super::features::{until_zero, BuildId};
+use super::features::{bytes_until_zero, BuildId};
 use super::sample::Sample;
 use super::RecordHead;
 use dwcheck_types::cursor::{Cursor, ReadError};
@@ -128,15 +128,15 @@ impl<'a> Record<'a> {
 
     fn read_other(head: RecordHead, mut body: Cursor<'a>) -> Result<Record<'a>, ReadError> {
         Ok(match head.kind {
-            kind::MMAP | kind::MMAP2 => Record::Mapped(mapped(head, body)?),
+            kind::MMAP | kind::MMAP2 => Record::Mapped(read_mmap(head, body)?),
             kind::COMM => Record::Comm(Comm {
                 pid: body.number(4)? as u32,
                 tid: body.number(4)? as u32,
                 is_exec: head.misc & misc::OF_KIND != 0,
-                name: until_zero(body.rest()),
+                name: bytes_until_zero(body.rest()),
             }),
-            kind::FORK => Record::Fork(fork(head, body)?),
-            kind::EXIT => Record::Exit(fork(head, body)?),
+            kind::FORK => Record::Fork(read_fork(head, body)?),
+            kind::EXIT => Record::Exit(read_fork(head, body)?),
             kind::LOST => {
                 body.take(8)?;
                 Record::Lost(body.number(8)?)
@@ -152,7 +152,7 @@ impl<'a> Record<'a> {
     }
 }
 
-fn mapped(head: RecordHead, mut body: Cursor<'_>) -> Result<Mapped<'_>, ReadError> {
+fn read_mmap(head: RecordHead, mut body: Cursor<'_>) -> Result<Mapped<'_>, ReadError> {
     let pid = body.number(4)? as u32;
     body.take(4)?;
     let (begin, size, offset) = (body.number(8)?, body.number(8)?, body.number(8)?);
@@ -179,20 +179,20 @@ fn mapped(head: RecordHead, mut body: Cursor<'_>) -> Result<Mapped<'_>, ReadErro
         mapped.is_executable = body.number(4)? & EXECUTABLE != 0;
         body.take(4)?;
     }
-    mapped.name = until_zero(body.rest());
+    mapped.name = bytes_until_zero(body.rest());
     Ok(mapped)
 }
 
-fn fork(head: RecordHead, mut body: Cursor<'_>) -> Result<Fork, ReadError> {
+fn read_fork(head: RecordHead, mut body: Cursor<'_>) -> Result<Fork, ReadError> {
     let (pid, parent_pid) = (body.number(4)? as u32, body.number(4)? as u32);
     let (tid, parent_tid) = (body.number(4)? as u32, body.number(4)? as u32);
     Ok(Fork { pid, parent_pid, tid, parent_tid, ran_before: head.misc & misc::OF_KIND != 0 })
 }
 
 /// When a record was recorded. 0 if it doesn't say so.
-pub(super) fn time(head: RecordHead, body: Cursor<'_>, events: &Events) -> u64 {
+pub(super) fn time_of_record(head: RecordHead, body: Cursor<'_>, events: &Events) -> u64 {
     let read = match head.kind {
-        kind::SAMPLE => super::sample::time(body, events),
+        kind::SAMPLE => super::sample::time_of_sample(body, events),
         _ => trailer_time(body, events),
     };
     // perf writes the highest number for records without a time.

@@ -110,7 +110,7 @@ impl<'a> Sample<'a> {
         let none = Words::none(body.target());
         let mut sample = Sample {
             event: place,
-            mode: mode(head.misc),
+            mode: mode_of_sample(head.misc),
             address: None,
             pid: 0,
             tid: 0,
@@ -157,7 +157,7 @@ impl<'a> Sample<'a> {
     /// The counts of a group, the chain, raw data, and branches.
     fn read_lists(&mut self, body: &mut Cursor<'a>, event: &Event) -> Result<(), ReadError> {
         if event.has(part::READ) {
-            self.counts = counts(body, event.read_format)?;
+            self.counts = group_counts(body, event.read_format)?;
         }
         if event.has(part::CALLCHAIN) {
             let count = body.number(8)?;
@@ -203,7 +203,7 @@ impl<'a> Sample<'a> {
     }
 }
 
-fn mode(misc: u16) -> Mode {
+fn mode_of_sample(misc: u16) -> Mode {
     match misc & 7 {
         1 => Mode::Kernel,
         2 => Mode::User,
@@ -212,7 +212,7 @@ fn mode(misc: u16) -> Mode {
 }
 
 /// The counts that a sample has: only those of a group, which are samples of its other events too.
-fn counts(body: &mut Cursor<'_>, read_format: u64) -> Result<Vec<(u64, u64)>, ReadError> {
+fn group_counts(body: &mut Cursor<'_>, read_format: u64) -> Result<Vec<(u64, u64)>, ReadError> {
     let has = |bit: u64| read_format & bit != 0;
     let times = u64::from(has(format::ENABLED)) + u64::from(has(format::RUNNING));
     let beside = u64::from(has(format::ID)) + u64::from(has(format::LOST));
@@ -230,7 +230,7 @@ fn counts(body: &mut Cursor<'_>, read_format: u64) -> Result<Vec<(u64, u64)>, Re
 }
 
 /// The time of a sample.
-pub(super) fn time(mut body: Cursor<'_>, events: &Events) -> Option<u64> {
+pub(super) fn time_of_sample(mut body: Cursor<'_>, events: &Events) -> Option<u64> {
     let event = events.all().get(events.of_sample(body.clone()).ok()?)?;
     let before = [part::IDENTIFIER, part::IP, part::TID].into_iter().filter(|part| event.has(*part)).count();
     body.take(8 * before as u64).ok().filter(|_| event.has(part::TIME))?;

@@ -1,4 +1,4 @@
-//! Reads the records of a recording one after another, also those that perf compressed.
+//! Takes the records of a recording from a file or a pipe one after another, also those that perf compressed.
 
 use super::header::PIPE_SIZE;
 use super::{kind, Damage, RecordHead, HEAD};
@@ -167,7 +167,7 @@ impl<'r> Source<'r> {
             }
             Input::Pipe(pipe) => {
                 let start = copied.len();
-                match append(pipe, size, copied)? {
+                match append_from_pipe(pipe, size, copied)? {
                     0 => Ok(Body { file: None, start, end: copied.len() }),
                     _ => Err(Damage::Cut(self.position)),
                 }
@@ -204,7 +204,7 @@ impl<'r> Source<'r> {
 }
 
 /// Appends the next `size` bytes of a pipe. Returns how many of them it doesn't have.
-fn append(pipe: &mut impl BufRead, size: usize, to: &mut Vec<u8>) -> io::Result<usize> {
+fn append_from_pipe(pipe: &mut impl BufRead, size: usize, to: &mut Vec<u8>) -> io::Result<usize> {
     let mut left = size;
     while left > 0 {
         let read = match pipe.fill_buf() {

@@ -57,6 +57,7 @@ fn changed(numbers: &mut Numbers) -> Vec<u8> {
     section
 }
 
+/// Calls everything that takes an address, and sees that the answers agree.
 fn ask_all(process: &Process, address: u64, state: &State<'_>, expression: &[u8]) {
     let row = process.row(address);
     let module = process.module_at(address);
@@ -65,6 +66,22 @@ fn ask_all(process: &Process, address: u64, state: &State<'_>, expression: &[u8]
         assert_eq!((module.id, module.cookie), (row.id, row.cookie));
     }
     assert!(module.map_or(true, |module| module.range.contains(&address)));
+    compare_walks(process, address, state);
+    let context = Context {
+        cfa: Some(address),
+        ..Context::default()
+    };
+    for kind in [
+        ExpressionKind::FrameCfa,
+        ExpressionKind::FrameRegister,
+        ExpressionKind::Location,
+    ] {
+        let _ = evaluate(expression, kind, Target::LITTLE_64, &context, state);
+    }
+}
+
+/// All walks give the same frames, the first of which has a caller if it has a row.
+fn compare_walks(process: &Process, address: u64, state: &State<'_>) {
     let caller = process.unwind(address, state);
     let walk = process.backtrace(address, state, 70);
     assert_eq!(caller.is_err(), walk.is_err());
@@ -79,24 +96,13 @@ fn ask_all(process: &Process, address: u64, state: &State<'_>, expression: &[u8]
         (walk, steps) => assert!(walk.is_err() && steps.is_err()),
     }
     if let Ok(caller) = caller {
-        assert_eq!(row.is_some(), caller.is_some());
+        assert_eq!(process.row(address).is_some(), caller.is_some());
     }
     let mut slots = [Frame::default(); 2];
     assert_eq!(
         walk.is_err(),
         process.backtrace_into(address, state, &mut slots).is_err()
     );
-    let context = Context {
-        cfa: Some(address),
-        ..Context::default()
-    };
-    for kind in [
-        ExpressionKind::FrameCfa,
-        ExpressionKind::FrameRegister,
-        ExpressionKind::Location,
-    ] {
-        let _ = evaluate(expression, kind, Target::LITTLE_64, &context, state);
-    }
 }
 
 /// How many random calls are made. Under valgrind, which is slow, `run.sh` asks for fewer.

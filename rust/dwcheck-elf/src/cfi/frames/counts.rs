@@ -1,4 +1,4 @@
-//! What a checked frame section has.
+//! What a checked frame section has, counted.
 
 use dwcheck::Contents;
 

@@ -2,7 +2,7 @@
 //!
 //! Nothing moves: every offset in the changed bytes is the offset in the file's section.
 
-use super::records::{body, Kind, Record, RecordStatus};
+use super::records::{range_of_body, Kind, Record, RecordStatus};
 use super::Format;
 use crate::cfi::instructions::{
     instructions, Instruction, DEF_CFA_REGISTER, GNU_ARGS_SIZE, NEGATE_RA_STATE, NEGATE_RA_STATE_WITH_PC, NOP,
@@ -46,7 +46,7 @@ pub struct Changes {
 /// A record that is blanked out becomes a CIE that no FDE uses. If it is too short for one, it becomes records of
 /// length 0 in `.eh_frame`, and in `.debug_frame` a part of the record before it, whose instructions go on with
 /// `DW_CFA_nop`. The section ends where neither can be done.
-pub(super) fn edited<'a>(format: &Format, bytes: &'a [u8], records: &[Record]) -> Edited<'a> {
+pub(super) fn edit_records<'a>(format: &Format, bytes: &'a [u8], records: &[Record]) -> Edited<'a> {
     let is_whole = records.iter().all(|record| record.status != RecordStatus::LeftOut);
     let mut length = bytes.len();
     let (bytes, changes) = (Cow::Borrowed(bytes), Changes::default());
@@ -134,7 +134,7 @@ impl Edits<'_, '_> {
         let (held, program) = (&self.bytes, last.program.clone());
         let read = || instructions(held, program, target).all(|one| one.end.is_some());
         let is_whole = *last.is_whole.get_or_insert_with(read);
-        let begin = match body(&self.bytes, last.offset, target).filter(|_| is_whole) {
+        let begin = match range_of_body(&self.bytes, last.offset, target).filter(|_| is_whole) {
             Some(body) => body.start,
             None => return false,
         };
@@ -155,7 +155,7 @@ impl Edits<'_, '_> {
     /// Changes the harmless instructions of a CIE or FDE that the library would refuse.
     fn change(&mut self, record: &Record) {
         if !self.format.is_eh_frame() {
-            self.silence(record.program());
+            self.replace_by_nops(record.program());
         } else if record.is_cie() {
             self.note(record.program());
         }
@@ -169,7 +169,7 @@ impl Edits<'_, '_> {
     }
 
     /// Makes `DW_CFA_nop` of the instructions that `.debug_frame` doesn't have, and that change no rule.
-    fn silence(&mut self, program: Range<usize>) {
+    fn replace_by_nops(&mut self, program: Range<usize>) {
         let is_aarch64 = self.format.is_aarch64();
         let is_harmless = |one: &Instruction| match one.code {
             NEGATE_RA_STATE | NEGATE_RA_STATE_WITH_PC => is_aarch64,

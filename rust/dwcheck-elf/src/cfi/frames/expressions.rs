@@ -52,9 +52,9 @@ impl Frames<'_> {
     /// # Errors
     ///
     /// [`Error::NoMemory`]; or [`Error::Refused`] if one of the expressions isn't accepted.
-    pub fn measured(&self) -> Result<Vec<Measured>, Error> {
+    pub fn measure_expressions(&self) -> Result<Vec<Measured>, Error> {
         let all: Vec<_> = self.expressions().collect();
-        let made = self.section_of(&all);
+        let made = self.section_of_expressions(&all);
         let found = report(DebugFrame(&made), DebugLoclists(&[]), self.target())?.expressions;
         let measured = |(one, found): (&Expression<'_>, dwcheck::CheckedExpression)| Measured {
             offset: one.offset,
@@ -67,7 +67,7 @@ impl Frames<'_> {
 
     /// A `.debug_frame` section with one FDE, which has all these expressions. They are rules of the CFA or of register
     /// 0.
-    fn section_of(&self, expressions: &[Expression<'_>]) -> Vec<u8> {
+    fn section_of_expressions(&self, expressions: &[Expression<'_>]) -> Vec<u8> {
         let target = self.target();
         let mut program = Vec::new();
         for one in expressions {

@@ -1,4 +1,4 @@
-//! The records of a frame section, as the library reads them one by one.
+//! The records of a frame section, as the library reads them one by one: their ranges, programs and addresses.
 
 use super::Format;
 use dwcheck::{Error, Fault, RecordKind};
@@ -130,7 +130,7 @@ pub fn records(format: &Format, bytes: &[u8]) -> Vec<Record> {
     while at < bytes.len() as u64 {
         let record = match section.record(at) {
             Ok(read) => read.as_ref().and_then(Record::of),
-            Err(Error::Refused(fault)) => Some(unread(bytes, at, fault, format.target)),
+            Err(Error::Refused(fault)) => Some(unread_record(bytes, at, fault, format.target)),
             Err(_) => None,
         };
         match record {
@@ -145,9 +145,9 @@ pub fn records(format: &Format, bytes: &[u8]) -> Vec<Record> {
 }
 
 /// A record that the library can't read, by its length alone.
-fn unread(bytes: &[u8], offset: u64, fault: Fault, target: Target) -> Record {
+fn unread_record(bytes: &[u8], offset: u64, fault: Fault, target: Target) -> Record {
     let record = |next, kind| Record { offset, next, kind, status: RecordStatus::Used };
-    match body(bytes, offset, target) {
+    match range_of_body(bytes, offset, target) {
         Some(body) if body.is_empty() => record(body.end as u64, Kind::Empty),
         Some(body) => record(body.end as u64, Kind::Unread(fault)),
         None => record(bytes.len() as u64, Kind::Unread(fault)),
@@ -156,7 +156,7 @@ fn unread(bytes: &[u8], offset: u64, fault: Fault, target: Target) -> Record {
 
 /// The range of offsets of what follows the length field of the record at an offset. It begins with a
 /// CIE id or a CIE pointer. `None` if the length can't be read, or is more than there is.
-pub(crate) fn body(bytes: &[u8], offset: u64, target: Target) -> Option<Range<usize>> {
+pub(crate) fn range_of_body(bytes: &[u8], offset: u64, target: Target) -> Option<Range<usize>> {
     let mut cursor = Cursor::new(bytes, target);
     cursor.take(offset).ok()?;
     let length = cursor.initial_length()?;
@@ -166,7 +166,7 @@ pub(crate) fn body(bytes: &[u8], offset: u64, target: Target) -> Option<Range<us
 }
 
 /// The record that begins at an offset, of records in order.
-pub(crate) fn find(records: &[Record], offset: u64) -> Option<&Record> {
+pub(crate) fn find_record(records: &[Record], offset: u64) -> Option<&Record> {
     let place = records.binary_search_by_key(&offset, |record| record.offset).ok()?;
     records.get(place)
 }

@@ -16,7 +16,7 @@ use std::ops::Range;
 
 /// The ranges of addresses at which the return address is signed, for all FDEs of a section of aarch64, in
 /// the order of the FDEs. This takes time in proportion to the section's length.
-pub(crate) fn signed(section: &[u8], records: &[Record], target: Target) -> Vec<Range<u64>> {
+pub(crate) fn signed_ranges(section: &[u8], records: &[Record], target: Target) -> Vec<Range<u64>> {
     let initial = |record: &Record| match record.kind {
         Kind::Cie { code_alignment_factor: factor, .. } => {
             let signing = Signing::new(0, factor, false).followed(section, record, target);

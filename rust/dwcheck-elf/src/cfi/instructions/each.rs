@@ -3,7 +3,7 @@
 //! The library checks the instructions. This only finds where each begins, so that the library's answers can be
 //! shown.
 
-use super::{name_of, operands, skip};
+use super::{instruction_name, operands_of_instruction, skip_operands};
 use dwcheck_types::cursor::Cursor;
 use dwcheck_types::target::Target;
 use std::iter::FusedIterator;
@@ -28,7 +28,7 @@ impl Instruction {
     /// its code has no name. Vendors use some codes for different instructions; `machine`
     /// (`e_machine`) then decides which one is meant.
     pub fn name(&self, machine: u16) -> String {
-        name_of(self.code, machine).map_or_else(|| format!("instruction {:#04x}", self.code), str::to_string)
+        instruction_name(self.code, machine).map_or_else(|| format!("instruction {:#04x}", self.code), str::to_string)
     }
 }
 
@@ -55,7 +55,7 @@ impl Iterator for Instructions<'_> {
         let offset = cursor.at();
         let code = cursor.byte().ok()?;
         let target = cursor.target();
-        let read = operands(code).and_then(|operands| skip(cursor, operands, target).ok());
+        let read = operands_of_instruction(code).and_then(|operands| skip_operands(cursor, operands, target).ok());
         let (end, at) = (read.map(|_| cursor.at()), cursor.at());
         if read.is_none() {
             self.rest = None;

@@ -1,8 +1,8 @@
 //! `dwcheck`'s rows, and their comparison with gimli's.
 
-use super::comparable::comparable;
+use super::comparable::comparable_bytes;
 use super::gimli_rows::{Bounded, Bytes, GimliRows};
-use super::{compare_rows, next_record, Difference, RowError, RowSource, What};
+use super::{compare_rows, skip_record, Difference, RowError, RowSource, What};
 use crate::cfi::frames::{Counts, Frames, Kind, Name, Record, RecordStatus};
 use crate::cfi::row::{Cfa, Row, Rule};
 use dwcheck::{CfaRule, Process, Rows};
@@ -56,28 +56,28 @@ impl<'a> DwcheckRows<'a> {
 }
 
 /// The bytes of the expression of a rule: of a register's, or of the CFA's.
-fn expression(process: &Process, address: u64, register: Option<u16>) -> Result<Cow<'static, [u8]>, RowError> {
+fn rule_expression(process: &Process, address: u64, register: Option<u16>) -> Result<Cow<'static, [u8]>, RowError> {
     let bytes = process.rule_bytes(address, register).map(Cow::Owned);
     bytes.ok_or(RowError::NoExpression(address))
 }
 
-fn rule_of(process: &Process, at: u64, register: u16, rule: dwcheck::Rule) -> Result<Rule<'static>, RowError> {
+fn rule_of_dwcheck(process: &Process, at: u64, register: u16, rule: dwcheck::Rule) -> Result<Rule<'static>, RowError> {
     Ok(match rule {
         dwcheck::Rule::Undefined => Rule::Undefined,
         dwcheck::Rule::SameValue => Rule::SameValue,
         dwcheck::Rule::Offset(offset) => Rule::Offset(offset),
         dwcheck::Rule::ValOffset(offset) => Rule::ValOffset(offset),
         dwcheck::Rule::Register(register) => Rule::Register(register),
-        dwcheck::Rule::Expression(_) => Rule::Expression(expression(process, at, Some(register))?),
-        dwcheck::Rule::ValExpression(_) => Rule::ValExpression(expression(process, at, Some(register))?),
+        dwcheck::Rule::Expression(_) => Rule::Expression(rule_expression(process, at, Some(register))?),
+        dwcheck::Rule::ValExpression(_) => Rule::ValExpression(rule_expression(process, at, Some(register))?),
         other => return Err(RowError::Rule(other)),
     })
 }
 
-fn cfa_of(process: &Process, at: u64, rule: CfaRule) -> Result<Cfa<'static>, RowError> {
+fn cfa_of_dwcheck(process: &Process, at: u64, rule: CfaRule) -> Result<Cfa<'static>, RowError> {
     match rule {
         CfaRule::RegisterAndOffset { register, offset } => Ok(Cfa::RegisterOffset { register, offset }),
-        CfaRule::Expression(_) => expression(process, at, None).map(Cfa::Expression),
+        CfaRule::Expression(_) => rule_expression(process, at, None).map(Cfa::Expression),
         other => Err(RowError::CfaRule(other)),
     }
 }
@@ -94,11 +94,11 @@ impl<'r> RowSource<'r> for DwcheckRows<'_> {
         }
         row.begin = found.addresses.start;
         row.end = found.addresses.end;
-        row.cfa = cfa_of(process, *next, found.cfa)?;
+        row.cfa = cfa_of_dwcheck(process, *next, found.cfa)?;
         row.rules.clear();
         for (register, rule) in &found.rules {
             if self.has_undefined || *rule != dwcheck::Rule::Undefined {
-                row.rules.push((*register, rule_of(process, *next, *register, *rule)?));
+                row.rules.push((*register, rule_of_dwcheck(process, *next, *register, *rule)?));
             }
         }
         *next = found.addresses.end;
@@ -117,7 +117,7 @@ impl<'r> RowSource<'r> for DwcheckRows<'_> {
 ///
 /// The first difference. A row that gimli refuses is a difference, too.
 pub fn validate_rows(frames: &Frames<'_>, process: &Process) -> Result<Counts, Difference> {
-    let comparable = comparable(frames);
+    let comparable = comparable_bytes(frames);
     let (order, address_size) = (frames.target().gimli_order(), frames.target().address_size.bytes());
     let has_gaps = frames.count(RecordStatus::LeftOut) > 0;
     match frames.name() {
@@ -167,7 +167,7 @@ where
         let mut agreement = Counts::default();
         let mut cursor = Cursor::new(&self.frames.source().bytes, self.frames.target());
         let mut records = self.frames.records().iter().filter(|record| record.kind != Kind::Empty);
-        while let Some(offset) = next_record(&mut cursor) {
+        while let Some(offset) = skip_record(&mut cursor) {
             let record = records.next().filter(|record| record.offset == offset as u64);
             let compared =
                 record.ok_or(What::Missing).and_then(|record| self.record(record, &mut agreement, &mut room));
@@ -266,14 +266,14 @@ where
         };
         let same = |(register, rule): &(u16, dwcheck::Rule)| {
             let same_bytes = |other: &[u8]| same_bytes(Some(*register), other);
-            same_rule(*rule, &theirs.register(Register(*register)), same_bytes)
+            is_same_rule(*rule, &theirs.register(Register(*register)), same_bytes)
         };
         let defined = ours.rules.iter().filter(|(_, rule)| *rule != dwcheck::Rule::Undefined);
         same_cfa && ours.rules.iter().all(same) && defined.count() == theirs.registers().count()
     }
 }
 
-fn same_rule(ours: dwcheck::Rule, theirs: &RegisterRule<Bytes<'_>>, same_bytes: impl Fn(&[u8]) -> bool) -> bool {
+fn is_same_rule(ours: dwcheck::Rule, theirs: &RegisterRule<Bytes<'_>>, same_bytes: impl Fn(&[u8]) -> bool) -> bool {
     match (ours, theirs) {
         (dwcheck::Rule::Undefined, RegisterRule::Undefined) => true,
         (dwcheck::Rule::SameValue, RegisterRule::SameValue) => true,

@@ -1,4 +1,4 @@
-//! gimli's rows of a section.
+//! gimli's rows of a section, and their rules in the form in which they are compared.
 
 use super::{RowError, RowSource};
 use crate::cfi::row::{Cfa, Row, Rule};
@@ -32,7 +32,7 @@ impl<'data> RowSource<'data> for GimliRows<'data, '_, '_> {
             row.begin = self.target.wrap(read.start_address());
             row.end = self.target.wrap(read.end_address());
             if row.begin != row.end {
-                fill(row, read);
+                fill_row(row, read);
                 return Ok(true);
             }
         }
@@ -41,7 +41,7 @@ impl<'data> RowSource<'data> for GimliRows<'data, '_, '_> {
 }
 
 /// Copies the rules of a row that gimli has read to `row`.
-fn fill<'a>(row: &mut Row<'a>, read: &UnwindTableRow<Bytes<'a>, Bounded>) {
+fn fill_row<'a>(row: &mut Row<'a>, read: &UnwindTableRow<Bytes<'a>, Bounded>) {
     row.cfa = match read.cfa() {
         CfaRule::RegisterAndOffset { register, offset } => {
             Cfa::RegisterOffset { register: register.0, offset: *offset }
@@ -49,11 +49,11 @@ fn fill<'a>(row: &mut Row<'a>, read: &UnwindTableRow<Bytes<'a>, Bounded>) {
         CfaRule::Expression(expression) => Cfa::Expression(expression.0.slice().into()),
     };
     row.rules.clear();
-    row.rules.extend(read.registers().map(|(register, rule)| (register.0, rule_of(rule))));
+    row.rules.extend(read.registers().map(|(register, rule)| (register.0, rule_of_gimli(rule))));
     row.rules.sort_unstable_by_key(|(register, _)| *register);
 }
 
-fn rule_of<'a>(rule: &RegisterRule<Bytes<'a>>) -> Rule<'a> {
+fn rule_of_gimli<'a>(rule: &RegisterRule<Bytes<'a>>) -> Rule<'a> {
     match rule {
         RegisterRule::Undefined => Rule::Undefined,
         RegisterRule::SameValue => Rule::SameValue,

@@ -3,8 +3,8 @@
 use crate::cfi::frames::Name;
 use crate::check::fault::{what_of_lists, Defect, Within};
 use crate::check::verdict::{InspectError, Inspected, Verdict};
-use crate::debug::debug_info::{dwarf, Units};
-use crate::debug::lists::{described, Doubtful, Kind, Problem, Section};
+use crate::debug::debug_info::{open_dwarf, Units};
+use crate::debug::lists::{describe_variables, Doubtful, Kind, Problem, Section};
 use crate::elf::program::Program;
 use gimli::{SectionId, UnitOffset};
 use std::collections::{BTreeMap, BTreeSet, HashMap};
@@ -23,7 +23,7 @@ pub(super) const NAMES: [SectionId; 8] = [
 ];
 
 /// The result for each section with bytes or faults. `units` reads the units with their names.
-pub(super) fn report<'d, 'a>(
+pub(super) fn report_lists<'d, 'a>(
     sections: [Section<'_>; 2],
     units: impl FnOnce() -> Option<Units<'a>>,
     all: bool,
@@ -32,20 +32,20 @@ pub(super) fn report<'d, 'a>(
     let units = if needs_names { units() } else { None };
     let has_content = |section: &Section<'_>| !section.bytes.is_empty() || !section.problems.is_empty();
     let sections = sections.into_iter().filter(has_content);
-    sections.map(|section| result(section, units.as_ref(), all)).collect()
+    sections.map(|section| inspected_list_section(section, units.as_ref(), all)).collect()
 }
 
 /// The units with their names. `None` if they can't be read.
-pub(super) fn units<'a>(
+pub(super) fn units_with_names<'a>(
     program: &Program<'a>,
     shared: Option<&Program<'a>>,
     unpacked: &'a Arena<Vec<u8>>,
 ) -> Option<Units<'a>> {
-    let shared = shared.map(|shared| dwarf(shared, &NAMES, unpacked)).transpose().ok()?;
-    Units::read(dwarf(program, &NAMES, unpacked).ok()?, shared).ok()
+    let shared = shared.map(|shared| open_dwarf(shared, &NAMES, unpacked)).transpose().ok()?;
+    Units::read(open_dwarf(program, &NAMES, unpacked).ok()?, shared).ok()
 }
 
-fn result<'d>(mut section: Section<'_>, units: Option<&Units<'_>>, all: bool) -> Inspected<'d> {
+fn inspected_list_section<'d>(mut section: Section<'_>, units: Option<&Units<'_>>, all: bool) -> Inspected<'d> {
     let name = section.name;
     if section.contents.lists == 0 && section.problems.is_empty() && section.contents.bytes.unused > 0 {
         return Inspected::unread(name, InspectError::NoReferences(name));
@@ -63,10 +63,10 @@ fn result<'d>(mut section: Section<'_>, units: Option<&Units<'_>>, all: bool) ->
     let named = problems.iter().filter(|(_, problem)| problem.list.is_some());
     let named = named.map(|(unit, problem)| (*unit, problem.reference));
     let doubtful = std::mem::take(&mut section.doubtful);
-    let words = words(named.chain(doubtful.iter().map(|(unit, reference, _)| (*unit, *reference))), units);
+    let words = variables_in_words(named.chain(doubtful.iter().map(|(unit, reference, _)| (*unit, *reference))), units);
     let defects = problems.iter().map(|(unit, problem)| {
         let variable = words.get(&(*unit, problem.reference.0)).cloned();
-        defect(name, section.bytes, problem, variable)
+        list_defect(name, section.bytes, problem, variable)
     });
     let defects: Vec<_> = defects.collect();
     let mut contents = section.contents;
@@ -85,7 +85,7 @@ fn result<'d>(mut section: Section<'_>, units: Option<&Units<'_>>, all: bool) ->
 }
 
 /// The variables of entries of units in words, by the index of the unit and the entry's offset in it.
-fn words(
+fn variables_in_words(
     named: impl Iterator<Item = (usize, UnitOffset<usize>)>,
     units: Option<&Units<'_>>,
 ) -> HashMap<(usize, usize), String> {
@@ -99,12 +99,12 @@ fn words(
     }
     let of_unit = |(unit, entries): (&usize, &BTreeSet<usize>)| {
         let unit = *unit;
-        described(units, unit, entries).into_iter().map(move |(entry, words)| ((unit, entry), words))
+        describe_variables(units, unit, entries).into_iter().map(move |(entry, words)| ((unit, entry), words))
     };
     entries.iter().flat_map(of_unit).collect()
 }
 
-fn defect(section: Name, bytes: &[u8], problem: &Problem, variable: Option<String>) -> Defect {
+fn list_defect(section: Name, bytes: &[u8], problem: &Problem, variable: Option<String>) -> Defect {
     let what = match problem.kind {
         Kind::Dwcheck(kind) => what_of_lists(kind, bytes.get(problem.at).copied()),
         Kind::NoSuchList => "a reference of .debug_info".to_string(),

@@ -34,13 +34,13 @@ impl Difference {
         let mut difference = Difference::default();
         let mut waiting: HashMap<Key<'_>, Vec<usize>> = HashMap::new();
         for (index, function) in new.functions.iter().enumerate().rev() {
-            match key(new, function) {
+            match comparison_key(new, function) {
                 Some(key) => waiting.entry(key).or_default().push(index),
                 None => difference.unnamed.1 += 1,
             }
         }
         for (index, function) in old.functions.iter().enumerate() {
-            match key(old, function).map(|key| waiting.get_mut(&key).and_then(Vec::pop)) {
+            match comparison_key(old, function).map(|key| waiting.get_mut(&key).and_then(Vec::pop)) {
                 Some(Some(other)) => difference.add(old, index, new, other),
                 Some(None) => difference.removed.push(index),
                 None => difference.unnamed.0 += 1,
@@ -72,7 +72,7 @@ impl Difference {
     }
 }
 
-fn key<'a>(report: &Report<'_>, function: &'a Function) -> Option<Key<'a>> {
+fn comparison_key<'a>(report: &Report<'_>, function: &'a Function) -> Option<Key<'a>> {
     Some((report.section_of(function), function.symbol.as_deref()?, function.offset))
 }
 

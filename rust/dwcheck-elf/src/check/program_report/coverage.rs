@@ -1,4 +1,4 @@
-//! Which code of a program has rows.
+//! Which code of a program has rows, and the gaps that have none.
 
 use super::instructions::Memory;
 use crate::elf::covered::Covered;
@@ -66,13 +66,13 @@ impl Coverage {
         covered: &Covered,
         refused: &Covered,
     ) -> Self {
-        let mut coverage = Coverage { code: apart(program.code_sections()), ..Coverage::default() };
+        let mut coverage = Coverage { code: without_shared_addresses(program.code_sections()), ..Coverage::default() };
         coverage.totals.code = coverage.code.iter().map(|(_, section)| section.end - section.start).sum();
         let free = coverage.code.iter().flat_map(|(_, section)| covered.gaps(section.start, section.end));
         for free in free {
             let refused_part = |addresses: Range<u64>| Gap::named(addresses, GapKind::Refused, functions);
             coverage.gaps.extend(refused.parts(free.start, free.end).map(refused_part));
-            let others = refused.gaps(free.start, free.end).flat_map(|part| pieces(part, functions));
+            let others = refused.gaps(free.start, free.end).flat_map(|part| parts_between_functions(part, functions));
             coverage.gaps.extend(others.map(|piece| Gap::without_fde(piece, functions, memory)));
         }
         coverage.gaps.sort_by_key(|gap| gap.addresses.start);
@@ -119,7 +119,7 @@ impl Gap {
 }
 
 /// Ranges of which no two share an address: each begins where those before it have ended.
-fn apart(mut all: Vec<(String, Range<u64>)>) -> Vec<(String, Range<u64>)> {
+fn without_shared_addresses(mut all: Vec<(String, Range<u64>)>) -> Vec<(String, Range<u64>)> {
     all.sort_by_key(|(_, range)| (range.start, range.end));
     let mut end = 0;
     for (_, range) in &mut all {
@@ -131,7 +131,10 @@ fn apart(mut all: Vec<(String, Range<u64>)>) -> Vec<(String, Range<u64>)> {
 }
 
 /// The parts of a range between the functions that begin in it.
-fn pieces<'a>(range: Range<u64>, functions: &'a Functions<'_>) -> impl Iterator<Item = Range<u64>> + 'a {
+fn parts_between_functions<'a>(
+    range: Range<u64>,
+    functions: &'a Functions<'_>,
+) -> impl Iterator<Item = Range<u64>> + 'a {
     let all = functions.all();
     let first = all.partition_point(|function| function.begin <= range.start);
     let last = all.partition_point(|function| function.begin < range.end).max(first);

@@ -1,4 +1,4 @@
-//! What a frame section holds.
+//! What a frame section holds, for a report.
 
 use crate::cfi::eh_frame_hdr::mismatches;
 use crate::cfi::frames::{Counts, Frames, Name, Notes};
@@ -66,12 +66,12 @@ impl Section {
             }
             Verdict::Lists(_) | Verdict::FoundLists => (SectionStatus::Accepted, None),
         };
-        let notes = inspected.frames.as_ref().map_or_else(Vec::new, |frames| notes(frames, program));
+        let notes = inspected.frames.as_ref().map_or_else(Vec::new, |frames| notes_on_section(frames, program));
         Section { name: inspected.name, bytes: inspected.bytes, status, held, notes }
     }
 }
 
-fn notes(frames: &Frames<'_>, program: &Program<'_>) -> Vec<String> {
+fn notes_on_section(frames: &Frames<'_>, program: &Program<'_>) -> Vec<String> {
     let own = Notes::of(frames).texts().map(|(count, what)| format!("{} {}", count, what));
     let header = match mismatches(program, frames) {
         Ok(all) => all.iter().map(|one| format!(".eh_frame_hdr: {}", one)).collect(),

@@ -30,14 +30,14 @@ impl Memory<'_> {
     pub fn code(&self, addresses: Range<u64>) -> &[u8] {
         let after = self.image.parts.partition_point(|part| part.address <= addresses.start);
         let part = self.image.parts.get(..after).and_then(<[Part<'_>]>::last).filter(|part| part.is_executable);
-        part.and_then(|part| bytes_of(part, addresses)).unwrap_or(&[])
+        part.and_then(|part| bytes_at(part, addresses)).unwrap_or(&[])
     }
 
     /// The instructions of the code at these addresses, a line for each: its length in bytes as one hexadecimal
     /// digit, and its text. Ends with the line with which it has `most` bytes.
     pub fn listing(&self, addresses: Range<u64>, most: usize) -> String {
         let mut listing = String::new();
-        for (bytes, text) in self.lines(addresses) {
+        for (bytes, text) in self.disassembled_lines(addresses) {
             // Writing to a string can't fail.
             let _ = writeln!(listing, "{:x}{}", bytes.len(), text);
             if listing.len() >= most {
@@ -48,12 +48,12 @@ impl Memory<'_> {
     }
 
     /// The bytes of each instruction at these addresses, and its text.
-    fn lines(&self, addresses: Range<u64>) -> impl Iterator<Item = (&[u8], String)> {
+    fn disassembled_lines(&self, addresses: Range<u64>) -> impl Iterator<Item = (&[u8], String)> {
         let mut address = addresses.start;
         let mut rest = self.code(addresses);
         std::iter::from_fn(move || {
             let Line { length, text } =
-                Some(rest).filter(|rest| !rest.is_empty()).map(|rest| self.line(rest, address))?;
+                Some(rest).filter(|rest| !rest.is_empty()).map(|rest| self.disassembled_line(rest, address))?;
             let (bytes, after) = rest.split_at(length);
             rest = after;
             address = address.wrapping_add(length as u64);
@@ -62,7 +62,7 @@ impl Memory<'_> {
     }
 
     /// The instruction at the first of these bytes, which aren't empty.
-    fn line(&self, bytes: &[u8], address: u64) -> Line {
+    fn disassembled_line(&self, bytes: &[u8], address: u64) -> Line {
         match self.machine {
             Some(machine) => {
                 let length = usize::from((machine.decode)(bytes, address).length).clamp(1, bytes.len());
@@ -82,12 +82,12 @@ impl Memory<'_> {
         let is_idle = |(bytes, text): (&[u8], String)| {
             bytes.iter().all(|byte| *byte == 0) || IDLE.iter().any(|word| text.contains(word))
         };
-        !self.code(addresses.clone()).is_empty() && self.lines(addresses).all(is_idle)
+        !self.code(addresses.clone()).is_empty() && self.disassembled_lines(addresses).all(is_idle)
     }
 }
 
 /// The bytes of a part at these addresses, as far as it has them.
-fn bytes_of<'a>(part: &'a Part<'_>, addresses: Range<u64>) -> Option<&'a [u8]> {
+fn bytes_at<'a>(part: &'a Part<'_>, addresses: Range<u64>) -> Option<&'a [u8]> {
     let begin = usize::try_from(addresses.start.checked_sub(part.address)?).ok()?;
     let length = usize::try_from(addresses.end.saturating_sub(addresses.start)).unwrap_or(usize::MAX);
     let rest = part.bytes.get(begin..)?;

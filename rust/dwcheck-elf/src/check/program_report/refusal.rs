@@ -1,4 +1,4 @@
-//! What is refused, with its bytes.
+//! The records that are refused, with their bytes, for a report.
 
 use super::instructions::Memory;
 use crate::cfi::frames::Frames;

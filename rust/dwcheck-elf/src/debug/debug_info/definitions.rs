@@ -37,44 +37,44 @@ struct Named {
 impl<'a> Units<'a> {
     /// The definition of a type, if the entry is only a declaration of it, and the definition is found. Else the
     /// entry itself.
-    pub fn defined<'u>(&'u self, die: Die<'u, 'a>) -> Die<'u, 'a> {
+    pub fn definition_of_type<'u>(&'u self, die: Die<'u, 'a>) -> Die<'u, 'a> {
         if die.attribute(gimli::DW_AT_declaration).is_none() {
             return die;
         }
-        let by_signature = die.reference(gimli::DW_AT_signature);
-        by_signature.or_else(|| self.by_name(&die)).unwrap_or(die)
+        let by_signature = die.referred_entry(gimli::DW_AT_signature);
+        by_signature.or_else(|| self.definition_by_name(&die)).unwrap_or(die)
     }
 
     /// The definition of a type that an entry declares, by the name of the type.
-    fn by_name<'u>(&'u self, die: &Die<'u, 'a>) -> Option<Die<'u, 'a>> {
+    fn definition_by_name<'u>(&'u self, die: &Die<'u, 'a>) -> Option<Die<'u, 'a>> {
         let index = self.index_of(die.unit.header.offset())?;
         let place = (index, die.offset);
         let known = self.definitions.found.borrow().get(&place).copied();
-        let found = known.unwrap_or_else(|| self.search(&die.unit, die.offset));
+        let found = known.unwrap_or_else(|| self.search_definition(&die.unit, die.offset));
         self.definitions.found.borrow_mut().insert(place, found);
         let (index, offset) = found?;
         Some(Die { units: self, unit: self.unit(index).ok()?, offset })
     }
 
-    fn search(&self, unit: &Unit<Slice<'a>>, declaration: UnitOffset<usize>) -> Option<Place> {
+    fn search_definition(&self, unit: &Unit<Slice<'a>>, declaration: UnitOffset<usize>) -> Option<Place> {
         let mut name = None;
-        self.types(unit, |one| {
+        self.each_type(unit, |one| {
             if one.offset == declaration {
                 name = Some(one.name);
             }
         })
         .ok()?;
         let mut defined = self.definitions.defined.borrow_mut();
-        defined.get_or_insert_with(|| self.all_defined()).get(&name?).copied()
+        defined.get_or_insert_with(|| self.all_defined_types()).get(&name?).copied()
     }
 
     /// The types that the units define. Of several with one name, the first one counts.
-    fn all_defined(&self) -> HashMap<QualifiedName, Place> {
+    fn all_defined_types(&self) -> HashMap<QualifiedName, Place> {
         let mut defined = HashMap::new();
         for (index, header) in self.headers.iter().enumerate() {
             // A unit that can't be read defines nothing.
             let _ = self.dwarf.unit(*header).and_then(|unit| {
-                self.types(&unit, |one| {
+                self.each_type(&unit, |one| {
                     if !one.is_declaration && defined.len() < MAX_TYPES {
                         defined.entry(one.name).or_insert((index, one.offset));
                     }
@@ -86,7 +86,7 @@ impl<'a> Units<'a> {
 
     /// Calls `take` with each type of a unit that has a name, and is neither in a function nor in a namespace
     /// without a name.
-    fn types(&self, unit: &Unit<Slice<'a>>, mut take: impl FnMut(Named)) -> Result<(), gimli::Error> {
+    fn each_type(&self, unit: &Unit<Slice<'a>>, mut take: impl FnMut(Named)) -> Result<(), gimli::Error> {
         let mut entries = unit.entries_raw(None)?;
         let mut around: Vec<(isize, Option<QualifiedName>)> = Vec::new();
         while !entries.is_empty() {
@@ -103,7 +103,7 @@ impl<'a> Units<'a> {
             if abbreviation.has_children() && depth > 0 {
                 around.push((depth, name));
             }
-            if let Some(name) = name.filter(|_| is_type(abbreviation.tag())) {
+            if let Some(name) = name.filter(|_| is_type_tag(abbreviation.tag())) {
                 take(Named { offset, name, is_declaration });
             }
         }
@@ -120,7 +120,7 @@ impl<'a> Units<'a> {
     ) -> Result<(Option<QualifiedName>, bool), gimli::Error> {
         let (mut name, mut is_declaration) = (None, false);
         let tag = abbreviation.tag();
-        let outer = match outer.filter(|_| is_type(tag) || tag == gimli::DW_TAG_namespace) {
+        let outer = match outer.filter(|_| is_type_tag(tag) || tag == gimli::DW_TAG_namespace) {
             Some(outer) => outer,
             None => {
                 entries.skip_attributes(abbreviation.attributes())?;
@@ -147,7 +147,7 @@ impl Definitions {
     }
 }
 
-fn is_type(tag: DwTag) -> bool {
+fn is_type_tag(tag: DwTag) -> bool {
     matches!(
         tag,
         gimli::DW_TAG_structure_type

@@ -1,6 +1,6 @@
 //! Packages of files that have the rest of units' debug information, named `.dwp`.
 
-use super::{named, Slice};
+use super::{debug_section_by_name, Slice};
 use crate::elf::program::{Program, ProgramError};
 use dwcheck_types::target::Target;
 use gimli::{DebugCuIndex, DwoId, EndianSlice, SectionId, UnitIndex, UnitIndexSection};
@@ -26,7 +26,7 @@ impl<'a> Package<'a> {
     /// Reads the index of a package. `None` if it has none, or if it can't be read.
     pub fn read(path: PathBuf, bytes: &'a [u8], unpacked: &'a Arena<Vec<u8>>) -> Option<Self> {
         let program = Program::read(bytes).ok()?;
-        let index = section(&program, SectionId::DebugCuIndex, unpacked).ok()?;
+        let index = package_section(&program, SectionId::DebugCuIndex, unpacked).ok()?;
         let index = DebugCuIndex::from(index).index().ok()?;
         Some(Package { path, program, index, read: RefCell::default() })
     }
@@ -50,7 +50,7 @@ impl<'a> Package<'a> {
         unpacked: &'a Arena<Vec<u8>>,
     ) -> Result<Slice<'a>, ProgramError> {
         let known = self.read.borrow().get(&id).copied();
-        let whole = known.map_or_else(|| section(&self.program, id, unpacked), Ok)?;
+        let whole = known.map_or_else(|| package_section(&self.program, id, unpacked), Ok)?;
         self.read.borrow_mut().insert(id, whole);
         let range = parts.iter().find(|part| part.section == id).map(|part| {
             let begin = part.offset as usize;
@@ -65,6 +65,10 @@ impl<'a> Package<'a> {
 }
 
 /// A section of a package. The names of some end with `.dwo`.
-fn section<'a>(program: &Program<'a>, id: SectionId, unpacked: &'a Arena<Vec<u8>>) -> Result<Slice<'a>, ProgramError> {
-    named(program, id.dwo_name().unwrap_or_else(|| id.name()), unpacked)
+fn package_section<'a>(
+    program: &Program<'a>,
+    id: SectionId,
+    unpacked: &'a Arena<Vec<u8>>,
+) -> Result<Slice<'a>, ProgramError> {
+    debug_section_by_name(program, id.dwo_name().unwrap_or_else(|| id.name()), unpacked)
 }

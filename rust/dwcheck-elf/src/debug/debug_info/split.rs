@@ -3,7 +3,7 @@
 
 use super::package::{Package, Parts};
 use super::units::{Die, Units};
-use super::{named, Slice};
+use super::{debug_section_by_name, Slice};
 use crate::elf::debug_files::DebugFiles;
 use crate::elf::program::{Program, ProgramError};
 use dwcheck_types::target::Target;
@@ -91,7 +91,7 @@ impl<'a> SplitFile<'a> {
     fn section(&self, id: SectionId) -> Result<Slice<'a>, ProgramError> {
         match (&self.source, id.dwo_name()) {
             (_, None) => Ok(EndianSlice::new(&[], self.target().gimli_order())),
-            (Source::Own(program), Some(name)) => named(program, name, self.files.unpacked()),
+            (Source::Own(program), Some(name)) => debug_section_by_name(program, name, self.files.unpacked()),
             (Source::Package(package, parts), Some(_)) => package.part(id, parts, self.files.unpacked()),
         }
     }

@@ -1,4 +1,4 @@
-//! The units of debug information, and references between their entries.
+//! The units of debug information, and their entries: attributes, children, ranges, and references between entries.
 
 use super::definitions::Definitions;
 use super::Slice;
@@ -116,7 +116,7 @@ impl<'a> Units<'a> {
     }
 
     /// The type with a signature.
-    fn type_of(&self, signature: DebugTypeSignature) -> Option<Die<'_, 'a>> {
+    fn type_of_signature(&self, signature: DebugTypeSignature) -> Option<Die<'_, 'a>> {
         let index = *self.types.borrow_mut().get_or_insert_with(|| self.signatures()).get(&signature)?;
         let unit = self.unit(index).ok()?;
         match unit.header.type_() {
@@ -178,7 +178,7 @@ impl<'u, 'a> Die<'u, 'a> {
     }
 
     /// The entry that an attribute of this one refers to.
-    pub fn reference(&self, name: DwAt) -> Option<Die<'u, 'a>> {
+    pub fn referred_entry(&self, name: DwAt) -> Option<Die<'u, 'a>> {
         self.at(self.attribute(name)?)
     }
 
@@ -188,7 +188,7 @@ impl<'u, 'a> Die<'u, 'a> {
             AttributeValue::UnitRef(offset) => Some(Die { offset, ..self.clone() }),
             AttributeValue::DebugInfoRef(offset) => self.units.die(offset),
             AttributeValue::DebugInfoRefSup(offset) => self.units.shared.as_ref()?.die(offset),
-            AttributeValue::DebugTypesRef(signature) => self.units.type_of(signature),
+            AttributeValue::DebugTypesRef(signature) => self.units.type_of_signature(signature),
             _ => None,
         }
     }
@@ -196,8 +196,8 @@ impl<'u, 'a> Die<'u, 'a> {
     /// This entry, then the ones that it completes or is an instance of.
     pub fn origins(&self) -> impl Iterator<Item = Die<'u, 'a>> {
         let next = |die: &Die<'u, 'a>| {
-            let origin = die.reference(gimli::DW_AT_abstract_origin);
-            origin.or_else(|| die.reference(gimli::DW_AT_specification))
+            let origin = die.referred_entry(gimli::DW_AT_abstract_origin);
+            origin.or_else(|| die.referred_entry(gimli::DW_AT_specification))
         };
         std::iter::successors(Some(self.clone()), next).take(MAX_REFERENCES)
     }

@@ -22,7 +22,7 @@ pub(super) struct Covers {
 impl Covers {
     /// What `.debug_aranges` lists. Nothing if it can't be read.
     pub fn listed(program: &Program<'_>) -> Covers {
-        let bytes = sections::section(program, SectionId::DebugAranges, None);
+        let bytes = sections::section_before(program, SectionId::DebugAranges, None);
         let aranges = DebugAranges::new(&bytes, program.target().gimli_order());
         let mut ranges = Vec::new();
         let mut headers = aranges.headers();

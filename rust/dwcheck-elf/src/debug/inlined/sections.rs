@@ -28,7 +28,7 @@ pub(super) struct Sections<'a> {
 impl<'a> Sections<'a> {
     /// Reads the sections, several at once. Of `.debug_info` only the part before `end` is needed.
     pub fn read(program: &Program<'a>, end: Option<usize>) -> Sections<'a> {
-        let read = |id: SectionId| (id, section(program, id, end.filter(|_| id == SectionId::DebugInfo)));
+        let read = |id: SectionId| (id, section_before(program, id, end.filter(|_| id == SectionId::DebugInfo)));
         let bytes = NEEDED.into_par_iter().with_max_len(1).map(read).collect();
         Sections { order: program.target().gimli_order(), bytes }
     }
@@ -46,7 +46,7 @@ impl<'a> Sections<'a> {
 }
 
 /// The bytes of a section before `end`, or all of them. Empty if they can't be read.
-pub(super) fn section<'a>(program: &Program<'a>, id: SectionId, end: Option<usize>) -> Cow<'a, [u8]> {
+pub(super) fn section_before<'a>(program: &Program<'a>, id: SectionId, end: Option<usize>) -> Cow<'a, [u8]> {
     let bytes = match end {
         Some(end) => program.debug_section_before(id.name(), end),
         None => program.debug_section(id.name()),

@@ -1,6 +1,6 @@
 //! Reads the functions of a unit, with those that were inlined, and their names.
 
-use super::{begin, Functions, Info, Search};
+use super::{unit_begin, Functions, Info, Search};
 use crate::debug::debug_info::Slice;
 use gimli::{Abbreviation, Attribute, AttributeValue, DebugAddrBase, DebugLocListsBase, DebugRngListsBase};
 use gimli::{DebugStrOffsetsBase, Dwarf, EntriesRaw, Error, Unit, UnitHeader, UnitOffset};
@@ -15,7 +15,10 @@ const MOST_REFERENCES: usize = 16;
 type Value<'s> = AttributeValue<Slice<'s>>;
 
 /// Reads a unit without its lines, whose section may be missing.
-pub(super) fn unit<'s>(dwarf: &Dwarf<Slice<'s>>, header: UnitHeader<Slice<'s>>) -> Result<Unit<Slice<'s>>, Error> {
+pub(super) fn read_unit_without_lines<'s>(
+    dwarf: &Dwarf<Slice<'s>>,
+    header: UnitHeader<Slice<'s>>,
+) -> Result<Unit<Slice<'s>>, Error> {
     let (encoding, kind) = (header.encoding(), dwarf.file_type);
     let mut unit = Unit {
         abbreviations: dwarf.abbreviations(&header)?,
@@ -31,7 +34,7 @@ pub(super) fn unit<'s>(dwarf: &Dwarf<Slice<'s>>, header: UnitHeader<Slice<'s>>) 
         header,
     };
     let mut low = None;
-    for attribute in attributes(&unit)? {
+    for attribute in unit_attributes(&unit)? {
         match (attribute.name(), attribute.value()) {
             (gimli::DW_AT_low_pc, value) => low = Some(value),
             (_, AttributeValue::DebugStrOffsetsBase(base)) => unit.str_offsets_base = base,
@@ -47,7 +50,7 @@ pub(super) fn unit<'s>(dwarf: &Dwarf<Slice<'s>>, header: UnitHeader<Slice<'s>>) 
 }
 
 /// The attributes of a unit's first entry.
-fn attributes<'s>(unit: &Unit<Slice<'s>>) -> Result<Vec<Attribute<Slice<'s>>>, Error> {
+fn unit_attributes<'s>(unit: &Unit<Slice<'s>>) -> Result<Vec<Attribute<Slice<'s>>>, Error> {
     let mut entries = unit.entries_raw(None)?;
     let abbreviation = entries.read_abbreviation()?.ok_or(Error::MissingUnitDie)?;
     abbreviation.attributes().iter().map(|attribute| entries.read_attribute(*attribute)).collect()
@@ -92,7 +95,7 @@ impl<'s> Said<'s> {
                 None => return Ok(Vec::new()),
             };
             let next = || ranges.next().map(|range| range.map(|range| range.begin..range.end)).transpose();
-            return std::iter::from_fn(next).collect::<Result<_, _>>().map(ascending);
+            return std::iter::from_fn(next).collect::<Result<_, _>>().map(ascending_ranges);
         }
         let low = self.low.map(|low| dwarf.attr_address(unit, low)).transpose()?.flatten();
         let (low, high) = match low.zip(self.high) {
@@ -110,7 +113,7 @@ impl<'s> Said<'s> {
 
 /// The same addresses, by ranges that ascend and share none. Compilers name the hot part of a function first, though
 /// linkers put the cold ones below it.
-fn ascending(mut ranges: Vec<Range<u64>>) -> Vec<Range<u64>> {
+fn ascending_ranges(mut ranges: Vec<Range<u64>>) -> Vec<Range<u64>> {
     ranges.retain(|range| range.start < range.end);
     ranges.sort_unstable_by_key(|range| range.start);
     let mut found: Vec<Range<u64>> = Vec::with_capacity(ranges.len());
@@ -172,7 +175,7 @@ impl<'r, 's> Reader<'r, 's> {
                 continue;
             }
             let ranges = Said::read(&mut entries, abbreviation)?.addresses(&self.search.info.dwarf, unit)?;
-            let places = ranges.iter().flat_map(|range| inside(addresses, range));
+            let places = ranges.iter().flat_map(|range| addresses_inside(addresses, range));
             let places: Vec<usize> = places.filter(|place| !is_covered[*place]).collect();
             places.iter().for_each(|place| is_covered[*place] = true);
             if !places.is_empty() {
@@ -209,7 +212,7 @@ impl<'r, 's> Reader<'r, 's> {
                 }
             };
             let ranges = Said::read(&mut entries, abbreviation)?.addresses(&self.search.info.dwarf, unit)?;
-            let mut places = ranges.iter().flat_map(|range| inside(addresses, range)).peekable();
+            let mut places = ranges.iter().flat_map(|range| addresses_inside(addresses, range)).peekable();
             if places.peek().is_some() {
                 let name = self.name(Place { offset, ..place.clone() });
                 for place in places {
@@ -230,7 +233,7 @@ impl<'r, 's> Reader<'r, 's> {
         }
         let info = self.info(is_shared).ok_or(Error::MissingUnitDie)?;
         let header = info.headers.get(index).ok_or(Error::MissingUnitDie)?;
-        let unit = Rc::new(unit(&info.dwarf, *header)?);
+        let unit = Rc::new(read_unit_without_lines(&info.dwarf, *header)?);
         self.units.insert((is_shared, index), Rc::clone(&unit));
         Ok(unit)
     }
@@ -274,7 +277,7 @@ impl<'r, 's> Reader<'r, 's> {
             self.search.lacks.store(true, Ordering::Relaxed);
         }
         let unit = self.unit(is_shared, index?).ok()?;
-        let offset = UnitOffset(offset.checked_sub(begin(&unit.header))?);
+        let offset = UnitOffset(offset.checked_sub(unit_begin(&unit.header))?);
         Some(Place { is_shared, unit, offset })
     }
 }
@@ -314,7 +317,7 @@ impl Levels {
 }
 
 /// The places of those addresses that are in a range. The addresses are ascending.
-fn inside(addresses: &[u64], range: &Range<u64>) -> Range<usize> {
+fn addresses_inside(addresses: &[u64], range: &Range<u64>) -> Range<usize> {
     let first = addresses.partition_point(|address| *address < range.start);
     let end = addresses.partition_point(|address| *address < range.end);
     first..end.max(first)

@@ -50,10 +50,10 @@ pub(crate) struct Nesting<'a> {
 
 /// Whether an entry is a function or a block.
 pub(crate) fn is_scope(tag: DwTag) -> bool {
-    is_function(tag) || matches!(tag, gimli::DW_TAG_inlined_subroutine | gimli::DW_TAG_lexical_block)
+    is_function_tag(tag) || matches!(tag, gimli::DW_TAG_inlined_subroutine | gimli::DW_TAG_lexical_block)
 }
 
-fn is_function(tag: DwTag) -> bool {
+fn is_function_tag(tag: DwTag) -> bool {
     tag == gimli::DW_TAG_subprogram
 }
 
@@ -110,7 +110,7 @@ impl<'a> Nesting<'a> {
 
     /// Enters a function or block.
     pub fn enter(&mut self, depth: isize, tag: DwTag, bounds: Bounds<'a>) {
-        self.open.push(Open { depth, is_function: is_function(tag), bounds, place: None });
+        self.open.push(Open { depth, is_function: is_function_tag(tag), bounds, place: None });
     }
 
     /// The place of what is around the current entry, among [`Self::found`]. `None` if it is in no function.

@@ -1,4 +1,4 @@
-//! What the location lists of a section have.
+//! What the location lists of a section have, counted.
 
 use super::coverage::Bytes;
 use super::lints::{Lint, Lints};

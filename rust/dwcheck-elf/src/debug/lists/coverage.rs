@@ -79,16 +79,16 @@ pub(crate) struct Table {
 }
 
 /// The tables of a `.debug_loclists` section, up to the first that can't be read.
-pub(crate) fn tables(section: &[u8], target: Target) -> Vec<Table> {
+pub(crate) fn read_list_tables(section: &[u8], target: Target) -> Vec<Table> {
     let mut cursor = Cursor::new(section, target);
     let mut tables = Vec::new();
-    while let (false, Ok(table)) = (cursor.is_at_end(), table(&mut cursor)) {
+    while let (false, Ok(table)) = (cursor.is_at_end(), read_list_table(&mut cursor)) {
         tables.push(table);
     }
     tables
 }
 
-fn table(cursor: &mut Cursor<'_>) -> Result<Table, ReadError> {
+fn read_list_table(cursor: &mut Cursor<'_>) -> Result<Table, ReadError> {
     let begin = cursor.at();
     let (length, offset_size) = match cursor.number(4)? {
         0xffff_ffff => (cursor.number(8)?, 8),
@@ -104,7 +104,7 @@ fn table(cursor: &mut Cursor<'_>) -> Result<Table, ReadError> {
 
 /// The headers of tables, each as a table of its own without offsets and lists, so that `dwcheck` can check
 /// them. Each has [`TABLE_HEADER`] bytes.
-pub(crate) fn headers_alone(section: &[u8], tables: &[Table], target: Target) -> Vec<u8> {
+pub(crate) fn headers_without_lists(section: &[u8], tables: &[Table], target: Target) -> Vec<u8> {
     let mut bytes = Vec::with_capacity(tables.len() * TABLE_HEADER);
     for table in tables {
         target.push(&mut bytes, (TABLE_HEADER - 4) as u64, 4);

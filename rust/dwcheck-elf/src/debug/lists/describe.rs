@@ -7,7 +7,7 @@ use std::rc::Rc;
 
 /// The variables that some entries of a unit describe, in words: `sp of f, tls3.c:4`. They are found in one
 /// pass through the unit. Entries without a name are left out.
-pub(crate) fn described(units: &Units<'_>, unit: usize, entries: &BTreeSet<usize>) -> HashMap<usize, String> {
+pub(crate) fn describe_variables(units: &Units<'_>, unit: usize, entries: &BTreeSet<usize>) -> HashMap<usize, String> {
     let mut described = HashMap::new();
     let unit = match units.unit(unit) {
         Ok(unit) => unit,
@@ -30,9 +30,9 @@ pub(crate) fn described(units: &Units<'_>, unit: usize, entries: &BTreeSet<usize
         let die = |offset| Die { units, unit: Rc::clone(&unit), offset };
         if entries.contains(&offset.0) {
             let function = functions.last().and_then(|(_, function)| die(*function).name());
-            described.extend(words(&die(offset), function).map(|words| (offset.0, words)));
+            described.extend(variable_in_words(&die(offset), function).map(|words| (offset.0, words)));
         }
-        if is_function(abbreviation.tag()) {
+        if is_function_tag(abbreviation.tag()) {
             functions.push((depth, offset));
         }
         if raw.skip_attributes(abbreviation.attributes()).is_err() {
@@ -42,11 +42,11 @@ pub(crate) fn described(units: &Units<'_>, unit: usize, entries: &BTreeSet<usize
     described
 }
 
-fn is_function(tag: DwTag) -> bool {
+fn is_function_tag(tag: DwTag) -> bool {
     matches!(tag, gimli::DW_TAG_subprogram | gimli::DW_TAG_inlined_subroutine)
 }
 
-fn words(die: &Die<'_, '_>, function: Option<String>) -> Option<String> {
+fn variable_in_words(die: &Die<'_, '_>, function: Option<String>) -> Option<String> {
     let tag = die.entry()?.tag();
     let name = match die.name() {
         Some(name) => name,

@@ -1,7 +1,7 @@
 //! Rewrites an expression so that `dwcheck` can check and evaluate it.
 
 use super::unsupported::{Unsupported, UnsupportedAt, DEREF, UNREADABLE};
-use crate::debug::expression::skip;
+use crate::debug::expression::skip_operation_operands;
 use dwcheck_types::codes::op;
 use dwcheck_types::cursor::{Cursor, ReadError};
 use dwcheck_types::target::Target;
@@ -81,20 +81,20 @@ impl Rewritten<'_> {
 }
 
 /// Rewrites an expression.
-pub(crate) fn rewrite<'a>(expression: &'a [u8], scope: &Scope<'_>) -> Rewritten<'a> {
-    let operations = read(expression, scope);
+pub(crate) fn rewrite_expression<'a>(expression: &'a [u8], scope: &Scope<'_>) -> Rewritten<'a> {
+    let operations = read_operations(expression, scope);
     if let Some(Operation { begin, act: Act::Whole(unsupported), .. }) = operations.last() {
-        return whole(*unsupported, *begin);
+        return unsupported_expression(*unsupported, *begin);
     }
     if operations.iter().all(|operation| matches!(operation.act, Act::Copy | Act::Branch(_))) {
         let bytes = Cow::Borrowed(expression);
         return Rewritten { bytes, all_unsupported: Vec::new(), places: Vec::new(), without_address: None };
     }
-    write(expression, &operations, scope)
+    write_operations(expression, &operations, scope)
 }
 
 /// An expression that is one hole.
-fn whole(unsupported: Unsupported, original: usize) -> Rewritten<'static> {
+fn unsupported_expression(unsupported: Unsupported, original: usize) -> Rewritten<'static> {
     let spot = UnsupportedAt { unsupported, original, rewritten: DEREF };
     let bytes = Cow::Borrowed(&UNREADABLE[..]);
     Rewritten { bytes, all_unsupported: vec![spot], places: vec![(0, original)], without_address: None }
@@ -102,12 +102,12 @@ fn whole(unsupported: Unsupported, original: usize) -> Rewritten<'static> {
 
 /// The operations, up to the first for which a hole replaces the whole expression. From one that can't
 /// be read, the bytes are copied, and `dwcheck` refuses them.
-fn read(expression: &[u8], scope: &Scope<'_>) -> Vec<Operation> {
+fn read_operations(expression: &[u8], scope: &Scope<'_>) -> Vec<Operation> {
     let mut cursor = Cursor::new(expression, scope.target);
     let mut operations = Vec::new();
     while !cursor.is_at_end() {
         let begin = cursor.at();
-        let act = act(&mut cursor, scope);
+        let act = read_act(&mut cursor, scope);
         let end = if act.is_ok() { cursor.at() } else { expression.len() };
         let is_last = matches!(act, Err(_) | Ok(Act::Whole(_)));
         operations.push(Operation { begin, end, act: act.unwrap_or(Act::Copy) });
@@ -118,7 +118,7 @@ fn read(expression: &[u8], scope: &Scope<'_>) -> Vec<Operation> {
     operations
 }
 
-fn act(cursor: &mut Cursor<'_>, scope: &Scope<'_>) -> Result<Act, ReadError> {
+fn read_act(cursor: &mut Cursor<'_>, scope: &Scope<'_>) -> Result<Act, ReadError> {
     let code = cursor.byte()?;
     let operands = cursor.at();
     let loaded = |address: u64| Act::Address(scope.target.wrap(address.wrapping_add(scope.load)));
@@ -136,21 +136,21 @@ fn act(cursor: &mut Cursor<'_>, scope: &Scope<'_>) -> Result<Act, ReadError> {
         }
         // DW_OP_GNU_uninit says that the variable may not be initialized. It changes nothing else.
         op::GNU_UNINIT => Act::Drop,
-        _ => match unsupported(cursor, code, scope)? {
+        _ => match read_unsupported(cursor, code, scope)? {
             Some((unsupported, takes)) => match (scope.known)(unsupported, cursor.since(operands)) {
                 Some(value) if unsupported == Unsupported::FormTlsAddress => Act::Plus(value),
                 Some(value) => Act::Constant(value),
                 None => Act::Unsupported(unsupported, takes),
             },
             None if code >= 0xe0 => Act::Whole(Unsupported::Vendor(code)),
-            None => skip(cursor, code).map(|_| Act::Copy)?,
+            None => skip_operation_operands(cursor, code).map(|_| Act::Copy)?,
         },
     })
 }
 
 /// Reads an operation that becomes a hole. Returns how many entries it takes from the stack. `None`
 /// for any other operation, of which nothing is read.
-fn unsupported(
+fn read_unsupported(
     cursor: &mut Cursor<'_>,
     code: u8,
     scope: &Scope<'_>,
@@ -190,7 +190,7 @@ fn unsupported(
 }
 
 /// How many bytes an operation has once it is rewritten.
-fn length(operation: &Operation, target: Target) -> usize {
+fn rewritten_length(operation: &Operation, target: Target) -> usize {
     match operation.act {
         Act::Copy | Act::Branch(_) => operation.end - operation.begin,
         Act::Address(_) | Act::Constant(_) | Act::NoAddress => 1 + usize::from(target.address_size.bytes()),
@@ -203,67 +203,87 @@ fn length(operation: &Operation, target: Target) -> usize {
 }
 
 /// The offset of each operation once it is rewritten, and in the original; then both lengths.
-fn places(expression: &[u8], operations: &[Operation], target: Target) -> Vec<(usize, usize)> {
+fn rewritten_offsets(expression: &[u8], operations: &[Operation], target: Target) -> Vec<(usize, usize)> {
     let mut places = Vec::with_capacity(operations.len() + 1);
     let mut at = 0;
     for operation in operations {
         places.push((at, operation.begin));
-        at += length(operation, target);
+        at += rewritten_length(operation, target);
     }
     places.push((at, expression.len()));
     places
 }
 
-fn write<'a>(expression: &'a [u8], operations: &[Operation], scope: &Scope<'_>) -> Rewritten<'a> {
-    let target = scope.target;
-    let places = places(expression, operations, target);
-    let mut bytes = Vec::new();
-    let mut all_unsupported = Vec::new();
-    for operation in operations {
-        let begin = bytes.len();
+/// An expression that is being rewritten.
+struct Rewriting<'e> {
+    expression: &'e [u8],
+    target: Target,
+    places: Vec<(usize, usize)>,
+    bytes: Vec<u8>,
+    all_unsupported: Vec<UnsupportedAt>,
+}
+
+impl Rewriting<'_> {
+    /// Writes an operation. `None` if it is a branch whose distance doesn't fit any more.
+    fn push_operation(&mut self, operation: &Operation) -> Option<()> {
         match operation.act {
-            Act::Copy | Act::Whole(_) => bytes.extend_from_slice(&expression[operation.begin..operation.end]),
-            Act::Branch(distance) => match moved(&places, operation.end, distance, begin + 3) {
-                Some(distance) => {
-                    bytes.push(expression[operation.begin]);
-                    target.push(&mut bytes, distance as u64, 2);
-                }
-                None => return whole(Unsupported::LongBranch, operation.begin),
-            },
-            Act::Address(number) => push_word(&mut bytes, op::ADDR, number, target),
-            Act::Constant(number) => push_word(&mut bytes, constant(target), number, target),
-            Act::Plus(number) => {
-                push_word(&mut bytes, constant(target), number, target);
-                bytes.push(op::PLUS);
+            Act::Copy | Act::Whole(_) => {
+                self.bytes.extend_from_slice(&self.expression[operation.begin..operation.end]);
             }
-            Act::NoAddress => push_word(&mut bytes, op::ADDR, 0, target),
+            Act::Branch(distance) => {
+                let distance = moved_branch_distance(&self.places, operation.end, distance, self.bytes.len() + 3)?;
+                self.bytes.push(self.expression[operation.begin]);
+                self.target.push(&mut self.bytes, distance as u64, 2);
+            }
+            Act::Address(number) => self.push_word_operation(op::ADDR, number),
+            Act::Constant(number) => self.push_word_operation(constant_opcode(self.target), number),
+            Act::Plus(number) => {
+                self.push_word_operation(constant_opcode(self.target), number);
+                self.bytes.push(op::PLUS);
+            }
+            Act::NoAddress => self.push_word_operation(op::ADDR, 0),
             Act::Drop => {}
             Act::Unsupported(unsupported, takes) => {
-                bytes.extend(std::iter::repeat(op::DROP).take(takes));
-                all_unsupported.push(UnsupportedAt {
-                    unsupported,
-                    original: operation.begin,
-                    rewritten: bytes.len() + DEREF,
-                });
-                bytes.extend_from_slice(&UNREADABLE);
+                self.bytes.extend(std::iter::repeat(op::DROP).take(takes));
+                self.push_unreadable(unsupported, operation.begin);
             }
             Act::Value(unsupported) => {
-                all_unsupported.push(UnsupportedAt {
-                    unsupported,
-                    original: operation.begin,
-                    rewritten: begin + DEREF,
-                });
-                bytes.extend_from_slice(&UNREADABLE);
-                bytes.push(op::STACK_VALUE);
+                self.push_unreadable(unsupported, operation.begin);
+                self.bytes.push(op::STACK_VALUE);
             }
         }
+        Some(())
     }
+
+    /// Writes an operation with a number of an address's size.
+    fn push_word_operation(&mut self, code: u8, number: u64) {
+        self.bytes.push(code);
+        self.target.push(&mut self.bytes, number, self.target.address_size.bytes());
+    }
+
+    /// Writes a read that fails, in place of the operation at the offset `original`.
+    fn push_unreadable(&mut self, unsupported: Unsupported, original: usize) {
+        self.all_unsupported.push(UnsupportedAt { unsupported, original, rewritten: self.bytes.len() + DEREF });
+        self.bytes.extend_from_slice(&UNREADABLE);
+    }
+}
+
+fn write_operations<'a>(expression: &'a [u8], operations: &[Operation], scope: &Scope<'_>) -> Rewritten<'a> {
+    let target = scope.target;
+    let places = rewritten_offsets(expression, operations, target);
+    let mut rewriting = Rewriting { expression, target, places, bytes: Vec::new(), all_unsupported: Vec::new() };
+    for operation in operations {
+        if rewriting.push_operation(operation).is_none() {
+            return unsupported_expression(Unsupported::LongBranch, operation.begin);
+        }
+    }
+    let Rewriting { places, bytes, all_unsupported, .. } = rewriting;
     let without_address = operations.iter().find(|operation| matches!(operation.act, Act::NoAddress));
     let without_address = without_address.map(|operation| operation.begin);
     Rewritten { bytes: Cow::Owned(bytes), all_unsupported, places, without_address }
 }
 
-fn constant(target: Target) -> u8 {
+fn constant_opcode(target: Target) -> u8 {
     if target.address_size.bytes() == 8 {
         op::CONST8U
     } else {
@@ -271,15 +291,10 @@ fn constant(target: Target) -> u8 {
     }
 }
 
-fn push_word(bytes: &mut Vec<u8>, code: u8, number: u64, target: Target) {
-    bytes.push(code);
-    target.push(bytes, number, target.address_size.bytes());
-}
-
 /// The distance of a branch that ends at `end` in the original, and at `new_end` once it is rewritten. A
 /// target where no operation begins becomes one where none begins either. `None` if the distance
 /// doesn't fit.
-fn moved(places: &[(usize, usize)], end: usize, distance: i64, new_end: usize) -> Option<i64> {
+fn moved_branch_distance(places: &[(usize, usize)], end: usize, distance: i64, new_end: usize) -> Option<i64> {
     let target = end as i64 + distance;
     let found =
         usize::try_from(target).ok().and_then(|target| places.binary_search_by_key(&target, |place| place.1).ok());

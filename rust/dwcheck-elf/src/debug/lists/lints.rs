@@ -152,7 +152,7 @@ impl Surroundings<'_> {
         if range.start == range.end {
             return Some(Lint::Empty);
         }
-        let is_outside = |ranges: &[Range<u64>]| !ranges.is_empty() && !has(ranges, range);
+        let is_outside = |ranges: &[Range<u64>]| !ranges.is_empty() && !has_whole_range(ranges, range);
         match around {
             _ if range.start > range.end => None,
             _ if is_outside(self.unit) => Some(Lint::Outside),
@@ -164,7 +164,7 @@ impl Surroundings<'_> {
 }
 
 /// Whether one of these ranges, which are ascending, has all addresses of another one.
-fn has(ranges: &[Range<u64>], range: &Range<u64>) -> bool {
+fn has_whole_range(ranges: &[Range<u64>], range: &Range<u64>) -> bool {
     let before = ranges.partition_point(|part| part.start <= range.start).checked_sub(1);
     before.map_or(false, |part| range.end <= ranges[part].end)
 }

@@ -1,7 +1,7 @@
 //! What is known of a section of location lists while its units are read.
 
 use super::contents::{Contents, Doubtful};
-use super::coverage::{headers_alone, tables, Coverage, Part};
+use super::coverage::{headers_without_lists, read_list_tables, Coverage, Part};
 use super::entry::end_of_views;
 use super::lints::Surroundings;
 use super::problem::{Kind, Problem};
@@ -77,8 +77,8 @@ impl<'a> Section<'a> {
     /// Checks the headers of the tables, and accounts for all bytes.
     pub fn finish(&mut self, target: Target) -> Result<(), Error> {
         if self.name == Name::DebugLoclists {
-            let tables = tables(self.bytes, target);
-            if let Some(fault) = checked(&headers_alone(self.bytes, &tables, target), target)? {
+            let tables = read_list_tables(self.bytes, target);
+            if let Some(fault) = first_fault_of_tables(&headers_without_lists(self.bytes, &tables, target), target)? {
                 let (table, field) = (fault.offset as usize / TABLE_HEADER, fault.offset as usize % TABLE_HEADER);
                 let at = tables.get(table).map_or(0, |table| (table.fields.start + field).saturating_sub(4));
                 let kind = Kind::Dwcheck(fault.kind);
@@ -93,7 +93,7 @@ impl<'a> Section<'a> {
 }
 
 /// The first fault of a section of tables, as `dwcheck` finds it.
-pub(crate) fn checked(tables: &[u8], target: Target) -> Result<Option<Fault>, Error> {
+pub(crate) fn first_fault_of_tables(tables: &[u8], target: Target) -> Result<Option<Fault>, Error> {
     match dwcheck::check(DebugFrame(&[]), DebugLoclists(tables), target) {
         Ok(()) => Ok(None),
         Err(Error::Refused(fault)) => Ok(Some(fault)),
@@ -105,12 +105,14 @@ pub(crate) fn checked(tables: &[u8], target: Target) -> Result<Option<Fault>, Er
 pub(crate) fn every_problem(lists: &UnitLists, source: &Source<'_>, target: Target) -> Result<Vec<Problem>, Error> {
     let mut problems = Vec::new();
     for list in &lists.lists {
-        if checked(lists.table(list), target)?.is_none() {
+        if first_fault_of_tables(lists.rewritten_table(list), target)?.is_none() {
             continue;
         }
         let mut left_out = HashSet::new();
         for entry in lists.entries_of(list) {
-            if let Some(fault) = refused(lists.bytes.get(entry.rewritten.clone()).unwrap_or(&[]), target)? {
+            if let Some(fault) =
+                first_fault_of_expression(lists.bytes.get(entry.rewritten.clone()).unwrap_or(&[]), target)?
+            {
                 let at = entry.original.start + source.rewritten(entry).original(fault.offset as usize);
                 let problem = Problem::of(&list.reference, at, Kind::Dwcheck(fault.kind));
                 problems.push(Problem { entry: entry.offset, ..problem });
@@ -119,10 +121,10 @@ pub(crate) fn every_problem(lists: &UnitLists, source: &Source<'_>, target: Targ
         }
         let mut rest = UnitLists::default();
         let is_left_out = |entry: usize| left_out.contains(&entry);
-        if rest.add(list.reference, source, is_left_out).is_err() {
+        if rest.add_list(list.reference, source, is_left_out).is_err() {
             continue;
         }
-        if let Some(fault) = checked(&rest.bytes, target)? {
+        if let Some(fault) = first_fault_of_tables(&rest.bytes, target)? {
             let at = entry_at(&rest.entries, fault.offset as usize).map_or(list.original.start, |entry| entry.offset);
             problems.push(Problem::of(&list.reference, at, Kind::Dwcheck(fault.kind)));
         }
@@ -136,7 +138,7 @@ fn entry_at(entries: &[Entry], offset: usize) -> Option<&Entry> {
 }
 
 /// The first fault of an expression, as `dwcheck` finds it.
-pub(crate) fn refused(expression: &[u8], target: Target) -> Result<Option<Fault>, Error> {
+pub(crate) fn first_fault_of_expression(expression: &[u8], target: Target) -> Result<Option<Fault>, Error> {
     let registers = Registers::new();
     let state = State { registers: &registers, memory: &[], abi: Abi::NONE };
     match evaluate(expression, ExpressionKind::Location, target, &Context::default(), &state) {

@@ -37,7 +37,7 @@ impl LookUps {
         source: &Source<'_>,
     ) -> Result<(), Difference> {
         for list in &lists.lists {
-            let theirs = if list.is_unlike_gimli { None } else { by_gimli(dwarf, unit, list, source) };
+            let theirs = if list.is_unlike_gimli { None } else { entries_by_gimli(dwarf, unit, list, source) };
             match (theirs, SingleList::read(source, list.original.start as u64)) {
                 (Some(theirs), Ok(ours)) => self.compare_list(&theirs, &ours, list, source)?,
                 _ => self.unread += 1,
@@ -54,12 +54,12 @@ impl LookUps {
         source: &Source<'_>,
     ) -> Result<(), Difference> {
         self.lists += 1;
-        for address in addresses(ours.entries()) {
+        for address in addresses_to_look_up(ours.entries()) {
             let differs = |what: String| Difference { list: list.original.start as u64, what };
             let found = ours.at(address).map_err(|fault| differs(format!("at {:#x}: {}", address, fault)))?;
             let bytes = |entry: &&Entry| source.bytes.get(entry.original.clone()).unwrap_or(&[]);
-            let found: Vec<_> = found.iter().filter(|entry| !is_passed(entry, source)).map(bytes).collect();
-            let expected = at(theirs, address);
+            let found: Vec<_> = found.iter().filter(|entry| !is_left_out_by_gimli(entry, source)).map(bytes).collect();
+            let expected = expressions_by_gimli(theirs, address);
             if found != expected {
                 return Err(differs(format!("at {:#x}: {:x?} became {:x?}", address, expected, found)));
             }
@@ -71,7 +71,7 @@ impl LookUps {
 }
 
 /// The entries of a list by gimli, those of default locations last. `None` if it can't read all of them.
-fn by_gimli<'a>(
+fn entries_by_gimli<'a>(
     dwarf: &Dwarf<Slice<'a>>,
     unit: &Unit<Slice<'a>>,
     list: &List,
@@ -87,7 +87,7 @@ fn by_gimli<'a>(
 }
 
 /// The expressions that apply at an address: those of the entries that have it, or the default ones.
-fn at<'a>(entries: &[GimliEntry<'a>], address: u64) -> Vec<&'a [u8]> {
+fn expressions_by_gimli<'a>(entries: &[GimliEntry<'a>], address: u64) -> Vec<&'a [u8]> {
     let all = |wanted: &dyn Fn(&Range<u64>) -> bool| -> Vec<_> {
         entries.iter().filter(|(range, _)| wanted(range)).map(|(_, expression)| *expression).collect()
     };
@@ -101,13 +101,13 @@ fn at<'a>(entries: &[GimliEntry<'a>], address: u64) -> Vec<&'a [u8]> {
 
 /// Whether gimli leaves out an entry: in DWARF 4, it takes the highest address but one for that of a
 /// dropped function.
-fn is_passed(entry: &Entry, source: &Source<'_>) -> bool {
+fn is_left_out_by_gimli(entry: &Entry, source: &Source<'_>) -> bool {
     let dropped = source.scope.target.address_size.highest() - 1;
     source.section == Name::DebugLoc && entry.range.as_ref().map_or(false, |range| range.start == dropped)
 }
 
 /// Addresses at the ends of entries, next to these, and inside.
-fn addresses(entries: &[Entry]) -> Vec<u64> {
+fn addresses_to_look_up(entries: &[Entry]) -> Vec<u64> {
     let step = entries.len() / MAX_ENTRIES + 1;
     let ranges = entries.iter().step_by(step).filter_map(|entry| entry.range.clone());
     let near = |range: Range<u64>| {

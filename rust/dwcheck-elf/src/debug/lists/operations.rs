@@ -82,9 +82,11 @@ pub(crate) fn same_operations<'a>(
     let (encoding, order) = (unit.encoding(), original.0.endian());
     let mut bytes = original.0.slice().to_vec();
     let left_out = without_uninit(&mut bytes, order, encoding);
-    let originals = operations(Expression(EndianSlice::new(&bytes, order)), encoding);
+    let originals = operations_by_gimli(Expression(EndianSlice::new(&bytes, order)), encoding);
     if rewritten.0.slice() == UNREADABLE {
-        let is_whole = originals.as_ref().map_or(true, |originals| originals.all.iter().any(|(_, one)| is_whole(one)));
+        let is_whole = originals
+            .as_ref()
+            .map_or(true, |originals| originals.all.iter().any(|(_, one)| is_wholly_unsupported(one)));
         if is_whole {
             return Ok(originals.is_ok());
         }
@@ -94,12 +96,12 @@ pub(crate) fn same_operations<'a>(
         Err(_) => return Ok(false),
     };
     let encoding = Encoding { version: 5, format: gimli::Format::Dwarf32, ..encoding };
-    let rewritten = operations(rewritten, encoding).map_err(Unlike::Rewritten)?;
-    compare((dwarf, unit), &originals, &left_out, &rewritten).map(|()| true)
+    let rewritten = operations_by_gimli(rewritten, encoding).map_err(Unlike::Rewritten)?;
+    compare_operations((dwarf, unit), &originals, &left_out, &rewritten).map(|()| true)
 }
 
 /// Whether a hole replaces the whole expression that has this operation.
-fn is_whole(operation: &Operation<Slice<'_>>) -> bool {
+fn is_wholly_unsupported(operation: &Operation<Slice<'_>>) -> bool {
     use Operation::{Bra, Call, Skip, WasmGlobal, WasmLocal, WasmStack};
     matches!(
         operation,
@@ -107,7 +109,7 @@ fn is_whole(operation: &Operation<Slice<'_>>) -> bool {
     )
 }
 
-fn operations(expression: Expression<Slice<'_>>, encoding: Encoding) -> Result<Operations<'_>, gimli::Error> {
+fn operations_by_gimli(expression: Expression<Slice<'_>>, encoding: Encoding) -> Result<Operations<'_>, gimli::Error> {
     let mut left = expression.operations(encoding);
     let mut all = Vec::new();
     loop {
@@ -144,7 +146,7 @@ fn without_uninit(bytes: &mut [u8], order: RunTimeEndian, encoding: Encoding) ->
 }
 
 /// Compares the operations of both. Those of the original whose offsets are in `left_out` aren't in the other.
-fn compare<'a, 'o>(
+fn compare_operations<'a, 'o>(
     (dwarf, unit): (&Dwarf<Slice<'a>>, &Unit<Slice<'a>>),
     originals: &Operations<'o>,
     left_out: &[usize],
@@ -158,21 +160,23 @@ fn compare<'a, 'o>(
         if left_out.binary_search(offset).is_ok() {
             continue;
         }
-        let count = match expected(dwarf, unit, operation)? {
+        let count = match expected_operation(dwarf, unit, operation)? {
             Expected::Same(same) => match (left.first(), without_type(&same)) {
                 (Some((_, first)), _) if *first == same => 1,
-                (_, Some(takes)) if unsupported(left, takes).is_some() => takes + 2,
+                (_, Some(takes)) if length_of_unsupported(left, takes).is_some() => takes + 2,
                 (first, _) => return Err(Unlike::Became(format!("{:x?}", same), format!("{:x?}", first))),
             },
             Expected::Branch(is_conditional, distance) => {
-                let (at, new_distance) = branch(left, is_conditional).ok_or(Unlike::LostBranch)?;
+                let (at, new_distance) = branch_at_front(left, is_conditional).ok_or(Unlike::LostBranch)?;
                 branches.push(Branches { end: offset + 3, distance, new_end: at + 3, new_distance });
                 1
             }
             Expected::Unsupported(takes) => {
-                unsupported(left, takes).ok_or_else(|| Unlike::NoHole(format!("{:x?}", operation)))?
+                length_of_unsupported(left, takes).ok_or_else(|| Unlike::NoHole(format!("{:x?}", operation)))?
             }
-            Expected::Value => value(left).ok_or_else(|| Unlike::NoHole(format!("{:x?}", operation)))?,
+            Expected::Value => {
+                length_of_unsupported_value(left).ok_or_else(|| Unlike::NoHole(format!("{:x?}", operation)))?
+            }
         };
         left = &left[count..];
     }
@@ -207,7 +211,7 @@ impl Branches {
     }
 }
 
-fn expected<'a, 'o>(
+fn expected_operation<'a, 'o>(
     dwarf: &Dwarf<Slice<'a>>,
     unit: &Unit<Slice<'a>>,
     operation: &Operation<Slice<'o>>,
@@ -244,7 +248,7 @@ fn without_type(operation: &Operation<Slice<'_>>) -> Option<usize> {
 type Place<'a> = (usize, Operation<Slice<'a>>);
 
 /// The first operation, if it is a branch of this kind: its offset and its distance.
-fn branch(operations: &[Place<'_>], is_conditional: bool) -> Option<(usize, i16)> {
+fn branch_at_front(operations: &[Place<'_>], is_conditional: bool) -> Option<(usize, i16)> {
     match operations.first()? {
         (at, Operation::Bra { target }) if is_conditional => Some((*at, *target)),
         (at, Operation::Skip { target }) if !is_conditional => Some((*at, *target)),
@@ -253,7 +257,7 @@ fn branch(operations: &[Place<'_>], is_conditional: bool) -> Option<(usize, i16)
 }
 
 /// How many operations a hole has that takes this many entries. `None` if they aren't those of one.
-fn unsupported(operations: &[Place<'_>], takes: usize) -> Option<usize> {
+fn length_of_unsupported(operations: &[Place<'_>], takes: usize) -> Option<usize> {
     let (drops, rest) = (operations.get(..takes)?, &operations[takes..]);
     let has_drops = drops.iter().all(|(_, operation)| matches!(operation, Operation::Drop));
     let is_unreadable = match rest {
@@ -266,7 +270,7 @@ fn unsupported(operations: &[Place<'_>], takes: usize) -> Option<usize> {
 }
 
 /// The same for a hole that is a value by itself.
-fn value(operations: &[Place<'_>]) -> Option<usize> {
-    let count = unsupported(operations, 0)?;
+fn length_of_unsupported_value(operations: &[Place<'_>]) -> Option<usize> {
+    let count = length_of_unsupported(operations, 0)?;
     matches!(operations.get(count)?.1, Operation::StackValue).then(|| count + 1)
 }

@@ -1,4 +1,4 @@
-//! What is wrong with location lists.
+//! The problems of location lists: which rule a list or an entry breaks.
 
 use super::references::Reference;
 use dwcheck::FaultKind;

@@ -45,7 +45,7 @@ pub(crate) enum Unreadable {
 }
 
 /// The references of a unit.
-pub(crate) fn references<'a>(
+pub(crate) fn references_of_unit<'a>(
     dwarf: &gimli::Dwarf<Slice<'a>>,
     unit: &Unit<Slice<'a>>,
 ) -> Result<References, Unreadable> {
@@ -61,7 +61,7 @@ pub(crate) fn references<'a>(
         let specifications = abbreviation.attributes();
         left = left.checked_sub(specifications.len()).ok_or(Unreadable::TooManyAttributes)?;
         reader.nesting.leave(depth);
-        if may_refer(abbreviation) || is_scope(abbreviation.tag()) {
+        if may_refer_to_list(abbreviation) || is_scope(abbreviation.tag()) {
             reader.entry(&mut entries, abbreviation, entry, depth).map_err(Unreadable::Gimli)?;
         } else {
             entries.skip_attributes(specifications).map_err(Unreadable::Gimli)?;
@@ -75,7 +75,7 @@ pub(crate) fn references<'a>(
 }
 
 /// Whether an entry can refer to a location list, by the forms of its attributes.
-fn may_refer(abbreviation: &Abbreviation) -> bool {
+fn may_refer_to_list(abbreviation: &Abbreviation) -> bool {
     let is_reference = |form: DwForm| {
         matches!(
             form,

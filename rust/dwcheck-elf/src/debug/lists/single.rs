@@ -1,6 +1,6 @@
-//! Looks up addresses in one list.
+//! Looks up addresses in a single location list.
 
-use super::list_section::{checked, refused};
+use super::list_section::{first_fault_of_expression, first_fault_of_tables};
 use super::references::Reference;
 use super::unit::{Entry, Source, UnitLists, TABLE_HEADER};
 use dwcheck::{locations, Error, Lookup};
@@ -29,12 +29,12 @@ impl SingleList {
         let reference = Reference { list: Some(list), entry: UnitOffset(0), views: None, around: None };
         let add = |is_left_out: &dyn Fn(usize) -> bool| {
             let mut lists = UnitLists::default();
-            lists.add(reference, source, is_left_out).map_err(|problem| problem.kind.name()).map(|_| lists)
+            lists.add_list(reference, source, is_left_out).map_err(|problem| problem.kind.name()).map(|_| lists)
         };
         let (base, target) = (source.new_base(source.base), source.scope.target);
         let mut single = SingleList { lists: add(&|_| false)?, base, target, faults: HashMap::new() };
-        if checked(&single.lists.bytes, target).map_err(|_| NO_MEMORY)?.is_some() {
-            single.faults = faults(&single.lists, source);
+        if first_fault_of_tables(&single.lists.bytes, target).map_err(|_| NO_MEMORY)?.is_some() {
+            single.faults = faults_of_expressions(&single.lists, source);
             single.lists = add(&|entry| single.faults.contains_key(&entry))?;
         }
         Ok(single)
@@ -93,10 +93,10 @@ pub(crate) fn expression_at(
 }
 
 /// The faults of the expressions that are refused, by the offsets of their entries.
-fn faults(lists: &UnitLists, source: &Source<'_>) -> HashMap<usize, &'static str> {
+fn faults_of_expressions(lists: &UnitLists, source: &Source<'_>) -> HashMap<usize, &'static str> {
     let fault = |entry: &Entry| {
         let expression = lists.bytes.get(entry.rewritten.clone())?;
-        let fault = refused(expression, source.scope.target).ok()??;
+        let fault = first_fault_of_expression(expression, source.scope.target).ok()??;
         Some((entry.offset, fault.name()))
     };
     lists.entries.iter().filter_map(fault).collect()

@@ -2,7 +2,7 @@
 //! each list, so that a list can be looked up by itself.
 
 use super::entry::{Bounds, Expression, Item, ListReader};
-use super::expression::{rewrite, Rewritten, Scope};
+use super::expression::{rewrite_expression, Rewritten, Scope};
 use super::problem::{Kind, Problem};
 use super::references::Reference;
 use super::unsupported::{Unsupported, UnsupportedAt, UNREADABLE};
@@ -105,7 +105,7 @@ impl Source<'_> {
 
     /// The expression of an entry, rewritten.
     pub fn rewritten(&self, entry: &Entry) -> Rewritten<'_> {
-        rewrite(self.bytes.get(entry.original.clone()).unwrap_or(&[]), &self.scope)
+        rewrite_expression(self.bytes.get(entry.original.clone()).unwrap_or(&[]), &self.scope)
     }
 }
 
@@ -113,7 +113,7 @@ impl UnitLists {
     /// Reads a list, and appends its table. If the list can't be read to its end, nothing is appended.
     /// `is_left_out` says which entries, by their offset, have an expression that is unreadable in the
     /// place of their own. Returns what is wrong with the list.
-    pub fn add(
+    pub fn add_list(
         &mut self,
         reference: Reference,
         source: &Source<'_>,
@@ -129,7 +129,7 @@ impl UnitLists {
             let at = reader.at();
             match reader.item() {
                 Ok(Item::End) => break,
-                Ok(item) => self.item(at, item, &reference, source, &mut state, &is_left_out),
+                Ok(item) => self.add_list_item(at, item, &reference, source, &mut state, &is_left_out),
                 Err(kind) => {
                     self.original_bytes += at - list as usize;
                     self.bytes.truncate(table);
@@ -151,7 +151,7 @@ impl UnitLists {
         Ok(state.problems)
     }
 
-    fn item(
+    fn add_list_item(
         &mut self,
         at: usize,
         item: Item<'_>,
@@ -163,16 +163,16 @@ impl UnitLists {
         let target = source.target();
         match item {
             Item::Entry(bounds, expression) => {
-                let rewritten = rewrite(expression.bytes, &source.scope);
+                let rewritten = rewrite_expression(expression.bytes, &source.scope);
                 if let Some(operation) = rewritten.without_address {
                     let problem = Problem::of(reference, expression.offset + operation, Kind::NoSuchAddress);
                     state.problems.push(Problem { entry: at, ..problem });
                 }
-                self.count(&rewritten.all_unsupported);
+                self.count_list_item(&rewritten.all_unsupported);
                 self.write_bounds(bounds, target);
                 let bytes = if is_left_out(at) { &UNREADABLE[..] } else { &rewritten.bytes };
                 let rewritten = self.write_expression(bytes);
-                self.entries.push(entry(at, bounds, expression, rewritten, source, state.base));
+                self.entries.push(list_entry(at, bounds, expression, rewritten, source, state.base));
             }
             Item::Base(address) => {
                 state.base = address;
@@ -186,7 +186,7 @@ impl UnitLists {
         }
     }
 
-    fn count(&mut self, all_unsupported: &[UnsupportedAt]) {
+    fn count_list_item(&mut self, all_unsupported: &[UnsupportedAt]) {
         self.with_unsupported += usize::from(!all_unsupported.is_empty());
         for (index, spot) in all_unsupported.iter().enumerate() {
             if all_unsupported[..index].iter().all(|other| other.unsupported != spot.unsupported) {
@@ -236,7 +236,7 @@ impl UnitLists {
     }
 
     /// The table of a list.
-    pub fn table(&self, list: &List) -> &[u8] {
+    pub fn rewritten_table(&self, list: &List) -> &[u8] {
         self.bytes.get(list.table.clone()).unwrap_or(&[])
     }
 
@@ -253,7 +253,7 @@ struct State {
     is_unlike_gimli: bool,
 }
 
-fn entry(
+fn list_entry(
     offset: usize,
     bounds: Bounds,
     expression: Expression<'_>,

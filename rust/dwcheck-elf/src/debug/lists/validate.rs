@@ -20,7 +20,7 @@ pub struct Difference {
 
 /// Compares each list of a unit. `base` is the base address of the rewritten lists. Returns how many lists
 /// weren't compared to their end, because gimli doesn't read them.
-pub(crate) fn validate<'a>(
+pub(crate) fn validate_unit_lists<'a>(
     dwarf: &Dwarf<Slice<'a>>,
     unit: &Unit<Slice<'a>>,
     lists: &UnitLists,

@@ -19,11 +19,11 @@ impl<'v, 'a> Locator<'v, 'a> {
     }
 
     /// The value of a parameter that only the caller knows.
-    pub(super) fn parameter(&self, parameter: &Die<'v, 'a>) -> Option<u64> {
+    pub(super) fn parameter_at_call_site(&self, parameter: &Die<'v, 'a>) -> Option<u64> {
         let wanted = die_id(parameter);
         self.value_by_caller(|found| {
             let names = [gimli::DW_AT_call_parameter, gimli::DW_AT_abstract_origin];
-            names.into_iter().filter_map(|name| found.reference(name)).any(|one| die_id(&one) == wanted)
+            names.into_iter().filter_map(|name| found.referred_entry(name)).any(|one| die_id(&one) == wanted)
         })
     }
 
@@ -33,19 +33,19 @@ impl<'v, 'a> Locator<'v, 'a> {
         let caller = self.frame.caller()?;
         let variables = self.variables;
         let function = variables.functions.function(&variables.units, caller.looked_up())?;
-        let site = call_site(&function, caller.address())?;
+        let site = call_site_returning_to(&function, caller.address())?;
         let locator = self.of_caller(function, caller)?;
         if !self.is_called_by(&site, &locator) {
             return None;
         }
         let parameter = site.children().into_iter().find(is_wanted)?;
-        let value = expression(&parameter, gimli::DW_AT_call_value, gimli::DW_AT_GNU_call_site_value)?;
-        locator.computed(&parameter, value.slice()).ok()
+        let value = call_site_expression(&parameter, gimli::DW_AT_call_value, gimli::DW_AT_GNU_call_site_value)?;
+        locator.computed_at_call_site(&parameter, value.slice()).ok()
     }
 
     /// The value of an expression that isn't a location.
-    pub(super) fn computed(&self, die: &Die<'v, 'a>, expression: &[u8]) -> Result<u64, Missing> {
-        match self.evaluated(die, &[expression, &[op::STACK_VALUE]].concat())? {
+    pub(super) fn computed_at_call_site(&self, die: &Die<'v, 'a>, expression: &[u8]) -> Result<u64, Missing> {
+        match self.evaluate_expression(die, &[expression, &[op::STACK_VALUE]].concat())? {
             ValueLocation::Value(value) => Ok(value),
             _ => Err(Missing::Unsupported("a result of this kind")),
         }
@@ -53,12 +53,13 @@ impl<'v, 'a> Locator<'v, 'a> {
 
     /// Whether a call site calls this function.
     fn is_called_by(&self, site: &Die<'v, 'a>, caller: &Locator<'v, 'a>) -> bool {
-        let origin = site.reference(gimli::DW_AT_call_origin).or_else(|| site.reference(gimli::DW_AT_abstract_origin));
+        let origin =
+            site.referred_entry(gimli::DW_AT_call_origin).or_else(|| site.referred_entry(gimli::DW_AT_abstract_origin));
         if let Some(origin) = origin {
             return is_same_function(&self.function, &origin);
         }
-        let target = expression(site, gimli::DW_AT_call_target, gimli::DW_AT_GNU_call_site_target);
-        let target = target.and_then(|target| caller.computed(site, target.slice()).ok());
+        let target = call_site_expression(site, gimli::DW_AT_call_target, gimli::DW_AT_GNU_call_site_target);
+        let target = target.and_then(|target| caller.computed_at_call_site(site, target.slice()).ok());
         let entry = self.function.attribute(gimli::DW_AT_low_pc);
         let entry = entry.and_then(|entry| self.variables.units.dwarf.attr_address(&self.function.unit, entry).ok()?);
         let entry = entry.map(|entry| self.variables.target.wrap(entry.wrapping_add(self.frame.load)));
@@ -66,7 +67,7 @@ impl<'v, 'a> Locator<'v, 'a> {
     }
 }
 
-fn expression<'a>(die: &Die<'_, 'a>, name: DwAt, other: DwAt) -> Option<Slice<'a>> {
+fn call_site_expression<'a>(die: &Die<'_, 'a>, name: DwAt, other: DwAt) -> Option<Slice<'a>> {
     match die.attribute(name).or_else(|| die.attribute(other))? {
         AttributeValue::Exprloc(expression) => Some(expression.0),
         AttributeValue::Block(block) => Some(block),
@@ -90,7 +91,7 @@ fn is_same_function(one: &Die<'_, '_>, other: &Die<'_, '_>) -> bool {
 }
 
 /// The call site of a function that returns to an address.
-fn call_site<'u, 'a>(function: &Die<'u, 'a>, return_address: u64) -> Option<Die<'u, 'a>> {
+fn call_site_returning_to<'u, 'a>(function: &Die<'u, 'a>, return_address: u64) -> Option<Die<'u, 'a>> {
     let unit = Rc::clone(&function.unit);
     let mut entries = unit.entries_raw(Some(function.offset)).ok()?;
     loop {
@@ -103,7 +104,7 @@ fn call_site<'u, 'a>(function: &Die<'u, 'a>, return_address: u64) -> Option<Die<
         entries.skip_attributes(abbreviation.attributes()).ok()?;
         if matches!(abbreviation.tag(), gimli::DW_TAG_call_site | gimli::DW_TAG_GNU_call_site) {
             let site = Die { offset, ..function.clone() };
-            if return_of(&site) == Some(return_address) {
+            if return_address_of_site(&site) == Some(return_address) {
                 return Some(site);
             }
         }
@@ -114,7 +115,7 @@ fn call_site<'u, 'a>(function: &Die<'u, 'a>, return_address: u64) -> Option<Die<
 }
 
 /// Where a call site returns to.
-fn return_of(site: &Die<'_, '_>) -> Option<u64> {
+fn return_address_of_site(site: &Die<'_, '_>) -> Option<u64> {
     let value = site.attribute(gimli::DW_AT_call_return_pc).or_else(|| site.attribute(gimli::DW_AT_low_pc))?;
     site.units.dwarf.attr_address(&site.unit, value).ok()?
 }

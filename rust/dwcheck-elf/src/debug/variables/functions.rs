@@ -1,4 +1,4 @@
-//! Finds the units and the functions that have an address.
+//! Finds the units and the functions that have an address, by an index of their ranges.
 
 use crate::debug::debug_info::{ranges_of, Die, Units};
 use gimli::UnitOffset;
@@ -38,9 +38,9 @@ impl FunctionIndex {
 
     /// The function with an address of code.
     pub fn function<'u, 'a>(&self, units: &'u Units<'a>, address: u64) -> Option<Die<'u, 'a>> {
-        covering(&self.units, address).find_map(|index| {
+        covering_ranges(&self.units, address).find_map(|index| {
             let functions = self.functions_of(units, *index);
-            let offset = *covering(&functions, address).next()?;
+            let offset = *covering_ranges(&functions, address).next()?;
             Some(Die { units, unit: units.unit(*index).ok()?, offset })
         })
     }
@@ -52,7 +52,7 @@ impl FunctionIndex {
 
     /// The units with an address of code, by their indexes.
     pub fn units_at(&self, address: u64) -> impl Iterator<Item = usize> + '_ {
-        covering(&self.units, address).copied()
+        covering_ranges(&self.units, address).copied()
     }
 
     /// The addresses of a unit, ascending.
@@ -64,21 +64,21 @@ impl FunctionIndex {
         if let Some(functions) = self.functions.borrow().get(&index) {
             return Rc::clone(functions);
         }
-        let functions = Rc::new(functions(units, index).unwrap_or_default());
+        let functions = Rc::new(functions_with_code(units, index).unwrap_or_default());
         self.functions.borrow_mut().insert(index, Rc::clone(&functions));
         functions
     }
 }
 
 /// Those whose ranges have an address, the one that begins last first. Ranges that overlap are few.
-fn covering<T>(ranges: &Ranges<T>, address: u64) -> impl Iterator<Item = &T> {
+fn covering_ranges<T>(ranges: &Ranges<T>, address: u64) -> impl Iterator<Item = &T> {
     let end = ranges.partition_point(|(range, _)| range.start <= address);
     let near = ranges[..end].iter().rev().take(64);
     near.filter(move |(range, _)| range.contains(&address)).map(|(_, found)| found)
 }
 
 /// All functions of a unit that have code, by their addresses.
-fn functions(units: &Units<'_>, index: usize) -> Result<Ranges<UnitOffset<usize>>, gimli::Error> {
+fn functions_with_code(units: &Units<'_>, index: usize) -> Result<Ranges<UnitOffset<usize>>, gimli::Error> {
     let unit = units.unit(index)?;
     let mut entries = unit.entries_raw(None)?;
     let mut functions = Vec::new();

@@ -24,19 +24,19 @@ impl Variable {
             "parameter": self.is_parameter,
             "type": self.type_name,
             "location": self.place.as_ref().ok().map(ToString::to_string),
-            "value": self.value.as_ref().ok().map(value),
+            "value": self.value.as_ref().ok().map(value_as_json),
             "missing": missing,
         })
     }
 }
 
 /// A value: a text, an object with the members, or an array with the elements. What is missing is `null`.
-fn value(of: &Value) -> Json {
-    let part = |part: &Result<Value, Missing>| part.as_ref().map_or(Json::Null, value);
+fn value_as_json(of: &Value) -> Json {
+    let part = |part: &Result<Value, Missing>| part.as_ref().map_or(Json::Null, value_as_json);
     match of {
         Value::Scalar(text) => json!(text),
         Value::Text { address, text, .. } => json!({ "address": address, "text": text }),
-        Value::Pointer(name, of) => json!({ "points_to": name, "value": value(of) }),
+        Value::Pointer(name, of) => json!({ "points_to": name, "value": value_as_json(of) }),
         Value::Reference(address, of) => json!({ "address": address, "value": part(of) }),
         Value::Members(members) => members.iter().map(|(name, member)| (name.clone(), part(member))).collect(),
         Value::Elements(elements, _) => elements.iter().map(part).collect(),

@@ -4,7 +4,7 @@ use super::value_location::{Machine, Missing, Pointee, ValueLocation};
 use super::{Frame, Variables};
 use crate::debug::debug_info::{Die, Slice};
 use crate::debug::expression::operations;
-use crate::debug::lists::{expression_at, rewrite, Rewritten, Scope, Source, Unsupported};
+use crate::debug::lists::{expression_at, rewrite_expression, Rewritten, Scope, Source, Unsupported};
 use crate::elf::format::Name;
 use dwcheck::{evaluate, Abi, Context, ExpressionKind, Location, Outcome, PieceSize, State};
 use dwcheck_types::codes::op;
@@ -66,31 +66,35 @@ impl<'v, 'a> Locator<'v, 'a> {
     }
 
     /// Where a variable is. `is_abstract` says that nothing but its declaration is known of it.
-    pub fn place(&self, die: &Die<'v, 'a>, is_abstract: bool) -> Result<ValueLocation, Missing> {
+    pub fn locate_variable(&self, die: &Die<'v, 'a>, is_abstract: bool) -> Result<ValueLocation, Missing> {
         if let Some((holder, value)) = die.inherited(gimli::DW_AT_location) {
-            return self.by_attribute(&holder, value);
+            return self.locate_by_attribute(&holder, value);
         }
         if let Some((_, value)) = die.inherited(gimli::DW_AT_const_value) {
-            return constant(value, self.machine.target).ok_or(Missing::Unsupported("a constant of this form"));
+            return constant_value(value, self.machine.target).ok_or(Missing::Unsupported("a constant of this form"));
         }
         let is_elsewhere = !is_abstract && die.inherited(gimli::DW_AT_declaration).is_some();
         Err(if is_elsewhere { Missing::Unsupported("declared elsewhere") } else { Missing::OptimizedOut })
     }
 
-    fn by_attribute(&self, die: &Die<'v, 'a>, value: AttributeValue<Slice<'a>>) -> Result<ValueLocation, Missing> {
+    fn locate_by_attribute(
+        &self,
+        die: &Die<'v, 'a>,
+        value: AttributeValue<Slice<'a>>,
+    ) -> Result<ValueLocation, Missing> {
         match value {
-            AttributeValue::Exprloc(expression) => self.evaluated(die, expression.0.slice()),
-            AttributeValue::Block(block) => self.evaluated(die, block.slice()),
-            AttributeValue::LocationListsRef(list) => self.by_list(die, list),
+            AttributeValue::Exprloc(expression) => self.evaluate_expression(die, expression.0.slice()),
+            AttributeValue::Block(block) => self.evaluate_expression(die, block.slice()),
+            AttributeValue::LocationListsRef(list) => self.locate_by_list(die, list),
             AttributeValue::DebugLocListsIndex(index) => {
                 let list = self.variables.units.dwarf.locations_offset(&die.unit, index);
-                self.by_list(die, list.map_err(|_| Missing::Refused("NoSuchList"))?)
+                self.locate_by_list(die, list.map_err(|_| Missing::Refused("NoSuchList"))?)
             }
             _ => Err(Missing::Unsupported("a location of this form")),
         }
     }
 
-    fn by_list(&self, die: &Die<'v, 'a>, list: LocationListsOffset<usize>) -> Result<ValueLocation, Missing> {
+    fn locate_by_list(&self, die: &Die<'v, 'a>, list: LocationListsOffset<usize>) -> Result<ValueLocation, Missing> {
         let is_old = die.unit.encoding().version < 5;
         if is_old && die.units.are_split() {
             return Err(Missing::Unsupported("a list of GNU's split DWARF 4"));
@@ -104,7 +108,7 @@ impl<'v, 'a> Locator<'v, 'a> {
             expression_at(&source, list.0 as u64, self.frame.looked_up())
         });
         match found {
-            Ok(Some(expression)) => self.evaluated(die, bytes.get(expression).unwrap_or(&[])),
+            Ok(Some(expression)) => self.evaluate_expression(die, bytes.get(expression).unwrap_or(&[])),
             Ok(None) => Err(Missing::OptimizedOut),
             Err(fault) => Err(Missing::Refused(fault)),
         }
@@ -127,7 +131,7 @@ impl<'v, 'a> Locator<'v, 'a> {
 
     /// The value of an operation that `dwcheck` doesn't know, if the caller's call site or the thread's data have
     /// it.
-    fn known(&self, die: &Die<'v, 'a>, unsupported: Unsupported, operands: &[u8]) -> Option<u64> {
+    fn known_by_caller(&self, die: &Die<'v, 'a>, unsupported: Unsupported, operands: &[u8]) -> Option<u64> {
         if self.depth >= MAX_DEPTH {
             return None;
         }
@@ -140,7 +144,7 @@ impl<'v, 'a> Locator<'v, 'a> {
             }
             Unsupported::ParameterRef => {
                 let offset = usize::try_from(cursor.number(4).ok()?).ok()?;
-                self.parameter(&Die { offset: gimli::UnitOffset(offset), ..die.clone() })
+                self.parameter_at_call_site(&Die { offset: gimli::UnitOffset(offset), ..die.clone() })
             }
             Unsupported::FormTlsAddress => self.thread_block(),
             _ => None,
@@ -160,22 +164,24 @@ impl<'v, 'a> Locator<'v, 'a> {
     }
 
     /// Evaluates an expression of an entry's unit.
-    pub fn evaluated(&self, die: &Die<'v, 'a>, expression: &[u8]) -> Result<ValueLocation, Missing> {
-        let known = |unsupported: Unsupported, operands: &[u8]| self.known(die, unsupported, operands);
+    pub fn evaluate_expression(&self, die: &Die<'v, 'a>, expression: &[u8]) -> Result<ValueLocation, Missing> {
+        let known = |unsupported: Unsupported, operands: &[u8]| self.known_by_caller(die, unsupported, operands);
         self.with_scope(die, self.frame.load, &known, |scope| {
-            let rewritten = rewrite(expression, &scope);
+            let rewritten = rewrite_expression(expression, &scope);
             if rewritten.without_address.is_some() {
                 return Err(Missing::Refused("NoSuchAddress"));
             }
-            match self.run(&rewritten.bytes)? {
-                Outcome::Unreadable { .. } if has_pieces(&rewritten.bytes, scope.target) => self.pieces(&rewritten),
-                outcome => self.result(die, expression, &rewritten, outcome),
+            match self.run_expression(&rewritten.bytes)? {
+                Outcome::Unreadable { .. } if has_pieces(&rewritten.bytes, scope.target) => {
+                    self.locate_pieces(&rewritten)
+                }
+                outcome => self.location_of_result(die, expression, &rewritten, outcome),
             }
         })
     }
 
     /// The state of the frame, and what is known of it besides.
-    fn run(&self, expression: &[u8]) -> Result<Outcome, Missing> {
+    fn run_expression(&self, expression: &[u8]) -> Result<Outcome, Missing> {
         let Machine { registers, memory, target } = self.machine;
         let state = State { registers, memory, abi: Abi::NONE };
         let context = Context { cfa: self.frame.cfa(), frame_base: self.frame_base.get(), object: None };
@@ -186,7 +192,7 @@ impl<'v, 'a> Locator<'v, 'a> {
         })
     }
 
-    fn result(
+    fn location_of_result(
         &self,
         die: &Die<'v, 'a>,
         expression: &[u8],
@@ -194,10 +200,10 @@ impl<'v, 'a> Locator<'v, 'a> {
         outcome: Outcome,
     ) -> Result<ValueLocation, Missing> {
         match outcome {
-            Outcome::Location(location) => place_of(location),
+            Outcome::Location(location) => value_location_of(location),
             Outcome::Value(value) => Ok(ValueLocation::Value(value)),
             Outcome::Pieces(pieces) => {
-                let piece = |piece: dwcheck::Piece| Some((place_of(piece.location), bytes_of(piece.size)?));
+                let piece = |piece: dwcheck::Piece| Some((value_location_of(piece.location), piece_bytes(piece.size)?));
                 let pieces: Option<Vec<_>> = pieces.into_iter().map(piece).collect();
                 pieces.map(ValueLocation::Pieces).ok_or(Missing::Unsupported("pieces of bits"))
             }
@@ -208,7 +214,7 @@ impl<'v, 'a> Locator<'v, 'a> {
                     pointer.ok_or(Missing::NotEvaluated(Unsupported::ImplicitPointer))
                 }
                 Some(spot) => Err(Missing::by_hole(spot.unsupported)),
-                None => Err(unreadable(&rewritten.bytes, at as usize, self.variables.target)),
+                None => Err(what_is_unreadable(&rewritten.bytes, at as usize, self.variables.target)),
             },
             _ => Err(Missing::Unsupported("a result of this kind")),
         }
@@ -216,7 +222,7 @@ impl<'v, 'a> Locator<'v, 'a> {
 
     /// The pieces of an expression without branches, each evaluated by itself, so that those that are known
     /// have a place.
-    fn pieces(&self, rewritten: &Rewritten<'_>) -> Result<ValueLocation, Missing> {
+    fn locate_pieces(&self, rewritten: &Rewritten<'_>) -> Result<ValueLocation, Missing> {
         let (bytes, target) = (&rewritten.bytes, self.variables.target);
         let mut pieces = Vec::new();
         let mut begin = 0;
@@ -225,13 +231,14 @@ impl<'v, 'a> Locator<'v, 'a> {
         for (operation, end) in all.iter().zip(ends).filter(|(operation, _)| operation.code == op::PIECE) {
             let size = Cursor::new(&bytes[operation.offset + 1..end], target).uleb().unwrap_or(0);
             let part = bytes.get(begin..end).unwrap_or(&[]);
-            let place = match self.run(part)? {
-                Outcome::Pieces(found) => {
-                    found.into_iter().next().map_or(Err(Missing::OptimizedOut), |piece| place_of(piece.location))
-                }
+            let place = match self.run_expression(part)? {
+                Outcome::Pieces(found) => found
+                    .into_iter()
+                    .next()
+                    .map_or(Err(Missing::OptimizedOut), |piece| value_location_of(piece.location)),
                 Outcome::Unreadable { at } => Err(match rewritten.unsupported_at(begin + at as usize) {
                     Some(spot) => Missing::by_hole(spot.unsupported),
-                    None => unreadable(part, at as usize, target),
+                    None => what_is_unreadable(part, at as usize, target),
                 }),
                 Outcome::DivisionByZero { .. } => Err(Missing::DivisionByZero),
                 _ => Err(Missing::Unsupported("a result of this kind")),
@@ -257,7 +264,7 @@ impl<'v, 'a> Locator<'v, 'a> {
     /// The frame base of the function, by its expression or list.
     fn read_frame_base(&self) -> Option<u64> {
         let (die, value) = self.function.inherited(gimli::DW_AT_frame_base)?;
-        match self.by_attribute(&die, value).ok()? {
+        match self.locate_by_attribute(&die, value).ok()? {
             ValueLocation::Register(number) => self.machine.registers.get(number),
             ValueLocation::Memory(address) | ValueLocation::Value(address) => Some(address),
             _ => None,
@@ -272,7 +279,7 @@ fn has_pieces(bytes: &[u8], target: Target) -> bool {
     is(op::PIECE) && !is(op::BRA) && !is(op::SKIP)
 }
 
-fn place_of(location: Location) -> Result<ValueLocation, Missing> {
+fn value_location_of(location: Location) -> Result<ValueLocation, Missing> {
     match location {
         Location::Nowhere => Err(Missing::OptimizedOut),
         Location::Address(address) => Ok(ValueLocation::Memory(address)),
@@ -284,7 +291,7 @@ fn place_of(location: Location) -> Result<ValueLocation, Missing> {
 }
 
 /// The number of bytes of a piece. `None` if it isn't whole bytes.
-fn bytes_of(size: PieceSize) -> Option<usize> {
+fn piece_bytes(size: PieceSize) -> Option<usize> {
     match size {
         PieceSize::Bytes(size) => usize::try_from(size).ok(),
         PieceSize::Bits { size, offset } if size % 8 == 0 && offset == 0 => usize::try_from(size / 8).ok(),
@@ -293,7 +300,7 @@ fn bytes_of(size: PieceSize) -> Option<usize> {
 }
 
 /// What an operation without a result needs.
-fn unreadable(bytes: &[u8], at: usize, target: Target) -> Missing {
+fn what_is_unreadable(bytes: &[u8], at: usize, target: Target) -> Missing {
     let mut cursor = Cursor::new(bytes.get(at..).unwrap_or(&[]), target);
     let what = match cursor.byte() {
         Ok(code @ op::BREG0..=op::BREG31) => format!("r{}", code - op::BREG0),
@@ -307,7 +314,7 @@ fn unreadable(bytes: &[u8], at: usize, target: Target) -> Missing {
 }
 
 /// The bytes of a `DW_AT_const_value`.
-fn constant(value: AttributeValue<Slice<'_>>, target: Target) -> Option<ValueLocation> {
+fn constant_value(value: AttributeValue<Slice<'_>>, target: Target) -> Option<ValueLocation> {
     match value {
         AttributeValue::Block(block) => Some(ValueLocation::Bytes(block.slice().to_vec())),
         // gcc writes numbers that aren't negative in these forms, and others as DW_FORM_sdata.

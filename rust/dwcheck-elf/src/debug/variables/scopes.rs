@@ -34,7 +34,7 @@ const MAX_ENTRIES: usize = 1 << 20;
 
 /// The scopes at an address of a function, the outermost first: the function, then those that are inlined
 /// there.
-pub(super) fn scopes<'u, 'a>(function: Die<'u, 'a>, address: u64) -> Vec<Scope<'u, 'a>> {
+pub(super) fn scopes_at<'u, 'a>(function: Die<'u, 'a>, address: u64) -> Vec<Scope<'u, 'a>> {
     let first = Scope { function: function.clone(), is_inlined: false, variables: Vec::new() };
     let mut search = Search { address, scopes: vec![first], left: MAX_ENTRIES };
     search.enter(&function, 0);
@@ -68,12 +68,12 @@ impl<'u, 'a> Search<'u, 'a> {
         self.add_origins(&children, &mut concrete, depth);
         for child in children {
             match child.tag() {
-                Some(tag) if is_variable(tag) => self.add(child, tag, false),
+                Some(tag) if is_variable_tag(tag) => self.add(child, tag, false),
                 Some(gimli::DW_TAG_lexical_block | gimli::DW_TAG_inlined_subroutine) => inner.push(child),
                 _ => {}
             }
         }
-        if let Some(origin) = within.reference(gimli::DW_AT_abstract_origin) {
+        if let Some(origin) = within.referred_entry(gimli::DW_AT_abstract_origin) {
             self.add_abstract(&origin, &concrete, depth + 1);
         }
         inner.iter().for_each(|child| self.enter_part(child, depth + 1));
@@ -83,7 +83,7 @@ impl<'u, 'a> Search<'u, 'a> {
     /// A variable may be in a block that only the concrete instance has.
     fn add_origins(&mut self, children: &[Die<'u, 'a>], origins: &mut HashSet<DieId>, depth: usize) {
         for child in children {
-            origins.extend(child.reference(gimli::DW_AT_abstract_origin).as_ref().map(die_id));
+            origins.extend(child.referred_entry(gimli::DW_AT_abstract_origin).as_ref().map(die_id));
             if child.tag() == Some(gimli::DW_TAG_lexical_block) {
                 let inner = self.children(child, depth + 1);
                 self.add_origins(&inner, origins, depth + 1);
@@ -113,7 +113,7 @@ impl<'u, 'a> Search<'u, 'a> {
         for child in self.children(origin, depth) {
             match child.tag() {
                 _ if concrete.contains(&die_id(&child)) => {}
-                Some(tag) if is_variable(tag) => self.add(child, tag, true),
+                Some(tag) if is_variable_tag(tag) => self.add(child, tag, true),
                 Some(gimli::DW_TAG_lexical_block) => self.add_abstract(&child, concrete, depth + 1),
                 _ => {}
             }
@@ -128,7 +128,7 @@ impl<'u, 'a> Search<'u, 'a> {
     }
 }
 
-fn is_variable(tag: DwTag) -> bool {
+fn is_variable_tag(tag: DwTag) -> bool {
     matches!(tag, gimli::DW_TAG_formal_parameter | gimli::DW_TAG_variable)
 }
 

@@ -1,7 +1,7 @@
 //! The variables of units whose debug information is in files of their own (`-gsplit-dwarf`).
 
 use super::functions::FunctionIndex;
-use super::scopes::{scopes, Scope};
+use super::scopes::{scopes_at, Scope};
 use super::{Variables, NEEDED};
 use crate::debug::debug_info::{file_path, Package, SplitFile};
 use crate::debug::lines::SourceLine;
@@ -41,8 +41,9 @@ impl<'a> Variables<'a> {
         };
         let split = self.split_at(address).ok_or(MissingFile(name))?;
         let function = split.functions.function(&split.units, address);
-        let called = |scope: &Scope<'_, 'a>| Called { name: split.linked_name(scope), call: self.call(index, scope) };
-        Ok(function.map(|function| scopes(function, address).iter().map(called).collect()))
+        let called =
+            |scope: &Scope<'_, 'a>| Called { name: split.linked_name(scope), call: self.call_line(index, scope) };
+        Ok(function.map(|function| scopes_at(function, address).iter().map(called).collect()))
     }
 
     fn linked_name(&self, scope: &Scope<'_, 'a>) -> Option<String> {
@@ -52,7 +53,7 @@ impl<'a> Variables<'a> {
 
     /// The line that calls an inlined function. The program has the table of lines to which its entry refers, with
     /// the unit that has this index.
-    fn call(&self, index: usize, scope: &Scope<'_, 'a>) -> Option<SourceLine> {
+    fn call_line(&self, index: usize, scope: &Scope<'_, 'a>) -> Option<SourceLine> {
         let number = |name| scope.function.attribute(name)?.udata_value();
         let file = match scope.function.attribute(gimli::DW_AT_call_file)? {
             AttributeValue::FileIndex(file) => file,

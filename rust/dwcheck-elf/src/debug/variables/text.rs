@@ -56,14 +56,14 @@ impl fmt::Display for Value {
             Value::Pointer(None, value) => write!(f, "&{}", value),
             Value::Reference(address, value) => {
                 write!(f, "@{}: ", address)?;
-                write_part(f, value)
+                write_value_text(f, value)
             }
             Value::Members(members) => {
                 f.write_str("{")?;
                 for (index, (name, value)) in members.iter().enumerate() {
                     let comma = if index > 0 { ", " } else { "" };
                     write!(f, "{}{}{}", comma, Escaped(name), if name.is_empty() { "" } else { " = " })?;
-                    write_part(f, value)?;
+                    write_value_text(f, value)?;
                 }
                 f.write_str("}")
             }
@@ -71,7 +71,7 @@ impl fmt::Display for Value {
                 f.write_str("{")?;
                 for (index, value) in elements.iter().enumerate() {
                     f.write_str(if index > 0 { ", " } else { "" })?;
-                    write_part(f, value)?;
+                    write_value_text(f, value)?;
                 }
                 if *more > 0 {
                     write!(f, ", {} more", more)?;
@@ -83,7 +83,7 @@ impl fmt::Display for Value {
     }
 }
 
-fn write_part(f: &mut fmt::Formatter<'_>, part: &Result<Value, Missing>) -> fmt::Result {
+fn write_value_text(f: &mut fmt::Formatter<'_>, part: &Result<Value, Missing>) -> fmt::Result {
     match part {
         Ok(value) => write!(f, "{}", value),
         Err(missing) => write!(f, "<{}>", missing),

@@ -24,7 +24,7 @@ pub struct Loaded<'a> {
 
 /// Where a file's block of variables is in the thread with this thread pointer. `None` if that isn't known, or
 /// the thread has no block yet.
-pub(super) fn block(file: &Loaded<'_>, pointer: u64, machine: &Machine<'_>) -> Option<u64> {
+pub(super) fn thread_local_block(file: &Loaded<'_>, pointer: u64, machine: &Machine<'_>) -> Option<u64> {
     let read = ElfFile64::<LittleEndian>::parse(file.bytes).ok()?;
     if read.raw_header().e_machine.get(LittleEndian) != elf::EM_X86_64 {
         return None;
@@ -34,13 +34,14 @@ pub(super) fn block(file: &Loaded<'_>, pointer: u64, machine: &Machine<'_>) -> O
         let bytes = machine.memory(address, 8).ok()?;
         Some(u64::from_le_bytes(bytes.try_into().ok()?))
     };
-    let stored =
-        |kind: u32| stored(&read, kind).and_then(|(at, past)| Some((number(file.bias.wrapping_add(at))?, past)));
+    let stored = |kind: u32| {
+        thread_local_relocation(&read, kind).and_then(|(at, past)| Some((number(file.bias.wrapping_add(at))?, past)))
+    };
     if let Some((offset, past)) = stored(R_X86_64_TPOFF64) {
         return Some(pointer.wrapping_add(offset).wrapping_sub(past));
     }
     if let Some((module, _)) = stored(R_X86_64_DTPMOD64).filter(|_| file.has_glibc) {
-        return by_number(pointer, module, &number);
+        return block_by_module_number(pointer, module, &number);
     }
     let (size, alignment) = (segment.p_memsz(LittleEndian), segment.p_align(LittleEndian).max(1));
     let size = size.checked_add(alignment - 1)? / alignment * alignment;
@@ -49,7 +50,7 @@ pub(super) fn block(file: &Loaded<'_>, pointer: u64, machine: &Machine<'_>) -> O
 
 /// Where a relocation of this kind for the file's own variables is applied, and the offset in the block of the
 /// variable that it is for.
-fn stored(file: &ElfFile64<'_, LittleEndian>, kind: u32) -> Option<(u64, u64)> {
+fn thread_local_relocation(file: &ElfFile64<'_, LittleEndian>, kind: u32) -> Option<(u64, u64)> {
     let symbols = file.dynamic_symbol_table()?;
     file.dynamic_relocations()?.find_map(|(at, relocation)| {
         if relocation.kind() != RelocationKind::Elf(kind) {
@@ -69,7 +70,7 @@ fn stored(file: &ElfFile64<'_, LittleEndian>, kind: u32) -> Option<(u64, u64)> {
 /// The block of the file with a number, by glibc's array. Its address is in the second word of the thread's
 /// data. Each element has two words, the first of which is the block's address. The element before the array
 /// has the number of elements.
-fn by_number(pointer: u64, module: u64, number: &dyn Fn(u64) -> Option<u64>) -> Option<u64> {
+fn block_by_module_number(pointer: u64, module: u64, number: &dyn Fn(u64) -> Option<u64>) -> Option<u64> {
     const ELEMENT: u64 = 16;
     const NO_BLOCK: u64 = u64::MAX;
     let array = number(pointer.wrapping_add(8))?;

@@ -13,7 +13,7 @@ mod texts;
 mod variants;
 
 use super::location::Locator;
-use super::types::{is_reference, name_of, number, plain, size_of, type_of};
+use super::types::{is_reference_tag, number_attribute, type_name, type_of, type_size, unqualified_type};
 use super::value_location::{Missing, ValueLocation};
 use crate::debug::debug_info::Die;
 use characters::Characters;
@@ -81,54 +81,71 @@ const MAX_BYTES: usize = 16;
 
 impl<'v, 'a> Locator<'v, 'a> {
     /// The value of a variable of a type at a place.
-    pub fn value(&self, kind: Option<&Die<'v, 'a>>, place: &ValueLocation, shape: Shape) -> Result<Value, Missing> {
+    pub fn value_of_variable(
+        &self,
+        kind: Option<&Die<'v, 'a>>,
+        place: &ValueLocation,
+        shape: Shape,
+    ) -> Result<Value, Missing> {
         let kind = kind.ok_or(Missing::Unsupported("no type"))?;
         if let ValueLocation::ImplicitPointer(pointee) = place {
-            let followed = self.followed(kind, pointee, shape);
+            let followed = self.followed_pointer(kind, pointee, shape);
             return Ok(followed.unwrap_or_else(|| Value::Scalar(place.to_string())));
         }
-        let size = self.size(kind)?;
+        let size = self.size_of_type(kind)?;
         let shape = Shape { depth: shape.depth.min(MAX_DEPTH), ..shape };
         let mut left = MAX_MEMBERS;
-        self.part(kind, Part { place, size, offset: 0 }, shape, &mut left)
+        self.value_of_part(kind, Part { place, size, offset: 0 }, shape, &mut left)
     }
 
-    fn part(&self, of: &Die<'v, 'a>, part: Part<'_>, shape: Shape, left: &mut usize) -> Result<Value, Missing> {
-        let kind = plain(of).ok_or(Missing::Unsupported("a type that isn't there"))?;
+    fn value_of_part(
+        &self,
+        of: &Die<'v, 'a>,
+        part: Part<'_>,
+        shape: Shape,
+        left: &mut usize,
+    ) -> Result<Value, Missing> {
+        let kind = unqualified_type(of).ok_or(Missing::Unsupported("a type that isn't there"))?;
         let tag = kind.tag().ok_or(Missing::Unsupported("a type that isn't there"))?;
         match tag {
             gimli::DW_TAG_base_type | gimli::DW_TAG_unspecified_type => match Characters::of(of) {
-                Some(characters) => self.character(&kind, part, characters),
-                None => self.base(&kind, part),
+                Some(characters) => self.character_value(&kind, part, characters),
+                None => self.base_value(&kind, part),
             },
-            gimli::DW_TAG_enumeration_type => self.constant(&kind, part),
-            gimli::DW_TAG_array_type => self.array(&kind, part, shape, left),
-            gimli::DW_TAG_string_type => self.string(&kind, part, shape),
+            gimli::DW_TAG_enumeration_type => self.enumeration_value(&kind, part),
+            gimli::DW_TAG_array_type => self.array_value(&kind, part, shape, left),
+            gimli::DW_TAG_string_type => self.fortran_string(&kind, part, shape),
             gimli::DW_TAG_structure_type | gimli::DW_TAG_class_type | gimli::DW_TAG_union_type => {
                 match self.counted_text(&kind, part, shape) {
                     Some(text) => Ok(text),
-                    None => self.members(&kind, part, shape, left),
+                    None => self.member_values(&kind, part, shape, left),
                 }
             }
-            gimli::DW_TAG_pointer_type => self.pointer(&kind, part, shape),
+            gimli::DW_TAG_pointer_type => self.pointer_value(&kind, part, shape),
             gimli::DW_TAG_ptr_to_member_type => self.pointer_to_member(&kind, part),
-            tag if is_reference(tag) => self.reference(&kind, part, shape, left),
+            tag if is_reference_tag(tag) => self.reference_value(&kind, part, shape, left),
             _ => Err(Missing::Unsupported("a type of this kind")),
         }
     }
 
     /// The bytes of a number or a pointer.
-    fn bytes(&self, kind: &Die<'v, 'a>, part: Part<'_>) -> Result<Vec<u8>, Missing> {
+    fn number_bytes(&self, kind: &Die<'v, 'a>, part: Part<'_>) -> Result<Vec<u8>, Missing> {
         self.bytes_up_to(MAX_BYTES, kind, part)
     }
 
     fn bytes_up_to(&self, most: usize, kind: &Die<'v, 'a>, part: Part<'_>) -> Result<Vec<u8>, Missing> {
-        let size = size_of(kind).and_then(|size| usize::try_from(size).ok()).filter(|size| *size <= most);
+        let size = type_size(kind).and_then(|size| usize::try_from(size).ok()).filter(|size| *size <= most);
         let size = size.ok_or(Missing::Unsupported("a type of this size"))?;
         self.machine.bytes(part.place, part.size, part.offset, size)
     }
 
-    fn members(&self, kind: &Die<'v, 'a>, part: Part<'_>, shape: Shape, left: &mut usize) -> Result<Value, Missing> {
+    fn member_values(
+        &self,
+        kind: &Die<'v, 'a>,
+        part: Part<'_>,
+        shape: Shape,
+        left: &mut usize,
+    ) -> Result<Value, Missing> {
         if shape.depth == 0 {
             return Ok(Value::Deeper);
         }
@@ -136,36 +153,42 @@ impl<'v, 'a> Locator<'v, 'a> {
         let mut all = Vec::new();
         for child in kind.children() {
             match child.tag() {
-                Some(gimli::DW_TAG_variant_part) => all.extend(self.chosen(&child, part)?),
+                Some(gimli::DW_TAG_variant_part) => all.extend(self.chosen_variant(&child, part)?),
                 _ => all.push(child),
             }
         }
         let mut members = Vec::new();
-        for member in all.into_iter().filter(is_member) {
+        for member in all.into_iter().filter(is_member_entry) {
             if *left == 0 {
                 break;
             }
             *left -= 1;
             let name = member.name().unwrap_or_else(|| match member.tag() {
-                Some(gimli::DW_TAG_inheritance) => name_of(type_of(&member)),
+                Some(gimli::DW_TAG_inheritance) => type_name(type_of(&member)),
                 _ => String::new(),
             });
-            members.push((name, self.member(&member, part, inner, left)));
+            members.push((name, self.member_value(&member, part, inner, left)));
         }
         Ok(Value::Members(members))
     }
 
-    fn member(&self, member: &Die<'v, 'a>, part: Part<'_>, shape: Shape, left: &mut usize) -> Result<Value, Missing> {
+    fn member_value(
+        &self,
+        member: &Die<'v, 'a>,
+        part: Part<'_>,
+        shape: Shape,
+        left: &mut usize,
+    ) -> Result<Value, Missing> {
         let kind = type_of(member).ok_or(Missing::Unsupported("no type"))?;
-        let part = self.placed(member, part)?;
-        match number(member, gimli::DW_AT_bit_size) {
-            Some(bits) => self.bit_field(member, &kind, part, bits),
-            None => self.part(&kind, part, shape, left),
+        let part = self.place_of_member(member, part)?;
+        match number_attribute(member, gimli::DW_AT_bit_size) {
+            Some(bits) => self.bit_field_value(member, &kind, part, bits),
+            None => self.value_of_part(&kind, part, shape, left),
         }
     }
 
     /// Where a member of a structure begins.
-    fn placed<'p>(&self, member: &Die<'v, 'a>, part: Part<'p>) -> Result<Part<'p>, Missing> {
+    fn place_of_member<'p>(&self, member: &Die<'v, 'a>, part: Part<'p>) -> Result<Part<'p>, Missing> {
         let past = match member.attribute(gimli::DW_AT_data_member_location) {
             Some(value) => value.udata_value().ok_or(Missing::Unsupported("a member at an expression"))?,
             None => 0,
@@ -175,7 +198,7 @@ impl<'v, 'a> Locator<'v, 'a> {
     }
 }
 
-fn is_member(die: &Die<'_, '_>) -> bool {
+fn is_member_entry(die: &Die<'_, '_>) -> bool {
     let is_static = die.attribute(gimli::DW_AT_external).is_some();
     match die.tag() {
         Some(gimli::DW_TAG_member) => !is_static,

@@ -25,22 +25,22 @@ impl Form {
 }
 
 /// What a C++ name is the mangled form of. `None` if it isn't known.
-pub(super) fn demangled(name: &str, form: Form) -> Option<String> {
-    match thunk(name) {
-        Some((what, target)) => Some(format!("{} to {}", what, demangled_target(&target, form)?)),
-        None => demangled_target(name, form),
+pub(super) fn demangled_cpp(name: &str, form: Form) -> Option<String> {
+    match thunk_target(name) {
+        Some((what, target)) => Some(format!("{} to {}", what, demangled_cpp_target(&target, form)?)),
+        None => demangled_cpp_target(name, form),
     }
 }
 
 /// The same, for a name that isn't one of a thunk.
-fn demangled_target(name: &str, form: Form) -> Option<String> {
-    let text = parsed(name, form).or_else(|| without_types(name, form)).map(tidy)?;
+fn demangled_cpp_target(name: &str, form: Form) -> Option<String> {
+    let text = parse_cpp_name(name, form).or_else(|| without_types(name, form)).map(as_cxxfilt_writes)?;
     // The names of thunks within other names, and what else cpp_demangle may describe in its own way.
     let is_odd = ["{virtual", "{offset", "{vtable", "{vtt"].iter().any(|odd| text.contains(odd));
     Some(text).filter(|_| !is_odd)
 }
 
-fn parsed(name: &str, form: Form) -> Option<String> {
+fn parse_cpp_name(name: &str, form: Form) -> Option<String> {
     let symbol = Symbol::new_with_options(name, &ParseOptions::default().recursion_limit(NESTED)).ok()?;
     let mut text = Bounded(String::new());
     symbol.structured_demangle(&mut text, &form.options()).ok()?;
@@ -61,7 +61,7 @@ fn without_types(name: &str, form: Form) -> Option<String> {
         return None;
     }
     let mut ends = name.match_indices('E').map(|(at, _)| name.split_at(at + 1));
-    let text = ends.find_map(|(part, rest)| parsed(part, Form::Short).filter(|_| are_types(rest)))?;
+    let text = ends.find_map(|(part, rest)| parse_cpp_name(part, Form::Short).filter(|_| are_types(rest)))?;
     match clone.filter(|_| form == Form::Whole) {
         Some(clone) => Some(format!("{} [clone .{}]", text, clone)),
         None => Some(text),
@@ -74,19 +74,19 @@ fn are_types(rest: &str) -> bool {
 }
 
 /// What a thunk is called, and the name of the function to which it leads. `None` if the name isn't one of a thunk.
-fn thunk(name: &str) -> Option<(&'static str, String)> {
+fn thunk_target(name: &str) -> Option<(&'static str, String)> {
     let rest = name.strip_prefix("_ZT")?;
     let (what, target) = match rest.chars().next()? {
-        'h' => ("non-virtual thunk", after_offset(rest)?),
-        'v' => ("virtual thunk", after_offset(rest)?),
-        'c' => ("covariant return thunk", after_offset(after_offset(&rest[1..])?)?),
+        'h' => ("non-virtual thunk", after_thunk_offset(rest)?),
+        'v' => ("virtual thunk", after_thunk_offset(rest)?),
+        'c' => ("covariant return thunk", after_thunk_offset(after_thunk_offset(&rest[1..])?)?),
         _ => return None,
     };
     Some((what, format!("_Z{}", target)))
 }
 
 /// What follows the offset of a thunk: `h` and a number, or `v` and two numbers.
-fn after_offset(text: &str) -> Option<&str> {
+fn after_thunk_offset(text: &str) -> Option<&str> {
     let after_number = |text: &'_ str| -> Option<usize> {
         let digits = text.strip_prefix('n').unwrap_or(text);
         let end = digits.find('_')?;
@@ -115,11 +115,11 @@ const SUFFIXES: [(&str, &str); 5] = [
 const EMPTY_PACKS: [(&str, &str); 3] = [(", >", ">"), (", )", ")"), (", ,", ",")];
 
 /// Writes a name as c++filt does.
-fn tidy(text: String) -> String {
+fn as_cxxfilt_writes(text: String) -> String {
     let special = [("{vtable(", "vtable for "), ("{vtt(", "VTT for ")];
     for (begin, instead) in special {
         if let Some(of) = text.strip_prefix(begin).and_then(|rest| rest.strip_suffix(")}")) {
-            return tidy(format!("{}{}", instead, of));
+            return as_cxxfilt_writes(format!("{}{}", instead, of));
         }
     }
     let text = SUFFIXES.iter().fold(text, |text, (kind, suffix)| with_suffixes(text, kind, suffix));
@@ -151,7 +151,7 @@ fn with_suffixes(text: String, kind: &str, suffix: &str) -> String {
 
 #[cfg(test)]
 mod tests {
-    use super::{demangled, Form};
+    use super::{demangled_cpp, Form};
 
     #[test]
     fn names_are_those_of_cxxfilt() {
@@ -167,7 +167,7 @@ mod tests {
             ("_ZTTSt6vectorIiLj2EE", "VTT for std::vector<int, 2u>"),
             ("_ZN1AcmEi", "A::operator,(int)"),
         ] {
-            assert_eq!(demangled(name, Form::Whole).unwrap(), expected);
+            assert_eq!(demangled_cpp(name, Form::Whole).unwrap(), expected);
         }
     }
 
@@ -180,12 +180,12 @@ mod tests {
         ] {
             let symbol = format!("{}{}", name, types);
             let cold = format!("{}.cold", symbol);
-            assert_eq!(demangled(&symbol, Form::Whole).unwrap(), expected);
-            assert_eq!(demangled(&cold, Form::Whole).unwrap(), format!("{} [clone .cold]", expected));
-            assert_eq!(demangled(&cold, Form::Short).unwrap(), expected);
+            assert_eq!(demangled_cpp(&symbol, Form::Whole).unwrap(), expected);
+            assert_eq!(demangled_cpp(&cold, Form::Whole).unwrap(), format!("{} [clone .cold]", expected));
+            assert_eq!(demangled_cpp(&cold, Form::Short).unwrap(), expected);
         }
         for name in ["_ZN1A1fEv_more", "_ZThn8_", "_ZTh_N1A1fEv", "_ZTcN1A1fEv", "_ZT"] {
-            assert_eq!(demangled(name, Form::Whole), None, "{}", name);
+            assert_eq!(demangled_cpp(name, Form::Whole), None, "{}", name);
         }
     }
 }

@@ -21,8 +21,8 @@ impl<'data> Program<'data> {
             Pointer::Direct(address) => self.target.wrap(address),
             Pointer::Indirect(_) => return None,
         };
-        let bytes = self.loaded(address)?;
-        let bytes = bytes.get(..length(bytes, self.target)).filter(|bytes| !bytes.is_empty())?;
+        let bytes = self.bytes_loaded_from(address)?;
+        let bytes = bytes.get(..eh_frame_length(bytes, self.target)).filter(|bytes| !bytes.is_empty())?;
         Some(Section { bytes: Cow::Borrowed(bytes), address, unresolved: Vec::new() })
     }
 
@@ -30,14 +30,14 @@ impl<'data> Program<'data> {
     /// to the end of the segment in which it is loaded.
     pub(crate) fn eh_frame_header(&self) -> Option<(u64, &'data [u8])> {
         let address = match self.target.address_size {
-            AddressSize::Four => header_address::<FileHeader32<Endianness>>(self.data),
-            AddressSize::Eight => header_address::<FileHeader64<Endianness>>(self.data),
+            AddressSize::Four => eh_frame_hdr_address::<FileHeader32<Endianness>>(self.data),
+            AddressSize::Eight => eh_frame_hdr_address::<FileHeader64<Endianness>>(self.data),
         }?;
-        Some((address, self.loaded(address)?))
+        Some((address, self.bytes_loaded_from(address)?))
     }
 
     /// The bytes of the file that are loaded from an address on, to the end of their segment.
-    fn loaded(&self, address: u64) -> Option<&'data [u8]> {
+    fn bytes_loaded_from(&self, address: u64) -> Option<&'data [u8]> {
         self.file.segments().find_map(|segment| {
             let past = usize::try_from(address.checked_sub(segment.address())?).ok()?;
             segment.data().ok()?.get(past..).filter(|bytes| !bytes.is_empty())
@@ -46,7 +46,7 @@ impl<'data> Program<'data> {
 }
 
 /// The address of the segment `PT_GNU_EH_FRAME`.
-fn header_address<Elf: FileHeader<Endian = Endianness>>(data: &[u8]) -> Option<u64> {
+fn eh_frame_hdr_address<Elf: FileHeader<Endian = Endianness>>(data: &[u8]) -> Option<u64> {
     let header = Elf::parse(data).ok()?;
     let endian = header.endian().ok()?;
     let segments = header.program_headers(endian, data).ok()?;
@@ -56,7 +56,7 @@ fn header_address<Elf: FileHeader<Endian = Endianness>>(data: &[u8]) -> Option<u
 
 /// The number of bytes up to the end of the first record of length 0, or of the last record whose
 /// length can be read.
-fn length(bytes: &[u8], target: Target) -> usize {
+fn eh_frame_length(bytes: &[u8], target: Target) -> usize {
     let mut cursor = Cursor::new(bytes, target);
     let mut end = 0;
     let mut next = || {

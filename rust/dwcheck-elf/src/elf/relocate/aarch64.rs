@@ -4,15 +4,15 @@ use object::elf;
 use object::RelocationKind;
 
 /// The type of a relocation of an instruction. `None` if it is of another kind, or of another machine.
-pub(super) fn code(machine: u16, kind: RelocationKind) -> Option<u32> {
+pub(super) fn instruction_relocation(machine: u16, kind: RelocationKind) -> Option<u32> {
     match kind {
         RelocationKind::PltRelative if machine == elf::EM_AARCH64 => Some(elf::R_AARCH64_CALL26),
-        RelocationKind::Elf(code) if machine == elf::EM_AARCH64 && is_known(code) => Some(code),
+        RelocationKind::Elf(code) if machine == elf::EM_AARCH64 && is_known_relocation(code) => Some(code),
         _ => None,
     }
 }
 
-fn is_known(code: u32) -> bool {
+fn is_known_relocation(code: u32) -> bool {
     let known = [
         elf::R_AARCH64_CALL26,
         elf::R_AARCH64_JUMP26,
@@ -27,7 +27,7 @@ fn is_known(code: u32) -> bool {
 
 /// Changes the instruction at `address`, which the field holds, as a relocation of a type says. `symbol` is
 /// the address of the relocation's symbol plus the addend.
-pub(super) fn apply(field: &mut [u8], code: u32, symbol: u64, address: u64) {
+pub(super) fn relocate_instruction(field: &mut [u8], code: u32, symbol: u64, address: u64) {
     let mut word = [0; 4];
     word.copy_from_slice(&field[..4]);
     let word = u32::from_le_bytes(word);

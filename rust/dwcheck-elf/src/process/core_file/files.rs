@@ -1,6 +1,6 @@
-//! Opens the files that a process had mapped into memory when it died.
+//! Opens the files that a process had mapped into memory when it died, and sees whether they are still the same.
 
-use super::in_memory::{build_id, has_same_id, image};
+use super::in_memory::{build_id_in_bytes, has_same_id, image_in_memory};
 use super::{CoreFile, Mapping};
 use crate::elf::debug_files::DebugFiles;
 use crate::elf::mapped::Bytes;
@@ -70,7 +70,7 @@ impl Files {
     pub fn read(core: &CoreFile<'_>, root: &Path) -> Self {
         Files::open(core, root, |mapping| {
             let path = Path::new(OsStr::from_bytes(mapping.path));
-            below(root, path).and_then(|path| content(&path))
+            path_below_root(root, path).and_then(|path| open_regular_file(&path))
         })
     }
 
@@ -78,18 +78,19 @@ impl Files {
     /// the mapped files themselves, even if they were deleted or replaced, as far as this program may
     /// open these; otherwise the files at their paths.
     pub fn of_live(core: &CoreFile<'_>, pid: u32) -> Self {
-        let pid = crate::process::maps::alive(pid);
+        let pid = crate::process::maps::thread_with_memory(pid);
         let root = PathBuf::from(format!("/proc/{}/root", pid));
         Files::open(core, &root, |mapping| {
             let mapped = format!("/proc/{}/map_files/{:x}-{:x}", pid, mapping.begin, mapping.end);
             let path = Path::new(OsStr::from_bytes(mapping.path));
-            content(Path::new(&mapped)).or_else(|_| below(&root, path).and_then(|path| content(&path)))
+            open_regular_file(Path::new(&mapped))
+                .or_else(|_| path_below_root(&root, path).and_then(|path| open_regular_file(&path)))
         })
     }
 
     fn open(core: &CoreFile<'_>, root: &Path, open: impl Fn(&Mapping<'_>) -> Result<Bytes, FileError>) -> Self {
         let has_code = |mapping: &&Mapping<'_>| !core.executable_in(&(mapping.begin..mapping.end)).is_empty();
-        let mut starts = starts(core);
+        let mut starts = mappings_of_file_starts(core);
         let mut files = Files { debug_files: DebugFiles::new(root), ..Files::default() };
         for mapping in core.mappings().iter().filter(has_code) {
             if files.places.contains_key(mapping.path) {
@@ -99,8 +100,9 @@ impl Files {
             let path = PathBuf::from(OsStr::from_bytes(mapping.path));
             let bytes = open(mapping);
             let starts = starts.remove(mapping.path).unwrap_or_default();
-            let bytes = bytes.and_then(|bytes| same(core, &starts, bytes));
-            let build_id = starts.iter().find_map(|start| build_id(core.bytes_from(start.begin)?).map(<[u8]>::to_vec));
+            let bytes = bytes.and_then(|bytes| require_mapped_file(core, &starts, bytes));
+            let build_id =
+                starts.iter().find_map(|start| build_id_in_bytes(core.bytes_from(start.begin)?).map(<[u8]>::to_vec));
             files.files.push(MappedFile { path, bytes, image: None, build_id });
         }
         files.take_images(core);
@@ -112,12 +114,13 @@ impl Files {
         if self.files.iter().all(|file| file.bytes.is_ok()) {
             return;
         }
-        let (memory, starts) = (core.held(), starts(core));
+        let (memory, starts) = (core.memory_in_core(), mappings_of_file_starts(core));
         let mut left = memory.blocks().map(|block| block.bytes.len()).sum();
         for file in self.files.iter_mut().filter(|file| file.bytes.is_err()) {
             let starts = starts.get(file.path.as_os_str().as_bytes()).map_or(&[][..], Vec::as_slice);
             let mut begins = starts.iter().map(|start| start.begin);
-            file.image = begins.find_map(|begin| image(&memory, begin, core.target(), &mut left)).map(Bytes::from);
+            file.image =
+                begins.find_map(|begin| image_in_memory(&memory, begin, core.target(), &mut left)).map(Bytes::from);
         }
     }
 
@@ -126,8 +129,8 @@ impl Files {
     /// had mapped there: the segments have to be those that are mapped, and the first bytes have to
     /// be those in the core, if the core has them.
     pub fn use_program(&mut self, core: &CoreFile<'_>, bytes: &Bytes) -> bool {
-        let starts = |path: &[u8]| starts(core).remove(path).unwrap_or_default();
-        let is_mapped = |path: &&[u8]| core.maps_segments(path, bytes) && is_same(core, &starts(path), bytes);
+        let starts = |path: &[u8]| mappings_of_file_starts(core).remove(path).unwrap_or_default();
+        let is_mapped = |path: &&[u8]| core.maps_segments(path, bytes) && is_mapped_file(core, &starts(path), bytes);
         let place = core.program_path().filter(is_mapped).and_then(|path| self.places.get(path));
         match place.and_then(|place| self.files.get_mut(*place)) {
             Some(file) => {
@@ -174,7 +177,7 @@ impl Files {
 
 /// Where a file that a core names is on this machine: the absolute path `/a/b` is `a/b` in the
 /// folder `root`.
-fn below(root: &Path, path: &Path) -> Result<PathBuf, FileError> {
+fn path_below_root(root: &Path, path: &Path) -> Result<PathBuf, FileError> {
     let inner = path.strip_prefix("/").map_err(|_| FileError::Name)?;
     let goes_down = inner.components().all(|part| matches!(part, Component::Normal(_)));
     if goes_down {
@@ -185,7 +188,7 @@ fn below(root: &Path, path: &Path) -> Result<PathBuf, FileError> {
 }
 
 /// Opens a regular file. Other files, such as devices and pipes, aren't opened.
-fn content(path: &Path) -> Result<Bytes, FileError> {
+fn open_regular_file(path: &Path) -> Result<Bytes, FileError> {
     if !path.metadata().map_err(FileError::Read)?.is_file() {
         return Err(FileError::NotRegular);
     }
@@ -198,8 +201,8 @@ fn content(path: &Path) -> Result<Bytes, FileError> {
 }
 
 /// Returns the bytes of a file if the file still seems to be the one that was mapped.
-fn same(core: &CoreFile<'_>, starts: &[&Mapping<'_>], bytes: Bytes) -> Result<Bytes, FileError> {
-    if is_same(core, starts, &bytes) {
+fn require_mapped_file(core: &CoreFile<'_>, starts: &[&Mapping<'_>], bytes: Bytes) -> Result<Bytes, FileError> {
+    if is_mapped_file(core, starts, &bytes) {
         Ok(bytes)
     } else {
         Err(FileError::Changed)
@@ -210,7 +213,7 @@ fn same(core: &CoreFile<'_>, starts: &[&Mapping<'_>], bytes: Bytes) -> Result<By
 /// mappings of its beginning. If the core has the beginning of an ELF file there, the file has to
 /// begin with the same bytes, or to have the same build id: a process may change its code. Other files
 /// aren't compared.
-fn is_same(core: &CoreFile<'_>, starts: &[&Mapping<'_>], bytes: &[u8]) -> bool {
+fn is_mapped_file(core: &CoreFile<'_>, starts: &[&Mapping<'_>], bytes: &[u8]) -> bool {
     starts.iter().all(|mapping| {
         let size = usize::try_from(mapping.end.saturating_sub(mapping.begin)).unwrap_or(COMPARED).min(COMPARED);
         let held = core.bytes_from(mapping.begin).unwrap_or(&[]);
@@ -226,7 +229,7 @@ fn is_same(core: &CoreFile<'_>, starts: &[&Mapping<'_>], bytes: &[u8]) -> bool {
 /// The mappings of the beginning of each file, by its name, to which nothing is written. In a small
 /// program the other segments are in the file's first page too. That page is then mapped again for
 /// each of them, right after the mapping before it, and the data in it may have changed.
-fn starts<'c>(core: &'c CoreFile<'_>) -> HashMap<&'c [u8], Vec<&'c Mapping<'c>>> {
+fn mappings_of_file_starts<'c>(core: &'c CoreFile<'_>) -> HashMap<&'c [u8], Vec<&'c Mapping<'c>>> {
     let ends: HashSet<(&[u8], u64)> = core.mappings().iter().map(|mapping| (mapping.path, mapping.end)).collect();
     let mut starts: HashMap<&[u8], Vec<&Mapping<'_>>> = HashMap::new();
     for mapping in core.mappings().iter().filter(|mapping| mapping.offset == 0) {

@@ -23,7 +23,7 @@ const SECTION_HEADERS_64: [(usize, usize); 3] = [(40, 8), (60, 2), (62, 2)];
 const SECTION_HEADERS_32: [(usize, usize); 3] = [(32, 4), (48, 2), (50, 2)];
 
 /// The build id of the ELF file that begins with these bytes, if they have it.
-pub(super) fn build_id(bytes: &[u8]) -> Option<&[u8]> {
+pub(super) fn build_id_in_bytes(bytes: &[u8]) -> Option<&[u8]> {
     let bytes = bytes.get(..SEARCHED).unwrap_or(bytes);
     build_id_of::<FileHeader64<Endianness>>(bytes).or_else(|| build_id_of::<FileHeader32<Endianness>>(bytes))
 }
@@ -42,12 +42,12 @@ fn build_id_of<Elf: FileHeader<Endian = Endianness>>(bytes: &[u8]) -> Option<&[u
 
 /// Whether both begin an ELF file, and with the same build id.
 pub(super) fn has_same_id(memory: &[u8], file: &[u8]) -> bool {
-    matches!((build_id(memory), build_id(file)), (Some(one), Some(other)) if one == other)
+    matches!((build_id_in_bytes(memory), build_id_in_bytes(file)), (Some(one), Some(other)) if one == other)
 }
 
 /// The bytes of the ELF file that is loaded at an address, without section headers, if the memory has all of its
 /// segments that can't be written to. `left` is how many bytes may be taken for such files.
-pub(super) fn image(memory: &Memory<'_>, begin: u64, target: Target, left: &mut usize) -> Option<Vec<u8>> {
+pub(super) fn image_in_memory(memory: &Memory<'_>, begin: u64, target: Target, left: &mut usize) -> Option<Vec<u8>> {
     let loaded = Loaded { memory, begin, target };
     match target.address_size {
         AddressSize::Eight => loaded.image::<FileHeader64<Endianness>>(left),

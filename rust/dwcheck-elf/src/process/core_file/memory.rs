@@ -1,4 +1,4 @@
-//! The memory of a process that died.
+//! The memory of a process that died: blocks of the core file, and of mapped files that the core left out.
 
 use super::{CoreFile, Files};
 use crate::elf::covered::Covered;
@@ -55,7 +55,7 @@ impl<'data> CoreFile<'data> {
     where
         'data: 'a,
     {
-        let mut memory = self.held();
+        let mut memory = self.memory_in_core();
         for mapping in self.mappings().iter().filter(|mapping| !mapping.has_changed) {
             let found = files.find(mapping.path).and_then(|(place, bytes)| {
                 let begin = usize::try_from(mapping.offset).ok()?;
@@ -73,7 +73,7 @@ impl<'data> CoreFile<'data> {
 
 impl<'data> CoreFile<'data> {
     /// The bytes of memory that the core has itself.
-    pub(super) fn held(&self) -> Memory<'data> {
+    pub(super) fn memory_in_core(&self) -> Memory<'data> {
         let mut memory = Memory::default();
         for segment in &self.segments {
             memory.add(Block { address: segment.address, bytes: segment.bytes, origin: Origin::Core });

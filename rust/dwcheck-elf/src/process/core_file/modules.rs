@@ -127,8 +127,8 @@ impl CoreFile<'_> {
         let expected = target.wrap(entry.wrapping_sub(program.entry()));
         let mappings = self.mappings().iter().filter(|mapping| mapping.path == path);
         let is_mapped = |segment: &Segment| {
-            let mut shown = mappings.clone().filter(|mapping| is_shown(mapping, segment));
-            shown.any(|mapping| target.wrap(bias(mapping, segment)) == expected)
+            let mut shown = mappings.clone().filter(|mapping| maps_bytes_of_segment(mapping, segment));
+            shown.any(|mapping| target.wrap(load_bias(mapping, segment)) == expected)
         };
         let segments = program.segments();
         !segments.is_empty() && segments.iter().filter(|segment| segment.file_size > 0).all(is_mapped)
@@ -160,8 +160,8 @@ impl<'a> Finder<'a> {
         let read = || Program::read(bytes).map_or(Vec::new(), |program| program.segments());
         let segments = self.segments.entry(place).or_insert_with(read);
         let target = self.core.target();
-        let shown: Vec<_> = segments.iter().filter(|segment| is_shown(mapping, segment)).collect();
-        let bias_of = |segment: &Segment| target.wrap(bias(mapping, segment));
+        let shown: Vec<_> = segments.iter().filter(|segment| maps_bytes_of_segment(mapping, segment)).collect();
+        let bias_of = |segment: &Segment| target.wrap(load_bias(mapping, segment));
         let is_module = |candidate: &Candidate<'_>, bias| candidate.place == place && candidate.module.bias == bias;
         let is_known = |bias: &u64| self.found.iter().any(|candidate| is_module(candidate, *bias));
         let mut biases = shown.iter().map(|segment| bias_of(segment));
@@ -198,14 +198,14 @@ fn mapped_part(mapping: &Mapping<'_>, segment: &Segment) -> Range<u64> {
 /// for both segments. So a mapping can have bytes of a segment that it wasn't made for, and then
 /// more than one segment gives a bias. The right bias is the one that another mapping of the file
 /// has given already, if there is one.
-fn is_shown(mapping: &Mapping<'_>, segment: &Segment) -> bool {
+fn maps_bytes_of_segment(mapping: &Mapping<'_>, segment: &Segment) -> bool {
     let mapped_end = mapping.offset.saturating_add(mapping.end.saturating_sub(mapping.begin));
     let segment_end = segment.offset.saturating_add(segment.file_size);
     mapping.offset < segment_end && segment.offset < mapped_end
 }
 
 /// The bias of a module, if `mapping` maps its segment `segment`.
-fn bias(mapping: &Mapping<'_>, segment: &Segment) -> u64 {
+fn load_bias(mapping: &Mapping<'_>, segment: &Segment) -> u64 {
     let file_begin = mapping.begin.wrapping_sub(mapping.offset);
     file_begin.wrapping_add(segment.offset).wrapping_sub(segment.address)
 }

@@ -1,6 +1,6 @@
-//! Reads the notes of a core file.
+//! Reads the notes of a core file: the signal, the process, the mapped files, the auxiliary vector.
 
-use super::registers::{thread, vectors, Thread};
+use super::registers::{read_prstatus, read_vector_registers, Thread};
 use super::{CoreError, Sender, Signal};
 use crate::process::maps::Map;
 use dwcheck_types::abi::Abi;
@@ -92,20 +92,20 @@ impl<'data> Notes<'data> {
     /// Reads a note. Does nothing for a note that isn't needed.
     pub fn add(&mut self, owner: &[u8], kind: u32, bytes: &'data [u8]) -> Result<(), CoreError> {
         let read = match kind {
-            NT_ARM_PAC_MASK if owner == b"LINUX" => self.pac_mask(bytes),
+            NT_ARM_PAC_MASK if owner == b"LINUX" => self.add_pac_mask(bytes),
             _ if owner != b"CORE" => Ok(()),
-            NT_PRSTATUS => thread(bytes, self.target, self.abi).map(|thread| self.threads.push(thread)),
+            NT_PRSTATUS => read_prstatus(bytes, self.target, self.abi).map(|thread| self.threads.push(thread)),
             NT_PRFPREG => {
-                self.vectors(bytes);
+                self.add_vector_registers(bytes);
                 Ok(())
             }
-            NT_SIGINFO => signal(bytes, self.target).map(|signal| self.signal = self.signal.or(Some(signal))),
-            NT_FILE => self.files(bytes),
-            NT_PRPSINFO => process(bytes, self.target).map(|process| self.process = Some(process)),
+            NT_SIGINFO => read_siginfo(bytes, self.target).map(|signal| self.signal = self.signal.or(Some(signal))),
+            NT_FILE => self.add_mapped_files(bytes),
+            NT_PRPSINFO => read_prpsinfo(bytes, self.target).map(|process| self.process = Some(process)),
             NT_AUXV => {
-                self.vdso = auxiliary(bytes, self.target, AT_SYSINFO_EHDR);
-                self.entry = auxiliary(bytes, self.target, AT_ENTRY);
-                self.name = auxiliary(bytes, self.target, AT_EXECFN);
+                self.vdso = auxiliary_value(bytes, self.target, AT_SYSINFO_EHDR);
+                self.entry = auxiliary_value(bytes, self.target, AT_ENTRY);
+                self.name = auxiliary_value(bytes, self.target, AT_EXECFN);
                 Ok(())
             }
             _ => Ok(()),
@@ -115,14 +115,14 @@ impl<'data> Notes<'data> {
 
     /// Reads an `NT_PRFPREG` note, which is of the thread before it. Walks need nothing of it, so that it may be
     /// cut.
-    fn vectors(&mut self, bytes: &[u8]) {
+    fn add_vector_registers(&mut self, bytes: &[u8]) {
         if let Some(thread) = self.threads.last_mut() {
-            thread.vectors = vectors(bytes, self.target, self.abi).unwrap_or_default();
+            thread.vectors = read_vector_registers(bytes, self.target, self.abi).unwrap_or_default();
         }
     }
 
     /// Reads an `NT_ARM_PAC_MASK` note: a mask for addresses of data, and one for those of code.
-    fn pac_mask(&mut self, bytes: &[u8]) -> Result<(), ReadError> {
+    fn add_pac_mask(&mut self, bytes: &[u8]) -> Result<(), ReadError> {
         let mut cursor = Cursor::new(bytes, self.target);
         cursor.take(8)?;
         self.pac_mask = Some(cursor.number(8)?);
@@ -131,7 +131,7 @@ impl<'data> Notes<'data> {
 
     /// Reads an `NT_FILE` note. It has the number of mappings, the page size, the mappings, and
     /// then their names, in the same order.
-    fn files(&mut self, bytes: &'data [u8]) -> Result<(), ReadError> {
+    fn add_mapped_files(&mut self, bytes: &'data [u8]) -> Result<(), ReadError> {
         let word = self.target.address_size.bytes();
         let mut numbers = Cursor::new(bytes, self.target);
         let count = numbers.number(word)?;
@@ -152,7 +152,7 @@ impl<'data> Notes<'data> {
 }
 
 /// Reads an `NT_SIGINFO` note, which is a `siginfo_t`.
-fn signal(bytes: &[u8], target: Target) -> Result<Signal, ReadError> {
+fn read_siginfo(bytes: &[u8], target: Target) -> Result<Signal, ReadError> {
     let mut cursor = Cursor::new(bytes, target);
     let number = cursor.number(4)? as u32;
     cursor.take(4)?;
@@ -172,7 +172,7 @@ fn signal(bytes: &[u8], target: Target) -> Result<Signal, ReadError> {
 
 /// Finds the value whose type is `wanted` in the auxiliary vector, which is pairs of a type and a
 /// value. `None` if there is no such pair.
-pub(super) fn auxiliary(bytes: &[u8], target: Target, wanted: u64) -> Option<u64> {
+pub(super) fn auxiliary_value(bytes: &[u8], target: Target, wanted: u64) -> Option<u64> {
     let word = target.address_size.bytes();
     let mut cursor = Cursor::new(bytes, target);
     loop {
@@ -184,7 +184,7 @@ pub(super) fn auxiliary(bytes: &[u8], target: Target, wanted: u64) -> Option<u64
 }
 
 /// Reads an `NT_PRPSINFO` note (`struct elf_prpsinfo`).
-fn process(bytes: &[u8], target: Target) -> Result<ProcessInfo, ReadError> {
+fn read_prpsinfo(bytes: &[u8], target: Target) -> Result<ProcessInfo, ReadError> {
     // Four bytes, the flags in a word, the ids of the user and the group, four ids of 4 bytes, of
     // which the first is the process's, 16 bytes for the name, and 80 for the command line.
     let id = match target.address_size {

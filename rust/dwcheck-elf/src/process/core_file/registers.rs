@@ -49,7 +49,7 @@ const AARCH64: [u16; 34] = [
     31, 32, NO,
 ];
 
-fn numbers(abi: &Abi) -> &'static [u16] {
+fn general_register_numbers(abi: &Abi) -> &'static [u16] {
     match abi.machine {
         elf::EM_X86_64 => &X86_64,
         elf::EM_386 => &I386,
@@ -59,7 +59,7 @@ fn numbers(abi: &Abi) -> &'static [u16] {
 }
 
 /// Reads a note of type `NT_PRSTATUS`.
-pub(super) fn thread(bytes: &[u8], target: Target, abi: &Abi) -> Result<Thread, ReadError> {
+pub(super) fn read_prstatus(bytes: &[u8], target: Target, abi: &Abi) -> Result<Thread, ReadError> {
     // The note begins with three numbers of 4 bytes, the signal in 2 bytes, 2 bytes of padding, two
     // signal masks of one word, four ids of 4 bytes, and four times (`struct timeval`) of two
     // words. The first id is the thread's. The registers come next.
@@ -73,17 +73,17 @@ pub(super) fn thread(bytes: &[u8], target: Target, abi: &Abi) -> Result<Thread, 
     cursor.take(id - 14)?;
     let id = cursor.number(4)? as u32;
     cursor.take(registers - cursor.at() as u64)?;
-    let registers = general(cursor.rest(), target, abi)?;
+    let registers = read_general_registers(cursor.rest(), target, abi)?;
     Ok(Thread { id, name: None, signal, registers, vectors: Vec::new() })
 }
 
 /// Reads the general registers of a thread, as the kernel writes them for debuggers
 /// (`elf_gregset_t`). The result is in ascending order of the DWARF numbers.
-pub(crate) fn general(bytes: &[u8], target: Target, abi: &Abi) -> Result<Vec<(u16, u64)>, ReadError> {
+pub(crate) fn read_general_registers(bytes: &[u8], target: Target, abi: &Abi) -> Result<Vec<(u16, u64)>, ReadError> {
     let word = target.address_size.bytes();
     let mut cursor = Cursor::new(bytes, target);
     let mut held = Vec::new();
-    for number in numbers(abi) {
+    for number in general_register_numbers(abi) {
         let value = cursor.number(word)?;
         if *number != NO {
             held.push((*number, value));
@@ -95,7 +95,7 @@ pub(crate) fn general(bytes: &[u8], target: Target, abi: &Abi) -> Result<Vec<(u1
 
 /// Reads the low 8 bytes of the vector registers of a thread, as the kernel writes them for debuggers
 /// (`elf_fpregset_t`): xmm0 to xmm15 of x86-64, and v0 to v31 of aarch64.
-pub(crate) fn vectors(bytes: &[u8], target: Target, abi: &Abi) -> Result<Vec<(u16, u64)>, ReadError> {
+pub(crate) fn read_vector_registers(bytes: &[u8], target: Target, abi: &Abi) -> Result<Vec<(u16, u64)>, ReadError> {
     // On x86-64, 32 bytes of flags and 8 registers of the x87 come first.
     let (first, before, count) = match abi.machine {
         elf::EM_X86_64 => (17, 160, 16),

@@ -1,4 +1,4 @@
-//! The signal that ended a process.
+//! The signal that ended a process: its name, its code, who sent it, and at which address.
 
 use nix::sys::signal;
 

@@ -20,8 +20,8 @@ enum Use {
 }
 
 /// The memory that can differ from its files, each part with its address, up to [`DATA_LIMIT`].
-pub(super) fn data(process: &Process) -> Vec<(u64, Vec<u8>)> {
-    let mut parts = parts(&process.maps);
+pub(super) fn copy_changeable_memory(process: &Process) -> Vec<(u64, Vec<u8>)> {
+    let mut parts = changeable_parts(&process.maps);
     parts.sort_by_key(|(used, map)| (*used, map.begin));
     let mut left = DATA_LIMIT;
     let copied = parts.into_iter().filter_map(|(_, map)| {
@@ -33,7 +33,7 @@ pub(super) fn data(process: &Process) -> Vec<(u64, Vec<u8>)> {
 }
 
 /// The parts of the memory that can differ from their files.
-fn parts(maps: &[Map]) -> Vec<(Use, &Map)> {
+fn changeable_parts(maps: &[Map]) -> Vec<(Use, &Map)> {
     let mut parts: Vec<(Use, &Map)> = Vec::new();
     let differing = maps.iter().enumerate().filter(|(index, _)| can_differ(maps, *index)).map(|(_, map)| map);
     for map in differing.filter(|map| map.begin < map.end) {

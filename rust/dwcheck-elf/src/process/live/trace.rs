@@ -1,4 +1,4 @@
-//! Stops a thread by ptrace, and lets it go on.
+//! Stops a thread by ptrace, reads its registers, and lets it go on.
 
 #![allow(unsafe_code)]
 
@@ -44,22 +44,22 @@ impl Stopped {
     pub fn stop(tid: u32) -> Result<Stopped, TraceError> {
         let tid = libc::pid_t::try_from(tid).map_err(|_| TraceError::Gone)?;
         let since = Instant::now();
-        request(libc::PTRACE_SEIZE, tid, 0).map_err(TraceError::of)?;
-        request(libc::PTRACE_INTERRUPT, tid, 0).map_err(TraceError::of)?;
-        let signal = wait(tid, since)?;
+        ptrace_request(libc::PTRACE_SEIZE, tid, 0).map_err(TraceError::of)?;
+        ptrace_request(libc::PTRACE_INTERRUPT, tid, 0).map_err(TraceError::of)?;
+        let signal = wait_until_stopped(tid, since)?;
         Ok(Stopped { tid, signal, since })
     }
 
     /// The registers by their DWARF numbers, ascending.
     pub fn registers(&self, target: Target, abi: &Abi) -> Option<Vec<(u16, u64)>> {
         let bytes = self.register_set(libc::NT_PRSTATUS as usize)?;
-        registers::general(&bytes, target, abi).ok()
+        registers::read_general_registers(&bytes, target, abi).ok()
     }
 
     /// The low 8 bytes of the vector registers by their DWARF numbers, ascending. Empty if the kernel has none.
     pub fn vectors(&self, target: Target, abi: &Abi) -> Vec<(u16, u64)> {
         let bytes = self.register_set(NT_PRFPREG);
-        bytes.and_then(|bytes| registers::vectors(&bytes, target, abi).ok()).unwrap_or_default()
+        bytes.and_then(|bytes| registers::read_vector_registers(&bytes, target, abi).ok()).unwrap_or_default()
     }
 
     /// The bits of a return address that hold an authentication code.
@@ -87,12 +87,12 @@ impl Stopped {
 impl Drop for Stopped {
     fn drop(&mut self) {
         // A thread that has been killed meanwhile can't be detached.
-        let _ = request(libc::PTRACE_DETACH, self.tid, self.signal as usize);
+        let _ = ptrace_request(libc::PTRACE_DETACH, self.tid, self.signal as usize);
     }
 }
 
 /// Waits until the thread has stopped. Returns the signal that it is about to receive, 0 if none.
-fn wait(tid: libc::pid_t, since: Instant) -> Result<i32, TraceError> {
+fn wait_until_stopped(tid: libc::pid_t, since: Instant) -> Result<i32, TraceError> {
     loop {
         let mut status = 0;
         // SAFETY: the kernel writes the status to a local.
@@ -112,7 +112,7 @@ fn wait(tid: libc::pid_t, since: Instant) -> Result<i32, TraceError> {
 }
 
 /// A request of ptrace without an address.
-fn request(request: libc::c_uint, tid: libc::pid_t, data: usize) -> Result<(), Errno> {
+fn ptrace_request(request: libc::c_uint, tid: libc::pid_t, data: usize) -> Result<(), Errno> {
     // SAFETY: these requests take no pointers.
     let done = unsafe { libc::ptrace(request, tid, null_mut::<libc::c_void>(), data) };
     Errno::result(done).map(drop)

@@ -1,9 +1,9 @@
-//! Names of functions, and lines of source files.
+//! Names of the functions of frames, and their lines of source files.
 
 use crate::debug::inlined;
 use crate::debug::lines::{At, Lines, SourceLine};
 use crate::debug::variables::Called;
-use crate::elf::debug_files::{hex, DebugFiles};
+use crate::elf::debug_files::{build_id_hex, DebugFiles};
 use crate::elf::demangle::{raw_name, shown_name, STUB};
 use crate::elf::function_offset::FunctionOffset;
 use crate::elf::functions::Functions;
@@ -153,7 +153,7 @@ impl<'p, 'a> Files<'p, 'a> {
         let (own, problem) = self.program.all_functions();
         let problem = problem.map(|problem| (self.path.to_path_buf(), problem.to_string()));
         Names {
-            build_id: self.program.build_id().map(hex),
+            build_id: self.program.build_id().map(build_id_hex),
             functions: match &self.debug {
                 Some((_, debug)) => own.with(debug.functions()),
                 None => own,
@@ -241,8 +241,11 @@ impl<'a> Names<'a> {
         if past > 0 || !are_apart || from.name.ends_with(STUB) || FAR.iter().any(|part| from.name.contains(part)) {
             return None;
         }
-        let is_part =
-            self.functions.beginning_at(from.begin).take(MOST_NAMES).any(|one| stem(&one.name) == stem(&to.name));
+        let is_part = self
+            .functions
+            .beginning_at(from.begin)
+            .take(MOST_NAMES)
+            .any(|one| name_without_suffixes(&one.name) == name_without_suffixes(&to.name));
         let function = |address| self.debug.functions(address).pop().and_then(|function| function.name);
         let is_same = |name: String| function(reached) == Some(name);
         let is_left = !is_part && !function(called).map_or(false, is_same);
@@ -269,7 +272,7 @@ impl<'a> Names<'a> {
 }
 
 /// A function's name without what compilers add to the names of its parts and copies.
-fn stem(name: &str) -> &str {
+fn name_without_suffixes(name: &str) -> &str {
     let ends = PARTS.iter().filter_map(|part| name.find(part)).filter(|end| *end > 0);
     ends.min().map_or(name, |end| &name[..end])
 }

@@ -34,45 +34,46 @@ impl Stack<'_, '_> {
             self.stacks.position(frame);
         let mut object = json!({
             "number": self.number(index),
-            "address": hex(frame.address),
+            "address": hex_number(frame.address),
             "after_call": frame.is_after_call,
             "found_by": frame.found_by.to_string(),
             "guess": frame.found_by.is_guess(),
             "signal_frame": frame.is_signal_frame,
-            "cfa": frame.cfa.map(hex),
+            "cfa": frame.cfa.map(hex_number),
             "module": module.map(|path| path.to_string_lossy().into_owned()),
             "build_id": build_id,
-            "module_offset": address_in_module.map(hex),
+            "module_offset": address_in_module.map(hex_number),
             "function": function,
             "offset": offset,
-            "inlined": inlined.iter().map(inlined_function).collect::<Vec<_>>(),
+            "inlined": inlined.iter().map(json_inlined_function).collect::<Vec<_>>(),
             "tail_call_from": self.tail_call(index),
         });
-        add_source(&mut object, &source);
+        add_json_source(&mut object, &source);
         if self.stacks.shape.is_some() {
             object["functions"] = self.functions(index).iter().rev().map(Function::json).collect();
         }
         if self.stacks.shows_registers && !frame.registers.is_empty() {
             let abi = self.stacks.core.abi();
-            let named = frame.registers.iter().map(|(number, value)| (abi.register_name(*number), hex(*value).into()));
+            let named =
+                frame.registers.iter().map(|(number, value)| (abi.register_name(*number), hex_number(*value).into()));
             object["registers"] = Value::Object(named.collect::<Map<_, _>>());
         }
         object
     }
 }
 
-fn inlined_function(one: &Inlined) -> Value {
+fn json_inlined_function(one: &Inlined) -> Value {
     let mut object = json!({ "function": one.name });
-    add_source(&mut object, &one.source);
+    add_json_source(&mut object, &one.source);
     object
 }
 
-fn add_source(object: &mut Value, source: &Option<SourceLine>) {
+fn add_json_source(object: &mut Value, source: &Option<SourceLine>) {
     object["file"] = source.as_ref().map(|source| source.file.clone()).into();
     object["line"] = source.as_ref().and_then(|source| source.line).into();
 }
 
 /// A number in hexadecimal, such as `0x401136`.
-pub(crate) fn hex(number: u64) -> String {
+pub(crate) fn hex_number(number: u64) -> String {
     format!("{:#x}", number)
 }

@@ -1,10 +1,10 @@
 //! The list of the modules of a process, by which frames can be named on another machine.
 
-use super::json::hex as address;
+use super::json::hex_number;
 use super::per_file::PerFile;
 use super::Stacks;
 use crate::cfi::text::{Address, Escaped};
-use crate::elf::debug_files::hex;
+use crate::elf::debug_files::build_id_hex;
 use crate::elf::program::Program;
 use crate::process::core_file::Mapping;
 use dwcheck_types::target::Target;
@@ -19,7 +19,7 @@ use std::path::PathBuf;
 pub struct Listed {
     /// The path of its file, or `[vdso]`.
     pub path: PathBuf,
-    /// Its build id, in hex digits. `None` if it has none, or if it isn't known.
+    /// Its build id, in hex_number digits. `None` if it has none, or if it isn't known.
     pub build_id: Option<String>,
     /// The first address of its mappings.
     pub begin: u64,
@@ -34,7 +34,7 @@ impl Stacks<'_> {
     /// The modules of the process, and the files with code that can't be used, by their addresses.
     pub fn modules(&self) -> Vec<Listed> {
         let tables = self.tables.borrow();
-        let mut build_ids = PerFile::new(|program: &Program<'_>| program.build_id().map(hex));
+        let mut build_ids = PerFile::new(|program: &Program<'_>| program.build_id().map(build_id_hex));
         let modules = tables.modules().iter().map(|module| Listed {
             path: module.path.clone(),
             build_id: build_ids.of(module),
@@ -43,13 +43,13 @@ impl Stacks<'_> {
             bias: Some(module.bias),
             target: self.core.target(),
         });
-        let mut listed: Vec<_> = modules.chain(self.lost()).collect();
+        let mut listed: Vec<_> = modules.chain(self.lost_files()).collect();
         listed.sort_by_key(|module| module.begin);
         listed
     }
 
     /// The files with code that can't be used.
-    fn lost(&self) -> Vec<Listed> {
+    fn lost_files(&self) -> Vec<Listed> {
         let mut places: HashMap<&[u8], (u64, u64)> = HashMap::new();
         for Mapping { begin, end, path, .. } in self.core.mappings() {
             let place = places.entry(path).or_insert((*begin, *end));
@@ -58,7 +58,7 @@ impl Stacks<'_> {
         let files = self.files.all().iter().filter(|file| file.is_lost());
         let listed = files.filter_map(|file| {
             let (begin, end) = *places.get(file.path.as_os_str().as_bytes())?;
-            let (path, build_id, target) = (file.path.clone(), file.build_id().map(hex), self.core.target());
+            let (path, build_id, target) = (file.path.clone(), file.build_id().map(build_id_hex), self.core.target());
             Some(Listed { path, build_id, begin, end, bias: None, target })
         });
         listed.collect()
@@ -71,9 +71,9 @@ impl Listed {
         json!({
             "path": self.path.to_string_lossy(),
             "build_id": self.build_id,
-            "begin": address(self.begin),
-            "end": address(self.end),
-            "bias": self.bias.map(address),
+            "begin": hex_number(self.begin),
+            "end": hex_number(self.end),
+            "bias": self.bias.map(hex_number),
         })
     }
 }

@@ -1,4 +1,4 @@
-//! Finds that a stack overflowed.
+//! Finds whether a thread's stack overflowed.
 
 use super::{Stacks, WalkOptions};
 

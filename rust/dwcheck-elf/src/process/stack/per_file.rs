@@ -1,6 +1,6 @@
-//! Something that is read of the file of a module. A file that is mapped several times is read once.
+//! Something that is read once of the file of each module. A file that is mapped several times is read once.
 
-use super::tables::{key, FileKey};
+use super::tables::{file_key, FileKey};
 use crate::elf::program::Program;
 use crate::process::core_file::Module;
 use std::collections::HashMap;
@@ -20,7 +20,7 @@ impl<T: Clone, F: FnMut(&Program<'_>) -> Option<T>> PerFile<T, F> {
     /// What was found in the file of a module.
     pub fn of(&mut self, module: &Module<'_>) -> Option<T> {
         let read = &mut self.read;
-        let found = self.found.entry(key(module));
+        let found = self.found.entry(file_key(module));
         found.or_insert_with(|| read(&Program::read(module.image.bytes()).ok()?)).clone()
     }
 }

@@ -1,10 +1,10 @@
-//! The unwind tables of a process's modules. An FDE is checked and compiled when a look-up first
-//! needs it.
+//! The unwind tables of a process's modules. An FDE is checked and compiled when
+//! a look-up first needs it.
 
-use crate::cfi::section_table::{add, SectionTable};
+use crate::cfi::section_table::{add_fde, SectionTable};
 use crate::elf::program::Program;
 use crate::process::core_file::{Image, Module};
-use crate::process::without_row::sigpanic;
+use crate::process::without_row::address_of_sigpanic;
 use dwcheck::{Caller, Error, Process, State};
 use dwcheck_types::target::Target;
 use std::collections::{HashMap, HashSet};
@@ -32,7 +32,7 @@ pub(super) struct Tables<'a> {
 struct FileTables<'a> {
     /// `.debug_frame` first.
     sections: Vec<SectionTable<'a>>,
-    /// The address of Go's function [`sigpanic`].
+    /// The address of Go's function [`address_of_sigpanic`].
     sigpanic: Option<u64>,
 }
 
@@ -165,11 +165,11 @@ impl<'a> Tables<'a> {
             None => return Ok(()),
         };
         let module = &self.modules[code.module];
-        let file = key(module);
+        let file = file_key(module);
         let linked = self.target.wrap(address.wrapping_sub(module.bias));
         let problems = &mut self.problems;
         let tables = self.files.entry(file).or_insert_with(|| {
-            let (tables, unread) = read(module);
+            let (tables, unread) = read_frame_sections(module);
             problems.extend(unread.into_iter().map(|problem| (module.path.clone(), problem)));
             tables
         });
@@ -199,9 +199,9 @@ impl<'a> Tables<'a> {
         let begin = wanted.address.saturating_sub(before).max(wanted.code.range.start);
         let end = wanted.address.saturating_add(after).min(wanted.code.range.end);
         let cookie = self.compiled.len() as u64;
-        let added = table.one(piece.fde).map(|one| {
+        let added = table.table_of_one_fde(piece.fde).map(|one| {
             let loaded = one.format.module(&one.bytes, module.bias).cookie(cookie).range(begin..=end - 1);
-            (add(&mut self.process, &one, &loaded, wanted.address), one)
+            (add_fde(&mut self.process, &one, &loaded, wanted.address), one)
         });
         let reason = match added {
             Ok((Ok(()), one)) => {
@@ -221,7 +221,7 @@ impl<'a> Tables<'a> {
 }
 
 /// What tells the file of a module from others.
-pub(super) fn key(module: &Module<'_>) -> FileKey {
+pub(super) fn file_key(module: &Module<'_>) -> FileKey {
     match module.image {
         Image::File(place, _) => (0, place),
         Image::Program(_) => (1, 0),
@@ -230,11 +230,11 @@ pub(super) fn key(module: &Module<'_>) -> FileKey {
 }
 
 /// Reads the frame sections of a module, and says which can't be used.
-fn read<'a>(module: &Module<'a>) -> (FileTables<'a>, Vec<String>) {
+fn read_frame_sections<'a>(module: &Module<'a>) -> (FileTables<'a>, Vec<String>) {
     match Program::read(module.image.bytes()) {
         Ok(program) => {
             let (sections, problems) = SectionTable::all(&program);
-            (FileTables { sections, sigpanic: sigpanic(&program) }, problems)
+            (FileTables { sections, sigpanic: address_of_sigpanic(&program) }, problems)
         }
         Err(error) => (FileTables::default(), vec![error.to_string()]),
     }

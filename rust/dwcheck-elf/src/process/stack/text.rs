@@ -74,7 +74,7 @@ impl<'s, 'a> Stack<'s, 'a> {
         for one in inlined {
             let name = if one.name.is_empty() { "?" } else { &one.name };
             write!(f, "#{} {} {} inlined", number, address, name)?;
-            write_end(f, &module, &one.source)?;
+            write_file_and_line(f, &module, &one.source)?;
             writeln!(f)?;
             functions.pop().map_or(Ok(()), |function| write!(f, "{}", function.lines()))?;
         }
@@ -86,7 +86,7 @@ impl<'s, 'a> Stack<'s, 'a> {
             Some(offset) if offset > 0 => write!(f, "+{:#x}", offset)?,
             _ => {}
         }
-        write_end(f, &module, &source)?;
+        write_file_and_line(f, &module, &source)?;
         if frame.found_by.is_guess() {
             write!(f, " guess: {}", frame.found_by)?;
         }
@@ -111,7 +111,11 @@ impl<'s, 'a> Stack<'s, 'a> {
 }
 
 /// Writes the file and the line of a frame.
-fn write_end(f: &mut fmt::Formatter<'_>, module: &Option<String>, source: &Option<SourceLine>) -> fmt::Result {
+fn write_file_and_line(
+    f: &mut fmt::Formatter<'_>,
+    module: &Option<String>,
+    source: &Option<SourceLine>,
+) -> fmt::Result {
     if let Some(module) = module {
         write!(f, " ({})", module)?;
     }

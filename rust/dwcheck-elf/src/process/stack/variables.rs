@@ -1,4 +1,4 @@
-//! The variables of frames.
+//! The variables of the frames of a stack.
 
 use super::{Frame, Stack, Stacks};
 use crate::cfi::text::Escaped;
@@ -23,16 +23,16 @@ impl<'a> Stacks<'a> {
             None => return Vec::new(),
         };
         let in_file = frames.iter().take(1 + MAX_CALLERS).take_while(|frame| module_of(frame) == Some(place));
-        let mut steps: Vec<_> = in_file.map(step).collect();
+        let mut steps: Vec<_> = in_file.map(step_of_frame).collect();
         if let Some(first) = steps.first_mut().filter(|_| is_innermost) {
             stack.vectors().for_each(|(number, value)| first.registers.set(number, value));
         }
         let pointer = self.core.abi().stack_pointer;
         let blocks = self.blocks(steps.first().and_then(|step| step.registers.get(pointer)).unwrap_or(0));
         let mut opened = self.variables.borrow_mut();
-        let opened = opened.entry(place).or_insert_with(|| self.open(module));
+        let opened = opened.entry(place).or_insert_with(|| self.open_debug_information(module));
         let (target, load) = (self.core.target(), module.bias);
-        let file = Some(self.loaded(module, tables.modules()));
+        let file = Some(self.loaded_debug_information(module, tables.modules()));
         let thread_pointer = stack.thread_pointer();
         let frame = variables::Frame { target, load, steps: &steps, memory: &blocks, file, thread_pointer };
         let variables = match opened {
@@ -49,7 +49,7 @@ impl<'a> Stacks<'a> {
     /// is in a file of its own. `None` if that isn't there, or has no function there.
     pub(super) fn split_functions(&self, place: usize, module: &Module<'a>, address: u64) -> Option<Vec<Called>> {
         let mut opened = self.variables.borrow_mut();
-        let variables = opened.entry(place).or_insert_with(|| self.open(module)).as_ref()?;
+        let variables = opened.entry(place).or_insert_with(|| self.open_debug_information(module)).as_ref()?;
         variables.split_functions(address).map_err(|missing| self.note_missing(module, &missing.0)).ok()?
     }
 
@@ -60,7 +60,7 @@ impl<'a> Stacks<'a> {
     }
 
     /// The debug information of a module. `None` if it has none that can be read.
-    fn open(&self, module: &Module<'a>) -> Option<Variables<'a>> {
+    fn open_debug_information(&self, module: &Module<'a>) -> Option<Variables<'a>> {
         let files = self.files.debug_files();
         let program = Program::read(module.image.bytes()).ok()?;
         let separate = files.find(&module.path, &program).ok().flatten();
@@ -80,7 +80,7 @@ impl<'a> Stacks<'a> {
         Some(variables)
     }
 
-    fn loaded(&self, module: &Module<'a>, modules: &[Module<'a>]) -> Loaded<'a> {
+    fn loaded_debug_information(&self, module: &Module<'a>, modules: &[Module<'a>]) -> Loaded<'a> {
         let has_glibc = modules.iter().any(|module| module.path.ends_with("libc.so.6"));
         let (bytes, bias) = (module.image.bytes(), module.bias);
         Loaded { bytes, bias, is_program: self.core.begins_in(module), has_glibc }
@@ -107,7 +107,7 @@ impl Stack<'_, '_> {
     }
 }
 
-fn step(frame: &Frame) -> Step {
+fn step_of_frame(frame: &Frame) -> Step {
     Step {
         address: frame.address,
         is_after_call: frame.is_after_call,

@@ -5,7 +5,7 @@
 pub fn ends_with_call(code: &[u8; 7]) -> bool {
     let is_indirect = |length: usize| {
         let (code, modrm) = (code[7 - length], code[8 - length]);
-        code == 0xff && modrm >> 3 & 7 == 2 && length_of(modrm) == length
+        code == 0xff && modrm >> 3 & 7 == 2 && indirect_call_length(modrm) == length
     };
     code[2] == 0xe8 || [2, 3, 4, 6, 7].into_iter().any(is_indirect)
 }
@@ -19,7 +19,7 @@ pub(super) fn direct_target(code: &[u8; 7], end: u64) -> Option<u64> {
 }
 
 /// The length of an instruction ff whose ModRM byte is this one.
-fn length_of(modrm: u8) -> usize {
+fn indirect_call_length(modrm: u8) -> usize {
     let sib = usize::from(modrm & 7 == 4 && modrm >> 6 != 3);
     let displacement = match (modrm >> 6, modrm & 7) {
         (0, 5) | (2, _) => 4,

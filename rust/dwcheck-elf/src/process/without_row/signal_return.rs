@@ -42,7 +42,7 @@ const ALL: [SignalReturn; 5] = [
 ];
 
 /// r8 to r15, rdi, rsi, rbp, rbx, rdx, rax, rcx, rsp, rip.
-const X86_64: [Option<u16>; 17] = some([8, 9, 10, 11, 12, 13, 14, 15, 5, 4, 6, 3, 1, 0, 2, 7, 16]);
+const X86_64: [Option<u16>; 17] = all_some([8, 9, 10, 11, 12, 13, 14, 15, 5, 4, 6, 3, 1, 0, 2, 7, 16]);
 
 /// edi, esi, ebp, esp, ebx, edx, ecx, eax, the numbers of the trap and of its error, eip.
 const I386: [Option<u16>; 11] =
@@ -56,10 +56,10 @@ const AARCH64: [Option<u16>; 33] = {
         numbers[number] = number as u16;
         number += 1;
     }
-    some(numbers)
+    all_some(numbers)
 };
 
-const fn some<const N: usize>(numbers: [u16; N]) -> [Option<u16>; N] {
+const fn all_some<const N: usize>(numbers: [u16; N]) -> [Option<u16>; N] {
     let mut all = [None; N];
     let mut index = 0;
     while index < N {
@@ -71,7 +71,7 @@ const fn some<const N: usize>(numbers: [u16; N]) -> [Option<u16>; N] {
 
 /// The address of Go's function `runtime.sigpanic`. Go's signal handler makes it look as if the interrupted code had
 /// called it.
-pub fn sigpanic(program: &Program<'_>) -> Option<u64> {
+pub fn address_of_sigpanic(program: &Program<'_>) -> Option<u64> {
     let functions = program.has_section(".gopclntab").then(|| program.functions());
     functions.and_then(|functions| functions.address_of("runtime.sigpanic").ok())
 }

@@ -8,7 +8,7 @@ pub(super) const LONGEST: usize = 9;
 
 /// How many words a stub has pushed at an address with this code, before which these bytes are. `top` is the word at
 /// the stack pointer, or its low half.
-pub(super) fn pushed(before: &[u8; 7], code: &[u8], top: u32) -> u64 {
+pub(super) fn words_pushed_by_stub(before: &[u8; 7], code: &[u8], top: u32) -> u64 {
     match (before, code) {
         // The number is on the stack.
         ([_, _, 0x68, number @ ..], [0xe9, ..] | [0xf2, 0xe9, ..]) if u32::from_le_bytes(*number) == top => 1,

@@ -87,7 +87,7 @@ impl Opcode {
 const fn one_byte_opcodes() -> [Opcode; 256] {
     let (mut opcodes, mut number) = ([UNREAD; 256], 0);
     while number < 256 {
-        opcodes[number] = one_byte(number as u8);
+        opcodes[number] = one_byte_opcode(number as u8);
         number += 1;
     }
     opcodes
@@ -96,7 +96,7 @@ const fn one_byte_opcodes() -> [Opcode; 256] {
 const fn two_byte_opcodes() -> [Opcode; 256] {
     let (mut opcodes, mut number) = ([UNREAD; 256], 0);
     while number < 256 {
-        opcodes[number] = two_bytes(number as u8);
+        opcodes[number] = two_byte_opcode(number as u8);
         number += 1;
     }
     opcodes
@@ -105,16 +105,16 @@ const fn two_byte_opcodes() -> [Opcode; 256] {
 const fn vector_opcodes(prefix: u8) -> [Opcode; 256] {
     let (mut opcodes, mut number) = ([UNREAD; 256], 0);
     while number < 256 {
-        opcodes[number] = vector(prefix, number as u8);
+        opcodes[number] = vector_opcode(prefix, number as u8);
         number += 1;
     }
     opcodes
 }
 
-const fn one_byte(number: u8) -> Opcode {
+const fn one_byte_opcode(number: u8) -> Opcode {
     use Mnemonic::*;
     match number {
-        0x00..=0x3f => sum(number),
+        0x00..=0x3f => sum_opcode(number),
         0x50..=0x57 => Opcode::of(Shape::InOpcode, Push).bytes(8),
         0x58..=0x5f => Opcode::of(Shape::InOpcode, Pop).bytes(8),
         0x63 => Opcode::of(Shape::ToRegister, Movsxd).written(),
@@ -149,7 +149,7 @@ const fn one_byte(number: u8) -> Opcode {
 }
 
 /// Sums and the like: six opcodes of each, of which four have two operands of one byte or more, in both orders.
-const fn sum(number: u8) -> Opcode {
+const fn sum_opcode(number: u8) -> Opcode {
     let mnemonic = SUMS[(number >> 3) as usize];
     let opcode = match number & 7 {
         0 => Opcode::of(Shape::ToEither, mnemonic).bytes(1),
@@ -167,7 +167,7 @@ const fn sum(number: u8) -> Opcode {
 }
 
 /// What a ModRM byte with this number says of an opcode. `None` if it isn't read here.
-pub(super) fn of_group(number: u8, field: u8, opcode: Opcode) -> Option<Opcode> {
+pub(super) fn opcode_of_group(number: u8, field: u8, opcode: Opcode) -> Option<Opcode> {
     use Mnemonic::*;
     let (mnemonic, is_written) = match (number, field) {
         (0x80..=0x83, _) => (SUMS[usize::from(field & 7)], field != 7),
@@ -190,7 +190,7 @@ pub(super) fn of_group(number: u8, field: u8, opcode: Opcode) -> Option<Opcode> 
     Some(Opcode { mnemonic, is_written, ..opcode })
 }
 
-const fn two_bytes(number: u8) -> Opcode {
+const fn two_byte_opcode(number: u8) -> Opcode {
     use Mnemonic::*;
     match number {
         0x05 => Opcode::of(Shape::Nothing, System),
@@ -205,7 +205,7 @@ const fn two_bytes(number: u8) -> Opcode {
     }
 }
 
-const fn vector(prefix: u8, number: u8) -> Opcode {
+const fn vector_opcode(prefix: u8, number: u8) -> Opcode {
     let to_vector = Opcode::of(Shape::ToVector, Mnemonic::Other);
     let store = Opcode::of(Shape::VectorToEither, Mnemonic::Other);
     match (prefix, number) {

@@ -1,4 +1,4 @@
-//! Large integers, as far as writing numbers with a fraction needs them.
+//! Large integers, as far as writing numbers with a fraction needs them: shifted, times, plus, minus, their digits.
 
 use std::cmp::Ordering;
 

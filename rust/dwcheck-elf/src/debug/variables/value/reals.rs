@@ -1,7 +1,7 @@
 //! Writes numbers with a fraction for which Rust has no type: those of x87, and those of 128 bits.
 
 use super::large::Large;
-use super::numbers::unsigned;
+use super::numbers::unsigned_number;
 use object::elf;
 use std::cmp::Ordering;
 
@@ -59,8 +59,8 @@ impl Format {
     /// if it isn't one.
     pub fn text(self, bytes: &[u8]) -> Option<String> {
         let (is_negative, real) = match self {
-            Format::X87 => x87(bytes)?,
-            Format::Quad => quad(bytes)?,
+            Format::X87 => x87_real(bytes)?,
+            Format::Quad => quad_real(bytes)?,
         };
         let text = match real {
             Real::Finite(Finite { mantissa: 0, .. }) => "0".to_string(),
@@ -74,13 +74,13 @@ impl Format {
 
 /// The sign, and the exponent with its bias, which two bytes hold.
 fn sign_and_exponent(bytes: &[u8]) -> (bool, u16) {
-    let both = unsigned(bytes) as u16;
+    let both = unsigned_number(bytes) as u16;
     (both >> 15 == 1, both & HIGHEST)
 }
 
 /// A number of x87. `None` if it is one that processors refuse: its first bit isn't the one before the point.
-fn x87(bytes: &[u8]) -> Option<(bool, Real)> {
-    let mantissa = unsigned(bytes.get(..8)?);
+fn x87_real(bytes: &[u8]) -> Option<(bool, Real)> {
+    let mantissa = unsigned_number(bytes.get(..8)?);
     let (is_negative, exponent) = sign_and_exponent(bytes.get(8..10)?);
     let has_first = mantissa >> 63 == 1;
     let real = match exponent {
@@ -96,8 +96,8 @@ fn x87(bytes: &[u8]) -> Option<(bool, Real)> {
 }
 
 /// A number of 128 bits.
-fn quad(bytes: &[u8]) -> Option<(bool, Real)> {
-    let fraction = unsigned(bytes.get(..14)?);
+fn quad_real(bytes: &[u8]) -> Option<(bool, Real)> {
+    let fraction = unsigned_number(bytes.get(..14)?);
     let (is_negative, exponent) = sign_and_exponent(bytes.get(14..16)?);
     let real = match exponent {
         HIGHEST if fraction == 0 => Real::Infinite,
