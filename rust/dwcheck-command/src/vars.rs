@@ -4,6 +4,7 @@
 use crate::arguments::VarsArguments;
 use crate::end::{shown, Done, Failure};
 use crate::opened::{address, note, number_argument, program, read, Opened};
+use crate::stack::search;
 use crate::walks::state_file;
 use dwcheck::{Block, Process, State};
 use dwcheck_elf::abi::abi;
@@ -49,7 +50,8 @@ pub fn vars(arguments: &VarsArguments, out: &mut impl Write) -> Result<Done, Fai
 fn of_core(arguments: &VarsArguments, path: &Path, shape: Shape) -> Result<Vec<Function>, Failure> {
     let bytes = read(path)?;
     let core = CoreFile::read(&bytes).map_err(|error| Failure::File(format!("{}: {}", shown(path), error)))?;
-    of_frame(arguments, &core, &Files::read(&core, &arguments.root), shape)
+    core.problems().iter().for_each(|problem| note(path, problem));
+    of_frame(arguments, &core, &Files::read_with(&core, &search(&arguments.root, &arguments.path)?), shape)
 }
 
 /// The process goes on once the thread's registers and the memory are copied.

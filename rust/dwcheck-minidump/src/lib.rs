@@ -81,8 +81,14 @@ pub struct Minidump<'data> {
 }
 
 impl<'data> Minidump<'data> {
-    /// The first bytes of a minidump.
+    /// The first bytes of a minidump that is read.
     pub const MAGIC: &'static [u8] = b"MDMP";
+
+    /// Whether a file begins as a minidump, of either byte order.
+    pub fn is_one(data: &[u8]) -> bool {
+        let magic = data.get(..Minidump::MAGIC.len()).unwrap_or(&[]);
+        magic == Minidump::MAGIC || magic.iter().rev().eq(Minidump::MAGIC)
+    }
 
     /// Reads a minidump. Takes time and memory in proportion to the size of the file.
     ///

@@ -218,8 +218,11 @@ impl fmt::Display for Problem {
                 write!(f, "{}: the part at offset {:#x} isn't whole, or overlaps others", kind, offset)
             }
             Problem::Parts(kind, count, offset) => {
-                let first = format_args!("the first at offset {:#x}", offset);
-                write!(f, "{}: {} parts, {}, aren't whole, or overlap others", kind, count, first)
+                write!(
+                    f,
+                    "{}: {} parts aren't whole, or overlap others, the first at offset {:#x}",
+                    kind, count, offset
+                )
             }
             Problem::Contexts(1, thread) => write!(f, "thread {}: its registers can't be read", thread),
             Problem::Contexts(count, thread) => {

@@ -1,6 +1,7 @@
 //! The list of the modules of a process, by which frames can be named on another machine.
 
 use super::json::hex as address;
+use super::lost::Lost;
 use super::per_file::PerFile;
 use super::Stacks;
 use crate::cfi::text::{Address, Escaped};
@@ -43,13 +44,25 @@ impl Stacks<'_> {
             bias: Some(module.bias),
             target: self.core.target(),
         });
-        let mut listed: Vec<_> = modules.chain(self.lost()).collect();
+        let mut listed: Vec<_> = modules.chain(self.lost_files()).chain(self.lost_modules()).collect();
         listed.sort_by_key(|module| module.begin);
         listed
     }
 
+    /// The modules of a minidump whose files aren't known.
+    fn lost_modules(&self) -> impl Iterator<Item = Listed> + '_ {
+        self.lost.iter().map(|Lost { name, build_id, begin, end }| Listed {
+            path: name.clone(),
+            build_id: build_id.clone(),
+            begin: *begin,
+            end: *end,
+            bias: None,
+            target: self.core.target(),
+        })
+    }
+
     /// The files with code that can't be used.
-    fn lost(&self) -> Vec<Listed> {
+    fn lost_files(&self) -> Vec<Listed> {
         let mut places: HashMap<&[u8], (u64, u64)> = HashMap::new();
         for Mapping { begin, end, path, .. } in self.core.mappings() {
             let place = places.entry(path).or_insert((*begin, *end));
