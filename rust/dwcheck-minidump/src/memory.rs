@@ -8,6 +8,9 @@ use dwcheck_types::cursor::ReadError;
 /// The size of an entry of both lists.
 const ENTRY: usize = 16;
 
+/// The most ranges that are kept: twice as many as Linux lets a process map (`vm.max_map_count`).
+const MOST_RANGES: usize = 1 << 17;
+
 /// A range of memory.
 #[derive(Clone, Copy, Debug, PartialEq, Eq)]
 pub struct Range<'data> {
@@ -41,6 +44,19 @@ impl<'data> Range<'data> {
     }
 }
 
+/// Adds a range, unless there are too many.
+pub(crate) fn add<'data>(
+    ranges: &mut Vec<Range<'data>>,
+    kind: StreamKind,
+    range: Range<'data>,
+    problems: &mut Problems,
+) {
+    match ranges.len() < MOST_RANGES {
+        true => ranges.push(range),
+        false => problems.add(Problem::Most(kind, MOST_RANGES)),
+    }
+}
+
 /// Adds the ranges of both lists.
 pub(crate) fn add_ranges<'data>(
     file: File<'data>,
@@ -54,7 +70,8 @@ pub(crate) fn add_ranges<'data>(
             problems.add(Problem::Count(StreamKind::Memory));
         }
         for (address, place) in listed.filter_map(|entry| entry_of(entry).ok()) {
-            ranges.push(Range::of(file, StreamKind::Memory, address, place, problems));
+            let range = Range::of(file, StreamKind::Memory, address, place, problems);
+            add(ranges, StreamKind::Memory, range, problems);
         }
     }
     if let Some(bytes) = directory.bytes(file, StreamKind::Memory64) {
@@ -81,7 +98,8 @@ fn add_ranges_64<'data>(
     let (count, mut offset) = (list.number(8)?, list.number(8)?);
     for _ in 0..count {
         let (address, size) = (list.number(8)?, list.number(8)?);
-        ranges.push(Range::of(file, StreamKind::Memory64, address, Location { offset, size }, problems));
+        let range = Range::of(file, StreamKind::Memory64, address, Location { offset, size }, problems);
+        add(ranges, StreamKind::Memory64, range, problems);
         offset = offset.saturating_add(size);
     }
     Ok(())

@@ -85,7 +85,8 @@ pub enum Problem {
     Cut(StreamKind),
     /// A list says that it has more entries than it has bytes for.
     Count(StreamKind),
-    /// A list has more than this many entries, and the others aren't read.
+    /// A list has more than this many entries, or more than all lists of memory together may have, and the others aren't
+    /// read.
     Most(StreamKind, usize),
     /// This many parts to which a stream refers aren't in the file as a whole, or overlap others. The first of them is
     /// at this offset.

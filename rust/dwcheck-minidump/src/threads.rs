@@ -5,7 +5,7 @@ use crate::context::registers;
 use crate::directory::Directory;
 use crate::exception::Exception;
 use crate::file::{entries, fields, location, File, Location};
-use crate::memory::Range;
+use crate::memory::{self, Range};
 use crate::problem::{MinidumpError, Problem, Problems, StreamKind};
 use crate::system::Machine;
 use dwcheck_types::cursor::ReadError;
@@ -80,7 +80,8 @@ pub(crate) fn threads<'data>(
         }
         threads.push(Thread { id, name: None, registers, pointer });
         if place.size > 0 {
-            stacks.push(Range::of(file, StreamKind::Threads, address, place, problems));
+            let range = Range::of(file, StreamKind::Threads, address, place, problems);
+            memory::add(&mut stacks, StreamKind::Threads, range, problems);
         }
     }
     Ok((threads, stacks))

@@ -8,6 +8,7 @@ use crate::elf::mapped::Bytes;
 use crate::elf::program::Program;
 use dwcheck_minidump::BuildId;
 use dwcheck_types::target::Target;
+use object::read::{Object, ObjectSection};
 use once_cell::unsync::OnceCell;
 use std::collections::HashMap;
 use std::ffi::{OsStr, OsString};
@@ -170,10 +171,11 @@ impl Wanted<'_> {
             Some(wanted) => wanted,
             None => return Some(Ok(())),
         };
-        Some(match found {
-            Some(found) if wanted.is_of(found) => Ok(()),
-            _ => Err(found.map(<[u8]>::to_vec)),
-        })
+        let is_same = match found {
+            Some(found) => wanted.is_of(found),
+            None => id_of_code(bytes).map_or(false, |id| wanted.is_of(&id)),
+        };
+        Some(if is_same { Ok(()) } else { Err(found.map(<[u8]>::to_vec)) })
     }
 
     /// The path of the file in a folder of build ids, such as `ab/cdef`.
@@ -185,6 +187,19 @@ impl Wanted<'_> {
         let (first, rest) = (digits.get(..2)?, digits.get(2..).filter(|rest| !rest.is_empty())?);
         Some(Path::new(first).join(rest))
     }
+}
+
+/// The id that Breakpad gives to a file without a build id (`HashElfTextSection` of its `file_id.cc`): the beginning of
+/// `.text`, of which each 16 bytes are taken together by exclusive or.
+fn id_of_code(bytes: &[u8]) -> Option<[u8; 16]> {
+    const TAKEN: usize = 4096;
+    let file = object::File::parse(bytes).ok()?;
+    let code = file.section_by_name(".text")?.data().ok()?;
+    let mut id = [0; 16];
+    for part in code.get(..TAKEN).unwrap_or(code).chunks(id.len()) {
+        id.iter_mut().zip(part).for_each(|(byte, one)| *byte ^= one);
+    }
+    Some(id)
 }
 
 impl Tree {
