@@ -44,16 +44,18 @@ int main(int count, char **words) {
 def threads(text, is_lldb):
     """The addresses of the frames of each thread: by its number or id, in the order in which they are shown."""
     found, frames = [], None
+    # LLDB shows the function into which another one is inlined as a frame of its own, after that one.
+    is_outer = False
     for line in text.splitlines():
         if re.match(r"[* ] thread #" if is_lldb else r"thread \d+", line):
             frames = []
             found.append(frames)
         shown = re.match(r"[* ]+frame #\d+: (0x[0-9a-f]+)", line) if is_lldb else re.match(r"#\d+ (0x[0-9a-f]+)", line)
-        if shown and frames is not None and (is_lldb or " inlined" not in line):
-            address = int(shown[1], 16)
-            # LLDB shows inlined functions as frames with the same address.
-            if not (is_lldb and frames and frames[-1] == address):
-                frames.append(address)
+        if shown and frames is not None:
+            is_counted = not is_outer if is_lldb else " inlined" not in line
+            is_outer = is_lldb and " [inlined] " in line
+            if is_counted:
+                frames.append(int(shown[1], 16))
     return found
 
 
