@@ -46,7 +46,7 @@ fn by_lldb(name: &str) -> Vec<(u64, String)> {
     let frame = |line: &str| {
         let (_, rest) = line.split_once(": 0x")?;
         let (address, rest) = rest.split_once(' ').unwrap_or((rest, ""));
-        let function = rest.split_once('`').map_or("", |(_, name)| name.split(['(', ' ']).next().unwrap());
+        let function = rest.split_once('`').map_or("", |(_, name)| name.split(&['(', ' '][..]).next().unwrap());
         Some((u64::from_str_radix(address, 16).ok()?, function.to_string()))
     };
     shown.lines().filter(|line| line.contains("frame #")).map(|line| frame(line).unwrap()).collect()

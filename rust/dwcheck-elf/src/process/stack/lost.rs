@@ -59,7 +59,9 @@ impl Stacks<'_> {
     pub fn without_stack(&self) -> Option<String> {
         let thread = self.core.threads().first().filter(|_| self.core.is_minidump())?;
         let pointer = thread.register(self.core.abi().stack_pointer)?;
-        self.memory.from(pointer).map_or(Some(()), |_| None)?;
+        if self.memory.from(pointer).is_some() {
+            return None;
+        }
         let signal = self.core.signal().filter(|signal| signal.is_fault() && signal.is_of_memory());
         let touched = signal.and_then(|signal| signal.fault_address());
         let is_near = touched.map_or(false, |touched| touched.wrapping_add(NEAR).wrapping_sub(pointer) < 2 * NEAR);
