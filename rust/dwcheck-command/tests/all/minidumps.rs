@@ -106,7 +106,13 @@ fn variables_and_lines_of_a_minidump() {
     let folder = unpacked("minidumps-vars");
     let ran = dwcheck_elf(&folder, "vars --core x86-64-crashpad-null --path . --frame 1");
     assert_eq!((ran.status, ran.error.as_str()), (0, ""));
-    assert!(ran.out.contains("null_call") && ran.out.contains("n = 3") && ran.out.contains("kept = 3"), "{}", ran.out);
+    assert!(
+        ran.out.contains("null_call")
+            && ran.out.contains("param n: int = 3")
+            && ran.out.contains("kept: volatile int = 3"),
+        "{}",
+        ran.out
+    );
     let ran = dwcheck_elf(&folder, "stack --path . x86-64-crashpad-null");
     assert!(ran.out.contains(" null_call+0x") && ran.out.contains("crashes.c:"), "{}", ran.out);
 }
@@ -197,9 +203,11 @@ fn threads(out: &str) -> Vec<String> {
     threads
 }
 
-/// Compares the frames of the core file `core` with those of its minidumps.
-fn compare(folder: &Folder, words: &str, program: Option<&str>) {
-    let of_core = dwcheck_elf(folder, &format!("stack --no-source {} core", words));
+/// Compares the frames of the core file `core` with those of its minidumps. `program` is needed if the core file names no
+/// files.
+fn compare(folder: &Folder, program: Option<&str>) {
+    let given = program.map_or_else(String::new, |program| format!("{} ", program));
+    let of_core = dwcheck_elf(folder, &format!("stack --no-source {}core", given));
     assert_eq!((of_core.status, of_core.error.as_str()), (0, ""), "{}", of_core.out);
     assert!(frames(&of_core.out).len() > 4, "{}", of_core.out);
     let bytes = folder.bytes("core");
@@ -224,7 +232,7 @@ fn the_same_crash_as_core_file_and_as_minidump_has_the_same_frames() {
     folder.write("a.c", PROGRAM);
     folder.run("gcc -O1 -pthread a.c -o program");
     folder.make_core("./program");
-    compare(&folder, "", None);
+    compare(&folder, None);
 }
 
 #[test]
@@ -233,14 +241,15 @@ fn the_same_crash_of_i386_and_aarch64() {
     if !["aarch64-linux-gnu-gcc", "qemu-aarch64", "gdb"].iter().all(|tool| has(tool)) {
         return;
     }
-    folder.write("a.c", PROGRAM);
+    // qemu calls handlers from code that is in no file, and that Crashpad's minidumps wouldn't list.
+    folder.write("a.c", PROGRAM.replace("raise(SIGUSR1) + ", ""));
     folder.run("aarch64-linux-gnu-gcc -O1 -static -Wl,--build-id=sha1 a.c -o program");
     folder.run("ulimit -c unlimited; qemu-aarch64 ./program 1 2> /dev/null || mv qemu_program_*.core core");
-    compare(&folder, "program", Some("program"));
+    compare(&folder, Some("program"));
     folder.run("rm core program; gcc -m32 -O1 a.c -o program 2> /dev/null || true");
     if folder.file("program").exists() {
         folder.make_core("./program 1");
-        compare(&folder, "", None);
+        compare(&folder, None);
     }
 }
 
