@@ -1,19 +1,20 @@
 #!/usr/bin/env python3
-"""Runs dwcheck-elf on ELF files, core files and recordings of perf whose bytes were changed at random.
+"""Runs dwcheck-elf on ELF files, core files, minidumps and recordings of perf whose bytes were changed at random.
 
-    bench/elf/damage.py DWCHECK_ELF COUNT SEED [--jobs N] [--kinds elf,core,program,recording]
+    bench/elf/damage.py DWCHECK_ELF COUNT SEED [--jobs N] [--kinds elf,core,program,minidump,recording]
 
 gcc makes a few ELF files, and gdb core files. From these, COUNT files of each kind are made: bytes
 are changed in headers, in sections and anywhere, and some files are cut short. `survey` is run on
 folders of 250 ELF files, and `check`, `rows`, `row`, `locs` and `vars` on every 50th file. `stack` is
 run on each core file, and, for the kind `program`, with `--vars` on a core file that isn't changed with
-its program, which is: its tables, symbols, debug information and .gnu_debugdata. `profile` is run on
-each recording, which is one of rust/dwcheck-command/tests/recordings, with each format in turn. Each run must end within 60
+its program, which is: its tables, symbols, debug information and .gnu_debugdata. `stack` is run on each
+minidump, one of rust/dwcheck-command/tests/minidumps, and `vars` on every 50th. `profile` is run on each recording, which is one of rust/dwcheck-command/tests/recordings, with each format in turn. Each run must end within 60
 seconds, in 1 GB of address space, with an exit status that dwcheck-elf documents, and without a
 panic. A survey must write a line of JSON for each different file that still begins as an ELF file
 does, and one line of totals. This needs gcc, clang, gdb, binutils and xz.
 """
 import argparse
+import gzip
 import json
 import os
 import random
@@ -45,6 +46,7 @@ int main(int argc, char **argv) { return mixed(argc, argc) + deep(argc + 3); }
 """
 IN_A_FOLDER = 250
 RECORDINGS = os.path.join(os.path.dirname(os.path.abspath(__file__)), "../../rust/dwcheck-command/tests/recordings")
+MINIDUMPS = os.path.join(RECORDINGS, "../minidumps")
 FORMATS = ["script", "folded", "html", "speedscope", "pprof", "top"]
 # How many bytes of address space a run may take.
 MEMORY = 1 << 30
@@ -98,7 +100,18 @@ def made(folder):
         if name.endswith(".perf"):
             with open(os.path.join(RECORDINGS, name), "rb") as file:
                 recordings[name] = file.read()
-    return {"elf": elf, "core": core, "program": program, "recording": recordings}
+    minidumps = {}
+    for name in sorted(os.listdir(MINIDUMPS)):
+        if name.endswith(".gz"):
+            with gzip.open(os.path.join(MINIDUMPS, name)) as file:
+                unpacked = file.read()
+            if unpacked[:4] == b"MDMP":
+                minidumps[name[:-3]] = unpacked
+            else:
+                # The program, by its name in the minidumps.
+                with open(os.path.join(folder, name[:-3]), "wb") as file:
+                    file.write(unpacked)
+    return {"elf": elf, "core": core, "program": program, "recording": recordings, "minidump": minidumps}
 
 
 def sections(bytes_of_file):
@@ -195,6 +208,41 @@ def core_files(program, core, work, seed, count):
     return came, problems
 
 
+def streams(dump):
+    """The ranges of a minidump's bytes that are changed most often: the header, the directory, and the beginning of each
+    stream, with the contexts and names between them."""
+    count, offset = (int.from_bytes(dump[at:at + 4], "little") for at in (8, 12))
+    found = [(0, 32), (offset, offset + 12 * count), (0, 4096)]
+    for entry in range(offset, offset + 12 * count, 12):
+        size, begin = (int.from_bytes(dump[entry + at:entry + at + 4], "little") for at in (4, 8))
+        found.append((begin, begin + min(size, 512)))
+    return [(begin, end) for begin, end in found if begin < end]
+
+
+def minidumps(program, originals, work, seed, count):
+    """Runs dwcheck-elf on `count` changed minidumps, one after another. Returns the same as elf_files()."""
+    numbers = random.Random(seed)
+    ranges = {name: streams(original) for name, original in originals.items()}
+    problems, came = [], Counter()
+    path = os.path.join(work, f"minidump-{seed}")
+    for number in range(count):
+        name = numbers.choice(sorted(originals))
+        with open(path, "wb") as file:
+            file.write(changed(numbers, originals[name], ranges[name]))
+        ways = [["--limit", "100"], ["--json", "--limit", "100"], ["--scan", "--modules", "--registers", "--limit", "100"]]
+        runs = [["stack", "--path", ".", *ways[number % 3], path]]
+        if number % 50 == 0:
+            runs.append(["vars", "--path", ".", "--core", path])
+        for words in runs:
+            ran, wrong = run([program, *words], work, (0, 3) if words[0] == "stack" else (0, 2, 3))
+            if wrong:
+                problems.append(f"seed {seed}: minidump {number}: {wrong}")
+                shutil.copy(path, f"{path}-{number}")
+            came[f"{words[0]}: status {ran.returncode}" if ran else "no end"] += 1
+    os.remove(path)
+    return came, problems
+
+
 def programs(program, original, work, seed, count):
     """Runs dwcheck-elf on a core file with `count` changed programs, one after another. Returns the same
     as elf_files()."""
@@ -240,13 +288,13 @@ def main():
     words.add_argument("count", type=int)
     words.add_argument("seed", type=int)
     words.add_argument("--jobs", type=int, default=1)
-    words.add_argument("--kinds", default="elf,core,program,recording")
+    words.add_argument("--kinds", default="elf,core,program,minidump,recording")
     words = words.parse_args()
     program = os.path.abspath(words.program)
     work = tempfile.mkdtemp()
     originals = made(work)
     problems = []
-    tasks_of = {"elf": elf_files, "core": core_files, "program": programs, "recording": recording_files}
+    tasks_of = {"elf": elf_files, "core": core_files, "program": programs, "minidump": minidumps, "recording": recording_files}
     for kind in words.kinds.split(","):
         task, given = tasks_of[kind], originals[kind]
         starts = range(0, words.count, IN_A_FOLDER)

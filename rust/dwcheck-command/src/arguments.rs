@@ -183,11 +183,12 @@ pub struct LocsArguments {
 
 #[derive(Args, Debug)]
 pub struct StackArguments {
-    /// A core file of x86-64, i386 or aarch64; before it, the program, if it isn't where the core file says
+    /// A core file or a minidump of x86-64, i386 or aarch64; before it, the program, if it isn't where the core file
+    /// says
     #[arg(value_name = "[PROGRAM] CORE", num_args = 1..=2, required_unless_present = "pid")]
     pub files: Vec<PathBuf>,
     /// Print the stacks of this process, which goes on as soon as they are copied
-    #[arg(long, value_name = "PID", conflicts_with_all = ["files", "root"])]
+    #[arg(long, value_name = "PID", conflicts_with_all = ["files", "root", "path"])]
     pub pid: Option<u32>,
     /// Only the thread with this id. Can be given several times
     #[arg(long, value_name = "TID")]
@@ -196,12 +197,20 @@ pub struct StackArguments {
     /// another machine's files
     #[arg(long, value_name = "FOLDER", default_value = "/")]
     pub root: PathBuf,
+    /// Look for the programs and libraries of the core file or minidump in this folder and those below it too, by name
+    /// and build id. Can be given several times
+    #[arg(long, value_name = "FOLDER")]
+    pub path: Vec<PathBuf>,
     /// Print at most this many frames of each thread
     #[arg(long, value_name = "N", default_value_t = 10_000)]
     pub limit: usize,
     /// Leave out frames that are guesses: those that no row of an unwind table gives
     #[arg(long)]
     pub strict: bool,
+    /// Where nothing else finds a caller, take the first word of the stack that may be a return address. Such frames
+    /// are guesses, and may be those of calls that have ended
+    #[arg(long, conflicts_with = "strict")]
+    pub scan: bool,
     /// Leave out inlined functions
     #[arg(long)]
     pub no_inline: bool,
@@ -244,7 +253,7 @@ pub struct VarsArguments {
     /// Where the program is loaded. An address that is a number is as loaded
     #[arg(long, value_name = "ADDRESS", default_value = "0x0")]
     pub load: String,
-    /// A core file of x86-64, i386 or aarch64, instead of a program
+    /// A core file or a minidump of x86-64, i386 or aarch64, instead of a program
     #[arg(long, value_name = "CORE", conflicts_with = "program")]
     pub core: Option<PathBuf>,
     /// A process of x86-64, i386 or aarch64 that runs, instead of a program
@@ -259,6 +268,10 @@ pub struct VarsArguments {
     /// The folder in which the paths of the core file are looked up
     #[arg(long, value_name = "FOLDER", default_value = "/")]
     pub root: PathBuf,
+    /// Look for the programs and libraries of the core file or minidump in this folder and those below it too, by name
+    /// and build id. Can be given several times
+    #[arg(long, value_name = "FOLDER", conflicts_with_all = ["program", "pid"])]
+    pub path: Vec<PathBuf>,
     /// Follow structures and arrays this deep, at most 64. What is deeper is {..}
     #[arg(long, value_name = "N", default_value_t = 1)]
     pub depth: usize,

@@ -5,7 +5,7 @@ mod threads;
 use crate::arguments::StackArguments;
 use crate::end::{shown_path, Done, Failure};
 use crate::opened::open_elf;
-use dwcheck_elf::core_file::{CoreError, CoreFile, Files, MappedFile};
+use dwcheck_elf::core_file::{CoreError, CoreFile, Files, MappedFile, Search};
 use dwcheck_elf::live::Snapshot;
 use dwcheck_elf::mapped::Bytes;
 use dwcheck_elf::stack::{NameOptions, Stacks};
@@ -43,10 +43,10 @@ fn stack_of_core(
 ) -> Result<Done, Failure> {
     let bytes = open_elf(path)?;
     let core = CoreFile::read(&bytes).map_err(|error| unread_core(path, &error))?;
-    let mut files = Files::read(&core, &arguments.root);
+    let mut files = Files::read_with(&core, &search_in(&arguments.root, &arguments.path)?);
     let opened = match program {
         Some(program) => Some(open_program(program)?),
-        None if core.mappings().is_empty() => {
+        None if !core.names_files() => {
             core.program_name().and_then(|name| open_program(Path::new(OsStr::from_bytes(name))).ok())
         }
         None => None,
@@ -61,7 +61,7 @@ fn stack_of_core(
         Some(opened) if !is_used && !has_program(&stacks, &opened.path, &arguments.root) => {
             warnings.push(other_program_warning(program.unwrap_or(&opened.path), files.program(&core)));
         }
-        None if core.mappings().is_empty() => {
+        None if !core.names_files() => {
             warnings.push(format!("{} names no files: give its program, as in PROGRAM CORE", shown_path(path)));
         }
         _ => {}
@@ -69,6 +69,8 @@ fn stack_of_core(
     if core.is_cut() {
         warnings.push(format!("{} ends before the memory that it should hold", shown_path(path)));
     }
+    warnings.extend(core.problems().iter().map(|problem| format!("{}: {}", shown_path(path), problem)));
+    warnings.extend(stacks.without_stack().map(|without| format!("{}: {}", shown_path(path), without)));
     print_stacks(arguments, &core, (&mut stacks, None), warnings, out)
 }
 
@@ -117,6 +119,19 @@ fn open_program(program: &Path) -> Result<OpenedProgram, Failure> {
     let path = program.canonicalize();
     let path = path.map_err(|error| Failure::reading(program, &error))?;
     Ok(OpenedProgram { bytes: open_elf(&path)?, path })
+}
+
+/// Where the files of a process are looked for: in the folder that stands for `/`, and in given folders.
+pub fn search_in(root: &Path, folders: &[PathBuf]) -> Result<Search, Failure> {
+    let whole = |folder: &PathBuf| match folder.canonicalize() {
+        Ok(whole) if whole.is_dir() => Ok(whole),
+        Ok(_) => {
+            Err(Failure::Argument(format!("bad argument: --path is {}, which isn't a folder", shown_path(folder))))
+        }
+        Err(error) => Err(Failure::reading(folder, &error)),
+    };
+    let folders = folders.iter().map(whole).collect::<Result<_, _>>()?;
+    Ok(Search { root: root.to_path_buf(), folders })
 }
 
 /// The failure for a core file that can't be read.

@@ -2,7 +2,7 @@
 
 use crate::arguments::StackArguments;
 use crate::end::Failure;
-use dwcheck_elf::core_file::{CoreFile, Signal, Thread};
+use dwcheck_elf::core_file::{Annotation, CoreFile, Signal, Thread};
 use dwcheck_elf::stack::{Instruction, Listed, Stack, Stacks, Stop, WalkOptions};
 use dwcheck_elf::text::{Address, Escaped};
 use serde_json::{json, Value};
@@ -72,6 +72,7 @@ impl<'r, 'a> Report<'r, 'a> {
         let options = WalkOptions {
             limit: self.arguments.limit,
             is_strict: self.arguments.strict,
+            scans: self.arguments.scan,
             keeps_registers: self.arguments.registers || self.arguments.vars,
             outermost: if self.overflowed == Some(thread.id) { OUTERMOST } else { 0 },
         };
@@ -125,6 +126,9 @@ impl<'r, 'a> Report<'r, 'a> {
         if let Some(message) = self.stacks.abort_message() {
             writeln!(out, "abort message: {}", Escaped(&message))?;
         }
+        for Annotation { name, value } in self.core.annotations() {
+            writeln!(out, "annotation {}: {}", Escaped(name), Escaped(value))?;
+        }
         self.stacks.instruction().map_or(Ok(()), |instruction| self.write_instruction(out, &instruction))
     }
 
@@ -140,8 +144,15 @@ impl<'r, 'a> Report<'r, 'a> {
         write!(out, "\"signal\":{},", Value::from(signal))?;
         write!(out, "\"stack_overflow\":{},", self.overflowed.is_some())?;
         write!(out, "\"abort_message\":{},", Value::from(self.stacks.abort_message()))?;
+        write!(out, "\"annotations\":{},", self.json_annotations())?;
         let instruction = self.stacks.instruction().map(json_instruction);
         write!(out, "\"instruction\":{},\"threads\":[", Value::from(instruction))
+    }
+
+    /// What the program told Crashpad about itself. `null` for core files and processes.
+    fn json_annotations(&self) -> Value {
+        let annotations = self.core.annotations().iter().map(|one| json!({ "name": one.name, "value": one.value }));
+        Some(annotations.collect::<Vec<_>>()).filter(|_| self.core.is_minidump()).into()
     }
 
     fn write_instruction(&self, out: &mut impl Write, instruction: &Instruction) -> io::Result<()> {

@@ -2,7 +2,8 @@
 //! never end the process.
 
 use crate::common::{has, Folder, C, CXX};
-use dwcheck_elf::core_file::{CoreFile, Files};
+use crate::minidumps::{unpacked, KEPT};
+use dwcheck_elf::core_file::{CoreFile, Files, Search};
 use dwcheck_elf::frames::{FrameSection, Frames, Name};
 use dwcheck_elf::inspect::{inspect, Check, Inspected, Verdict};
 use dwcheck_elf::mapped::Bytes;
@@ -12,7 +13,7 @@ use dwcheck_elf::stack::{Stacks, WalkOptions};
 use dwcheck_elf::validate::{validate_rows, What};
 use dwcheck_profile::script::{self, ScriptOptions};
 use dwcheck_profile::{firefox, folded, html, pprof, speedscope, top, Names, Profile, Recording, SearchPaths};
-use std::path::Path;
+use std::path::{Path, PathBuf};
 
 /// Pseudorandom numbers, the same in each run (xorshift).
 struct Numbers(u64);
@@ -93,8 +94,9 @@ fn told(section: &Inspected<'_>) {
     }
 }
 
-/// Reads everything that a core file has. Returns false if it can't be read.
-fn core(bytes: &[u8]) -> bool {
+/// Reads everything that a core file or a minidump has, whose files are at their paths or in these folders. Returns false
+/// if it can't be read.
+fn core(bytes: &[u8], folders: &[PathBuf]) -> bool {
     let core = match CoreFile::read(bytes) {
         Ok(core) => core,
         Err(error) => {
@@ -102,7 +104,7 @@ fn core(bytes: &[u8]) -> bool {
             return false;
         }
     };
-    let files = Files::read(&core, Path::new("/"));
+    let files = Files::read_with(&core, &Search { root: PathBuf::from("/"), folders: folders.to_vec() });
     let memory = core.memory(&files);
     let blocks: Vec<_> = memory.blocks().collect();
     assert!(blocks.windows(2).all(|pair| pair[0].end() <= pair[1].address));
@@ -113,7 +115,9 @@ fn core(bytes: &[u8]) -> bool {
     assert!(core.modules(&files).iter().all(|module| module.begin <= module.end));
     let stacks = Stacks::of(&core, &files);
     for thread in core.threads() {
-        let stack = stacks.walk(thread, WalkOptions { limit: 50, ..WalkOptions::default() }).unwrap();
+        let stack = stacks
+            .walk(thread, WalkOptions { limit: 50, scans: !folders.is_empty(), ..WalkOptions::default() })
+            .unwrap();
         assert!(stack.frames.len() <= 50 && stack.to_string().ends_with('\n') && stack.json().is_object());
     }
     true
@@ -210,6 +214,25 @@ fn programs_and_objects() {
     }
 }
 
+/// The bytes of streams are changed as often as others.
+#[test]
+fn minidumps() {
+    let folder = unpacked("damage-minidumps");
+    let folders = [folder.path().to_path_buf()];
+    let mut numbers = Numbers(0x6789_abcd_ef12_3456);
+    let mut read = 0;
+    for (machine, writer, how) in KEPT {
+        let whole = folder.bytes(&format!("{}-{}-{}", machine, writer, how));
+        for number in 0..40 {
+            let mut bytes = whole.clone();
+            let end = if number % 3 == 0 { 300 } else { bytes.len() };
+            numbers.damage(&mut bytes, 0, end);
+            read += usize::from(core(&bytes, &folders));
+        }
+    }
+    assert!(read > 200, "{}", read);
+}
+
 #[test]
 fn cores() {
     let folder = Folder::new("damage-cores");
@@ -231,7 +254,7 @@ fn cores() {
             _ => (words[0] as usize, (words[0] + words[1]) as usize),
         };
         numbers.damage(&mut bytes, begin, end);
-        read += usize::from(core(&bytes));
+        read += usize::from(core(&bytes, &[]));
     }
     assert!(read > 1000, "{}", read);
 }

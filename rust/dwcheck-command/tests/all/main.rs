@@ -20,6 +20,7 @@ mod frame_names;
 mod lint;
 mod lists;
 mod live;
+mod minidumps;
 mod modules;
 mod objects;
 mod profile;

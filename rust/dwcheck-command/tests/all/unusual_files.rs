@@ -43,7 +43,11 @@ fn packed_core_files() {
         (status, error.as_str()),
         (3, "dwcheck-elf: core.gz: not a core file, but compressed by gzip: unpack it by gunzip\n")
     );
-    assert!(bounded(&folder, "stack mini").1.contains("but a minidump: "));
+    let (status, error) = bounded(&folder, "check mini");
+    assert_eq!(
+        (status, error.as_str()),
+        (3, "dwcheck-elf: mini: a minidump, not an ELF file; dwcheck-elf stack shows its stacks\n")
+    );
 }
 
 /// What a file is that no command reads, and what to do.

@@ -19,6 +19,8 @@ const FOLDER: &str = "usr/lib/debug";
 pub struct DebugFiles {
     /// The folder that stands for `/`.
     root: PathBuf,
+    /// Folders that count before it.
+    folders: Vec<PathBuf>,
     files: Arena<Bytes>,
     unpacked: Arena<Vec<u8>>,
 }
@@ -41,7 +43,13 @@ pub enum NotUsed {
 impl DebugFiles {
     /// Looks for files in the folder `root`, which stands for `/`.
     pub fn new(root: &Path) -> Self {
-        DebugFiles { root: root.to_path_buf(), files: Arena::new(), unpacked: Arena::new() }
+        DebugFiles::with_folders(root, &[])
+    }
+
+    /// Looks in these folders first: by build id, as in `.build-id` or without it, and by the name in `.gnu_debuglink`.
+    pub(crate) fn with_folders(root: &Path, folders: &[PathBuf]) -> Self {
+        let (root, folders) = (root.to_path_buf(), folders.to_vec());
+        DebugFiles { root, folders, files: Arena::new(), unpacked: Arena::new() }
     }
 
     /// Where the bytes of sections that are decompressed are kept.
@@ -58,9 +66,12 @@ impl DebugFiles {
     /// The same file, with its path.
     pub fn find(&self, path: &Path, program: &Program<'_>) -> Result<Option<(PathBuf, &Bytes)>, (PathBuf, NotUsed)> {
         if let Some(id) = program.build_id() {
-            let file = self.root.join(FOLDER).join(".build-id").join(name_by_build_id(id));
-            if let Some(bytes) = self.open(&file)? {
-                return check_build_id(file, bytes, id);
+            let given = self.folders.iter().flat_map(|folder| [folder.join(".build-id"), folder.clone()]);
+            for folder in given.chain([self.root.join(FOLDER).join(".build-id")]) {
+                let file = folder.join(name_by_build_id(id));
+                if let Some(bytes) = self.open(&file)? {
+                    return check_build_id(file, bytes, id);
+                }
             }
         }
         match program.debug_link() {
@@ -88,8 +99,9 @@ impl DebugFiles {
         let inner = self.root.join(folder);
         // A file that has the name may be another one, such as the program itself.
         let mut unfit = None;
-        for file in [inner.join(name), inner.join(".debug").join(name), self.root.join(FOLDER).join(folder).join(name)]
-        {
+        let given = self.folders.iter().map(|folder| folder.join(name));
+        let usual = [inner.join(name), inner.join(".debug").join(name), self.root.join(FOLDER).join(folder).join(name)];
+        for file in given.chain(usual) {
             let found = match self.open(&file) {
                 Ok(None) => continue,
                 Ok(Some(bytes)) if crc32fast::hash(bytes) != checksum => Err((file, NotUsed::Checksum)),

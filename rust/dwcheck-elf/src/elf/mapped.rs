@@ -16,8 +16,8 @@ pub const STREAM_LIMIT: u64 = 48 << 20;
 /// Pages of memory have this many bytes, or a part of them.
 const PAGE: usize = 1 << 16;
 
-/// The first bytes of an ELF file.
-const MAGIC: &[u8] = b"\x7fELF";
+/// The first bytes of an ELF file, and those of a minidump.
+const MAGIC: [&[u8]; 2] = [b"\x7fELF", b"MDMP"];
 
 /// The bytes of a file. A clone has the same bytes, which aren't copied.
 #[derive(Clone, Debug)]
@@ -30,8 +30,8 @@ enum Held {
 }
 
 impl Bytes {
-    /// The bytes of an ELF file. A regular file is mapped. Of any other file, such as a pipe, at most
-    /// [`STREAM_LIMIT`] bytes are read, and only the first ones if they aren't those of an ELF file. A
+    /// The bytes of an ELF file or a minidump. A regular file is mapped. Of any other file, such as a pipe, at most
+    /// [`STREAM_LIMIT`] bytes are read, and only the first ones if they aren't those of one of the two. A
     /// FIFO that nobody writes to is empty.
     ///
     /// If another program cuts a file that is mapped, reading the lost part ends this program by a
@@ -83,8 +83,8 @@ impl Bytes {
 
     fn of_stream(mut file: File) -> io::Result<Bytes> {
         let mut bytes = Vec::new();
-        file.by_ref().take(MAGIC.len() as u64).read_to_end(&mut bytes)?;
-        if bytes == MAGIC {
+        file.by_ref().take(MAGIC[0].len() as u64).read_to_end(&mut bytes)?;
+        if MAGIC.contains(&bytes.as_slice()) {
             // With more room than is filled, the buffer never grows by being copied.
             bytes.reserve_exact(STREAM_LIMIT as usize + 64);
             file.take(STREAM_LIMIT).read_to_end(&mut bytes)?;

@@ -28,7 +28,7 @@ const KINDS: [(&[u8], OtherFile); 18] = [
     (b"#!", OtherFile { kind: "a script", help: "name the program that it runs" }),
     (b"/* GNU ld script", OtherFile { kind: "a script of the linker", help: "name the library that it names" }),
     (b"PERFILE2", OtherFile { kind: "a recording of perf", help: "dwcheck-elf profile reads it" }),
-    (b"MDMP", OtherFile { kind: "a minidump", help: "convert it by minidump-2-core" }),
+    (b"MDMP", OtherFile { kind: "a minidump", help: "dwcheck-elf stack shows its stacks" }),
     (b"KDUMP   ", OtherFile { kind: "a dump of a kernel", help: "its tools are crash and drgn" }),
     (b"makedumpfile", OtherFile { kind: "a dump of a kernel", help: "its tools are crash and drgn" }),
 ];

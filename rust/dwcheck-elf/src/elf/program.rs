@@ -89,6 +89,8 @@ pub struct Segment {
     pub file_size: u64,
     /// Whether it may be executed.
     pub is_executable: bool,
+    /// Whether it may be written to.
+    pub is_writable: bool,
 }
 
 /// Why a file or a section can't be read.
@@ -302,11 +304,13 @@ impl<'data> Program<'data> {
     pub fn segments(&self) -> Vec<Segment> {
         let segment = |segment: object::Segment<'data, '_>| {
             let (offset, file_size) = segment.file_range();
-            let is_executable = match segment.flags() {
-                SegmentFlags::Elf { p_flags } => p_flags & elf::PF_X != 0,
-                _ => false,
+            let flags = match segment.flags() {
+                SegmentFlags::Elf { p_flags } => p_flags,
+                _ => 0,
             };
-            Segment { address: segment.address(), size: segment.size(), offset, file_size, is_executable }
+            let (is_executable, is_writable) = (flags & elf::PF_X != 0, flags & elf::PF_W != 0);
+            let (address, size) = (segment.address(), segment.size());
+            Segment { address, size, offset, file_size, is_executable, is_writable }
         };
         self.file.segments().map(segment).collect()
     }

@@ -1,6 +1,7 @@
-//! A core file: the threads, the memory, which of it is executable or writable, and the mapped files of a process that
-//! died.
+//! A core file or a minidump: the threads, the memory, which of it is executable or writable, and the mapped files of a
+//! process that died.
 
+mod dump;
 mod files;
 mod in_memory;
 mod memory;
@@ -8,19 +9,25 @@ mod modules;
 mod notes;
 mod ranges;
 pub(crate) mod registers;
+mod search;
 mod segments;
 mod signal;
 
+pub(crate) use dump::Loaded;
+pub use dwcheck_minidump::Annotation;
 pub use files::{FileError, Files, MappedFile};
 pub use memory::{Block, Memory, Origin};
 pub use modules::{Image, Module};
 pub use notes::{Mapping, ProcessInfo};
 pub use registers::Thread;
+pub use search::Search;
 pub use signal::{Sender, Signal};
 
 use crate::elf::other_file::OtherFile;
 use crate::process::maps::{can_differ, Process};
 use crate::process::without_row::signed_bits;
+use dump::Dump;
+use dwcheck_minidump::{Minidump, MinidumpError};
 use dwcheck_types::abi::{abi, Abi};
 use dwcheck_types::target::{AddressSize, Order, Target};
 use notes::Notes;
@@ -32,7 +39,7 @@ use segments::{Code, CoreSegment};
 use std::fmt;
 use std::ops::Range;
 
-/// A core file.
+/// A core file, a minidump, or the copy of a process that runs.
 #[derive(Clone, Debug)]
 pub struct CoreFile<'data> {
     target: Target,
@@ -47,6 +54,10 @@ pub struct CoreFile<'data> {
     pac_mask: Option<u64>,
     segments: Vec<CoreSegment<'data>>,
     code: Code,
+    /// How many bytes of memory it may have at most: those of the file.
+    size: usize,
+    /// What only minidumps have. `None` for anything else.
+    dump: Option<Dump<'data>>,
 }
 
 /// What was copied of a process that runs.
@@ -78,11 +89,17 @@ pub enum CoreError {
     Note(u32),
     /// The file is of this kind, which isn't read; the second text says what to do.
     Packed(&'static str, &'static str),
+    /// The file is a minidump that can't be read.
+    Minidump(MinidumpError),
 }
 
 impl<'data> CoreFile<'data> {
-    /// Reads the headers and the notes of a core file.
+    /// Reads the headers and the notes of a core file, or the streams of a minidump. The first bytes say which of the
+    /// two the file is.
     pub fn read(data: &'data [u8]) -> Result<Self, CoreError> {
+        if Minidump::is_one(data) {
+            return Ok(CoreFile::of_minidump(Minidump::read(data).map_err(CoreError::Minidump)?, data.len()));
+        }
         if let Some(OtherFile { kind, help }) = OtherFile::of(data) {
             return Err(CoreError::Packed(kind, help));
         }
@@ -126,7 +143,24 @@ impl<'data> CoreFile<'data> {
         }
         let Notes { threads, signal, mappings, vdso, entry, name, process, pac_mask, .. } = notes;
         let code = Code::of(&segments, &mappings);
-        Ok(CoreFile { target, abi, threads, signal, mappings, vdso, entry, name, process, pac_mask, segments, code })
+        let dump = None;
+        let core = CoreFile {
+            target,
+            abi,
+            threads,
+            signal,
+            mappings,
+            vdso,
+            entry,
+            name,
+            process,
+            pac_mask,
+            segments,
+            code,
+            size: data.len(),
+            dump,
+        };
+        Ok(core)
     }
 
     /// The copy of a process as a core file. The bytes of its segments are those that were copied.
@@ -155,6 +189,8 @@ impl<'data> CoreFile<'data> {
             }),
             pac_mask,
             segments,
+            size: usize::MAX,
+            dump: None,
         }
     }
 
@@ -210,6 +246,11 @@ impl<'data> CoreFile<'data> {
         }
     }
 
+    /// The most bytes of memory that it can have, even if parts of the file are listed several times.
+    fn size(&self) -> usize {
+        self.size
+    }
+
     /// Whether the core file is cut off: its headers list memory that would be past the end of the
     /// file.
     pub fn is_cut(&self) -> bool {
@@ -219,10 +260,11 @@ impl<'data> CoreFile<'data> {
     /// Whether the process could execute code at an address. Debuggers leave mapped files out of the
     /// memory that a core lists; the addresses of such files count as executable here.
     ///
-    /// True for every address if the core doesn't say of any of its memory that it is executable.
+    /// True for every address if a core file doesn't say of any of its memory that it is executable.
     pub fn is_executable(&self, address: u64) -> bool {
         let Code { executable, listed, mapped, .. } = &self.code;
-        executable.is_empty() || executable.contains(address) || !listed.contains(address) && mapped.contains(address)
+        let is_unknown = executable.is_empty() && !self.is_minidump();
+        is_unknown || executable.contains(address) || !listed.contains(address) && mapped.contains(address)
     }
 
     /// The memory round an address to which the process could write, without gaps. `None` if it couldn't write to the
@@ -293,8 +335,16 @@ impl fmt::Display for CoreError {
             }
             CoreError::Note(kind) => write!(f, "the note of type {:#x} is too short", kind),
             CoreError::Packed(kind, help) => write!(f, "not a core file, but {}: {}", kind, help),
+            CoreError::Minidump(error) => error.fmt(f),
         }
     }
 }
 
-impl std::error::Error for CoreError {}
+impl std::error::Error for CoreError {
+    fn source(&self) -> Option<&(dyn std::error::Error + 'static)> {
+        match self {
+            CoreError::Minidump(error) => Some(error),
+            _ => None,
+        }
+    }
+}

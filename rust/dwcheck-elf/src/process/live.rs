@@ -126,9 +126,7 @@ impl Snapshot {
     }
 
     fn copy_vdso(&mut self) {
-        let vdso = self.process.maps.iter().find(|map| map.path == b"[vdso]");
-        let bytes = vdso.and_then(|map| Some((map.begin, self.process.memory(map.begin, map.end - map.begin)?)));
-        self.blocks.extend(bytes);
+        self.blocks.extend(self.process.vdso());
     }
 
     /// Stops a thread, copies its registers and its stack, and lets it go on.

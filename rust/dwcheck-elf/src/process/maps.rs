@@ -64,7 +64,7 @@ impl Process {
         let folder = PathBuf::from(format!("/proc/{}", alive));
         let maps = fs::read(folder.join("maps")).map_err(proc_failure)?;
         let auxiliary = fs::read(folder.join("auxv")).map_err(proc_failure)?;
-        let maps: Vec<_> = maps.split(|byte| *byte == b'\n').filter_map(parse_map_line).collect();
+        let maps: Vec<_> = parse_maps(&maps).collect();
         let mut process = Process { id, alive, maps, auxiliary, name: None };
         process.name = process.thread_name(id);
         Ok(process)
@@ -110,6 +110,12 @@ impl Process {
         tracer.trim().parse().ok().filter(|tracer| *tracer != 0)
     }
 
+    /// The address and a copy of the vDSO.
+    pub fn vdso(&self) -> Option<(u64, Vec<u8>)> {
+        let map = self.maps.iter().find(|map| map.path == b"[vdso]")?;
+        Some((map.begin, self.memory(map.begin, map.end.checked_sub(map.begin)?)?))
+    }
+
     /// A copy of the memory from an address on: `size` bytes, or fewer if not all can be read. `None`
     /// if none can be read.
     pub fn memory(&self, address: u64, size: u64) -> Option<Vec<u8>> {
@@ -152,6 +158,11 @@ fn proc_failure(error: io::Error) -> LiveError {
         _ if error.raw_os_error() == Some(libc::ESRCH) => LiveError::NoProcess,
         _ => LiveError::Unreadable(error),
     }
+}
+
+/// The lines of `/proc/PID/maps`, without those that can't be read.
+pub(crate) fn parse_maps(text: &[u8]) -> impl Iterator<Item = Map> + '_ {
+    text.split(|byte| *byte == b'\n').filter_map(parse_map_line)
 }
 
 /// Reads a line such as `7f00-7f01 r-xp 00001000 08:01 123      /bin/a b`.

@@ -11,6 +11,7 @@ pub(crate) mod frame_names;
 mod instruction;
 mod json;
 mod listed;
+mod lost;
 mod overflow;
 mod per_file;
 mod tables;
@@ -33,6 +34,7 @@ use crate::process::core_file::{CoreFile, Files, Memory, Module, Thread};
 use crate::process::without_row::Growth;
 use both_ends::Walked;
 use dwcheck::{Block, Registers};
+use lost::Lost;
 use std::cell::RefCell;
 use std::collections::{BTreeMap, BTreeSet, HashMap};
 use std::fmt;
@@ -62,6 +64,11 @@ pub const MOST_FRAMES: usize = 10_000;
 pub struct Stacks<'a> {
     core: &'a CoreFile<'a>,
     memory: Memory<'a>,
+    /// All blocks of the memory, after a place for the stack of the thread that is walked: the first block that has an
+    /// address is the one that is found fastest.
+    blocks: RefCell<Vec<Block<'a>>>,
+    /// The modules that a minidump lists, and whose files aren't known.
+    lost: Vec<Lost>,
     /// The files that can't be read.
     unread: Vec<(PathBuf, String)>,
     files: &'a Files,
@@ -90,6 +97,8 @@ pub struct WalkOptions {
     pub limit: usize,
     /// Whether to leave out frames that are guesses: those that are found by another rule than a row.
     pub is_strict: bool,
+    /// Whether to look on the stack for a return address where no other rule finds a caller.
+    pub scans: bool,
     /// Whether to store the registers of each frame.
     pub keeps_registers: bool,
     /// How many of the outermost frames a stack has beside those up to the limit. If it is 0, the walk ends at the
@@ -188,14 +197,14 @@ pub enum StackError {
 
 impl Default for WalkOptions {
     fn default() -> Self {
-        WalkOptions { limit: MOST_FRAMES, is_strict: false, keeps_registers: false, outermost: 0 }
+        WalkOptions { limit: MOST_FRAMES, is_strict: false, scans: false, keeps_registers: false, outermost: 0 }
     }
 }
 
 impl Frame {
     /// The frame that a thread is in.
-    fn first(address: u64) -> Self {
-        Frame { is_after_call: false, ..Frame::caller(address, FoundBy::Thread) }
+    fn first(address: u64, found_by: FoundBy) -> Self {
+        Frame { is_after_call: false, ..Frame::caller(address, found_by) }
     }
 
     /// A frame that made a call.
@@ -213,11 +222,15 @@ impl Frame {
 impl<'a> Stacks<'a> {
     /// Finds the modules of a core file. Their unwind tables are read when a walk needs them.
     pub fn of(core: &'a CoreFile<'a>, files: &'a Files) -> Self {
-        let unread = files.all().iter();
-        let unread = unread.filter_map(|file| Some((file.path.clone(), file.bytes.as_ref().err()?.to_string())));
+        let missed = files.all().iter().filter(|file| file.is_missed());
+        let unread = missed.filter_map(|file| Some((file.path.clone(), file.bytes.as_ref().err()?.to_string())));
+        let memory = core.memory(files);
+        let blocks = memory.blocks().map(|block| Block::new(block.address, block.bytes));
         Stacks {
             core,
-            memory: core.memory(files),
+            blocks: RefCell::new(std::iter::once(Block::new(0, &[])).chain(blocks).collect()),
+            memory,
+            lost: Lost::of(core, files),
             unread: unread.collect(),
             files,
             tables: RefCell::new(Tables::new(core.target(), core.modules(files))),
@@ -254,7 +267,7 @@ impl<'a> Stacks<'a> {
     /// for any other core, whose modules are known: for these, see
     /// [`Files::use_program`](crate::process::core_file::Files::use_program).
     pub fn add_program(&mut self, path: &Path, bytes: &'a [u8]) {
-        if self.core.mappings().is_empty() {
+        if !self.core.names_files() {
             if let Some(module) = self.core.program_module(path, bytes) {
                 self.tables.get_mut().add(module);
             }
@@ -291,10 +304,18 @@ impl<'a> Stacks<'a> {
         let abi = self.core.abi();
         let registers: Registers = thread.registers.iter().copied().collect();
         let address = thread.register(abi.program_counter).ok_or(StackError::NoInstructionPointer)?;
-        let blocks = self.blocks(thread.register(abi.stack_pointer).unwrap_or(0));
+        let pointer = thread.register(abi.stack_pointer).unwrap_or(0);
+        let mut blocks = self.blocks.borrow_mut();
+        let begin = match (self.memory.from(pointer), blocks.first_mut()) {
+            (Some(bytes), Some(first)) => {
+                *first = Block::new(pointer, bytes);
+                0
+            }
+            _ => 1,
+        };
         let walker = Walker {
             stacks: self,
-            blocks: &blocks,
+            blocks: blocks.get(begin..).unwrap_or(&[]),
             options,
             signed_bits: self.core.signed_bits(),
             growth: Growth::default(),
@@ -303,8 +324,7 @@ impl<'a> Stacks<'a> {
         Ok(Stack { stacks: self, thread: u64::from(thread.id), frames, left_out, stop })
     }
 
-    /// All blocks of memory. The one that has the address `stack` comes first, because the first
-    /// block that has an address is the one that is found fastest.
+    /// All blocks of memory. The one that has the address `stack` comes first.
     fn blocks(&self, stack: u64) -> Vec<Block<'a>> {
         let first = self.memory.from(stack).map(|bytes| Block::new(stack, bytes));
         first.into_iter().chain(self.memory.blocks().map(|block| Block::new(block.address, block.bytes))).collect()
@@ -318,7 +338,7 @@ impl<'a> Stacks<'a> {
         let found = tables.module_at(looked_up);
         let (place, module) = match found.and_then(|place| Some((place, tables.modules().get(place)?))) {
             Some(found) => found,
-            None => return Position::default(),
+            None => return Lost::position(&self.lost, frame.address, looked_up),
         };
         let mut names = self.names.borrow_mut();
         let names = names.entry(place).or_insert_with(|| self.read_names(module));

@@ -24,7 +24,11 @@ use call::direct_target;
 use dwcheck::{Error, Registers};
 use dwcheck_types::abi::Abi;
 use dwcheck_types::target::Target;
+use object::elf;
 use std::fmt;
+
+/// How many words of a stack are looked at for a return address.
+const SCANNED: u64 = 160;
 
 /// How far before an address of code that is in no file the function may begin that has it.
 const LONGEST_FUNCTION: u64 = 1 << 20;
@@ -34,6 +38,8 @@ const LONGEST_FUNCTION: u64 = 1 << 20;
 pub enum FoundBy {
     /// It is the frame that the thread was in.
     Thread,
+    /// The same in a minidump, which has the registers of the thread in a context.
+    Context,
     /// By a row of an unwind table.
     Row,
     /// A guess: the frame that it called isn't at an executable address, so a call led there. On
@@ -46,12 +52,14 @@ pub enum FoundBy {
     /// A guess: a signal interrupted it, and the code to which the handler returns has no row that says
     /// so, but is that by which handlers return to the kernel.
     SignalReturn,
+    /// A guess: no other rule finds the caller, and a word of the stack is an address that may follow a call.
+    Scan,
 }
 
 impl FoundBy {
     /// Whether the frame is a guess.
     pub fn is_guess(self) -> bool {
-        matches!(self, FoundBy::Call | FoundBy::FramePointer | FoundBy::SignalReturn)
+        !matches!(self, FoundBy::Thread | FoundBy::Context | FoundBy::Row)
     }
 }
 
@@ -59,10 +67,12 @@ impl fmt::Display for FoundBy {
     fn fmt(&self, f: &mut fmt::Formatter<'_>) -> fmt::Result {
         f.pad(match self {
             FoundBy::Thread => "thread",
+            FoundBy::Context => "context",
             FoundBy::Row => "row",
             FoundBy::Call => "call",
             FoundBy::FramePointer => "frame pointer",
             FoundBy::SignalReturn => "signal return",
+            FoundBy::Scan => "scan",
         })
     }
 }
@@ -158,7 +168,7 @@ impl<V: View> Guesser<'_, V> {
                 return Ok(framed);
             }
         }
-        Ok(self.by_return_address(address).or(framed))
+        Ok(self.by_return_address(address).or_else(|| self.by_system_call(address)).or(framed))
     }
 
     /// Whether a call to one address may lead to another one: they are in the same file, in which the call may lead to a
@@ -201,6 +211,23 @@ impl<V: View> Guesser<'_, V> {
         Some(guess).filter(|guess| is_call && self.called_before(guess.address).map_or(true, leads))
     }
 
+    /// The caller of the kernel's code by which programs for i386 make system calls, if a minidump doesn't have that
+    /// code: `push %ecx`, `push %edx`, `push %ebp`, and the way into the kernel. So the return address is above three
+    /// words, and has to follow a call.
+    fn by_system_call(&self, address: u64) -> Option<Guess> {
+        const PUSHED: [u16; 3] = [5, 2, 1];
+        let stack = self.registers.get(self.view.abi().stack_pointer)?;
+        if self.view.abi().machine != elf::EM_386 || self.view.read(address, &mut [0]) != 0 {
+            return None;
+        }
+        let mut guess = self.by_call_below(PUSHED.len() as u64)?;
+        for (place, number) in (0..).zip(PUSHED) {
+            guess.registers.set(number, self.word(stack.checked_add(place * self.word_size())?)?);
+        }
+        let before = self.before(guess.address)?;
+        Some(guess).filter(|_| ends_with_call(&before))
+    }
+
     /// How many words a stub of a procedure linkage table has pushed, if the code at an address is one.
     fn pushed_at(&self, address: u64) -> u64 {
         let top = self.registers.get(self.view.abi().stack_pointer).and_then(|stack| self.word(stack));
@@ -223,11 +250,27 @@ impl<V: View> Guesser<'_, V> {
     }
 
     /// The code at an address by which a signal handler returns to the kernel, if that is what it is. A handler
-    /// returns there, so no call is before it.
+    /// returns there, so no call is before it. If the code isn't known, as that of the kernel for i386 isn't in a
+    /// minidump, what the kernel has put on the stack says which one it is.
     pub fn signal_return(&self, address: u64) -> Option<&'static SignalReturn> {
-        let mut code = [0; SignalReturn::LONGEST];
-        let count = self.view.read(address, &mut code);
-        SignalReturn::of(self.view.abi().machine, &code[..count]).filter(|_| self.view.is_executable(address))
+        let (mut code, machine) = ([0; SignalReturn::LONGEST], self.view.abi().machine);
+        let found = match self.view.read(address, &mut code) {
+            0 if machine == elf::EM_386 => self.signal_return_by_stack(),
+            count => SignalReturn::of(machine, &code[..count]),
+        };
+        found.filter(|_| self.view.is_executable(address))
+    }
+
+    fn signal_return_by_stack(&self) -> Option<&'static SignalReturn> {
+        let stack = self.registers.get(self.view.abi().stack_pointer)?;
+        let mut bytes = [0; 4 * SignalReturn::WORDS];
+        let mut words = [0; SignalReturn::WORDS];
+        if self.view.read(stack, &mut bytes) < bytes.len() {
+            return None;
+        }
+        let held = bytes.chunks_exact(4).map(|word| self.view.target().number(word) as u32);
+        words.iter_mut().zip(held).for_each(|(word, held)| *word = held);
+        SignalReturn::of_stack(stack as u32, &words)
     }
 
     /// The frame that a signal interrupted whose handler returns to this code. The kernel has stored its registers
@@ -261,6 +304,40 @@ impl<V: View> Guesser<'_, V> {
         let guess = Guess { found_by: FoundBy::FramePointer, address, registers: known.into(), cfa };
         // Interpreters, such as HotSpot's, push return addresses that follow no call.
         Some(guess).filter(|_| address != 0 && self.view.is_in_code(address))
+    }
+
+    /// The caller of a frame, if nothing else finds it: the first word of the stack, of [`SCANNED`], that is an address
+    /// in code after a call. It may be left from an earlier call, so that frames of a stack that was scanned may not be
+    /// those of calls that go on.
+    pub fn by_scan(&self) -> Option<Guess> {
+        let (abi, size) = (self.view.abi(), self.word_size());
+        let stack = self.registers.get(abi.stack_pointer)?;
+        (0..SCANNED).find_map(|place| {
+            let at = stack.checked_add(place * size)?;
+            let address = self.unsigned(self.word(at)?);
+            if address == 0 || !self.view.is_in_code(address) || !self.follows_call(address) {
+                return None;
+            }
+            let cfa = at.checked_add(size)?;
+            let mut known = Registers::from([(abi.stack_pointer, cfa), (abi.program_counter, address)]);
+            // What was called may not have changed the frame pointer, if it leads above the return address.
+            let kept = self.registers.get(abi.frame_pointer).filter(|pointer| *pointer >= cfa);
+            kept.into_iter().for_each(|pointer| known.set(abi.frame_pointer, pointer));
+            Some(Guess { found_by: FoundBy::Scan, address, registers: known, cfa })
+        })
+    }
+
+    /// Whether a call may come before an address, as [`may_follow_call`](Self::may_follow_call) says, and for aarch64
+    /// too.
+    fn follows_call(&self, address: u64) -> bool {
+        let mut before = [0; 4];
+        let is_known = |begin| self.view.read(begin, &mut before) == before.len();
+        match self.view.abi().link_register {
+            None => self.may_follow_call(address),
+            Some(_) => {
+                !address.checked_sub(4).map_or(false, is_known) || call::is_call_of_aarch64(u32::from_le_bytes(before))
+            }
+        }
     }
 
     /// A return address without its signature.

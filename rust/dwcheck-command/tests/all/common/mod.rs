@@ -2,6 +2,7 @@
 
 pub mod cores;
 pub mod frames;
+pub mod minidumps;
 pub mod recordings;
 pub mod run;
 #[cfg(all(target_os = "linux", target_arch = "x86_64"))]

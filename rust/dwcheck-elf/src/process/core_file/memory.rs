@@ -1,5 +1,6 @@
 //! The memory of a process that died: blocks of the core file, and of mapped files that the core left out.
 
+use super::modules::Listed;
 use super::{CoreFile, Files};
 use crate::elf::covered::Covered;
 use std::collections::BTreeMap;
@@ -67,6 +68,7 @@ impl<'data> CoreFile<'data> {
                 memory.add(Block { address: mapping.begin, bytes, origin: Origin::File(place) });
             }
         }
+        self.listed_modules(files).iter().for_each(|module| memory.add_module(module));
         memory
     }
 }
@@ -94,6 +96,18 @@ impl<'a> Memory<'a> {
         }
         if begin < end {
             self.held.insert(begin, end);
+        }
+    }
+
+    /// Adds what a module's file has of memory that can't be written to.
+    fn add_module(&mut self, Listed { place, bytes, bias, segments, .. }: &Listed<'a>) {
+        for segment in segments.iter().filter(|segment| !segment.is_writable) {
+            let part =
+                |size: u64| bytes.get(usize::try_from(segment.offset).ok()?..)?.get(..usize::try_from(size).ok()?);
+            let address = segment.address.wrapping_add(*bias);
+            if let Some(bytes) = part(segment.file_size).filter(|_| address.checked_add(segment.file_size).is_some()) {
+                self.add(Block { address, bytes, origin: Origin::File(*place) });
+            }
         }
     }
 

@@ -48,6 +48,18 @@ impl<'a> Image<'a> {
     }
 }
 
+/// A module that a minidump lists, with its file.
+pub(super) struct Listed<'a> {
+    /// The index of the file in [`Files::all`], its path and its bytes.
+    pub place: usize,
+    path: &'a Path,
+    pub bytes: &'a [u8],
+    /// What is added to an address in the file to get the address in the process.
+    pub bias: u64,
+    /// Its segments.
+    pub segments: Vec<Segment>,
+}
+
 /// An ELF file that is mapped with some bias, as far as the mappings that were looked at so far
 /// show. It is a module if some of its code is mapped. `place` is the file's index in
 /// [`Files::all`].
@@ -73,10 +85,37 @@ impl CoreFile<'_> {
     pub fn modules<'a>(&'a self, files: &'a Files) -> Vec<Module<'a>> {
         let mut finder = Finder { core: self, files, segments: HashMap::new(), found: Vec::new() };
         self.mappings().iter().for_each(|mapping| finder.add(mapping));
-        let loaded = finder.found.into_iter().map(|candidate| candidate.module).chain(self.vdso_module());
-        let mut modules: Vec<_> = loaded.filter(|module| !module.code.is_empty()).collect();
+        let mapped = finder.found.into_iter().map(|candidate| candidate.module);
+        let listed = self.listed_modules(files).into_iter().map(|listed| self.module_of(listed));
+        let mut modules: Vec<_> = mapped.chain(listed).filter(|module| !module.code.is_empty()).collect();
+        let is_known = |vdso: &Module<'_>| modules.iter().any(|module| module.begin == vdso.begin);
+        let vdso = self.vdso_module().filter(|vdso| !vdso.code.is_empty() && !is_known(vdso));
+        modules.extend(vdso);
         modules.iter_mut().for_each(|module| module.code.sort_unstable_by_key(|range| range.start));
         modules
+    }
+
+    /// The modules that a minidump lists, and whose files are known.
+    pub(super) fn listed_modules<'a>(&self, files: &'a Files) -> Vec<Listed<'a>> {
+        let listed = self.listed().unwrap_or(&[]).iter().enumerate();
+        let known = listed.filter_map(|(index, module)| {
+            let (place, path, bytes) = files.module(index)?;
+            let segments = Program::read(bytes).ok()?.segments();
+            let first = segments.iter().min_by_key(|segment| segment.address)?;
+            let header = first.address.wrapping_sub(first.offset);
+            let bias = self.target().wrap(module.begin.wrapping_sub(header));
+            Some(Listed { place, path, bytes, bias, segments })
+        });
+        known.collect()
+    }
+
+    fn module_of<'a>(&self, Listed { place, path, bytes, bias, segments }: Listed<'a>) -> Module<'a> {
+        let loaded = |address: u64| self.target().wrap(address.wrapping_add(bias));
+        let begin = segments.iter().map(|segment| loaded(segment.address)).min().unwrap_or(0);
+        let ends = segments.iter().map(|segment| loaded(segment.address).saturating_add(segment.size));
+        let end = ends.max().unwrap_or(begin);
+        let code = self.code_of(&segments, bias);
+        Module { path: path.to_path_buf(), bias, begin, end, code, image: Image::File(place, bytes) }
     }
 
     /// Makes a module of the program, for a core that doesn't list its mapped files, such as

@@ -1,6 +1,7 @@
 //! The list of the modules of a process, by which frames can be named on another machine.
 
 use super::json::hex_number;
+use super::lost::Lost;
 use super::per_file::PerFile;
 use super::Stacks;
 use crate::cfi::text::{Address, Escaped};
@@ -19,7 +20,7 @@ use std::path::PathBuf;
 pub struct Listed {
     /// The path of its file, or `[vdso]`.
     pub path: PathBuf,
-    /// Its build id, in hex_number digits. `None` if it has none, or if it isn't known.
+    /// Its build id, in hex digits. `None` if it has none, or if it isn't known.
     pub build_id: Option<String>,
     /// The first address of its mappings.
     pub begin: u64,
@@ -43,9 +44,21 @@ impl Stacks<'_> {
             bias: Some(module.bias),
             target: self.core.target(),
         });
-        let mut listed: Vec<_> = modules.chain(self.lost_files()).collect();
+        let mut listed: Vec<_> = modules.chain(self.lost_files()).chain(self.lost_modules()).collect();
         listed.sort_by_key(|module| module.begin);
         listed
+    }
+
+    /// The modules of a minidump whose files aren't known.
+    fn lost_modules(&self) -> impl Iterator<Item = Listed> + '_ {
+        self.lost.iter().map(|Lost { name, build_id, begin, end }| Listed {
+            path: name.clone(),
+            build_id: build_id.clone(),
+            begin: *begin,
+            end: *end,
+            bias: None,
+            target: self.core.target(),
+        })
     }
 
     /// The files with code that can't be used.

@@ -115,6 +115,11 @@ impl<'a> Tables<'a> {
         self.code_at(address).map(|code| code.module)
     }
 
+    /// Whether an address is one of a module, of its code or its data.
+    pub fn is_in_module(&self, address: u64) -> bool {
+        self.modules.iter().any(|module| (module.begin..module.end).contains(&address))
+    }
+
     /// The files with something that isn't used, and why.
     pub fn problems(&self) -> &[(PathBuf, String)] {
         &self.problems

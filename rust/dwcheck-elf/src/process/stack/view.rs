@@ -24,7 +24,13 @@ impl View for Stacks<'_> {
     }
 
     fn is_executable(&self, address: u64) -> bool {
-        self.core.is_executable(address)
+        let is_executable = self.core.is_executable(address);
+        if !self.core.lacks_maps() {
+            return is_executable;
+        }
+        // The files of modules say which of their addresses are code.
+        let tables = self.tables.borrow();
+        tables.module_at(address).is_some() || is_executable && !tables.is_in_module(address)
     }
 
     fn file_at(&self, address: u64) -> Option<usize> {

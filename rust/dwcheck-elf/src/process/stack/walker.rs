@@ -31,7 +31,8 @@ impl Walker<'_, '_> {
     pub fn walk(mut self, address: u64, mut registers: Registers) -> Result<Walked, Error> {
         let mut ends = BothEnds::new(self.options);
         self.growth.begin(self.stacks.core.abi());
-        let mut next = Frame::first(address);
+        let mut next =
+            Frame::first(address, if self.stacks.core.is_minidump() { FoundBy::Context } else { FoundBy::Thread });
         loop {
             if ends.is_full() {
                 return Ok(ends.end(Stop::Limit));
@@ -85,6 +86,7 @@ impl Walker<'_, '_> {
             true => None,
             false => guesser.caller(frame.address, frame.is_after_call)?,
         };
+        let guess = guess.or_else(|| if self.options.scans { guesser.by_scan() } else { None });
         Ok(self.by_guess(frame, guess))
     }
 

@@ -10,6 +10,13 @@ pub fn ends_with_call(code: &[u8; 7]) -> bool {
     code[2] == 0xe8 || [2, 3, 4, 6, 7].into_iter().any(is_indirect)
 }
 
+/// Whether an instruction of aarch64 is a call: `bl`, `blr`, or `blr` to an address that it authenticates.
+pub(super) fn is_call_of_aarch64(instruction: u32) -> bool {
+    instruction & 0xfc00_0000 == 0x9400_0000
+        || instruction & 0xffff_fc1f == 0xd63f_0000
+        || instruction & 0xfeff_f800 == 0xd63f_0800
+}
+
 /// Where a near call leads that ends at an address, if it is one to a fixed address.
 pub(super) fn direct_target(code: &[u8; 7], end: u64) -> Option<u64> {
     match *code {
@@ -31,7 +38,7 @@ fn indirect_call_length(modrm: u8) -> usize {
 
 #[cfg(test)]
 mod tests {
-    use super::ends_with_call;
+    use super::{ends_with_call, is_call_of_aarch64};
 
     /// Calls as GNU as encodes them.
     #[test]
@@ -49,6 +56,17 @@ mod tests {
             (&[0x90, 0x90, 0x90, 0x90, 0x90, 0xff, 0x50], false),
         ] {
             assert_eq!(ends_with_call(call.try_into().unwrap()), is_call, "{:x?}", call);
+        }
+    }
+
+    /// Instructions as GNU as encodes them: bl, blr x8, blraa x8, x9, blraaz x8; b, br x8, ret, cbz.
+    #[test]
+    fn calls_of_aarch64() {
+        for call in [0x97ff_fff0, 0xd63f_0100, 0xd73f_0909, 0xd63f_091f] {
+            assert!(is_call_of_aarch64(call), "{:x}", call);
+        }
+        for other in [0x1400_0001, 0xd61f_0100, 0xd65f_03c0, 0xb400_0040] {
+            assert!(!is_call_of_aarch64(other), "{:x}", other);
         }
     }
 }

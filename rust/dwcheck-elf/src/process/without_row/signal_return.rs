@@ -84,11 +84,45 @@ impl SignalReturn {
     pub fn of(machine: u16, code: &[u8]) -> Option<&'static SignalReturn> {
         ALL.iter().find(|known| known.machine == machine && code.starts_with(known.code))
     }
+
+    /// How many words at the stack pointer [`of_stack`](Self::of_stack) looks at.
+    pub const WORDS: usize = 20;
+
+    /// The code to which a handler of i386 returns when the stack pointer is `stack`, and these words are there. With
+    /// `SA_SIGINFO`, the kernel has put pointers there that lead to what follows; without, the registers follow, among
+    /// which are the segments of programs.
+    pub fn of_stack(stack: u32, words: &[u32; SignalReturn::WORDS]) -> Option<&'static SignalReturn> {
+        const CODE: [u32; 2] = [0x23, 0x73];
+        const STACK: [u32; 2] = [0x2b, 0x7b];
+        let has_pointers = words[1] == stack.wrapping_add(12) && words[2] == stack.wrapping_add(140);
+        let has_segments = CODE.contains(&(words[16] & 0xffff)) && STACK.contains(&(words[19] & 0xffff));
+        let offset = match (has_pointers, (1..=64).contains(&words[0]) && has_segments) {
+            (true, _) => 176,
+            (false, true) => 20,
+            _ => return None,
+        };
+        ALL.iter().find(|known| known.machine == elf::EM_386 && known.offset == offset)
+    }
 }
 
 #[cfg(test)]
 mod tests {
     use super::*;
+
+    /// The words at the stack pointer after the `ret` of a handler of i386, in the order of the kernel's `struct sigframe`
+    /// and `struct rt_sigframe`.
+    #[test]
+    fn signal_frames_of_i386() {
+        let mut words = [0; SignalReturn::WORDS];
+        assert!(SignalReturn::of_stack(0xff80_0000, &words).is_none());
+        words[..3].copy_from_slice(&[10, 0xff80_000c, 0xff80_008c]);
+        assert_eq!(SignalReturn::of_stack(0xff80_0000, &words).map(|found| found.offset), Some(176));
+        assert!(SignalReturn::of_stack(0xff80_0010, &words).is_none());
+        (words[16], words[19]) = (0x23, 0x2b);
+        assert_eq!(SignalReturn::of_stack(0xff80_0010, &words).map(|found| found.offset), Some(20));
+        words[0] = 65;
+        assert!(SignalReturn::of_stack(0xff80_0010, &words).is_none());
+    }
 
     #[test]
     fn all_of_a_code_is_looked_at() {
