@@ -12,6 +12,7 @@ mod profile;
 mod report;
 mod rows;
 mod sarif;
+mod sframe;
 mod stack;
 mod survey;
 mod trace;

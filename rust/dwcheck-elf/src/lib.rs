@@ -18,7 +18,7 @@ mod error;
 mod layers;
 mod process;
 
-pub use cfi::{eh_frame_hdr, frames, one_by_one, row, text, validate};
+pub use cfi::{eh_frame_hdr, frames, one_by_one, row, sframe, text, validate};
 pub use check::{fault, inspect, lint, program_report};
 pub use debug::{expression, lines, loclists, variables};
 pub use dwcheck_types::{abi, target};

@@ -30,6 +30,7 @@ mod program;
 mod refusals;
 mod report_page;
 mod same_frames;
+mod sframe;
 mod stacks;
 mod surveys;
 #[cfg(all(target_os = "linux", target_arch = "x86_64"))]

@@ -9,4 +9,5 @@ pub mod lint;
 pub mod lists;
 pub mod page;
 pub mod program_report;
+pub mod sframe;
 pub mod verdict;

@@ -64,7 +64,7 @@ impl Section {
                 let held = inspected.frames.as_ref().map(|frames| Held::of(agreement, frames));
                 (SectionStatus::Accepted, held)
             }
-            Verdict::Lists(_) | Verdict::FoundLists => (SectionStatus::Accepted, None),
+            Verdict::Sframe(_) | Verdict::Lists(_) | Verdict::FoundLists => (SectionStatus::Accepted, None),
         };
         let notes = inspected.frames.as_ref().map_or_else(Vec::new, |frames| notes(frames, program));
         Section { name: inspected.name, bytes: inspected.bytes, status, held, notes }
