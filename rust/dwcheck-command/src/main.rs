@@ -3,6 +3,7 @@
 
 mod arguments;
 mod check;
+mod compare;
 mod end;
 mod lint;
 mod lists;
@@ -63,6 +64,7 @@ fn run(command: Command, out: &mut impl Write) -> Result<Done, Failure> {
         Command::Survey(arguments) => survey::survey(&arguments, out),
         Command::Lint(arguments) if arguments.confirm => trace::confirm(&arguments, out),
         Command::Lint(arguments) => lint::lint(&arguments, out),
+        Command::Compare(arguments) => compare::compare(&arguments, out),
         Command::Trace(arguments) => trace::trace(&arguments),
         Command::Profile(arguments) => profile::profile(&arguments, out),
         Command::Report(arguments) => report::report(&arguments, out),

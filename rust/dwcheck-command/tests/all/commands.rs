@@ -251,7 +251,11 @@ fn words_and_files_that_are_wrong() {
         ("check .", 3, "cannot read .: Is a directory (os error 21): survey reads folders\n"),
         ("check text", 3, "not an ELF file"),
         ("rows bare.o", 3, "bare.o: has no .eh_frame, .debug_frame or .sframe\n"),
-        ("rows bare.core", 3, "has no .eh_frame, .debug_frame or .sframe; it is a core file: stack prints its stacks\n"),
+        (
+            "rows bare.core",
+            3,
+            "has no .eh_frame, .debug_frame or .sframe; it is a core file: stack prints its stacks\n",
+        ),
         ("unwind program main nowhere", 3, "cannot read nowhere"),
         ("stack program program", 3, "an ELF file of type 2, not a core file; the order is PROGRAM CORE\n"),
     ] {

@@ -252,6 +252,11 @@ impl<'a> Sframe<'a> {
         self.rows_between(function, begin, end).find(|row| (row.row.begin..row.row.end).contains(&address))
     }
 
+    /// Whether it can say that frames are signal frames.
+    pub fn has_signal_frames(&self) -> bool {
+        self.header.version == Version::Three
+    }
+
     /// What the section has.
     pub fn counts(&self) -> SframeCounts {
         let (functions, rows) = (self.functions.len(), self.header.row_count as usize);

@@ -3,6 +3,7 @@
 //!
 //! It uses `elf`, `cfi` and `debug`.
 
+pub mod compare;
 pub mod fault;
 pub mod inspect;
 pub mod lint;
