@@ -1,4 +1,4 @@
-//! Says of several rows for one address which of them the code supports.
+//! Says of rows of several tables which of them the code supports.
 
 use crate::correct_row::CorrectRow;
 use crate::explain::code_text;
@@ -8,6 +8,7 @@ use crate::lint::Lint;
 use crate::state::State;
 use crate::table::Row;
 use crate::walk::{Edge, Exit, Here, Visitor};
+use std::ops::Range;
 
 /// What the code says of a row.
 #[derive(Clone, Copy, Debug, PartialEq, Eq)]
@@ -20,7 +21,7 @@ pub enum Standing {
     Unknown,
 }
 
-/// A row for an address, by one of several tables.
+/// A row of one of several tables.
 #[derive(Clone, Debug)]
 pub struct Claim<'r> {
     /// The row.
@@ -29,34 +30,63 @@ pub struct Claim<'r> {
     pub is_signed: bool,
 }
 
-/// What the code says at an address.
+/// Rows that differ at a range of addresses, one of each table.
+#[derive(Clone, Debug)]
+pub struct Question<'r> {
+    /// The addresses.
+    pub range: Range<u64>,
+    /// The rows.
+    pub claims: [Claim<'r>; 2],
+}
+
+/// An address at which the code decides between rows.
 #[derive(Clone, Debug, PartialEq, Eq)]
-pub struct Standings {
-    /// What it says of each row, in their order.
-    pub each: Vec<Standing>,
+pub struct Decision {
+    /// The address.
+    pub address: u64,
+    /// The index of the question.
+    pub question: usize,
+    /// What the code says of each row. At least one is wrong, and of each it is known.
+    pub each: [Standing; 2],
     /// What is so, in the form of a row.
     pub code: String,
 }
 
-/// Judges rows at one address while blocks are walked through.
-struct Weighing<'r, 's> {
-    address: u64,
-    claims: &'r [Claim<'s>],
+/// What the code says of rows that differ.
+#[derive(Clone, Debug, Default, PartialEq, Eq)]
+pub struct Standings {
+    /// The lowest address at which it decides.
+    pub decision: Option<Decision>,
+    /// Whether all rows are right at all addresses that were asked for.
+    pub are_all_right: bool,
+    /// What is so at the first of these addresses of which something is known, in the form of a row.
+    pub code: Option<String>,
+}
+
+/// Judges rows while blocks are walked through. The questions are ascending.
+struct Weighing<'q, 'r> {
+    questions: &'q [Question<'r>],
     asked: Facts,
-    found: Option<Standings>,
+    found: Standings,
+    /// The address of `found.code`.
+    first: u64,
+    /// How many of the addresses have instructions at which both rows are right.
+    right: u64,
 }
 
 impl<'m> Lint<'m> {
-    /// Judges rows at an address by what its FDE's code does there, as far as `asked` goes. `None` if nothing is known
-    /// of the code there, or only what a row says. This takes the time of a lint of the FDE.
-    pub fn standings(&mut self, address: u64, claims: &[Claim<'_>], asked: Facts) -> Option<Standings> {
-        let mut flow = self.flow(address).ok().filter(|flow| !flow.is_for_calls)?;
-        let mut weighing = Weighing { address, claims, asked, found: None };
-        for leader in flow.reached_leaders() {
-            if flow.code.address(leader) <= address {
+    /// Judges rows at ranges of addresses of one FDE, ascending, by what its code does there, as far as `asked` goes.
+    /// Where only a row says what the code does, nothing is known. This takes the time of a lint of the FDE.
+    pub fn standings(&mut self, questions: &[Question<'_>], asked: Facts) -> Standings {
+        let begin = questions.first().map_or(0, |question| question.range.start);
+        let mut weighing = Weighing { questions, asked, found: Standings::default(), first: u64::MAX, right: 0 };
+        if let Some(mut flow) = self.flow(begin).ok().filter(|flow| !flow.is_for_calls) {
+            for leader in flow.reached_leaders() {
                 flow.walk(leader, &mut weighing);
             }
         }
+        let bytes: u64 = questions.iter().map(|question| question.range.end - question.range.start).sum();
+        weighing.found.are_all_right = bytes > 0 && weighing.right >= bytes;
         weighing.found
     }
 }
@@ -74,19 +104,42 @@ fn standing(verdict: &Verdict, asked: Facts) -> Standing {
     }
 }
 
+impl Weighing<'_, '_> {
+    /// The question that has an address.
+    fn question(&self, address: u64) -> Option<usize> {
+        let after = self.questions.partition_point(|question| question.range.start <= address);
+        let last = after.checked_sub(1)?;
+        Some(last).filter(|last| self.questions[*last].range.contains(&address))
+    }
+}
+
 impl<'m> Visitor<'m> for Weighing<'_, '_> {
     fn instruction(&mut self, flow: &Flow<'m, '_>, here: Here<'_>) {
-        let (machine, state) = (flow.module.machine, here.state);
-        if flow.code.address(here.at) != self.address || state.is_assumed {
-            return;
-        }
+        let (machine, state, address) = (flow.module.machine, here.state, flow.code.address(here.at));
+        let place = match self.question(address) {
+            Some(place) if !state.is_assumed => place,
+            _ => return,
+        };
+        let question = &self.questions[place];
         let judge = |claim: &Claim<'_>| match unjudged(machine, &claim.row) {
             Some(_) => Standing::Unknown,
-            None => standing(&flow.verdict_as(&claim.row, state, self.address, claim.is_signed), self.asked),
+            None => standing(&flow.verdict_as(&claim.row, state, address, claim.is_signed), self.asked),
         };
-        let each = self.claims.iter().map(judge).collect();
-        let code = self.claims.first().map(|claim| code_text(flow, &CorrectRow::of(machine, &claim.row, state)));
-        self.found = Some(Standings { each, code: code.unwrap_or_default() });
+        let [first, second] = &question.claims;
+        let each = [judge(first), judge(second)];
+        let text = || code_text(flow, &CorrectRow::of(machine, &first.row, state));
+        if address < self.first {
+            self.first = address;
+            self.found.code = Some(text());
+        }
+        if each == [Standing::Right; 2] {
+            self.right += flow.code.address(flow.code.next(here.at)).min(question.range.end) - address;
+        } else if !each.contains(&Standing::Unknown) {
+            let is_lower = self.found.decision.as_ref().map_or(true, |known| address < known.address);
+            if is_lower {
+                self.found.decision = Some(Decision { address, question: place, each, code: text() });
+            }
+        }
     }
 
     fn edge(&mut self, _: &mut Flow<'m, '_>, _: Edge, _: &State) {}

@@ -2,6 +2,7 @@
 
 use super::tables::TableRow;
 use std::fmt;
+use std::ops::Range;
 
 pub use dwcheck_lint::finding::Severity;
 
@@ -72,7 +73,8 @@ pub struct Difference {
     pub kind: Kind,
     /// The first address of the FDE of the first table.
     pub fde: u64,
-    /// The first address at which it differs.
+    /// The first address at which it differs and the code says which row is wrong; if it never does, the first address at
+    /// which it differs.
     pub address: u64,
     /// At how many addresses it does.
     pub bytes: u64,
@@ -80,12 +82,36 @@ pub struct Difference {
     pub places: usize,
     /// The DWARF numbers of the registers whose rules differ at the first address.
     pub registers: Vec<u16>,
-    /// The rows of both tables at the first address.
+    /// The rows of both tables at this address.
     pub rows: [TableRow; 2],
     /// Which of them the code supports.
     pub support: Support,
-    /// What the code says at the first address, in the form of a row. `None` if that isn't known.
+    /// What the code says at this address, in the form of a row. `None` if that isn't known.
     pub code: Option<String>,
     /// The address after the last one.
     pub(super) end: u64,
+    /// Where it differs, ascending, as far as it is kept.
+    pub(super) kept: Vec<Place>,
+    /// Whether there are more places than are kept.
+    pub(super) is_cut: bool,
+}
+
+/// Addresses that follow one another at which two rows differ.
+#[derive(Clone, Debug)]
+pub(super) struct Place {
+    pub range: Range<u64>,
+    pub rows: [TableRow; 2],
+}
+
+impl Place {
+    /// Whether the same rows go on at these addresses.
+    pub fn goes_on(&self, range: &Range<u64>, rows: [&TableRow; 2]) -> bool {
+        let [first, second] = &self.rows;
+        let is_same = |one: &TableRow, other: &TableRow| {
+            one.row.has_rules_of(&other.row)
+                && one.is_signed == other.is_signed
+                && one.is_outermost == other.is_outermost
+        };
+        self.range.end == range.start && is_same(first, rows[0]) && is_same(second, rows[1])
+    }
 }

@@ -1,17 +1,21 @@
 //! Walks through two tables together.
 
 use super::cfa::{is_for_one_address, Values};
-use super::difference::{Difference, Kind, Support};
+use super::difference::{Difference, Kind, Place, Support};
 use super::rules::{compared, Found, Speech};
 use super::tables::{Covered, Table, TableName, TableRow};
 use crate::cfi::sframe::Abi;
 use crate::elf::format::Name;
 use std::collections::BTreeMap;
 use std::fmt;
+use std::ops::Range;
 
 /// At how many addresses at most rows are compared that have another value at each of them. They are in procedure
 /// linkage tables.
 const MOST_SINGLE: u64 = 1 << 24;
+
+/// How many places of a difference are judged by the code at most.
+const MOST_KEPT: usize = 64;
 
 /// Why something isn't compared.
 #[derive(Clone, Copy, Debug, PartialEq, Eq, PartialOrd, Ord)]
@@ -76,7 +80,7 @@ impl Pair {
         pair
     }
 
-    /// How many addresses have differences of this kind.
+    /// Whether nothing differs.
     pub fn is_clean(&self) -> bool {
         self.differences.is_empty()
     }
@@ -149,7 +153,7 @@ impl Walk<'_> {
     }
 
     /// Compares two rows at these addresses, and returns the address up to which they were compared.
-    fn rows(&mut self, one: &Covered, range: std::ops::Range<u64>, rows: [&TableRow; 2]) -> u64 {
+    fn rows(&mut self, one: &Covered, range: Range<u64>, rows: [&TableRow; 2]) -> u64 {
         let [ours, theirs] = rows;
         let mut end = range.end;
         if is_for_one_address(&ours.row.cfa, &theirs.row.cfa, self.values) {
@@ -173,20 +177,20 @@ impl Walk<'_> {
     }
 
     /// Adds what differs at these addresses to what differs in the same way in the FDE.
-    fn add(
-        &mut self,
-        kind: Kind,
-        registers: Vec<u16>,
-        one: &Covered,
-        range: std::ops::Range<u64>,
-        rows: [&TableRow; 2],
-    ) {
+    fn add(&mut self, kind: Kind, registers: Vec<u16>, one: &Covered, range: Range<u64>, rows: [&TableRow; 2]) {
         let bytes = range.end - range.start;
         match self.open.iter_mut().find(|known| known.kind == kind && known.registers == registers) {
             Some(known) => {
                 known.bytes += bytes;
                 known.places += usize::from(known.end != range.start);
                 known.end = range.end;
+                let goes_on = known.kept.last().map_or(false, |last| last.goes_on(&range, rows));
+                let has_room = known.kept.len() < MOST_KEPT;
+                match known.kept.last_mut() {
+                    Some(last) if goes_on => last.range.end = range.end,
+                    _ if has_room => known.kept.push(place(range, rows)),
+                    _ => known.is_cut = true,
+                }
             }
             None => self.open.push(Difference {
                 kind,
@@ -199,9 +203,16 @@ impl Walk<'_> {
                 support: Support::Unknown,
                 code: None,
                 end: range.end,
+                kept: vec![place(range, rows)],
+                is_cut: false,
             }),
         }
     }
+}
+
+/// A place at which two rows differ.
+fn place(range: Range<u64>, rows: [&TableRow; 2]) -> Place {
+    Place { range, rows: rows.map(TableRow::clone) }
 }
 
 impl fmt::Display for NotSaid {

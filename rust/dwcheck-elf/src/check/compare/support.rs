@@ -1,6 +1,6 @@
 //! Which of two rows the code supports, as the lint sees it.
 
-use super::difference::{Difference, Kind, Support};
+use super::difference::{Difference, Kind, Place, Support};
 use super::pair::Pair;
 use super::tables::TableRow;
 use crate::cfi::row::{Cfa, Rule};
@@ -11,7 +11,7 @@ use dwcheck_lint::judge::Facts;
 use dwcheck_lint::lint::Lint;
 use dwcheck_lint::machine::Machine;
 use dwcheck_lint::module::Module;
-use dwcheck_lint::standing::{Claim, Standing, Standings};
+use dwcheck_lint::standing::{Claim, Decision, Question, Standing, Standings};
 use dwcheck_lint::table::{self, Row};
 
 /// Judges all differences, and leaves out those in which both rows are right: they say the same in two ways.
@@ -32,29 +32,38 @@ pub(super) fn judge(program: &Program<'_>, sections: &Sections<'_>, functions: &
     }
 }
 
-/// Judges a difference. False if both rows are right.
+/// Judges a difference. False if both rows are right wherever they differ.
 fn judge_one(module: &Module<'_>, lint: &mut Lint<'_>, difference: &mut Difference) -> bool {
-    let machine = module.machine;
-    let asked = asked(machine, difference);
-    let [first, second] = &difference.rows;
-    let claims = match (claim(machine, first), claim(machine, second)) {
-        (Some(first), Some(second)) => [first, second],
-        _ => return true,
-    };
-    let (each, code) = match lint.standings(difference.address, &claims, asked) {
-        Some(Standings { each, code }) => (each, code),
+    let asked = asked(module.machine, difference);
+    let questions = difference.kept.iter().map(|place| question(module.machine, place)).collect::<Option<Vec<_>>>();
+    let questions = match questions {
+        Some(questions) => questions,
         None => return true,
     };
-    difference.code = Some(code);
-    let both = [each.first().copied(), each.get(1).copied()].map(|one| one.unwrap_or(Standing::Unknown));
-    difference.support = match both {
-        [Standing::Right, Standing::Right] => return false,
-        [Standing::Right, Standing::Wrong] => Support::First,
-        [Standing::Wrong, Standing::Right] => Support::Second,
-        [Standing::Wrong, Standing::Wrong] => Support::Neither,
-        _ => Support::Unknown,
-    };
+    let Standings { decision, are_all_right, code } = lint.standings(&questions, asked);
+    if are_all_right && !difference.is_cut {
+        return false;
+    }
+    difference.code = code;
+    if let Some(Decision { address, question, each, code }) = decision {
+        difference.address = address;
+        difference.code = Some(code);
+        difference.support = match each {
+            [Standing::Right, _] => Support::First,
+            [_, Standing::Right] => Support::Second,
+            _ => Support::Neither,
+        };
+        if let Some(place) = difference.kept.get(question) {
+            difference.rows = place.rows.clone();
+        }
+    }
     true
+}
+
+/// The rows of a place, as the lint takes them. `None` if one has no CFA.
+fn question<'r>(machine: &Machine, place: &'r Place) -> Option<Question<'r>> {
+    let [first, second] = &place.rows;
+    Some(Question { range: place.range.clone(), claims: [claim(machine, first)?, claim(machine, second)?] })
 }
 
 /// What of the rows is judged.
