@@ -8,6 +8,7 @@
 mod common;
 
 mod commands;
+mod compare;
 mod copies_and_marks;
 mod core_file;
 mod crash_files;

@@ -19,7 +19,10 @@ popped:
 	popq	%rdx
 	.cfi_def_cfa_offset 0
 	.cfi_register %rip, %rdx
-	nop
+	pushq	$0
+	.cfi_def_cfa_offset 8
+	popq	%rax
+	.cfi_def_cfa_offset 0
 	jmpq	*%rdx
 	.cfi_endproc
 	.size	popped, .-popped
