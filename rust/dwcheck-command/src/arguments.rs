@@ -49,6 +49,9 @@ pub enum Command {
     /// Compare the rows of unwind tables with the code that they describe (x86-64, aarch64)
     #[command(after_help = LINT_STATUS)]
     Lint(LintArguments),
+    /// Compare the unwind tables of programs with each other
+    #[command(after_help = COMPARE_STATUS)]
+    Compare(CompareArguments),
     /// Run a program, and compare rows with what is so meanwhile (x86-64)
     #[command(after_help = TRACE_STATUS)]
     Trace(TraceArguments),
@@ -83,6 +86,9 @@ Exit status: that of the program, or 128 plus the number of the signal that ende
 
 const LINT_STATUS: &str = "Example: dwcheck-elf lint --explain /usr/bin/openssl
 Exit status: 0 nothing found; 1 findings; 2 a bad argument; 3 a file that can't be read";
+
+const COMPARE_STATUS: &str = "Example: dwcheck-elf compare build/
+Exit status: 0 nothing differs; 1 findings; 2 a bad argument; 3 a file that can't be read";
 
 /// What to print in addition to the result.
 #[derive(Args, Clone, Copy, Debug)]
@@ -480,4 +486,30 @@ pub struct ProfileArguments {
     /// Write no summary, only what is wrong
     #[arg(long, short)]
     pub quiet: bool,
+}
+
+#[derive(Args, Debug)]
+pub struct CompareArguments {
+    /// Programs, libraries, unlinked objects, and folders of them
+    #[arg(required = true)]
+    pub paths: Vec<PathBuf>,
+    /// Write a line of JSON for each finding, for each file and for the totals
+    #[arg(long)]
+    pub json: bool,
+    /// Write all findings as a document of SARIF 2.1.0, which code hosts show at the source line
+    #[arg(long, conflicts_with = "json")]
+    pub sarif: bool,
+    /// Leave out the findings in FILE, the output of an earlier run without --json and --sarif: those of the same file
+    /// name, kind and function
+    #[arg(long, value_name = "FILE")]
+    pub known: Option<PathBuf>,
+    /// Show findings of this kind only, such as 'different CFA'. Can be given several times
+    #[arg(long, value_name = "KIND")]
+    pub kind: Vec<String>,
+    /// Leave separate files of debug information out
+    #[arg(long)]
+    pub no_separate: bool,
+    /// Read this many files at once, instead of one for each processor
+    #[arg(long, value_name = "N")]
+    pub jobs: Option<usize>,
 }

@@ -7,10 +7,11 @@ use dwcheck::{CheckedExpression, Report};
 use dwcheck_elf::debug_files::DebugFiles;
 use dwcheck_elf::eh_frame_hdr::mismatches;
 use dwcheck_elf::frames::{Counts, Frames, Measured, Name, Notes};
-use dwcheck_elf::inspect::{inspect_frame_sections, inspect_lists_of_file, Check, Inspected, Verdict};
+use dwcheck_elf::inspect::{inspect_frame_sections, inspect_lists_of_file, inspect_sframe, Check, Inspected, Verdict};
 use dwcheck_elf::lists::{self, Bytes as ListBytes};
 use dwcheck_elf::mapped::Bytes;
 use dwcheck_elf::program::Program;
+use dwcheck_elf::sframe::{Sframe, SframeCounts, SframeNotes, SframeSection};
 use dwcheck_elf::text::Offset;
 use std::io::{self, Write};
 use std::path::{Path, PathBuf};
@@ -47,11 +48,12 @@ fn check_program(arguments: &CheckArguments, path: &Path, out: &mut impl Write) 
     let CheckArguments { all, doubtful, compare, .. } = *arguments;
     let check = Check { all, doubtful, compare, counts_only: false };
     let mut sections = inspect_frame_sections(&program, check);
+    sections.extend(inspect_sframe(&program));
     let mut done = Done::Accepted;
     let mut separate = None;
-    let mut names = ".debug_frame or .eh_frame";
+    let mut names = ".debug_frame, .eh_frame or .sframe";
     if !arguments.no_lists {
-        names = ".debug_frame, .eh_frame, .debug_loc or .debug_loclists";
+        names = ".debug_frame, .eh_frame, .sframe, .debug_loc or .debug_loclists";
         separate = add_lists(&mut sections, path, &program, check);
     }
     if sections.is_empty() {
@@ -69,6 +71,9 @@ fn check_program(arguments: &CheckArguments, path: &Path, out: &mut impl Write) 
             if arguments.notes.notes {
                 write_notes(out, frames)?;
             }
+        }
+        if arguments.notes.notes && section.name == Name::Sframe {
+            write_sframe_notes(out, &program)?;
         }
     }
     Ok(done)
@@ -136,6 +141,10 @@ fn add_lists<'a>(
 fn write_accepted(out: &mut impl Write, section: &Inspected<'_>) -> io::Result<()> {
     match (&section.verdict, &section.frames) {
         (Verdict::Frames(agreement), Some(frames)) => write_frame_counts(out, agreement, frames),
+        (Verdict::Sframe(counts), _) => {
+            let SframeCounts { version, functions, rows } = counts;
+            writeln!(out, "version {} fdes {} rows {}", *version as u8, functions, rows)
+        }
         (Verdict::Lists(report), _) => write_list_report(out, report),
         _ => Ok(()),
     }
@@ -237,4 +246,19 @@ fn write_list_report(out: &mut impl Write, report: &Report) -> io::Result<()> {
 pub fn write_notes(out: &mut impl Write, frames: &Frames<'_>) -> io::Result<()> {
     let mut texts = Notes::of(frames).texts();
     texts.try_for_each(|(count, what)| writeln!(out, "note {}: {} {}", frames.name(), count, what))
+}
+
+/// Writes what the SFrame section of a program has that isn't a rule, with a line for each kind, if it breaks no rule.
+fn write_sframe_notes(out: &mut impl Write, program: &Program<'_>) -> io::Result<()> {
+    let section = SframeSection::read(program).ok().flatten();
+    match section.as_ref().and_then(|section| section.check().ok()) {
+        Some(sframe) => write_notes_on(out, &sframe),
+        None => Ok(()),
+    }
+}
+
+/// Writes what a checked SFrame section has that isn't a rule, with a line for each kind.
+pub fn write_notes_on(out: &mut impl Write, sframe: &Sframe<'_>) -> io::Result<()> {
+    let mut texts = SframeNotes::of(sframe).texts();
+    texts.try_for_each(|(count, what)| writeln!(out, "note {}: {} {}", Name::Sframe, count, what))
 }

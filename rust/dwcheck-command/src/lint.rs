@@ -1,7 +1,7 @@
 //! The command `lint`: compares the rows of programs with their code.
 
-mod known;
-mod linted;
+pub mod known;
+pub mod linted;
 mod sarif;
 
 use crate::arguments::LintArguments;
@@ -37,12 +37,13 @@ struct Totals {
 /// Lints all files, and writes what is found, as text or as JSON.
 pub fn lint(arguments: &LintArguments, out: &mut impl Write) -> Result<Done, Failure> {
     let kinds = arguments.kind.iter().map(|name| kind_of_name(name)).collect::<Result<Vec<_>, _>>()?;
-    let known = arguments.known.as_deref().map_or(Ok(Known::default()), Known::read)?;
+    let kind_names: Vec<_> = KINDS.iter().map(|(_, name)| *name).collect();
+    let known = Known::of_run(arguments.known.as_deref(), "lint", &kind_names)?;
     let pool = thread_pool(arguments.jobs)?;
     let files = pool.install(|| Files::once_each(&arguments.paths));
     let bar = progress_bar(files.paths.len() as u64);
     let (private, explain, json, sarif) = (arguments.private, arguments.explain, arguments.json, arguments.sarif);
-    let shown = Shown { private, explain, json, sarif, kinds };
+    let shown = Shown { private, explain, json, sarif, kinds, kind_names };
     let all: Vec<_> = pool.install(|| {
         let each = files.paths.par_iter().with_max_len(1).map(|path| {
             let linted = lint_file(path, &shown);

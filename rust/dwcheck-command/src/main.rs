@@ -3,6 +3,7 @@
 
 mod arguments;
 mod check;
+mod compare;
 mod end;
 mod lint;
 mod lists;
@@ -13,6 +14,7 @@ mod profile;
 mod report;
 mod rows;
 mod sarif;
+mod sframe;
 mod stack;
 mod survey;
 mod trace;
@@ -63,6 +65,7 @@ fn run_command(command: Command, out: &mut impl Write) -> Result<Done, Failure> 
         Command::Survey(arguments) => survey::survey(&arguments, out),
         Command::Lint(arguments) if arguments.confirm => trace::confirm(&arguments, out),
         Command::Lint(arguments) => lint::lint(&arguments, out),
+        Command::Compare(arguments) => compare::compare(&arguments, out),
         Command::Trace(arguments) => trace::trace(&arguments),
         Command::Profile(arguments) => profile::profile(&arguments, out),
         Command::Report(arguments) => report::report(&arguments, out),

@@ -6,6 +6,7 @@ use crate::end::{shown_path, Done, Failure};
 use crate::opened::{
     self, address_argument, function_in_parentheses, number_argument, open_elf, process_of_frames, write_defect, Opened,
 };
+use crate::sframe::OpenedSframe;
 use dwcheck::Process;
 use dwcheck_elf::frames::{Frames, Kind};
 use dwcheck_elf::functions::Functions;
@@ -22,7 +23,8 @@ pub fn rows(arguments: &RowsArguments, out: &mut impl Write) -> Result<Done, Fai
     let data = open_elf(&arguments.program)?;
     let program = opened::parse_program(&arguments.program, &data)?;
     let opened = Opened::read(&arguments.program, &program)?;
-    if opened.frames.is_empty() && opened.refused.is_empty() {
+    let sframe = OpenedSframe::read(&arguments.program, &program)?;
+    if opened.frames.is_empty() && opened.refused.is_empty() && sframe.is_none() {
         return Err(no_frame_section(&arguments.program, program.kind()));
     }
     let functions = program.functions();
@@ -34,9 +36,13 @@ pub fn rows(arguments: &RowsArguments, out: &mut impl Write) -> Result<Done, Fai
             write_notes(out, frames)?;
         }
     }
+    let mut done = opened.done();
+    if let Some(sframe) = &sframe {
+        done = done.max(sframe.write_rows(out, &arguments.program, &functions, arguments.notes.notes)?);
+    }
     out.flush()?;
     opened.note_refused(&arguments.program, true);
-    Ok(opened.done())
+    Ok(done)
 }
 
 /// The failure for a file that has no frame section.
@@ -45,7 +51,7 @@ fn no_frame_section(path: &Path, kind: program::Kind) -> Failure {
         program::Kind::Core => "; it is a core file: stack prints its stacks",
         _ => "",
     };
-    Failure::File(format!("{}: has neither .eh_frame nor .debug_frame{}", shown_path(path), hint))
+    Failure::File(format!("{}: has no .eh_frame, .debug_frame or .sframe{}", shown_path(path), hint))
 }
 
 fn write_rows_of_section(
@@ -89,8 +95,8 @@ fn write_rows(out: &mut impl Write, frames: &Frames<'_>, mut rows: DwcheckRows<'
     Ok(())
 }
 
-/// Shows the row of an address, from the first section that has such a row. If no section has one,
-/// shows the fault of the FDE that covers the address and is refused, or `none`.
+/// Shows the row of an address, from the first frame section that has such a row, and that of `.sframe`. If no section
+/// has one, shows the fault of the FDE that covers the address and is refused, or `none`.
 pub fn row(arguments: &RowArguments, out: &mut impl Write) -> Result<Done, Failure> {
     let data = open_elf(&arguments.program)?;
     let program = opened::parse_program(&arguments.program, &data)?;
@@ -100,18 +106,18 @@ pub fn row(arguments: &RowArguments, out: &mut impl Write) -> Result<Done, Failu
     let loaded = address_argument("ADDRESS", &arguments.address, target, &functions, load)?;
     let linked = target.wrap(loaded.wrapping_sub(load));
     let opened = Opened::read(&arguments.program, &program)?;
-    for frames in &opened.frames {
-        let process = process_of_frames(&arguments.program, frames)?;
-        if process.row(linked).is_some() {
-            let mut row = Row::default();
-            let end = linked.saturating_add(1);
-            let found = DwcheckRows::whole(&process, linked, end).next_row(&mut row);
-            found.map_err(|error| Failure::File(error.to_string()))?;
-            writeln!(out, "section {}", frames.name())?;
-            writeln!(out, "{}{}", RowLine(target, &row), function_in_parentheses(&functions, linked))?;
-            opened.note_refused(&arguments.program, false);
-            return Ok(opened.done());
-        }
+    let sframe = OpenedSframe::read(&arguments.program, &program)?;
+    let has_row = write_row(out, &arguments.program, &opened, &functions, linked)?;
+    let mut done = opened.done();
+    if has_row {
+        opened.note_refused(&arguments.program, false);
+    }
+    let of_sframe = sframe.as_ref().map_or(Ok(None), |sframe| {
+        done = done.max(sframe.done(&arguments.program));
+        sframe.write_row(out, &functions, linked)
+    })?;
+    if has_row || of_sframe.is_some() {
+        return Ok(done);
     }
     match opened.refused_at(linked) {
         Some(defect) => write_defect(out, &arguments.program, defect)?,
@@ -120,5 +126,28 @@ pub fn row(arguments: &RowArguments, out: &mut impl Write) -> Result<Done, Failu
             writeln!(out, "none")?;
         }
     }
-    Ok(opened.done())
+    Ok(done)
+}
+
+/// Writes the row of an address from the first frame section that has one, and says whether one has.
+fn write_row(
+    out: &mut impl Write,
+    path: &Path,
+    opened: &Opened<'_>,
+    functions: &Functions<'_>,
+    address: u64,
+) -> Result<bool, Failure> {
+    for frames in &opened.frames {
+        let process = process_of_frames(path, frames)?;
+        if process.row(address).is_some() {
+            let mut row = Row::default();
+            let end = address.saturating_add(1);
+            let found = DwcheckRows::whole(&process, address, end).next_row(&mut row);
+            found.map_err(|error| Failure::File(error.to_string()))?;
+            writeln!(out, "section {}", frames.name())?;
+            writeln!(out, "{}{}", RowLine(frames.target(), &row), function_in_parentheses(functions, address))?;
+            return Ok(true);
+        }
+    }
+    Ok(false)
 }

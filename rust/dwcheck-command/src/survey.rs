@@ -11,10 +11,11 @@ use crate::opened::{write_defect, write_note};
 use crate::pool::thread_pool;
 use dwcheck_elf::fault::Defect;
 use dwcheck_elf::frames::{Counts, Name, Notes};
-use dwcheck_elf::inspect::{inspect, inspect_frame_sections, Check, Inspected, Verdict};
+use dwcheck_elf::inspect::{inspect, inspect_frame_sections, inspect_sframe, Check, Inspected, Verdict};
 use dwcheck_elf::lines::{Lines, SourceLine};
 use dwcheck_elf::lists;
 use dwcheck_elf::program::{Program, ProgramError};
+use dwcheck_elf::sframe::SframeCounts;
 use files::{map_file, Files};
 use indicatif::{ProgressBar, ProgressStyle};
 use rayon::prelude::*;
@@ -203,7 +204,7 @@ fn survey_bytes(path: PathBuf, data: &[u8], asked: Asked) -> Surveyed {
     };
     let inspected = match asked.has_lists {
         true => inspect(&program, asked.check),
-        false => inspect_frame_sections(&program, asked.check),
+        false => inspect_frame_sections(&program, asked.check).into_iter().chain(inspect_sframe(&program)).collect(),
     };
     let mut sections: Vec<_> = inspected.into_iter().map(Section::of).collect();
     if asked.has_lines && sections.iter().any(|section| !section.defects.is_empty()) {
@@ -239,6 +240,9 @@ impl Section {
         let mut error = None;
         let (held, defects) = match verdict {
             Verdict::Frames(Counts { cies, fdes, rows, .. }) => (Held::Frames { cies, fdes, rows }, Vec::new()),
+            Verdict::Sframe(SframeCounts { functions, rows, .. }) => {
+                (Held::Frames { cies: 0, fdes: functions, rows }, Vec::new())
+            }
             Verdict::Lists(found) => {
                 (Held::Lists { lists: found.lists as usize, expressions: found.expressions.len() }, Vec::new())
             }

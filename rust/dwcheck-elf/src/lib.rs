@@ -18,8 +18,8 @@ mod error;
 mod layers;
 mod process;
 
-pub use cfi::{eh_frame_hdr, frames, one_by_one, row, text, validate};
-pub use check::{fault, inspect, lint, program_report};
+pub use cfi::{eh_frame_hdr, frames, one_by_one, row, sframe, text, validate};
+pub use check::{compare, fault, inspect, lint, program_report};
 pub use debug::{expression, lines, loclists, variables};
 pub use dwcheck_types::{abi, target};
 pub use elf::{debug_files, functions, image, mapped, other_file, program, relocate};

@@ -62,7 +62,7 @@ impl<'m> Visitor<'m> for Listing {
 }
 
 /// What the code says, in the form of a row.
-fn code_text(flow: &Flow<'_, '_>, correct_row: &CorrectRow) -> String {
+pub(crate) fn code_text(flow: &Flow<'_, '_>, correct_row: &CorrectRow) -> String {
     let machine = flow.module.machine;
     let cfa = correct_row
         .cfa

@@ -166,7 +166,10 @@ impl fmt::Display for Text<'_, '_> {
             write!(f, "\n    {} {}: {}", word, place(before), text(before))?;
         }
         write!(f, "\n    at {}: {}", place(address), text(address))?;
-        write!(f, "\n    row: {}", RowText(machine, &mark.row))?;
+        match &module.table {
+            Some(table) => write!(f, "\n    row of {}: {}", table, RowText(machine, &mark.row))?,
+            None => write!(f, "\n    row: {}", RowText(machine, &mark.row))?,
+        }
         write!(f, "\n    code: {}", finding.correct_row(machine))?;
         if let Some(directive) = finding.directive() {
             write!(f, "; right would be: {}", directive)?;
@@ -199,6 +202,9 @@ impl fmt::Display for Json<'_, '_> {
             write!(f, ",\"before\":{},\"before-address\":{}", Quoted(&text(before)), before)?;
         }
         write!(f, ",\"instruction\":{}", Quoted(&text(mark.address)))?;
+        if let Some(table) = &module.table {
+            write!(f, ",\"table\":{}", Quoted(table))?;
+        }
         write!(f, ",\"row\":{}", Quoted(&RowText(machine, &mark.row).to_string()))?;
         write!(f, ",\"what\":{}", Quoted(&finding.what(machine)))?;
         write!(f, ",\"code\":{}", Quoted(&finding.correct_row(machine)))?;

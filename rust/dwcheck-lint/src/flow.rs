@@ -366,8 +366,12 @@ impl<'m, 'c> Flow<'m, 'c> {
 
     /// Compares a row with a state.
     pub fn verdict(&self, row: &Row<'_>, state: &State, address: u64) -> Verdict {
+        self.verdict_as(row, state, address, self.is_signed(address))
+    }
+
+    /// The same, for a row that says itself whether the return address is signed.
+    pub fn verdict_as(&self, row: &Row<'_>, state: &State, address: u64, is_signed: bool) -> Verdict {
         let (machine, convention) = (self.module.machine, self.module.convention);
-        let is_signed = self.is_signed(address);
         Judge { machine, convention, state, stores: &self.stores, said: self.said, is_signed }.verdict(row, address)
     }
 

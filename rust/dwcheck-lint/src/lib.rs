@@ -12,8 +12,8 @@
 //! - [`landings`] reads where calls go on that throw.
 //! - [`rules`] says which ways through the code aren't taken.
 //! - [`judge`], [`expression`], [`verdicts`], [`follow`], [`judging`] and [`correct_row`] compare rows with what is known.
-//! - [`kinds`], [`finding`], [`coverage`], [`finding_text`] and [`explain`] say what was found, and [`error`] why an
-//!   FDE can't be judged.
+//! - [`kinds`], [`finding`], [`coverage`], [`finding_text`] and [`explain`] say what was found, [`standing`] which of
+//!   several rows is right, and [`error`] why an FDE can't be judged.
 
 #![warn(missing_docs)]
 #![deny(unsafe_op_in_unsafe_fn)]
@@ -44,6 +44,7 @@ pub mod machine;
 pub mod module;
 pub mod register;
 pub mod rules;
+pub mod standing;
 pub mod state;
 pub mod step;
 pub mod stores;

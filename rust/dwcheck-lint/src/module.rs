@@ -45,6 +45,8 @@ pub struct Module<'a> {
     pub convention: Convention,
     /// The rows of the FDEs.
     pub rows: Box<dyn Rows + 'a>,
+    /// The name of the table that has the rows, for findings. `None` for frame sections.
+    pub table: Option<String>,
 }
 
 impl<'a> Module<'a> {

@@ -3,7 +3,6 @@
 use crate::end::{shown_path, Failure};
 use crate::opened::open_elf;
 use dwcheck_lint::finding::Severity;
-use dwcheck_lint::kinds::KINDS;
 use std::collections::HashMap;
 use std::path::Path;
 
@@ -24,20 +23,29 @@ pub struct Known(HashMap<String, Vec<Key>>);
 pub struct Remaining(Vec<Key>);
 
 impl Known {
-    /// Reads the findings in the output of an earlier run, which has to be text. Other lines are passed over.
-    pub fn read(path: &Path) -> Result<Known, Failure> {
+    /// Reads the findings of kinds with these names in the output of an earlier run of a command, which has to be text.
+    /// Other lines are passed over.
+    fn read(path: &Path, command: &str, kinds: &[&str]) -> Result<Known, Failure> {
         let bytes = open_elf(path)?;
         if bytes.starts_with(b"{") {
-            let reason = "it is JSON; known findings are read from text, as lint writes it without --json and --sarif";
+            let reason = format!(
+                "it is JSON; known findings are read from text, as {} writes it without --json and --sarif",
+                command
+            );
             return Err(Failure::File(format!("cannot read {}: {}", shown_path(path), reason)));
         }
         let mut known = Known::default();
         for line in String::from_utf8_lossy(&bytes).lines() {
-            if let Some((file, key)) = parse_finding_line(line) {
+            if let Some((file, key)) = parse_finding_line(line, kinds) {
                 known.0.entry(file).or_default().push(key);
             }
         }
         Ok(known)
+    }
+
+    /// The findings in the file that a command was given, if any.
+    pub fn of_run(path: Option<&Path>, command: &str, kinds: &[&str]) -> Result<Known, Failure> {
+        path.map_or_else(|| Ok(Known::default()), |path| Known::read(path, command, kinds))
     }
 
     /// Those of a file.
@@ -58,8 +66,8 @@ impl Remaining {
 /// The file's name and the key in the first line of a finding:
 /// `FILE: KIND at FUNCTION+0x4 (0x1234): SEVERITY: ..`. In an unlinked object a section and an offset are
 /// in parentheses.
-fn parse_finding_line(line: &str) -> Option<(String, Key)> {
-    let found = KINDS.iter().find_map(|(_, kind)| Some((*kind, line.split_once(&format!(": {} at ", kind))?)));
+fn parse_finding_line(line: &str, kinds: &[&str]) -> Option<(String, Key)> {
+    let found = kinds.iter().find_map(|kind| Some((*kind, line.split_once(&format!(": {} at ", kind))?)));
     let (kind, (path, rest)) = found?;
     let severities = [Severity::BacktraceBroken, Severity::RegisterLost, Severity::Private];
     let until = severities.iter().find_map(|severity| Some(rest.split_once(&format!("): {}: ", severity))?.0))?;
@@ -77,9 +85,9 @@ fn function_of_finding(name: &str, place: &str) -> String {
 }
 
 impl Key {
-    /// The key of the finding whose first line this is.
-    pub fn of(line: &str) -> Key {
+    /// The key of the finding, of a kind with one of these names, whose first line this is.
+    pub fn of(line: &str, kinds: &[&str]) -> Key {
         let nothing = || Key { kind: String::new(), function: String::new() };
-        parse_finding_line(line).map_or_else(nothing, |(_, key)| key)
+        parse_finding_line(line, kinds).map_or_else(nothing, |(_, key)| key)
     }
 }

@@ -3,11 +3,13 @@
 use super::known::Key;
 use super::sarif;
 use crate::survey::files::map_file;
+use dwcheck_elf::frames::Name;
 use dwcheck_elf::functions::Functions;
 use dwcheck_elf::lines::Lines;
 use dwcheck_elf::lint::{LintError, Sections};
 use dwcheck_elf::names::FunctionOffset;
 use dwcheck_elf::program::Program;
+use dwcheck_elf::sframe::SframeSection;
 use dwcheck_lint::coverage::Coverage;
 use dwcheck_lint::explain::{explain, Line};
 use dwcheck_lint::finding::{Finding, Severity};
@@ -36,6 +38,8 @@ pub struct Shown {
     pub sarif: bool,
     /// The kinds that are shown. Empty if all are.
     pub kinds: Vec<Kind>,
+    /// The names of all kinds.
+    pub kind_names: Vec<&'static str>,
 }
 
 /// The result for a file.
@@ -86,30 +90,50 @@ fn lint_bytes(path: &Path, data: &[u8], shown: &Shown) -> Outcome {
         Ok(module) => module,
         Err(error) => return Outcome::Other(error),
     };
-    let mut lint = Lint::run(&module);
-    let report = lint.report();
-    let is_shown = |finding: &&Finding<'_>| {
-        let is_kind = shown.kinds.is_empty() || shown.kinds.contains(&finding.kind);
-        is_kind && (shown.private || finding.severity != Severity::Private)
-    };
     let unpacked = Arena::new();
     let lines = shown.sarif.then(|| Lines::read(&program, None, &unpacked)).flatten();
-    let file = File { path, module: &module, functions: &functions, lines };
-    let findings = report.findings.iter().filter(is_shown).map(|finding| file.written(finding, &mut lint, shown));
-    let findings = findings.collect();
-    let text = file.coverage(&report.coverage, shown);
-    Outcome::Judged { findings, coverage: Box::new(report.coverage), unused: sections.unused.clone(), text }
+    let (mut unused, mut texts) = (sections.unused.clone(), Vec::new());
+    let (mut findings, mut coverage) = (Vec::new(), Coverage::default());
+    let mut add = |module: &Module<'_>| {
+        let file = File { path, module, functions: &functions, lines: lines.as_ref() };
+        let (found, judged) = file.judged(shown);
+        texts.push(file.coverage(&judged, shown));
+        findings.extend(found);
+        coverage.add(&judged);
+    };
+    add(&module);
+    match SframeSection::read(&program) {
+        Ok(None) => {}
+        Ok(Some(section)) => match section.check() {
+            Ok(sframe) => sections.sframe_module(&program, &functions, &sframe).iter().for_each(&mut add),
+            Err(error) => unused.push(format!("{}: {}", Name::Sframe, error)),
+        },
+        Err(error) => unused.push(error.to_string()),
+    }
+    Outcome::Judged { findings, coverage: Box::new(coverage), unused, text: texts.join("\n") }
 }
 
 /// A file whose findings are written.
-struct File<'a, 'm> {
+struct File<'a, 'm, 'l> {
     path: &'a Path,
     module: &'a Module<'m>,
     functions: &'a Functions<'a>,
-    lines: Option<Lines<'a>>,
+    lines: Option<&'a Lines<'l>>,
 }
 
-impl<'m> File<'_, 'm> {
+impl<'m> File<'_, 'm, '_> {
+    /// The findings that are shown, and what was judged.
+    fn judged(&self, shown: &Shown) -> (Vec<WrittenFinding>, Coverage) {
+        let mut lint = Lint::run(self.module);
+        let report = lint.report();
+        let is_shown = |finding: &&Finding<'_>| {
+            let is_kind = shown.kinds.is_empty() || shown.kinds.contains(&finding.kind);
+            is_kind && (shown.private || finding.severity != Severity::Private)
+        };
+        let findings = report.findings.iter().filter(is_shown).map(|finding| self.written(finding, &mut lint, shown));
+        (findings.collect(), report.coverage)
+    }
+
     fn name(&self, address: u64) -> Option<String> {
         FunctionOffset::at(self.functions, address).map(|spot| spot.to_string())
     }
@@ -117,7 +141,7 @@ impl<'m> File<'_, 'm> {
     fn written(&self, finding: &Finding<'m>, lint: &mut Lint<'m>, shown: &Shown) -> WrittenFinding {
         let names = |address| self.name(address);
         let mut text = format!("{}: {}", crate::end::shown_path(self.path), Text(self.module, finding, &names));
-        let key = Key::of(text.lines().next().unwrap_or(""));
+        let key = Key::of(text.lines().next().unwrap_or(""), &shown.kind_names);
         if shown.json {
             let object = Json(self.module, finding, &names).to_string();
             text = format!("{{\"file\":{},{}", Quoted(&self.path.to_string_lossy()), &object[1..]);
@@ -131,7 +155,7 @@ impl<'m> File<'_, 'm> {
     /// A finding, whose text this is, as a result of SARIF.
     fn result(&self, finding: &Finding<'m>, text: &str) -> serde_json::Value {
         let address = finding.mark.address;
-        let line = self.lines.as_ref().and_then(|lines| lines.line(address));
+        let line = self.lines.and_then(|lines| lines.line(address));
         let message = text.get(crate::end::shown_path(self.path).len() + 2..).unwrap_or(text);
         sarif::finding_as_result(self.path, self.module, finding, message, self.name(address), line)
     }
@@ -142,9 +166,12 @@ impl<'m> File<'_, 'm> {
             let named = coverage.named();
             let counts: Vec<_> = named.iter().map(|(name, count)| format!("\"{}\":{}", name, count)).collect();
             let file = Quoted(&self.path.to_string_lossy()).to_string();
-            return format!("{{\"file\":{},\"coverage\":{{{}}}}}", file, counts.join(","));
+            let table = self.module.table.as_deref().map(|table| format!(",\"table\":{}", Quoted(table)));
+            let table = table.unwrap_or_default();
+            return format!("{{\"file\":{}{},\"coverage\":{{{}}}}}", file, table, counts.join(","));
         }
-        format!("{}: {}", crate::end::shown_path(self.path), coverage)
+        let table = self.module.table.as_deref().map(|table| format!("{}: ", table)).unwrap_or_default();
+        format!("{}: {}{}", crate::end::shown_path(self.path), table, coverage)
     }
 }
 

@@ -128,7 +128,7 @@ fn check_without_location_lists() {
     assert_eq!((frames.status, frames.lines()[0]), (0, "program: .eh_frame: accepted"));
     assert!(both.out.starts_with(&frames.out) && !frames.out.contains("lists"), "{}", frames.out);
     let none = dwcheck_elf(&folder, "check --no-lists without");
-    assert_eq!((none.status, none.out.as_str()), (0, "without: no .debug_frame or .eh_frame\n"));
+    assert_eq!((none.status, none.out.as_str()), (0, "without: no .debug_frame, .eh_frame or .sframe\n"));
 }
 
 /// For an entry value, which gcc and clang write, the line with the rule has a hint.
@@ -250,8 +250,12 @@ fn words_and_files_that_are_wrong() {
         ("check nowhere", 3, "cannot read nowhere"),
         ("check .", 3, "cannot read .: Is a directory (os error 21): survey reads folders\n"),
         ("check text", 3, "not an ELF file"),
-        ("rows bare.o", 3, "bare.o: has neither .eh_frame nor .debug_frame\n"),
-        ("rows bare.core", 3, "has neither .eh_frame nor .debug_frame; it is a core file: stack prints its stacks\n"),
+        ("rows bare.o", 3, "bare.o: has no .eh_frame, .debug_frame or .sframe\n"),
+        (
+            "rows bare.core",
+            3,
+            "has no .eh_frame, .debug_frame or .sframe; it is a core file: stack prints its stacks\n",
+        ),
         ("unwind program main nowhere", 3, "cannot read nowhere"),
         ("stack program program", 3, "an ELF file of type 2, not a core file; the order is PROGRAM CORE\n"),
     ] {

@@ -8,6 +8,7 @@
 mod common;
 
 mod commands;
+mod compare;
 mod copies_and_marks;
 mod core_file;
 mod crash_files;
@@ -31,6 +32,7 @@ mod program;
 mod refusals;
 mod report_page;
 mod same_frames;
+mod sframe;
 mod stacks;
 mod surveys;
 #[cfg(all(target_os = "linux", target_arch = "x86_64"))]

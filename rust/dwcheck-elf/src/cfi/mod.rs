@@ -10,5 +10,6 @@ pub mod instructions;
 pub mod one_by_one;
 pub mod row;
 pub mod section_table;
+pub mod sframe;
 pub mod text;
 pub mod validate;

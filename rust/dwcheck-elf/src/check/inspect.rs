@@ -1,5 +1,6 @@
 //! Checks the frame sections and the location lists of a program.
 
+pub use super::sframe::inspect_sframe;
 pub use super::verdict::{Check, InspectError, Inspected, Verdict};
 use crate::cfi::frames::{range_of_body, Counts, FrameSection, Frames, FramesError, Kind, Name, Record, RecordStatus};
 use crate::cfi::one_by_one::{accepted_part, every_fault};
@@ -14,7 +15,7 @@ use dwcheck_types::target::Target;
 use std::fmt;
 use std::path::{Path, PathBuf};
 
-/// Checks the sections of a program that have bytes: `.debug_frame`, `.eh_frame`, `.debug_loc`,
+/// Checks the sections of a program that have bytes: `.debug_frame`, `.eh_frame`, `.sframe`, `.debug_loc`,
 /// `.debug_loclists`.
 ///
 /// The memory that this takes is in proportion to the length of the sections. So is the time, for
@@ -24,6 +25,7 @@ use std::path::{Path, PathBuf};
 /// A section that can't be read or checked doesn't keep the others from it: each has a [`Verdict`].
 pub fn inspect<'data>(program: &Program<'data>, check: Check) -> Vec<Inspected<'data>> {
     let mut all = inspect_frame_sections(program, check);
+    all.extend(inspect_sframe(program));
     all.extend(inspect_lists(program, None, check));
     all
 }

@@ -3,8 +3,11 @@
 //! [`Sections`] reads and checks the frame sections, and [`Sections::module`] makes a
 //! [`Module`](dwcheck_lint::module::Module), which [`dwcheck_lint::lint`] judges.
 
+mod sframe;
+
 use crate::cfi::frames::{Frames, Kind, Name, Record};
 use crate::cfi::one_by_one::accepted_part_with_rows;
+use crate::cfi::sframe::Sframe;
 use crate::cfi::validate::comparable_bytes;
 use crate::elf::functions::Functions;
 use crate::elf::image::{Image, Part};
@@ -17,6 +20,7 @@ use dwcheck_lint::module::{Convention, Module, Segment};
 use dwcheck_lint::table::{Cfa, Fde, Row, Rows, Rule};
 use dwcheck_types::target::AddressSize;
 use gimli::{CallFrameInstruction, EndianSlice, Pointer, RunTimeEndian, UnwindSection};
+use sframe::SframeRows;
 use std::cell::RefCell;
 use std::collections::HashSet;
 use std::fmt;
@@ -76,9 +80,29 @@ impl<'data> Sections<'data> {
             imports: self.image.imports.iter().copied().collect(),
             convention: register_convention(program, functions, &self.image),
             rows: Box::new(SectionRows::of(self, machine)),
+            table: None,
         };
         module.fdes = self.fdes(&module);
         Ok(module)
+    }
+
+    /// The same, but with the functions and the rows of the program's SFrame section.
+    pub fn sframe_module<'a>(
+        &'a self,
+        program: &Program<'a>,
+        functions: &Functions<'_>,
+        sframe: &Sframe<'_>,
+    ) -> Result<Module<'a>, LintError> {
+        let module = self.module(program, functions)?;
+        let rows = SframeRows::of(sframe, module.machine);
+        let fdes = rows.fdes(&module.fdes);
+        let table = Some(Name::Sframe.to_string());
+        Ok(Module { fdes, rows: Box::new(rows), table, ..module })
+    }
+
+    /// The sections, checked, in the order in which their rows are taken.
+    pub(super) fn all(&self) -> &[(Frames<'data>, Process)] {
+        &self.all
     }
 
     /// The checked sections, in the order in which their rows are taken.

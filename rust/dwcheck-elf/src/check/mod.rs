@@ -3,10 +3,12 @@
 //!
 //! It uses `elf`, `cfi` and `debug`.
 
+pub mod compare;
 pub mod fault;
 pub mod inspect;
 pub mod lint;
 pub mod lists;
 pub mod page;
 pub mod program_report;
+pub mod sframe;
 pub mod verdict;

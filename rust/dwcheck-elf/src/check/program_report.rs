@@ -10,6 +10,7 @@ mod frame_section;
 mod instructions;
 pub mod page;
 mod refusal;
+mod tables;
 
 pub use compare::Difference;
 pub use coverage::{Coverage, Gap, GapKind, Totals};
@@ -19,8 +20,9 @@ pub use refusal::Refusal;
 use crate::cfi::frames::{Frames, Kind, Name};
 use crate::cfi::one_by_one::accepted_part_with_rows;
 use crate::cfi::row::Row;
+use crate::cfi::sframe::{Sframe, SframeSection};
 use crate::cfi::validate::{DwcheckRows, RowSource};
-use crate::check::inspect::{inspect_frame_sections, Check, Inspected};
+use crate::check::inspect::{inspect_frame_sections, inspect_sframe, Check, Inspected};
 use crate::check::lint::LintError;
 use crate::elf::covered::Covered;
 use crate::elf::demangle::{raw_name, shown_name};
@@ -30,6 +32,8 @@ use dwcheck::Process;
 use dwcheck_lint::machine::Machine;
 use dwcheck_types::target::Target;
 use instructions::Memory;
+use std::ops::Range;
+use tables::{Table, TableRows};
 
 /// What a report says of a program.
 pub struct Report<'data> {
@@ -37,7 +41,7 @@ pub struct Report<'data> {
     pub title: String,
     /// The byte order and the address size.
     pub target: Target,
-    /// The frame sections that have bytes.
+    /// The frame sections that have bytes, and the SFrame section.
     pub sections: Vec<Section>,
     /// The FDEs that are accepted: section by section, each in the order of its FDEs.
     pub functions: Vec<Function>,
@@ -46,7 +50,7 @@ pub struct Report<'data> {
     /// The records that are refused, at most [`refusal::MOST`] of each section.
     pub refusals: Vec<Refusal>,
     /// The rows of each section that has accepted FDEs.
-    tables: Vec<(Name, Process)>,
+    tables: Vec<Table>,
     memory: Memory<'data>,
 }
 
@@ -92,6 +96,7 @@ impl<'data> Report<'data> {
         for one in &inspected {
             report.add(one, program, &functions, &mut refused);
         }
+        report.add_sframe(program, &functions);
         let mut covered = Covered::default();
         report.functions.iter().for_each(|function| covered.insert(function.begin, function.end));
         report.coverage = Coverage::of(program, &functions, &report.memory, &covered, &refused);
@@ -117,7 +122,20 @@ impl<'data> Report<'data> {
             addresses.filter(|range| !range.is_empty()).for_each(|range| refused.insert(range.start, range.end));
             let table = self.tables.len();
             self.functions.extend(functions_of(&frames, &process, functions, table));
-            self.tables.push((frames.name(), process));
+            self.tables.push(Table::Frames(frames.name(), process));
+        }
+    }
+
+    /// Adds the SFrame section, if there is one.
+    fn add_sframe(&mut self, program: &Program<'data>, functions: &Functions<'data>) {
+        if let Some(inspected) = inspect_sframe(program) {
+            self.sections.push(Section::of(&inspected, program));
+        }
+        let section = SframeSection::read(program).ok().flatten();
+        if let Some(sframe) = section.as_ref().and_then(|section| section.check().ok()) {
+            let table = self.tables.len();
+            self.functions.extend(functions_of_sframe(&sframe, functions, table));
+            self.tables.push(Table::of_sframe(&sframe));
         }
     }
 
@@ -128,13 +146,12 @@ impl<'data> Report<'data> {
 
     /// The section that has a function's rows.
     pub fn section_of(&self, function: &Function) -> Option<Name> {
-        self.tables.get(function.table).map(|(name, _)| *name)
+        self.tables.get(function.table).map(Table::name)
     }
 
     /// The rows of a function, which is one of this report.
-    fn rows_of(&self, function: &Function) -> Option<DwcheckRows<'_>> {
-        let (_, process) = self.tables.get(function.table)?;
-        Some(DwcheckRows::whole(process, function.begin, function.end))
+    fn rows_of(&self, function: &Function) -> Option<TableRows<'_>> {
+        Some(self.tables.get(function.table)?.rows(function.begin, function.end))
     }
 
     /// The indexes of the functions that have this name in the file, or are shown with it.
@@ -165,14 +182,32 @@ fn functions_of<'a>(
             rows += 1;
         }
         let return_register = source.return_register().unwrap_or(0);
-        let found = functions.at(begin);
-        let symbol = found.map(|(function, _)| raw_name(&function.name));
-        let offset = found.map_or(0, |(_, offset)| offset);
-        Some(Function { symbol, offset, begin, end, rows, return_register, table })
+        Some(Function::new(functions, begin..end, rows, return_register, table))
     })
 }
 
+/// The functions of an SFrame section that have addresses. Rows of a block count once.
+fn functions_of_sframe<'a>(
+    sframe: &'a Sframe<'_>,
+    functions: &'a Functions<'_>,
+    table: usize,
+) -> impl Iterator<Item = Function> + 'a {
+    let register = sframe.header().abi.return_address();
+    let function = move |one: &crate::cfi::sframe::Function| {
+        Function::new(functions, one.addresses(), sframe.rows(one).count(), register, table)
+    };
+    sframe.by_address().map(function)
+}
+
 impl Function {
+    /// A function with these addresses, which is named by the symbol there.
+    fn new(functions: &Functions<'_>, range: Range<u64>, rows: usize, return_register: u16, table: usize) -> Self {
+        let found = functions.at(range.start);
+        let symbol = found.map(|(function, _)| raw_name(&function.name));
+        let offset = found.map_or(0, |(_, offset)| offset);
+        Function { symbol, offset, begin: range.start, end: range.end, rows, return_register, table }
+    }
+
     /// The function's name as it is shown, with an offset if it doesn't begin at its symbol. `None` if the file has no
     /// name for it.
     pub fn shown(&self) -> Option<String> {

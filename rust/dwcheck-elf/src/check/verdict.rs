@@ -2,6 +2,7 @@
 
 use crate::cfi::defect::Defect;
 use crate::cfi::frames::{Counts, Frames};
+use crate::cfi::sframe::{SframeCounts, SframeError};
 use crate::cfi::validate::Difference;
 use crate::debug::lists;
 use crate::elf::escaped::Escaped;
@@ -59,6 +60,8 @@ pub enum Verdict {
     /// A well-formed frame section, and what it has. With [`Check::compare`] the rows of `.eh_frame`, and of a
     /// section that had to be changed, are equal to those that gimli finds in the file's section.
     Frames(Counts),
+    /// A well-formed SFrame section, and what it has.
+    Sframe(SframeCounts),
     /// Well-formed location lists of a file without `.debug_info`, in which the whole section is checked.
     Lists(Report),
     /// Well-formed location lists, but for what [`lists::Contents::not_checked`] says.
@@ -79,6 +82,8 @@ pub enum InspectError {
     Difference(Difference),
     /// `dwcheck` neither accepted nor refused the section, for example because memory ran out.
     Dwcheck(Name, Error),
+    /// The SFrame section is for another machine.
+    Sframe(SframeError),
     /// `.debug_info` can't be read: the offset of the unit, if it is known, and why.
     DebugInfo(Option<u64>, String),
     /// A location list differs from what gimli reads.
@@ -104,6 +109,7 @@ impl fmt::Display for InspectError {
             InspectError::Difference(difference) if difference.is_unread() => difference.fmt(f),
             InspectError::Difference(difference) => write!(f, "the rows differ: {}", difference),
             InspectError::Dwcheck(name, error) => write!(f, "{}: {}", name, error),
+            InspectError::Sframe(error) => write!(f, "{}: {}", Name::Sframe, error),
             InspectError::DebugInfo(None, error) => write!(f, ".debug_info: {}", error),
             InspectError::DebugInfo(Some(unit), error) => write!(f, ".debug_info: unit {:#x}: {}", unit, error),
             InspectError::List(name, difference) => write!(f, "{}: the lists differ: {}", name, difference),
@@ -136,6 +142,7 @@ impl std::error::Error for InspectError {
             InspectError::Program(error) => Some(error),
             InspectError::Difference(error) => Some(error),
             InspectError::Dwcheck(_, error) => Some(error),
+            InspectError::Sframe(error) => Some(error),
             _ => None,
         }
     }

@@ -27,6 +27,8 @@ pub enum Name {
     DebugFrame,
     /// `.eh_frame`.
     EhFrame,
+    /// `.sframe`, rows of the CFA, the return address and the frame pointer.
+    Sframe,
     /// `.debug_loc`, the location lists of DWARF 4 and before.
     DebugLoc,
     /// `.debug_loclists`, the location lists of DWARF 5.
@@ -111,6 +113,7 @@ impl fmt::Display for Name {
         f.pad(match self {
             Name::DebugFrame => ".debug_frame",
             Name::EhFrame => ".eh_frame",
+            Name::Sframe => ".sframe",
             Name::DebugLoc => ".debug_loc",
             Name::DebugLoclists => ".debug_loclists",
         })

@@ -181,6 +181,11 @@ impl<'data> Program<'data> {
         }
     }
 
+    /// The section `.sframe`, if the file has it and it has bytes.
+    pub fn sframe(&self) -> Result<Option<Section<'data>>, ProgramError> {
+        self.section(".sframe")
+    }
+
     /// What has to be known of a frame section of this program, besides its bytes, to read it.
     pub fn format(&self, name: Name, section: &Section<'_>) -> Format {
         let address = |name| {

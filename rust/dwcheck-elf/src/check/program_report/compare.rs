@@ -1,9 +1,10 @@
 //! The difference of the tables of two programs, such as two builds of the same source code.
 
+use super::tables::TableRows;
 use super::{Function, Report};
 use crate::cfi::frames::Name;
 use crate::cfi::row::Row;
-use crate::cfi::validate::{DwcheckRows, RowSource};
+use crate::cfi::validate::RowSource;
 use std::collections::HashMap;
 
 /// How the functions of two reports differ. They are found by the names of their symbols in the file; if several have
@@ -94,10 +95,10 @@ fn have_equal_rows(old: &Report<'_>, one: &Function, new: &Report<'_>, two: &Fun
     true
 }
 
-fn next_is_equal<'r>(
-    ours: &mut DwcheckRows<'_>,
-    theirs: &mut DwcheckRows<'_>,
-    (one, two): &mut (Row<'r>, Row<'r>),
+fn next_is_equal(
+    ours: &mut TableRows<'_>,
+    theirs: &mut TableRows<'_>,
+    (one, two): &mut (Row<'static>, Row<'static>),
     begins: (u64, u64),
 ) -> bool {
     let are_read = ours.next_row(one) == Ok(true) && theirs.next_row(two) == Ok(true);

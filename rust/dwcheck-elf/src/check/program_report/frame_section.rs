@@ -2,10 +2,11 @@
 
 use crate::cfi::eh_frame_hdr::mismatches;
 use crate::cfi::frames::{Counts, Frames, Name, Notes};
+use crate::cfi::sframe::SframeCounts;
 use crate::check::inspect::{Inspected, LeftOut, Verdict};
 use crate::elf::program::Program;
 
-/// A frame section of a program.
+/// A frame section of a program, or its SFrame section.
 #[derive(Clone, Debug)]
 pub struct Section {
     /// Its name.
@@ -63,6 +64,10 @@ impl Section {
             Verdict::Frames(agreement) => {
                 let held = inspected.frames.as_ref().map(|frames| Held::of(agreement, frames));
                 (SectionStatus::Accepted, held)
+            }
+            Verdict::Sframe(SframeCounts { functions, rows, .. }) => {
+                let held = Held { cies: 0, fdes: *functions, rows: *rows, expressions: 0, signal_frames: 0 };
+                (SectionStatus::Accepted, Some(held))
             }
             Verdict::Lists(_) | Verdict::FoundLists => (SectionStatus::Accepted, None),
         };

@@ -217,5 +217,6 @@ pub fn module(data: &[u8]) -> Module<'_> {
         imports: imports(&file),
         convention: Convention::KeepsRegisters,
         rows: Box::new(rows),
+        table: None,
     }
 }
