@@ -7,7 +7,7 @@
 //! let mut recording = Recording::of_file(&std::fs::File::open("perf.data")?)?;
 //! let profile = Profile::read(&mut recording, &Options::default(), |_| true);
 //! let names = Names::read(&profile, &Default::default());
-//! folded::write(&profile, &names, 0, &mut std::io::stdout().lock())?;
+//! folded::write_folded(&profile, &names, 0, &mut std::io::stdout().lock())?;
 //! # Ok::<(), Box<dyn std::error::Error>>(())
 //! ```
 

@@ -114,9 +114,9 @@ fn rows(section: &SframeSection<'_>) -> Vec<String> {
 #[test]
 fn the_page_lists_the_rules() {
     let page = std::fs::read_to_string(concat!(env!("CARGO_MANIFEST_DIR"), "/../../docs/SFRAME.md")).unwrap();
-    let listed: Vec<_> = page.lines().filter(|line| line.starts_with(|c: char| c == '|')).collect();
     for (kind, rule) in RULES {
-        assert!(listed.contains(&format!("| {} | {} | {} |", kind.number(), kind, rule).as_str()), "{}", kind);
+        let row = format!("| {} | {} | {} |", kind.number(), kind, rule);
+        assert!(page.lines().any(|line| line == row), "{}", kind);
     }
 }
 
