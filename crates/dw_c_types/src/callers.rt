@@ -15,7 +15,7 @@ use crate::answer::{CAnswer, c_answer_of};
 use crate::slots::put;
 use dw_eval::{Memory, Registers};
 use dw_process::Process;
-use dw_rows::Abi;
+use dw_rules::Abi;
 use dw_unwind::{Answer, MAX_FOUND, PackedRegisters, Unwound, unwind_in_place};
 
 /// A register of a caller: its number, and what is known of its content. `kind` and `value` have

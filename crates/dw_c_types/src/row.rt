@@ -10,7 +10,8 @@ ghost use Rattle.dw_c_types.specs.Slots.{put_into};
 
 use crate::slots::put;
 use dw_process::FoundRow;
-use dw_rows::{CfaRule, MAX_RULES, PlainRules, RegisterRule, RegisterRules, UnwindRow};
+use dw_rows::{CfaRule, RegisterRule};
+use dw_rules::{MAX_RULES, PlainRules, RegisterRules, UnwindRow};
 use dw_stack::CheckedExpression;
 
 /// The rule of `register`. `kind` says which rule it is. 1: undefined. 2: same value. 3: saved at

@@ -7,7 +7,7 @@ ghost use Rattle.dw_rules.specs.Abi.{abi_fault, is_among};
 use crate::memory::{Blocks, CBlock};
 use dw_bytes::{Fault, FaultKind};
 use dw_eval::Registers;
-use dw_rows::{Abi, MAX_KEPT};
+use dw_rules::{Abi, MAX_KEPT};
 
 /// The known registers. The content of register n is `contents[n]`, if bit n % 8 of `known[n / 8]`
 /// is set; otherwise the register isn't known.

@@ -13,7 +13,8 @@ ghost use Rattle.dw_check.specs.Text.{rule_text, register_text, row_line, digits
 use crate::numbers::{push_decimal, push_offset, push_range, push_signed};
 use dw_bytes::{AddressSize, Fault, FaultKind};
 use dw_frame::{CommonInformationEntry, FrameDescriptionEntry};
-use dw_rows::{CfaRule, RegisterRule, RegisterRules, UnwindTableRow};
+use dw_rows::{CfaRule, RegisterRule, UnwindTableRow};
+use dw_rules::RegisterRules;
 use dw_sections::Section;
 use dw_stack::CheckedExpression;
 use std::alloc::AllocError;

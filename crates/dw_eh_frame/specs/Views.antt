@@ -3,9 +3,8 @@ use Rattle.std.specs.Prelude.{◌≡◌, ℕ, Bool, List, Ok}
 use Rattle.dw_bytes.specs.declared.target.Target.{Target}
 use Rattle.dw_frame.specs.declared.entry.FrameDescriptionEntry as declared_entry
 use Rattle.dw_frame.specs.Bounds.{IsSoundCie, IsSoundFde}
-use Rattle.dw_frame.specs.Sections.{CieHeader}
+use Rattle.dw_frame.specs.Headers.{header_of}
 use Rattle.dw_frame.specs.Views.{cie_of, fde_of}
-use Rattle.dw_eh_frame.specs.declared.head.Factors.{Factors}
 use Rattle.dw_eh_frame.specs.declared.head.EhCieHead as declared
 use Rattle.dw_eh_frame.specs.declared.record.EhCie as declared_cie
 use Rattle.dw_eh_frame.specs.declared.record.EhFde as declared_fde
@@ -13,17 +12,8 @@ use Rattle.dw_eh_frame.specs.declared.record.EhRecord as declared_record
 use Rattle.dw_eh_frame.specs.declared.record.EhRecord.TheVariants as records
 use Rattle.dw_eh_frame.specs.Records.{EhCieHead, EhCie, EhFde, EhRecord, eh_cie, eh_fde, eh_nothing, eh_cie_at}
 
--- the version, the alignment factors and the return address register
-abbrev pub factors_of : Factors → CieHeader
-factors_of f = record {
-  version = f.version;
-  code_alignment_factor = f.code_alignment_factor;
-  data_alignment_factor = f.data_alignment_factor;
-  return_address_register = f.return_address_register;
-}
-
 abbrev pub head_of : declared.EhCieHead → EhCieHead
-head_of h = record { numbers = factors_of h.factors; augmentation = h.augmentation }
+head_of h = record { numbers = header_of h.factors; augmentation = h.augmentation }
 
 abbrev pub eh_cie_of : declared_cie.EhCie → EhCie
 eh_cie_of c = record { cie = cie_of c.cie; augmentation = c.augmentation }

@@ -297,8 +297,9 @@ const USUAL_ADDRESSES: PointerEncoding = PointerEncoding {
 
 /// The FDE at offset `at` of a section, and the offset after its record, if its CIE is `last` and its
 /// addresses are written as usual. `None` if that isn't so, or if the record can't be read. This is
-/// faster than `eh_record_after`: nearly all records are such FDEs, and here the CIE isn't copied, and no
-/// encoding but the usual one is compiled.
+/// a fast path beside `eh_record_after`: nearly all records are such FDEs, and here the CIE isn't
+/// copied, and no encoding but the usual one is compiled. No clause says when it isn't `None`, so call
+/// `eh_record_after` then.
 #[inline(always)]
 #[tactic(auto, unfolding(crate::specs::Records::eh_record_at, crate::specs::Records::eh_body_at, crate::specs::Records::eh_full_at))]
 pub fn usual_fde<'a>(

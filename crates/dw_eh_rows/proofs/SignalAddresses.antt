@@ -10,13 +10,13 @@ use Rattle.dw_eh_frame.specs.declared.pointer.Bases.{Bases}
 use Rattle.dw_eh_frame.specs.Copies.{SaysTheSame, eh_frame_records}
 use Rattle.dw_eh_frame.specs.Records.{EhCie, EhFde, eh_fde, all_in_dwarf, eh_cie_at}
 use Rattle.dw_eh_rows.specs.Signals.{eh_fdes, is_signal_frame, addresses_of, signal_frames, has_address, is_signal_at}
-use Rattle.dw_eh_rows.specs.declared.signals.AddressRange.{AddressRange}
+use Rattle.dw_eh_rows.specs.declared.signals.SignalRange.{SignalRange}
 use Rattle.dw_eh_rows.proofs.Among.{record-fde, eh-record, dwarf-record}
 use Rattle.dw_eh_rows.proofs.WholeSections.{IsFaultless, read-of}
 
 -- ---- the ranges of a list of FDEs
 
-abbrev ranges-of : List EhFde → List AddressRange
+abbrev ranges-of : List EhFde → List SignalRange
 ranges-of fdes = map addresses_of (filter is_signal_frame fdes)
 
 -- an FDE of a signal frame that covers the address

@@ -7,13 +7,13 @@ use Rattle.dw_bytes.specs.declared.fault.Fault.{Fault}
 use Rattle.dw_bytes.specs.Answers.{fault_in, values_in}
 use Rattle.dw_eh_frame.specs.declared.pointer.Bases.{Bases}
 use Rattle.dw_eh_frame.specs.Records.{EhRecord, eh_cie, eh_fde, eh_nothing, eh_records_from, eh_records_of}
-use Rattle.dw_eh_rows.specs.declared.signals.AddressRange.{AddressRange}
+use Rattle.dw_eh_rows.specs.declared.signals.SignalRange.{SignalRange}
 use Rattle.dw_eh_rows.specs.Signals.{eh_fdes, is_signal_frame, addresses_of, signal_frames}
 use Rattle.dw_eh_rows.proofs.WholeSections.{values-read}
 
 -- the records before the offset `at` were read, and `ranges` are the addresses of their signal
 -- frames
-pub record AreSignals (is_aarch64 : Bool) (bases : Bases) (target : Target) (section : List ℕ) (at : ℕ) (ranges : List AddressRange) : Type 0 where
+pub record AreSignals (is_aarch64 : Bool) (bases : Bases) (target : Target) (section : List ℕ) (at : ℕ) (ranges : List SignalRange) : Type 0 where
   pub inside : at ≤ length section
   pub records : List EhRecord
   pub read : eh_records_of is_aarch64 bases target section ≡ map Ok records ++ eh_records_from is_aarch64 bases target section at
@@ -28,14 +28,14 @@ frames-append (eh_fde e ∷ xs) ys = go (is_signal_frame e) (frames-append xs ys
     go : (b : Bool) → signal_frames (xs ++ ys) ≡ signal_frames xs ++ signal_frames ys
         → map addresses_of (cond b (e ∷ filter is_signal_frame (eh_fdes (xs ++ ys))) (filter is_signal_frame (eh_fdes (xs ++ ys))))
         ≡ map addresses_of (cond b (e ∷ filter is_signal_frame (eh_fdes xs)) (filter is_signal_frame (eh_fdes xs))) ++ signal_frames ys
-    go true more = ap (λ (l : List AddressRange). addresses_of e ∷ l) more
+    go true more = ap (λ (l : List SignalRange). addresses_of e ∷ l) more
     go false more = more
 
-pub signals-begin : (is_aarch64 : Bool) (bases : Bases) (target : Target) (section : List ℕ) (ranges : List AddressRange) → ranges ≡ []
+pub signals-begin : (is_aarch64 : Bool) (bases : Bases) (target : Target) (section : List ℕ) (ranges : List SignalRange) → ranges ≡ []
     → AreSignals is_aarch64 bases target section 0 ranges
 signals-begin is_aarch64 bases target section ranges none = record { inside = omega arith; records = []; read = refl; are = none }
 
-pub signals-more : (is_aarch64 : Bool) (bases : Bases) (target : Target) (section : List ℕ) (at next : ℕ) (x : EhRecord) (ranges more : List AddressRange)
+pub signals-more : (is_aarch64 : Bool) (bases : Bases) (target : Target) (section : List ℕ) (at next : ℕ) (x : EhRecord) (ranges more : List SignalRange)
     → AreSignals is_aarch64 bases target section at ranges
     → eh_records_from is_aarch64 bases target section at ≡ Ok x ∷ eh_records_from is_aarch64 bases target section next → next ≤ length section
     → more ≡ ranges ++ signal_frames (x ∷ []) → AreSignals is_aarch64 bases target section next more
@@ -47,10 +47,10 @@ signals-more is_aarch64 bases target section at next x ranges more so_far is ins
       ∙ (sym (append_assoc (map Ok so_far.records) (Ok x ∷ []) (eh_records_from is_aarch64 bases target section next))
       ∙ ap (λ (items : List (Result EhRecord Fault)). items ++ eh_records_from is_aarch64 bases target section next)
       (sym (map-append Ok so_far.records (x ∷ [])))));
-  are = added ∙ (ap (λ (l : List AddressRange). l ++ signal_frames (x ∷ [])) so_far.are ∙ sym (frames-append so_far.records (x ∷ [])));
+  are = added ∙ (ap (λ (l : List SignalRange). l ++ signal_frames (x ∷ [])) so_far.are ∙ sym (frames-append so_far.records (x ∷ [])));
 }
 
-pub signals-end : (is_aarch64 : Bool) (bases : Bases) (target : Target) (section : List ℕ) (at : ℕ) (ranges : List AddressRange)
+pub signals-end : (is_aarch64 : Bool) (bases : Bases) (target : Target) (section : List ℕ) (at : ℕ) (ranges : List SignalRange)
     → AreSignals is_aarch64 bases target section at ranges → eh_records_from is_aarch64 bases target section at ≡ []
     → ranges ≡ signal_frames (values_in (eh_records_of is_aarch64 bases target section))
 signals-end is_aarch64 bases target section at ranges so_far end =
@@ -65,7 +65,7 @@ past-good : (records : List EhRecord) (fault : Fault) → fault_in {X = EhRecord
 past-good [] fault = refl
 past-good (x ∷ records) fault = past-good records fault
 
-pub signals-refused : (is_aarch64 : Bool) (bases : Bases) (target : Target) (section : List ℕ) (at : ℕ) (ranges : List AddressRange) (fault : Fault)
+pub signals-refused : (is_aarch64 : Bool) (bases : Bases) (target : Target) (section : List ℕ) (at : ℕ) (ranges : List SignalRange) (fault : Fault)
     → AreSignals is_aarch64 bases target section at ranges
     → eh_records_from is_aarch64 bases target section at ≡ Err fault ∷ []
     → fault_in (eh_records_of is_aarch64 bases target section) ≡ Some fault
@@ -76,7 +76,7 @@ all-good : (records : List EhRecord) → fault_in {X = EhRecord} (map Ok records
 all-good [] = refl
 all-good (x ∷ records) = all-good records
 
-pub signals-whole : (is_aarch64 : Bool) (bases : Bases) (target : Target) (section : List ℕ) (at : ℕ) (ranges : List AddressRange)
+pub signals-whole : (is_aarch64 : Bool) (bases : Bases) (target : Target) (section : List ℕ) (at : ℕ) (ranges : List SignalRange)
     → AreSignals is_aarch64 bases target section at ranges → eh_records_from is_aarch64 bases target section at ≡ []
     → fault_in (eh_records_of is_aarch64 bases target section) ≡ None
 signals-whole is_aarch64 bases target section at ranges so_far end =

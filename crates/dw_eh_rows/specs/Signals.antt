@@ -3,7 +3,7 @@
 use Rattle.std.specs.Prelude.{ℕ, ◌+◌, ◌&&◌, nat_le, nat_lt, Bool, List, map, filter, Option, Some, None}
 use Rattle.std.specs.List.{filter_map, list_any}
 use Rattle.dw_eh_frame.specs.Records.{EhFde, EhRecord, eh_cie, eh_fde, eh_nothing}
-use Rattle.dw_eh_rows.specs.declared.signals.AddressRange.{AddressRange}
+use Rattle.dw_eh_rows.specs.declared.signals.SignalRange.{SignalRange}
 
 abbrev pub fde_in : EhRecord → Option EhFde
 fde_in (eh_fde e) = Some e
@@ -18,16 +18,16 @@ abbrev pub is_signal_frame : EhFde → Bool
 is_signal_frame e = e.cie.augmentation.is_signal
 
 -- the addresses of an FDE
-abbrev pub addresses_of : EhFde → AddressRange
+abbrev pub addresses_of : EhFde → SignalRange
 addresses_of e = record { start = e.fde.initial_location; count = e.fde.address_range }
 
 -- the addresses of the signal frames among records
-abbrev pub signal_frames : List EhRecord → List AddressRange
+abbrev pub signal_frames : List EhRecord → List SignalRange
 signal_frames records = map addresses_of (filter is_signal_frame (eh_fdes records))
 
-abbrev pub has_address : ℕ → AddressRange → Bool
+abbrev pub has_address : ℕ → SignalRange → Bool
 has_address a range = nat_le range.start a && nat_lt a (range.start + range.count)
 
 -- whether the address is one of a signal frame
-abbrev pub is_signal_at : List AddressRange → ℕ → Bool
+abbrev pub is_signal_at : List SignalRange → ℕ → Bool
 is_signal_at ranges a = list_any (has_address a) ranges

@@ -13,20 +13,20 @@ use std::alloc::Global;
 
 /// `count` addresses, the first of which is `start`.
 #[derive(Clone, Copy, Debug, PartialEq, Eq)]
-pub struct AddressRange {
+pub struct SignalRange {
     pub start: u64,
     pub count: u64,
 }
 
 /// Appends the addresses of an FDE that is a signal frame.
-fn push_signal_frame(ranges: &mut Vec<AddressRange>, record: &EhRecord<'_>) -> Result<(), Fault>
+fn push_signal_frame(ranges: &mut Vec<SignalRange>, record: &EhRecord<'_>) -> Result<(), Fault>
     ensures pushed { OnOk result (ranges.new.items ≡ ranges.old.items ++ frames_of (eh_record_of record.now ∷ [])) }
     ensures lack { IfErr result (λ fault. fault ≡ memory) }
 {
     if let EhRecord::Fde(fde) = record
         && fde.cie.augmentation.is_signal
     {
-        ranges.push(AddressRange {
+        ranges.push(SignalRange {
             start: fde.fde.initial_location,
             count: fde.fde.address_range,
         })?;
@@ -57,7 +57,7 @@ pub fn signal_frames(
     target: Target,
     bases: Bases,
     is_aarch64: bool,
-) -> Result<Vec<AddressRange>, Fault>
+) -> Result<Vec<SignalRange>, Fault>
     requires { length section.now < 2 ^ 32 }
     ensures answer { Answers (fault_in (eh_records_of is_aarch64 bases target section.now)) result }
     ensures frames { IfOk result (λ ranges. ranges.items
@@ -84,7 +84,7 @@ pub fn signal_frames(
 }
 
 /// Whether an address is in one of the ranges. It goes through all of them.
-pub fn is_signal_address(ranges: &[AddressRange], address: u64) -> bool
+pub fn is_signal_address(ranges: &[SignalRange], address: u64) -> bool
     ensures { result ≡ is_signal_at ranges.now address }
 {
     for range in ranges {

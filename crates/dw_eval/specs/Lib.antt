@@ -34,4 +34,4 @@ pub mod Steps
 -- what the code needs to run an expression, and the state of a run that has begun
 pub mod UnderWay
 -- operations without operands, by their opcodes
-pub mod BareOperations
+pub mod OperationsWithoutOperands

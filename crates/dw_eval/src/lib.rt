@@ -1,7 +1,6 @@
 //! The evaluation of expressions (DWARF 5, sections 2.5 and 2.6).
 #![tactic(auto)]
 
-mod bare;
 mod branch_target;
 mod change;
 mod context;
@@ -17,6 +16,7 @@ mod rule_expressions;
 mod run;
 mod stack;
 mod width;
+mod without_operands;
 
 pub use context::{Context, Memory, Registers};
 pub use evaluation::{evaluate, evaluate_rule};

@@ -1,6 +1,5 @@
 //! The run of a location expression, step by step.
 
-use crate::bare::{execute_bare, execute_base_register};
 use crate::branch_target::{location_named, piece_size_named};
 use crate::context::{Memory, Registers};
 use crate::environment::Environment;
@@ -8,6 +7,7 @@ use crate::evaluation_error::EvaluationError;
 use crate::execution::{execute, read_operation};
 use crate::location::{Location, Piece, PieceSize};
 use crate::stack::Stack;
+use crate::without_operands::{execute_base_register, execute_without_operands};
 use dw_ops::{Expression, Operation, decode_base_register};
 
 /// The state of a location expression's run, except for its offset and its pieces.
@@ -124,7 +124,7 @@ impl<'a, const PLACES: usize> Run<'a, PLACES> {
         }
     }
 
-    /// Applies the operation at the offset `at`. An operation that `execute_bare` or
+    /// Applies the operation at the offset `at`. An operation that `execute_without_operands` or
     /// `execute_base_register` handles neither uses nor names a location: `pending` is `None`
     /// before and after it, so `pending` isn't written.
     #[inline(always)]
@@ -145,7 +145,7 @@ impl<'a, const PLACES: usize> Run<'a, PLACES> {
             (error_of why)) }
     {
         let code = expression.bytes()[at as usize];
-        if execute_bare(environment, code, &mut self.stack)? {
+        if execute_without_operands(environment, code, &mut self.stack)? {
             return Ok(Step::To(at + 1));
         }
         if let Some(found) = decode_base_register(expression, at) {

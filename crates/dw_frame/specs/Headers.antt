@@ -4,14 +4,18 @@ use Rattle.dw_frame.specs.declared.header.FdeHeader.{FdeHeader}
 use Rattle.dw_frame.specs.declared.header.Header as declared
 use Rattle.dw_frame.specs.declared.header.Header.TheVariants as headers
 use Rattle.dw_frame.specs.Sections.{Header, cie_header, fde_header}
+use Rattle.dw_frame.specs.Sections.{CieHeader as ReadHeader}
 
-abbrev pub cie_head : CieHeader → Header
-cie_head h = cie_header (record {
+abbrev pub header_of : CieHeader → ReadHeader
+header_of h = record {
   version = h.version;
   code_alignment_factor = h.code_alignment_factor;
   data_alignment_factor = h.data_alignment_factor;
   return_address_register = h.return_address_register;
-})
+}
+
+abbrev pub cie_head : CieHeader → Header
+cie_head h = cie_header (header_of h)
 
 abbrev pub fde_head : FdeHeader → Header
 fde_head h = fde_header (record {

@@ -12,7 +12,7 @@ use dw_bytes::{Cursor, Fault, FaultKind, Format, Target};
 
 /// The fields between the length of a CIE and its program, except the fields that may have only one
 /// value.
-#[derive(Clone, Copy)]
+#[derive(Clone, Copy, Debug)]
 pub struct CieHeader {
     pub version: u8,
     pub code_alignment_factor: u64,
@@ -37,8 +37,9 @@ pub enum Header {
     Fde(FdeHeader),
 }
 
-/// Reads the version of a CIE, which must be 1, 3 or 4.
-fn read_version(cursor: &mut Cursor<'_>) -> Result<u8, Fault>
+/// Reads the version of a CIE, which must be 1, 3 or 4, in `.debug_frame` and in `.eh_frame`. The
+/// fault is `Version`, or one of a field that can't be read.
+pub fn read_version(cursor: &mut Cursor<'_>) -> Result<u8, Fault>
     ensures exact { ParsesBy (λ version. version)
         (field_at (fixed 1) (λ number. unless (is_version number) Version))
         cursor.old result cursor.new }
@@ -58,8 +59,8 @@ fn read_version(cursor: &mut Cursor<'_>) -> Result<u8, Fault>
 }
 
 impl CieHeader {
-    ghost use Rattle.dw_frame.specs.Sections.{cie_fields, cie_header, factors};
-    ghost use Rattle.dw_frame.specs.Headers.{cie_head};
+    ghost use Rattle.dw_frame.specs.Sections.{cie_fields, cie_header, factors, past_augmentation};
+    ghost use Rattle.dw_frame.specs.Headers.{cie_head, header_of};
 
     /// Reads the fields after the CIE_id.
     fn read(cursor: &mut Cursor<'_>, target: Target) -> Result<Self, Fault>
@@ -70,6 +71,27 @@ impl CieHeader {
     {
         let version = read_version(cursor)?;
         cursor.byte(0, FaultKind::Augmentation)?;
+        CieHeader::read_after_augmentation(cursor, target, version)
+    }
+
+    /// Reads what follows the augmentation of a CIE, in `.debug_frame` and in `.eh_frame`: in version
+    /// 4 the sizes of an address and of a segment selector, and then the alignment factors and the
+    /// return address register (DWARF 5, section 6.4.1). The faults are `AddressSize`, `SegmentSize`,
+    /// `RegisterNumber`, and those of fields that can't be read.
+    pub fn read_after_augmentation(
+        cursor: &mut Cursor<'_>,
+        target: Target,
+        version: u8,
+    ) -> Result<Self, Fault>
+        requires { is_version version ≡ true }
+        ensures exact { ParsesBy cie_head
+            (fields_at (past_augmentation cie_header target version)) cursor.old result cursor.new }
+        ensures fields { ParsesBy header_of (fields_at
+            (past_augmentation (λ header. header) target version)) cursor.old result cursor.new }
+        ensures version { IfOk result (λ header. header.version ≡ version) }
+        ensures within { IsRefusedWithin cursor.old result }
+        ensures goes_on { MovesForward cursor.old cursor.new }
+    {
         if version == 4 {
             cursor.byte(target.address_size.bytes(), FaultKind::AddressSize)?;
             cursor.byte(0, FaultKind::SegmentSize)?;
@@ -83,6 +105,9 @@ impl CieHeader {
         requires { is_version version ≡ true }
         ensures exact { ParsesBy cie_head
             (fields_at (factors cie_header version)) cursor.old result cursor.new }
+        ensures fields { ParsesBy header_of (fields_at
+            (factors (λ header. header) version)) cursor.old result cursor.new }
+        ensures version { IfOk result (λ header. header.version ≡ version) }
         ensures within { IsRefusedWithin cursor.old result }
         ensures goes_on { MovesForward cursor.old cursor.new }
     {

@@ -17,6 +17,7 @@ pub use call_frame_instruction::{CallFrameInstruction, UnwindExpression};
 pub use decode::instruction;
 pub use dialect::Dialect;
 pub use entry::{CommonInformationEntry, Entry, FrameDescriptionEntry};
+pub use header::{CieHeader, read_version};
 pub use instructions::Instructions;
 pub use program::Program;
 pub use records::Entries;

@@ -6,7 +6,7 @@ use Rattle.dw_bytes.specs.declared.target.Target.{Target}
 use Rattle.dw_bytes.specs.declared.fault.Fault.{Fault}
 use Rattle.dw_frame.specs.Records.{Cie, Fde, Record, cie_record, fde_record, cies_among}
 use Rattle.dw_rules.proofs.Search.{ascending-same}
-use Rattle.dw_rows.specs.Overlap.{fde_offset}
+use Rattle.dw_rows.specs.AddressIndex.{fde_offset}
 use Rattle.dw_rows.specs.Section.{Covers, IsChecked, cie_at, covers, row_of}
 use Rattle.dw_rows.proofs.Faults.{found-at}
 use Rattle.dw_rows.proofs.rows.Lookups.{row-none}

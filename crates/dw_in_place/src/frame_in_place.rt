@@ -13,8 +13,8 @@ use crate::section_in_place::SectionInPlace;
 use dw_bytes::Fault;
 use dw_eh_frame::{EhCie, EhFde};
 use dw_frame::FrameDescriptionEntry;
-use dw_rows::{CheckedExpressions, UnwindRow};
-use dw_rules::UnwindState;
+use dw_rows::CheckedExpressions;
+use dw_rules::{UnwindRow, UnwindState};
 use std::alloc::Global;
 use std::marker::Model;
 

@@ -23,10 +23,11 @@ use dw_bytes::{Fault, FaultKind};
 use dw_eh_frame::{EhCie, EhFde, EhRecord, eh_record_after, usual_fde};
 use dw_frame::{CommonInformationEntry, FrameDescriptionEntry};
 use dw_rows::{
-    CheckedExpressions, UnwindRow, check_cie_program, lend_row, quick_or_full_check,
-    quick_row_count, seek_row,
+    CheckedExpressions, check_cie_program, lend_row, quick_or_full_check, quick_row_count, seek_row,
 };
-use dw_rules::{BorrowedExpressions, RowExpressions, RuleSet, UnwindContext, UnwindState};
+use dw_rules::{
+    BorrowedExpressions, RowExpressions, RuleSet, UnwindContext, UnwindRow, UnwindState,
+};
 
 /// A CIE whose program has no fault and no expressions, if there is one, and a state in which
 /// programs of its FDEs run: their initial rules are those that its program leaves.

@@ -5,7 +5,7 @@ ghost use Rattle.std.specs.Bool.{OnTrue, OnFalse};
 ghost use Rattle.dw_frame.specs.Bounds.{Ascends};
 ghost use Rattle.dw_frame.specs.Records.{Fde};
 ghost use Rattle.dw_frame.specs.Views.{fde_of};
-ghost use Rattle.dw_rows.specs.Overlap.{fde_offset};
+ghost use Rattle.dw_rows.specs.AddressIndex.{fde_offset};
 ghost use Rattle.dw_in_place.specs.LookUps.{LeadsTo, LeadsToAll, record_offset};
 ghost use Rattle.dw_in_place.specs.SearchTables.{IsInOrder, location_in};
 ghost use Rattle.dw_in_place.specs.Views.{table_of};

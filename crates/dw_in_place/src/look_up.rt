@@ -15,8 +15,8 @@ use crate::search_table::SearchTable;
 use crate::section_in_place::SectionInPlace;
 use dw_bytes::Fault;
 use dw_eh_frame::EhFde;
-use dw_rows::{CheckedExpressions, UnwindRow};
-use dw_rules::UnwindState;
+use dw_rows::CheckedExpressions;
+use dw_rules::{UnwindRow, UnwindState};
 use std::alloc::Global;
 
 /// Working memory of a look-up, of 6 KB: the state in which programs run, and their checked

@@ -6,7 +6,7 @@ use Rattle.dw_bytes.specs.declared.fault.Fault.{Fault}
 use Rattle.dw_bytes.specs.declared.target.Target.{Target}
 use Rattle.dw_eh_rows.specs.Section.{eh_frame_of, eh_section_fault}
 use Rattle.dw_eh_rows.specs.Signals.{signal_frames}
-use Rattle.dw_eh_rows.specs.declared.signals.AddressRange.{AddressRange as SignalRange}
+use Rattle.dw_eh_rows.specs.declared.signals.SignalRange.{SignalRange}
 use Rattle.dw_eh_frame.specs.Records.{eh_records_of}
 use Rattle.dw_rows.specs.Section.{FrameSection, IsChecked}
 use Rattle.dw_process.specs.Processes.{IsAddedWith, ProcessState}

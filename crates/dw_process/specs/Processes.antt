@@ -5,7 +5,7 @@ use Rattle.std.specs.List.{insert, sum_by}
 use Rattle.std.specs.Option.{option_and_then, option_map}
 use Rattle.dw_bytes.specs.declared.target.Target.{Target}
 use Rattle.dw_eh_rows.specs.Signals.{is_signal_at}
-use Rattle.dw_eh_rows.specs.declared.signals.AddressRange.{AddressRange as SignalRange}
+use Rattle.dw_eh_rows.specs.declared.signals.SignalRange.{SignalRange}
 use Rattle.dw_rules.specs.Rules.{Row}
 use Rattle.dw_rows.specs.Section.{FrameSection, frame_of, section_fault}
 use Rattle.dw_tables.specs.UnwindTables.{IsTableOf, RowTable, expression_bytes, row_at}

@@ -1,7 +1,7 @@
 //! The result of looking up an address in the modules of a process.
 
 use dw_bytes::Target;
-use dw_rows::UnwindRow;
+use dw_rules::UnwindRow;
 
 /// The row found for an address of a running process, and its module.
 #[derive(Debug, Drop)]

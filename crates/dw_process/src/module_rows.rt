@@ -7,7 +7,7 @@ ghost use Rattle.dw_process.specs.Processes.{is_signal_in_module, row_of_module}
 use crate::loaded_module::LoadedModule;
 use crate::row_cache::ProcessSlot;
 use dw_bytes::Target;
-use dw_rows::UnwindRow;
+use dw_rules::UnwindRow;
 use dw_unwind::{UnwindRows, as_linked};
 use std::marker::Model;
 

@@ -3,7 +3,7 @@
 ghost use Rattle.std.specs.Prelude.{◌≡◌, IfSome};
 ghost use Rattle.dw_eh_rows.specs.Signals.{is_signal_at};
 
-use dw_eh_rows::{AddressRange, is_signal_address};
+use dw_eh_rows::{SignalRange, is_signal_address};
 use std::alloc::Global;
 use std::marker::Model;
 use std::sync::Arc;
@@ -12,21 +12,21 @@ use std::sync::Arc;
 /// owner.
 #[derive(Drop)]
 pub struct SharedSignals {
-    ranges: Arc<Vec<AddressRange>>,
+    ranges: Arc<Vec<SignalRange>>,
 }
 
 impl Model for SharedSignals {
     ghost use Rattle.std.specs.Prelude.{List};
-    ghost use Rattle.dw_eh_rows.specs.declared.signals.AddressRange.{AddressRange};
+    ghost use Rattle.dw_eh_rows.specs.declared.signals.SignalRange.{SignalRange};
 
-    ghost Value = { List AddressRange };
+    ghost Value = { List SignalRange };
 
     ghost view = { λ s. s.ranges.value.items };
 }
 
 impl SharedSignals {
     /// The first owner of these ranges; none if there isn't enough memory.
-    pub fn new(alloc: Global, ranges: Vec<AddressRange>) -> Option<Self>
+    pub fn new(alloc: Global, ranges: Vec<SignalRange>) -> Option<Self>
         ensures { IfSome result (λ owner. owner ≡ ranges.items) }
     {
         match Arc::new(alloc, ranges) {

@@ -5,7 +5,7 @@ ghost use Rattle.dw_tables.specs.UnwindTables.{row_at};
 ghost use Rattle.dw_rows.specs.RowLookups.{IsRowUnder};
 
 use dw_bytes::Target;
-use dw_rows::UnwindRow;
+use dw_rules::UnwindRow;
 use dw_tables::UnwindTable;
 use std::alloc::Global;
 use std::marker::Model;

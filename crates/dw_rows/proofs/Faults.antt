@@ -8,7 +8,7 @@ use Rattle.std.proofs.lemmas.Bool.{eqb-true}
 use Rattle.dw_bytes.specs.declared.fault.Fault.{Fault}
 use Rattle.dw_frame.specs.Records.{Cie}
 use Rattle.dw_rows.specs.Section.{first_fault, cie_at}
-use Rattle.dw_rows.specs.Overlap.{cie_offset}
+use Rattle.dw_rows.specs.AddressIndex.{cie_offset}
 use Rattle.dw_frame.specs.Bounds.{Ascends}
 use Rattle.dw_rules.proofs.Search.{ascending-same}
 

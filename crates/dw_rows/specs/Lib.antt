@@ -27,7 +27,8 @@ pub mod Checking
 pub mod QuickCheck
 -- runs of a program that stop after each row
 pub mod RowCursors
--- FDEs in order of offset and of address, the address index, and what a checked section stores
-pub mod Overlap
+-- FDEs in order of offset and of address: which share addresses, the address index, and what a
+-- checked section stores
+pub mod AddressIndex
 -- the expressions that have passed their check
 pub mod KeptExpressions

@@ -64,8 +64,9 @@ impl<'a> CheckedExpressions<'a> {
         }
     }
 
-    /// An empty list in which checks allocate nothing. For an expression more than `MAX_FEW`, and for
-    /// one of more than 16 bytes, they report `Memory`.
+    /// An empty list in which checks allocate nothing. For the expression after the first `MAX_FEW`,
+    /// and for one of more than 16 bytes, they report `Memory`. That nothing is allocated is tested,
+    /// since no clause can say it.
     pub fn few(alloc: Global) -> Self
         ensures { result ≡ [] }
     {
@@ -104,8 +105,8 @@ impl<'a> CheckedExpressions<'a> {
         self.as_slice().len()
     }
 
-    /// Copies all expressions, in the order in which they were checked, to an array without spare
-    /// room.
+    /// Copies all expressions, in the order in which they were checked, to an allocation of their
+    /// size.
     pub fn to_vec(&self) -> Result<Vec<(u32, CheckedExpression<'a>)>, AllocError>
         ensures { IfOk result (λ copy. all_located copy.items ≡ self.now) }
     {
@@ -113,7 +114,8 @@ impl<'a> CheckedExpressions<'a> {
     }
 
     /// Checks the expression of an instruction, if the instruction has one, and appends the
-    /// expression to the list.
+    /// expression to the list. After an error nothing is said of the list: `clear` it before it is
+    /// used again.
     #[inline(always)]
     pub fn check(&mut self, instruction: &CallFrameInstruction<'a>) -> Result<(), Fault>
         ensures answer { Answers (located_fault (expression_in (instruction_of instruction.now)))

@@ -11,7 +11,7 @@ ghost use Rattle.dw_rules.specs.ProgramFault.{cie_fault, fde_fault};
 ghost use Rattle.dw_rows.specs.Section.{IsCoverOf, first_fault, overlap_fault, programs_fault, parts_fault, section_fault, IsChecked};
 ghost use Rattle.dw_rows.specs.Section.{AreReadIn, frame_by, frame_of, cie_in, placed_rows, rows_in, row_count, row_of};
 ghost use Rattle.std.specs.List.{flat_map};
-ghost use Rattle.dw_rows.specs.Overlap.{cie_offset, fde_offset, IsAddressIndex};
+ghost use Rattle.dw_rows.specs.AddressIndex.{cie_offset, fde_offset, IsAddressIndex};
 ghost use Rattle.dw_frame.specs.Bounds.{Ascends};
 ghost use Rattle.dw_rules.specs.ProgramState.{IsLeftBy};
 ghost use Rattle.dw_rules.specs.Initial.{AreLeftBy};
@@ -77,7 +77,7 @@ impl<'a> Model for CheckedFrame<'a> {
     ghost use Rattle.std.specs.Prelude.{map};
     ghost use Rattle.dw_frame.specs.Views.{cie_of, fde_of};
     ghost use Rattle.dw_rows.specs.Section.{FrameSection};
-    ghost use Rattle.dw_rows.specs.Overlap.{IsKept};
+    ghost use Rattle.dw_rows.specs.AddressIndex.{IsKept};
     ghost use Rattle.dw_stack.specs.Located.{all_located};
 
     ghost Value = { FrameSection };

@@ -3,7 +3,7 @@
 ghost use Rattle.std.specs.Prelude.{◌≡◌, ◌<◌, None, Some, option_map, map, length, slice_get, MatchOption, IfSome};
 ghost use Rattle.dw_frame.specs.Views.{cie_of};
 ghost use Rattle.dw_rows.specs.Section.{cie_at};
-ghost use Rattle.dw_rows.specs.Overlap.{IsLeftAt, cie_offset};
+ghost use Rattle.dw_rows.specs.AddressIndex.{IsLeftAt, cie_offset};
 ghost use Rattle.dw_frame.specs.Bounds.{Ascends};
 ghost use Rattle.dw_rules.specs.ProgramState.{IsLeftBy};
 ghost use Rattle.dw_rules.specs.Initial.{AreLeftBy};

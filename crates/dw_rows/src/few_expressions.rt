@@ -3,12 +3,12 @@
 use dw_stack::CheckedExpression;
 use std::marker::Model;
 
-/// How many expressions a list holds that may not allocate memory. The program with the most that is
-/// known is that of glibc's `__restore_rt`, with 18.
+/// How many expressions a list holds that may not allocate memory. On x86-64 the known program with
+/// the most is that of glibc's `__restore_rt`, with 18.
 pub const MAX_FEW: usize = 32;
 
-/// At most `MAX_FEW` checked expressions, each with the offset of its first byte in the section, and
-/// at least one: the first one fills the slots that aren't used.
+/// At most `MAX_FEW` checked expressions, each with the offset of its first byte in the section.
+/// Slots that aren't used hold a copy of the first one, since there is no empty expression.
 #[derive(Drop)]
 pub struct FewExpressions<'a> {
     slots: [(u32, CheckedExpression<'a>); MAX_FEW],
@@ -48,8 +48,8 @@ impl<'a> FewExpressions<'a> {
         &self.slots[..self.count]
     }
 
-    /// Appends an expression, and returns true. If the list is full, it stays, and the result is
-    /// false.
+    /// Appends an expression, and returns true. If the list is full, it is unchanged, and the result
+    /// is false.
     pub fn push(&mut self, item: (u32, CheckedExpression<'a>)) -> bool
         ensures pushed { OnTrue result (self.new ≡ self.old ++ item.entry ∷ []) }
         ensures full { OnFalse result (self.new ≡ self.old) }

@@ -4,8 +4,8 @@
 ghost use Rattle.std.specs.Prelude.{◌≡◌, ◌+◌, ◌*◌, ◌<◌, length, map, All, MatchBool, MatchOption, IfOk, filter, nat_lt, option_map};
 ghost use Rattle.dw_frame.specs.Views.{fde_of};
 ghost use Rattle.dw_rows.specs.Section.{CoversOnce, IsCoverOf};
-ghost use Rattle.dw_rows.specs.Overlap.{fde_offset, fde_at, IsStride, IsCountUpTo, IsEntry, IsAddressIndex, ClashWithin, ApartWithin};
-ghost use Rattle.dw_rows.specs.Overlap.{AreApart, IsFirstOverlap};
+ghost use Rattle.dw_rows.specs.AddressIndex.{fde_offset, fde_at, IsStride, IsCountUpTo, IsEntry, IsAddressIndex, ClashWithin, ApartWithin};
+ghost use Rattle.dw_rows.specs.AddressIndex.{AreApart, IsFirstOverlap};
 ghost use Rattle.dw_frame.specs.Bounds.{Ascends};
 ghost use Rattle.std.specs.List.Sorted.{IsNonDecreasingBy};
 ghost use Rattle.dw_rows.specs.declared.index.IndexEntry.{IndexEntry};

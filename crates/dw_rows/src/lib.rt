@@ -17,13 +17,10 @@ mod row_iter;
 
 pub use checked_expressions::CheckedExpressions;
 pub use checked_frame::{CheckedFrame, check_frame, check_records};
-pub use dw_rules::{
-    Abi, CfaRule, MAX_KEPT, MAX_REMEMBERED, MAX_RULES, PlainRules, RegisterRule, RegisterRules,
-    UnwindRow, UnwindTableRow,
-};
+pub use dw_rules::{CfaRule, RegisterRule, UnwindTableRow};
 pub use few_expressions::MAX_FEW;
 pub use index::IndexEntry;
-pub use lookup::{lend_row, seek_row, write_row_at};
+pub use lookup::{lend_row, seek_row};
 pub use program_checks::{check_cie, check_cie_program, check_fde, quick_or_full_check};
 pub use quick_check::quick_row_count;
 pub use row_cursor::{begin_rows, next_range};

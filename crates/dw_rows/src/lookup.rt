@@ -14,10 +14,10 @@ use crate::row_cursor::{Next, begin_rows_at, next_plain};
 use dw_frame::{CommonInformationEntry, FrameDescriptionEntry, Instructions};
 use dw_rules::{RowExpressions, RuleSet, UnwindRow, UnwindState, UnwindTableRow};
 
-/// Overwrites `row` with the row of `address`. `fde` must cover the address, its program must have
+/// Overwrites `row` with the row of `address`, which `seek_row` finds. `fde` must cover the address, its program must have
 /// passed its check, and the initial rules in `state` must be the rules that the CIE's program
 /// leaves. It runs the program up to that row, and allocates no memory.
-pub fn write_row_at<'f, 'a>(
+pub(crate) fn write_row_at<'f, 'a>(
     state: &mut UnwindState,
     cie: &CommonInformationEntry<'a>,
     fde: &FrameDescriptionEntry<'a>,
@@ -38,8 +38,9 @@ pub fn write_row_at<'f, 'a>(
     state.write_row(start, end, expressions, row);
 }
 
-/// The row from `start` up to but not including `end` with these rules, which it borrows. For each
-/// expression offset in the rules, `expressions` must have the expression that begins there.
+/// The row from `start` up to but not including `end` with these rules, which it borrows. They must
+/// have a CFA rule. For each expression offset in the rules, `expressions` must have the expression
+/// that begins there.
 #[inline(always)]
 pub fn lend_row<'t, 'a>(
     rules: &'t RuleSet,

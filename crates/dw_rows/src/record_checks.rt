@@ -7,7 +7,7 @@ ghost use Rattle.dw_rules.specs.Expressions.{cie_expressions, expressions_of, fd
 ghost use Rattle.dw_rules.specs.ProgramFault.{cie_fault};
 ghost use Rattle.dw_rows.specs.Section.{cie_at, first_fault, pointer_fault, program_fault, placed_rows};
 ghost use Rattle.std.specs.List.{flat_map};
-ghost use Rattle.dw_rows.specs.Overlap.{IsLeftAt, cie_offset};
+ghost use Rattle.dw_rows.specs.AddressIndex.{IsLeftAt, cie_offset};
 ghost use Rattle.dw_frame.specs.Bounds.{Ascends};
 ghost use Rattle.dw_rules.specs.Initial.{AreLeftBy};
 

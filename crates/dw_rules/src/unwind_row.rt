@@ -21,8 +21,8 @@ use crate::stored_rule::{StoredCfa, StoredRule};
 use std::marker::Model;
 
 /// A row of the unwind table (DWARF 5, section 6.4.1): the addresses from `start` up to but not
-/// including `end`, and the rules that hold there. The rules are borrowed from an `UnwindTable` or
-/// an `UnwindTableRow`.
+/// including `end`, and the rules that hold there. The rules are borrowed from where they are
+/// stored: an `UnwindTable`, an `UnwindTableRow`, or the `RuleSet` of a program that is being run.
 ///
 /// ```rust
 /// let Some((row, return_register)) = table.row_and_return_register(0x1004) else {

@@ -1,4 +1,5 @@
-//! Checks a `.debug_frame` and a `.debug_loclists` section together, and unwinds stacks with them.
+//! Checks a `.debug_frame` and a `.debug_loclists` section together, and finds the caller of a
+//! frame with them.
 #![tactic(auto)]
 
 mod callers;
@@ -6,6 +7,6 @@ pub mod laws;
 mod section;
 mod whole_check;
 
-pub use callers::{backtrace, unwind, unwind_with};
+pub use callers::unwind;
 pub use section::Section;
 pub use whole_check::{CheckFault, Checked, SECTION_LIMIT, TOO_LONG, check};

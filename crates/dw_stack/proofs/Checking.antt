@@ -18,7 +18,7 @@ use Rattle.dw_stack.specs.declared.in_state.InState.{InState}
 use Rattle.dw_stack.specs.declared.in_state.InState.TheVariants.{Unreached, Known}
 use Rattle.dw_stack.specs.declared.state.State.{State}
 use Rattle.dw_stack.specs.InStates.{StepObjects}
-use Rattle.dw_stack.specs.Faults.{Given, verdicts, is_ahead, is_start, suits, passes, first_failed, rank}
+use Rattle.dw_stack.specs.Faults.{FitsCertificate, verdicts, is_ahead, is_start, suits, passes, first_failed, rank}
 use Rattle.dw_stack.specs.OperationCheck.{IsEffectAt, Suits, TargetObjects, TargetIs, Checked, Objects}
 use Rattle.dw_stack.proofs.paths.InStates.{Has}
 use Rattle.dw_stack.proofs.Telling.{start_tells}
@@ -229,7 +229,7 @@ module _ (kind : Kind) (ops : List Placed) (len k pieces : ℕ) (s : StackState)
 -- if the table has one known state for an operation, and the caller passed that state for it or no
 -- states at all, then the first check that the operation fails is the fault of its step
 pub step_objects : (kind : Kind) (ops : List Placed) (len : ℕ) (given : Option (List State)) (i pieces : ℕ) (old : List InState)
-    (f : FaultKind) (s : StackState) → slice_index_or old i Unreached ≡ Known s → Given ops len given i s
+    (f : FaultKind) (s : StackState) → slice_index_or old i Unreached ≡ Known s → FitsCertificate ops len given i s
     → Objects kind ops len i pieces s f → StepObjects kind ops len given i pieces old f
 step_objects kind ops len given i pieces old f s one is o =
     by f (failed (passes kind ops len i pieces (effect_of o.placed.1) s) verdicts f o.first) o

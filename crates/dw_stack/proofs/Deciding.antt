@@ -25,7 +25,7 @@ use Rattle.dw_stack.specs.declared.in_state.InState.TheVariants.{Unreached, Know
 use Rattle.dw_stack.specs.Effects.{effect_of}
 use Rattle.dw_stack.specs.States.{start_of, height_after, next_mode, has_result, HasResult, at_offset}
 use Rattle.dw_stack.specs.Paths.{Placed, place, jump_target, IsLaidOut, is_piece, pieces_before, IsGood, AreStates, IsDepth}
-use Rattle.dw_stack.specs.Faults.{Given, verdicts, is_ahead, is_start, passes, first_failed, IsFirstFault, KnowsOnly}
+use Rattle.dw_stack.specs.Faults.{FitsCertificate, verdicts, is_ahead, is_start, passes, first_failed, IsFirstFault, KnowsOnly}
 use Rattle.dw_stack.specs.OperationCheck.{IsEffectAt, TargetIs, Checked, Objects}
 use Rattle.dw_stack.specs.InStates.{Merges, Receives, ReceivesIf, ReceivesAt, PassesOn, Stepped}
 use Rattle.dw_stack.specs.Expressions.{operations_in, reading_fault, IsGoodExpression, IsFaultOf}
@@ -146,7 +146,7 @@ same_placed t at s = elim (same_tells (stack_of t) s) [
 -- either the caller passed no states, or passed the right state for this operation, or passed
 -- states without the right state for this operation
 given_tells : (ops : List Placed) (len : ℕ) (given : Option (List State)) (k : ℕ) (s : StackState)
-    → Given ops len given k s ⊎ ((Given ops len given k s → ⊥) × (given ≡ None → ⊥))
+    → FitsCertificate ops len given k s ⊎ ((FitsCertificate ops len given k s → ⊥) × (given ≡ None → ⊥))
 given_tells ops len None k s = inl tt
 given_tells ops len (Some states) k s = elim (slice_get_cases states k).1 [
   | inr past ↦ inr (λ is. let lt = slice_get_within states k (at_offset (place ops len k) s) is in omega (arith, lt, past.0), λ none. cc)

@@ -23,7 +23,7 @@ use Rattle.dw_stack.specs.declared.state.State.{State}
 use Rattle.dw_stack.specs.States.{start_of, height_after, state_after, HasResult, at_offset}
 use Rattle.dw_stack.specs.Paths.{place, IsLaidOut, branch_target, jump_target, branch_target_of, IsTarget, Leads, Reaches, IsGood}
 use Rattle.dw_stack.specs.Paths.{AreStates, IsDepth, is_piece, pieces_before}
-use Rattle.dw_stack.specs.Faults.{Given, verdicts, passes, first_failed, Objection, Refuses, rank, IsFirstFault}
+use Rattle.dw_stack.specs.Faults.{FitsCertificate, verdicts, passes, first_failed, Objection, Refuses, rank, IsFirstFault}
 use Rattle.dw_stack.specs.OperationCheck.{Objects}
 use Rattle.dw_stack.specs.InStates.{StepObjects}
 use Rattle.dw_stack.proofs.Places.{place_of_some, place_past, place_inj, place_mono, place_lt}
@@ -66,7 +66,7 @@ module _ (kind : Kind) (ops : List Placed) (len : ℕ) (laid : IsLaidOut ops len
     Passes : ℕ → StackState → FaultKind → Type 0
     Passes i s fault.Unreachable = Reaches kind ops len (place ops len i) s
     Passes i s fault.Mismatch = (t : StackState) → Reaches kind ops len (place ops len i) t → t ≡ s
-    Passes i s fault.CertState = Given ops len given i s
+    Passes i s fault.CertState = FitsCertificate ops len given i s
     Passes i s fault.EndsEmpty = i < length ops
     Passes i s f = (x : Placed) → slice_get ops i ≡ Some x → Objection kind ops len i (pieces_before ops i) x s f → ⊥
 
@@ -95,7 +95,7 @@ module _ (kind : Kind) (ops : List Placed) (len : ℕ) (laid : IsLaidOut ops len
     pass_refuses fault.CertState i s a le at there one p r =
         let k_is : r.0 ≡ i = number_is i r.0 r.1 a le r.3 r.4 at in
         let s_is : r.2 ≡ s = one r.2 (reach_from kind ops len a (place ops len i) r.2 r.2 at refl r.5) in
-        (subst (λ (n : ℕ). Given ops len given n s → ⊥) k_is (subst (λ (n : StackState). Given ops len given r.0 n → ⊥) s_is r.6)) p
+        (subst (λ (n : ℕ). FitsCertificate ops len given n s → ⊥) k_is (subst (λ (n : StackState). FitsCertificate ops len given r.0 n → ⊥) s_is r.6)) p
     pass_refuses fault.EndsEmpty i s a le at there one p r =
         let low = place_mono ops len laid i (length ops) p (omega arith) in
         let end = place_past ops len (length ops) (omega arith) in
@@ -183,7 +183,7 @@ module _ (kind : Kind) (ops : List Placed) (len : ℕ) (laid : IsLaidOut ops len
       -- other checks that fails (first_failed), it passes all checks that come before f
       before_local : (f g : FaultKind) (x : Placed) (s : StackState) → i < length ops → slice_get ops i ≡ Some x
           → first_failed (passes kind ops len i (pieces_before ops i) (effect_of x.1) s) ≡ Some f → rank g < rank f
-          → Passes i s fault.Unreachable → Passes i s fault.Mismatch → Given ops len given i s → Passes i s g
+          → Passes i s fault.Unreachable → Passes i s fault.Mismatch → FitsCertificate ops len given i s → Passes i s g
       unfolding Passes
       before_local f fault.Unreachable x s here stands first less u m is = u
       before_local f fault.Mismatch x s here stands first less u m is = m
@@ -207,7 +207,7 @@ module _ (kind : Kind) (ops : List Placed) (len : ℕ) (laid : IsLaidOut ops len
       local_refuses f x s stands o there = (i, x, s, stands, sym (place_of_some ops len i x stands), there, o)
 
       pub objects_fault : (f : FaultKind) (s : StackState) → i < length ops → get_or in_states i Unreached ≡ Known s
-          → Given ops len given i s → Objects kind ops len i pieces s f → IsFirstFault kind ops len given f (place ops len i)
+          → FitsCertificate ops len given i s → Objects kind ops len i pieces s f → IsFirstFault kind ops len given f (place ops len i)
       unfolding Passes
       objects_fault f s lt e is o =
           let first : first_failed (passes kind ops len i (pieces_before ops i) (effect_of o.placed.1) s) ≡ Some f =
@@ -422,10 +422,10 @@ module _ (kind : Kind) (ops : List Placed) (len : ℕ) (laid : IsLaidOut ops len
       }
 
       pub end_given : (k : ℕ) (x : Placed) (g : StackState) → slice_get ops k ≡ Some x → Reaches kind ops len x.0 g
-          → Given ops len given k g
+          → FitsCertificate ops len given k g
       end_given k x g s r =
           let a = accepted_at k x s in
-          subst (λ (n : StackState). Given ops len given k n) (is_state k g a.0 x s a.2 r) a.2.given_is
+          subst (λ (n : StackState). FitsCertificate ops len given k n) (is_state k g a.0 x s a.2 r) a.2.given_is
 
       pub end_depth : IsDepth kind ops len depth
       end_depth = record {
@@ -437,7 +437,7 @@ module _ (kind : Kind) (ops : List Placed) (len : ℕ) (laid : IsLaidOut ops len
 -- if operations are good (`IsGood`), no check refuses at any offset, as long as the states that the
 -- caller passed, if any, are right
 pub good_refuses : (kind : Kind) (ops : List Placed) (len : ℕ) → IsLaidOut ops len → (given : Option (List State))
-    → ((k : ℕ) (x : Placed) (s : StackState) → slice_get ops k ≡ Some x → Reaches kind ops len x.0 s → Given ops len given k s)
+    → ((k : ℕ) (x : Placed) (s : StackState) → slice_get ops k ≡ Some x → Reaches kind ops len x.0 s → FitsCertificate ops len given k s)
     → IsGood kind ops len → (f : FaultKind) (a : ℕ) → Refuses kind ops len given f a → ⊥
 good_refuses kind ops len laid given is good fault.Unreachable a r =
     ∥∥₁_elim (good.each r.0 r.1 r.2) ⊥_prop (λ s. r.4 s.0 (reach_from kind ops len r.1.0 a s.0 s.0 r.3 refl s.1))

@@ -19,7 +19,7 @@ use Rattle.dw_stack.specs.Effects.{effect_of}
 use Rattle.dw_stack.specs.States.{start_of, StandsAlone, height_after, state_after, at_offset}
 use Rattle.dw_stack.specs.Paths.{place, IsLaidOut, branch_target, jump_target, branch_target_of, IsTarget, Leads, Edge, Reaches, IsAllowed}
 use Rattle.dw_stack.specs.Paths.{is_piece, pieces_before}
-use Rattle.dw_stack.specs.Faults.{Given}
+use Rattle.dw_stack.specs.Faults.{FitsCertificate}
 use Rattle.dw_stack.specs.OperationCheck.{Checked, TargetIs}
 use Rattle.dw_stack.specs.InStates.{PassesOn, Stepped}
 use Rattle.dw_stack.proofs.Places.{place_of_some, place_inj, place_mono}
@@ -43,7 +43,7 @@ pub record Fine (kind : Kind) (ops : List Placed) (len k : ℕ) (x : Placed) (s 
 pub record Accepted (kind : Kind) (ops : List Placed) (len : ℕ) (given : Option (List State)) (k : ℕ) (s : StackState) : Type 0 where
   pub reached : Reaches kind ops len (place ops len k) s
   pub one : (t : StackState) → Reaches kind ops len (place ops len k) t → t ≡ s
-  pub given_is : Given ops len given k s
+  pub given_is : FitsCertificate ops len given k s
   pub fine : (x : Placed) → slice_get ops k ≡ Some x → Fine kind ops len k x s
 
 -- h is the stack height before or after an operation numbered below i on a path, or at the start of

@@ -10,7 +10,7 @@ use Rattle.dw_stack.specs.declared.state.State.{State}
 use Rattle.dw_stack.specs.declared.state.StackState.{StackState}
 use Rattle.dw_stack.specs.States.{at_offset}
 use Rattle.dw_stack.specs.Paths.{Placed, IsLaidOut, Reaches, IsGood, AreStates, IsDepth}
-use Rattle.dw_stack.specs.Faults.{Given, IsFirstFault, KnowsOnly}
+use Rattle.dw_stack.specs.Faults.{FitsCertificate, IsFirstFault, KnowsOnly}
 use Rattle.dw_stack.specs.InStates.{given_of}
 use Rattle.dw_stack.specs.Expressions.{operations_in, reading_fault, IsGoodExpression, IsDepthOf, RunsWellWithin, IsOtherCount, IsFaultOf}
 use Rattle.dw_stack.specs.Expressions.{Checked, IsChecked, IsOf, Knows}
@@ -109,7 +109,7 @@ good_faultless kind target bytes given f right good fault = elim fault [
 
     known : (g : Option (List State)) → Knows kind target bytes g → (k : ℕ) (x : Placed) (s : StackState)
         → slice_get (operations_in target bytes) k ≡ Some x → Reaches kind (operations_in target bytes) (length bytes) x.0 s
-        → Given (operations_in target bytes) (length bytes) g k s
+        → FitsCertificate (operations_in target bytes) (length bytes) g k s
     known None knows k x s stands r = tt
     known (Some states) knows k x s stands r = knows.each k x s stands r
         ∙ ap (λ (n : ℕ). Some (at_offset n s)) (sym (place_of_some (operations_in target bytes) (length bytes) k x stands))

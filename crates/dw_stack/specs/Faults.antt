@@ -21,8 +21,8 @@ Keeps (Some given) k t = slice_get given k ≡ Some t
 
 -- no states are passed to be checked, or the passed state for the operation numbered k is s with
 -- the operation's offset
-abbrev pub Given : List Placed → ℕ → Option (List State) → ℕ → StackState → Type 0
-Given ops len given k s = Keeps given k (at_offset (place ops len k) s)
+abbrev pub FitsCertificate : List Placed → ℕ → Option (List State) → ℕ → StackState → Type 0
+FitsCertificate ops len given k s = Keeps given k (at_offset (place ops len k) s)
 
 -- ---- the checks of one operation
 
@@ -76,7 +76,7 @@ Refuses kind ops len given fault.Mismatch at =
     (s : StackState) × (t : StackState) × Reaches kind ops len at s × Reaches kind ops len at t × (s ≢ t)
 Refuses kind ops len given fault.CertState at =
     (k : ℕ) × (x : Placed) × (s : StackState) × (slice_get ops k ≡ Some x) × (x.0 ≡ at) × Reaches kind ops len at s
-    × ¬ Given ops len given k s
+    × ¬ FitsCertificate ops len given k s
 Refuses kind ops len given fault.EndsEmpty at =
     (at ≡ len) × ((s : StackState) × Reaches kind ops len len s × ¬ HasResult kind (length ops == 0) s)
 Refuses kind ops len given f at =
@@ -109,4 +109,4 @@ pub record IsFirstFault (kind : Kind) (ops : List Placed) (len : ℕ) (given : O
 
 -- the states in `given`, if any are passed, are those that the paths have
 pub record KnowsOnly (kind : Kind) (ops : List Placed) (len : ℕ) (given : Option (List State)) : Type 0 where
-  pub each : (k : ℕ) (x : Placed) (s : StackState) → slice_get ops k ≡ Some x → Reaches kind ops len x.0 s → Given ops len given k s
+  pub each : (k : ℕ) (x : Placed) (s : StackState) → slice_get ops k ≡ Some x → Reaches kind ops len x.0 s → FitsCertificate ops len given k s

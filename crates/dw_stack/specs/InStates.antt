@@ -13,7 +13,7 @@ use Rattle.dw_stack.specs.declared.state.State.{State}
 use Rattle.dw_stack.specs.declared.state.StackState.{StackState}
 use Rattle.dw_stack.specs.declared.state.Kind.{Kind}
 use Rattle.dw_stack.specs.Paths.{Placed}
-use Rattle.dw_stack.specs.Faults.{Given}
+use Rattle.dw_stack.specs.Faults.{FitsCertificate}
 use Rattle.dw_stack.specs.OperationCheck.{Checked, Objects}
 
 -- the states that the caller passes to be checked, as a list; None if no states are passed
@@ -55,7 +55,7 @@ pub record Stepped (kind : Kind) (ops : List Placed) (len : ℕ) (given : Option
     (done : Done) (new : List InState) : Type 0 where
   pub out : OutState
   pub one : slice_index_or old i Unreached ≡ Known done.state
-  pub given_is : Given ops len given i done.state
+  pub given_is : FitsCertificate ops len given i done.state
   pub checked : Checked kind ops len i pieces done.state out
   pub height : done.height ≡ out.height
   pub piece : done.piece ≡ out.piece
@@ -65,6 +65,6 @@ abbrev pub StepObjects : Kind → List Placed → ℕ → Option (List State) �
 StepObjects kind ops len given i pieces old fault.Unreachable = slice_index_or old i Unreached ≡ Unreached
 StepObjects kind ops len given i pieces old fault.Mismatch = slice_index_or old i Unreached ≡ Conflict
 StepObjects kind ops len given i pieces old fault.CertState = (s : StackState) × (slice_index_or old i Unreached ≡ Known s)
-    × ¬ Given ops len given i s
-StepObjects kind ops len given i pieces old f = (s : StackState) × (slice_index_or old i Unreached ≡ Known s) × Given ops len given i s
+    × ¬ FitsCertificate ops len given i s
+StepObjects kind ops len given i pieces old f = (s : StackState) × (slice_index_or old i Unreached ≡ Known s) × FitsCertificate ops len given i s
     × Objects kind ops len i pieces s f

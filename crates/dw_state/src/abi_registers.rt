@@ -8,7 +8,7 @@ ghost use Rattle.dw_rules.specs.AbiViews.{roles_of};
 ghost use Rattle.dw_state.specs.StateFile.{keep, kept_with};
 
 use arrayvec::ArrayVec;
-use dw_rows::{Abi, MAX_KEPT};
+use dw_rules::{Abi, MAX_KEPT};
 
 /// The callee-saved registers, in the order in which they were named, and the stack pointer.
 #[derive(Drop)]

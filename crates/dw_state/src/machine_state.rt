@@ -18,7 +18,7 @@ use crate::state_line::{StateLine, parse_line};
 use byteorder::{BigEndian, ByteOrder, LittleEndian};
 use dw_bytes::{Order, Target};
 use dw_eval::{Memory, Registers};
-use dw_rows::Abi;
+use dw_rules::Abi;
 use std::alloc::{AllocError, Global};
 use std::collections::BTreeMap;
 

@@ -19,7 +19,7 @@ use Rattle.dw_rows.specs.UnwindRows.{has_address, rows_of}
 use Rattle.dw_tables.specs.UnwindTables.{has}
 use Rattle.dw_rows.specs.Section.{FrameSection, Covers, IsCoverOf, IsChecked, CoversOnce, rows_by_cie, covers, row_of, cie_in}
 use Rattle.dw_rows.specs.Section.{IsReturnRegister}
-use Rattle.dw_rows.specs.Overlap.{IsIndexOf}
+use Rattle.dw_rows.specs.AddressIndex.{IsIndexOf}
 use Rattle.dw_tables.specs.CompiledTable.{StoredSet, no_set, set_numbered, row_if, row_from, next_start, rows_to, placed_rows}
 use Rattle.dw_tables.specs.CompiledTable.{rows_of_each, with_register, returning, returning_by_cie, LendsSet, LendsFound, IsPlacedAt}
 use Rattle.dw_tables.specs.CompiledTable.{IsTableUpTo, IsClosedAt, IsFilled, AreEntries, ArePlacedRows}

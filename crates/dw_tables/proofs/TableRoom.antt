@@ -17,7 +17,7 @@ use Rattle.dw_rows.specs.RowCursors.{RowCursor, GivesNextRow, rows_left}
 use Rattle.dw_rows.specs.UnwindRows.{rows_of}
 use Rattle.dw_tables.specs.UnwindTables.{row_bytes, fde_bytes}
 use Rattle.dw_rows.specs.Section.{FrameSection, cie_in, rows_by_cie}
-use Rattle.dw_rows.specs.Overlap.{IsIndexOf}
+use Rattle.dw_rows.specs.AddressIndex.{IsIndexOf}
 use Rattle.dw_tables.specs.CompiledTable.{StoredSet, returning, row_with, rows_to, entry_bytes, IsTableUpTo, IsPushed, IsFilling, LacksRoom}
 use Rattle.dw_rules.proofs.RulesWithExpressions.{length-with}
 use Rattle.dw_rows.proofs.sections.Indexes.{AreDistinct}

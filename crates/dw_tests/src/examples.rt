@@ -14,7 +14,8 @@ ghost use Rattle.dw_stack.specs.Certificates.{checked_of};
 
 use dw_check::Caller;
 use dw_eval::{Context, Memory, Outcome, Registers, evaluate};
-use dw_rows::{Abi, CheckedFrame, RegisterRule};
+use dw_rows::{CheckedFrame, RegisterRule};
+use dw_rules::Abi;
 use dw_stack::CheckedExpression;
 use dw_tables::UnwindTable;
 

@@ -7,7 +7,8 @@ use dw_eh_rows::check_eh_frame;
 use dw_in_place::{
     FrameInPlace, LookUpMemory, SearchTable, SectionInPlace, leads_to_all, row_for_address_in,
 };
-use dw_rows::{CfaRule, UnwindRow};
+use dw_rows::CfaRule;
+use dw_rules::UnwindRow;
 use std::alloc::Global;
 use std::test::Fail;
 

@@ -5,7 +5,8 @@ use crate::inputs::{FUNCTION, OneRegister, Unknown};
 use dw_check::{Answer, Caller, Checked, unwind};
 use dw_eval::{Context, evaluate};
 use dw_loclists::CheckedLists;
-use dw_rows::{Abi, CheckedFrame, UnwindTableRow};
+use dw_rows::{CheckedFrame, UnwindTableRow};
+use dw_rules::Abi;
 use dw_tables::UnwindTable;
 use std::process::Abort;
 

@@ -5,7 +5,8 @@ use crate::machine::Known;
 use crate::reading_checksum::{add_cfa, add_rule, target_of};
 use crate::{TARGET, number_of};
 use dw_bytes::Target;
-use dw_rows::{Abi, RegisterRule, UnwindRow, check_frame};
+use dw_rows::{RegisterRule, check_frame};
+use dw_rules::{Abi, UnwindRow};
 use dw_tables::UnwindTable;
 use std::alloc::Global;
 

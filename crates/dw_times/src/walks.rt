@@ -3,7 +3,8 @@
 use crate::TARGET;
 use dw_check::{Answer, BriefFrame, Module, Stop, Walk};
 use dw_eval::{MemoryBlock, Registers};
-use dw_rows::{Abi, check_frame};
+use dw_rows::check_frame;
+use dw_rules::Abi;
 use dw_tables::UnwindTable;
 use std::alloc::Global;
 

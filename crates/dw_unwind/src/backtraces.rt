@@ -12,7 +12,7 @@ use crate::unwinder::Unwinder;
 use crate::walk::Walk;
 use dw_bytes::Fault;
 use dw_eval::{Memory, Registers};
-use dw_rows::Abi;
+use dw_rules::Abi;
 use std::alloc::Global;
 
 /// Walks up the stack with an unwinder, which is a checked section, a compiled table, or the

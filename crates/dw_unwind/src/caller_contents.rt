@@ -18,7 +18,8 @@ use crate::rule_answers::Present;
 use crate::unwind_rows::UnwindRows;
 use crate::unwinding::{Answer, Unwound};
 use dw_eval::{Memory, Registers};
-use dw_rows::{RegisterRule, RegisterRules, UnwindRow};
+use dw_rows::RegisterRule;
+use dw_rules::{RegisterRules, UnwindRow};
 
 /// A `RegisterFile` has no place for the content of one of a caller's registers, whose number is
 /// `PLACES` or more.

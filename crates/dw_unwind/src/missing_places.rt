@@ -15,7 +15,8 @@ use crate::register_file::PLACES;
 use crate::rule_answers::Present;
 use crate::unwinding::Answer;
 use dw_eval::{Memory, Registers};
-use dw_rows::{RegisterRule, RegisterRules};
+use dw_rows::RegisterRule;
+use dw_rules::RegisterRules;
 
 /// The same rules once more.
 fn again<'r, 'a>(rules: &RegisterRules<'r, 'a>) -> RegisterRules<'r, 'a>

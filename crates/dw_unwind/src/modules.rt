@@ -11,7 +11,7 @@ use crate::unwinder::Unwinder;
 use crate::unwinding::{Unwound, unwind_into};
 use dw_bytes::Target;
 use dw_eval::{Memory, Registers, Width};
-use dw_rows::Abi;
+use dw_rules::Abi;
 
 /// A module of a process, which is the executable or a library: the supplier of the module's rows
 /// (a checked section or a compiled table), and the module's load address. All modules of one

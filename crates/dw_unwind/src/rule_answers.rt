@@ -13,7 +13,8 @@ use crate::register_list::RegisterList;
 use crate::unwinding::{Answer, MAX_FOUND};
 use dw_bytes::Target;
 use dw_eval::{Context, Memory, Registers, RuleOutcome, Width, evaluate_rule};
-use dw_rows::{CfaRule, RegisterRule, RegisterRules};
+use dw_rows::{CfaRule, RegisterRule};
+use dw_rules::RegisterRules;
 use dw_stack::CheckedExpression;
 
 /// The registers and the memory of a frame, with the target of its section.

@@ -7,7 +7,8 @@ use crate::unwind_rows::UnwindRows;
 use crate::unwinder::Unwinder;
 use crate::unwinding::{Unwound, unwind_into};
 use dw_eval::{Memory, Registers};
-use dw_rows::{Abi, CheckedFrame};
+use dw_rows::CheckedFrame;
+use dw_rules::Abi;
 
 /// Unwinds with a checked section. Its FDE and its CIE are found by two binary searches, and the
 /// FDE's program is run once, up to the row of the address.

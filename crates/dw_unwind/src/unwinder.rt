@@ -14,7 +14,7 @@ use crate::register_list::RegisterList;
 use crate::unwind_rows::UnwindRows;
 use crate::unwinding::{Unwound, unwind_into};
 use dw_eval::{Memory, Registers};
-use dw_rows::Abi;
+use dw_rules::Abi;
 
 /// Finds the caller of a frame, for `unwind`, `backtrace` and `Walk`. It is implemented by a
 /// checked section (as `&CheckedFrame`), by a compiled table or another source of rows (as

@@ -17,7 +17,7 @@ use crate::unwind_rows::UnwindRows;
 use crate::unwinder::Unwinder;
 use arrayvec::ArrayVec;
 use dw_eval::{Memory, Registers};
-use dw_rows::{Abi, MAX_RULES, UnwindRow};
+use dw_rules::{Abi, MAX_RULES, UnwindRow};
 
 /// What unwinding finds for a caller's register, CFA or return address.
 #[derive(Clone, Copy, Debug, PartialEq, Eq)]

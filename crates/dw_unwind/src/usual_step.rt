@@ -22,7 +22,8 @@ use crate::unwind_rows::UnwindRows;
 use crate::unwinding::{Answer, Unwound};
 use dw_bytes::{AddressSize, Order, Target};
 use dw_eval::{Memory, Registers, Width};
-use dw_rows::{CfaRule, PlainRules};
+use dw_rows::CfaRule;
+use dw_rules::PlainRules;
 
 /// The registers of a frame of which none is known.
 #[derive(Drop)]

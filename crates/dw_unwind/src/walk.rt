@@ -17,7 +17,7 @@ use crate::frames::{BriefFrame, Frame, Stop};
 use crate::unwinder::Unwinder;
 use crate::unwinding::{Answer, Caller, Unwound};
 use dw_eval::{Memory, Registers};
-use dw_rows::Abi;
+use dw_rules::Abi;
 use std::marker::Model;
 
 /// A walk up the stack, frame by frame: from the first frame, whose address, registers and memory

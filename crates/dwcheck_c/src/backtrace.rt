@@ -22,7 +22,7 @@ use dw_c_types::answer::{CFrame, c_frame_of};
 use dw_c_types::state::Contents;
 use dw_eval::{Memory, Registers};
 use dw_process::{Process, ProcessSlot, RowHints};
-use dw_rows::Abi;
+use dw_rules::Abi;
 use dw_unwind::{BriefFrame, KeptRegisters, RegisterFile, Stop, Unwound, return_address};
 
 /// Goes on with a walk that has written `from` frames to `slots`. Its next frame is at `address`,

@@ -11,7 +11,7 @@ ghost use Rattle.dw_process.specs.Processes.{is_signal_in};
 use dw_c_types::callers::caller_through;
 use dw_eval::{Memory, Registers};
 use dw_process::Process;
-use dw_rows::Abi;
+use dw_rules::Abi;
 use dw_unwind::{Answer, PackedRegisters, Unwound};
 use std::marker::Model;
 

@@ -11,7 +11,8 @@ use crate::process_reader::{LentProcess, put};
 use crate::read_right::Right;
 use dw_c_types::slots::write_all;
 use dw_c_types::status::{DONE, NONE};
-use dw_rows::{CfaRule, RegisterRule, UnwindRow};
+use dw_rows::{CfaRule, RegisterRule};
+use dw_rules::UnwindRow;
 
 /// The number that stands for the rule of the CFA. No register has it.
 pub const CFA_RULE: u32 = 0x10000;

@@ -21,7 +21,7 @@ use dw_c_types::row::{CRow, CRule, write_row, write_usual_row};
 use dw_c_types::state::CState;
 use dw_c_types::status::{DONE, NONE, REFUSED};
 use dw_process::{NoHints, Process, RowCache, RowHints};
-use dw_rows::Abi;
+use dw_rules::Abi;
 use dw_unwind::{PackedRegisters, Stop};
 
 /// Where a row is written, with a part of the right to read the process, which takes no bytes: C

@@ -17,12 +17,12 @@ use Rattle.dw_stack.specs.FirstFault.{expression_fault}
 use Rattle.dw_stack.specs.Located.{LocatedExpression, located_fault, moved_by}
 use Rattle.dw_rules.specs.Expressions.{expression_in, expressions_in}
 use Rattle.dw_rules.specs.InForce.{effects_of_cie, start_after_cie, fde_start}
-use Rattle.dw_rules.specs.ProgramFault.{standing_at, item_fault, fault_from, refusal_at, refusal_at_end, cie_refusal_at, cie_fault, end_of}
+use Rattle.dw_rules.specs.ProgramFault.{fault_of_kind, item_fault, fault_from, refusal_at, refusal_at_end, cie_refusal_at, cie_fault, end_of}
 use Rattle.dw_rules.specs.ProgramFault.{fde_fault}
 use Rattle.dw_rows.specs.GoodPrograms.{IsGood, AreGoodExpressions, IsGoodCieProgram, IsGoodFdeProgram}
 use Rattle.dw_stack.proofs.Named.{none_if_good, good_if_none}
 use Rattle.dw_rows.proofs.Faults.{option_or-none}
-use Rattle.dw_rows.proofs.rows.RowCursors.{standing_at-none, item-passes}
+use Rattle.dw_rows.proofs.rows.RowCursors.{fault_of_kind-none, item-passes}
 use Rattle.dw_rows.proofs.programs.Goods.{Fine, fine-iff, FineCie, fine-cie-iff}
 
 -- ---- expressions
@@ -182,11 +182,11 @@ pub good-from-fde : (c : Cie) (f : Fde) → IsGoodCieProgram c → fde_fault c f
 unfolding fde_fault
 good-from-fde c f g h =
     let s = fde_start c f in
-    let ending : List Effect → Option Fault = λ b. standing_at (end_of f.program) (refusal_at_end s b) in
+    let ending : List Effect → Option Fault = λ b. fault_of_kind (end_of f.program) (refusal_at_end s b) in
     let k = all-pass (refusal_at s) ending c [] (instructions_of f.program) h in
     let p = effects_by c k.items in
     let ends : refusal_at_end s (reverse p) ≡ None =
-    standing_at-none (end_of f.program) _ (subst (λ l. ending l ≡ None) (append-nil (reverse p)) k.ends) in
+    fault_of_kind-none (end_of f.program) _ (subst (λ l. ending l ≡ None) (append-nil (reverse p)) k.ends) in
     let fine : Fine s p = record {
       each = λ n x at. subst (λ l. refusal_at s l x ≡ None) (append-nil (reverse (take n p))) (k.each n x at);
       ends = ends;
@@ -213,10 +213,10 @@ unfolding fde_fault
 fde-from-good c f g =
     let s = fde_start c f in
     let p = effects_by c g.items in
-    let ending : List Effect → Option Fault = λ b. standing_at (end_of f.program) (refusal_at_end s b) in
+    let ending : List Effect → Option Fault = λ b. fault_of_kind (end_of f.program) (refusal_at_end s b) in
     let fine : Fine s p = (fine-iff s p (omega arith)).1 (good-past c f g) in
     let ends : ending (reverse p ++ []) ≡ None =
-    subst (λ l. ending l ≡ None) (sym (append-nil (reverse p))) (ap (standing_at (end_of f.program)) fine.ends) in
+    subst (λ l. ending l ≡ None) (sym (append-nil (reverse p))) (ap (fault_of_kind (end_of f.program)) fine.ends) in
     let k : fault_from (refusal_at s) ending c [] (map Ok g.items) ≡ None =
     pass-all (refusal_at s) ending c [] g.items
     (λ n x at. subst (λ l. refusal_at s l x ≡ None) (sym (append-nil (reverse (take n p)))) (fine.each n x at)) g.expressions ends in

@@ -14,7 +14,7 @@ use Rattle.dw_rows.specs.Section.{FrameSection, CoversOnce, IsChecked, section_f
 use Rattle.dw_rules.specs.RowsWithExpressions.{row_with_expressions}
 use Rattle.dw_rules.specs.RuleSet.{StoredRules}
 use Rattle.dw_rules.specs.Initial.{AreLeftBy}
-use Rattle.dw_rows.specs.Overlap.{cie_offset, fde_offset, IsAddressIndex, IsKept}
+use Rattle.dw_rows.specs.AddressIndex.{cie_offset, fde_offset, IsAddressIndex, IsKept}
 use Rattle.dw_rows.specs.declared.index.IndexEntry.{IndexEntry}
 use Rattle.dw_rows.proofs.Faults.{option_or-none, none-each}
 use Rattle.dw_rows.proofs.sections.Parts.{parts-pass, covers-once-in}

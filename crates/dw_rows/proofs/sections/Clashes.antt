@@ -11,7 +11,7 @@ use Rattle.dw_bytes.specs.declared.fault.Fault.{Fault}
 use Rattle.dw_bytes.specs.declared.fault.FaultKind.TheVariants.{Overlap}
 use Rattle.dw_frame.specs.Records.{Fde}
 use Rattle.dw_rows.specs.Section.{first_fault, overlap_fault, shares, SharesAddress, CoversOnce}
-use Rattle.dw_rows.specs.Overlap.{fde_offset, AreApart, IsApart, Overlaps, IsFirstOverlap}
+use Rattle.dw_rows.specs.AddressIndex.{fde_offset, AreApart, IsApart, Overlaps, IsFirstOverlap}
 use Rattle.dw_frame.specs.Bounds.{Ascends}
 use Rattle.dw_rules.proofs.Search.{ascending-at}
 use Rattle.dw_rows.proofs.Faults.{none-each}

@@ -12,7 +12,7 @@ use Rattle.std.proofs.lemmas.List.Elements.{filter_passes}
 use Rattle.std.proofs.lemmas.List.Sorted.{IsPermutation-keeps, IsPermutation-sym, Contains-permutation}
 use Rattle.std.proofs.lemmas.Bool.Decides.{nat_tests}
 use Rattle.dw_rows.specs.Section.{Covers, CoversOnce, IsCoverOf}
-use Rattle.dw_rows.specs.Overlap.{fde_offset, initial_of, IsIndexOf, IsOrdered, no_fde, fde_at, IsEntry, IsAddressIndex, IsStride}
+use Rattle.dw_rows.specs.AddressIndex.{fde_offset, initial_of, IsIndexOf, IsOrdered, no_fde, fde_at, IsEntry, IsAddressIndex, IsStride}
 use Rattle.dw_rows.specs.declared.index.IndexEntry.{IndexEntry}
 use Rattle.dw_frame.specs.Views.{fde_of}
 use Rattle.dw_frame.specs.declared.entry.FrameDescriptionEntry.{FrameDescriptionEntry}

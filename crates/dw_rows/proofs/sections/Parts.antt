@@ -8,7 +8,7 @@ use Rattle.dw_frame.specs.Records.{Cie, Fde}
 use Rattle.dw_rules.specs.ProgramFault.{cie_fault, fde_fault}
 use Rattle.dw_rows.specs.Section.{first_fault, cie_at, pointer_fault, program_fault, fault_by_cie, overlap_fault, programs_fault}
 use Rattle.dw_rows.specs.Section.{parts_fault, CoversOnce}
-use Rattle.dw_rows.specs.Overlap.{fde_offset}
+use Rattle.dw_rows.specs.AddressIndex.{fde_offset}
 use Rattle.dw_frame.specs.Bounds.{Ascends}
 use Rattle.dw_rows.proofs.Faults.{option_or-none, none-each, at-found}
 use Rattle.dw_rows.proofs.sections.Clashes.{once-covered}

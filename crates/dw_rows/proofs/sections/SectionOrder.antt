@@ -12,7 +12,7 @@ use Rattle.dw_frame.proofs.EachRecord.{sections-are-records}
 use Rattle.dw_frame.proofs.RecordBounds.{records-ascend, entries-sound}
 use Rattle.dw_frame.proofs.Blocks.{sound-inside}
 use Rattle.dw_rows.specs.Section.{frame_of}
-use Rattle.dw_rows.specs.Overlap.{cie_offset, fde_offset}
+use Rattle.dw_rows.specs.AddressIndex.{cie_offset, fde_offset}
 
 -- if no item is a fault, the items are just the values that were read
 pub read-whole : {X : Type 0} (items : List (Result X Fault)) → fault_in items ≡ None → items ≡ map Ok (values_in items)

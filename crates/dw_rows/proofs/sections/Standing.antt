@@ -19,7 +19,7 @@ use Rattle.dw_frame.proofs.RecordBounds.{entries-sound}
 use Rattle.dw_rules.specs.Effects.{Effect, effect_of}
 use Rattle.dw_rules.specs.Expressions.{expression_in, expressions_in}
 use Rattle.dw_rules.specs.InForce.{fde_start}
-use Rattle.dw_rules.specs.ProgramFault.{standing_at, item_fault, fault_from, cie_refusal_at, refusal_at, refusal_at_end, end_of}
+use Rattle.dw_rules.specs.ProgramFault.{fault_of_kind, item_fault, fault_from, cie_refusal_at, refusal_at, refusal_at_end, end_of}
 use Rattle.dw_rules.specs.ProgramFault.{cie_fault, fde_fault}
 use Rattle.dw_stack.specs.Located.{moved_by, located_fault, LocatedExpression}
 use Rattle.dw_rows.specs.Section.{first_fault, cie_at, pointer_fault, program_fault, fault_by_cie, overlap_fault, programs_fault}
@@ -45,7 +45,7 @@ first-of t (x ∷ xs) fault e = elim (one-of (t x) (first_fault t xs) fault e) [
 
 -- ---- programs
 
-stands-at : (at : ℕ) (kind : Option FaultKind) (fault : Fault) → standing_at at kind ≡ Some fault → fault.at ≡ at
+stands-at : (at : ℕ) (kind : Option FaultKind) (fault : Fault) → fault_of_kind at kind ≡ Some fault → fault.at ≡ at
 stands-at at None fault e = let no : None ≡ Some fault = e in cc
 stands-at at (Some kind) fault e = let same : record { kind = kind; at = at } ≡ fault = cc in sym (ap (λ (f : Fault). f.at) same)
 
@@ -95,7 +95,7 @@ from-stands r refusal ending cie before (Err f ∷ items) at_end each inside fau
 from-stands r refusal ending cie before (Ok item ∷ items) at_end each inside fault e =
     elim (one-of (item_fault refusal cie before item) (fault_from refusal ending cie (effect_of cie item.1 ∷ before) items) fault e) [
       | inl here ↦ elim (one-of (located_fault (expression_in item.1))
-          (standing_at item.0 (refusal before (effect_of cie item.1))) fault here) [
+          (fault_of_kind item.0 (refusal before (effect_of cie item.1))) fault here) [
             | inl checked ↦ first-stands r item (values_in items) inside fault (expression_in item.1) refl checked
             | inr refused ↦
                 let at : fault.at ≡ item.0 = stands-at item.0 (refusal before (effect_of cie item.1)) fault refused in
@@ -117,7 +117,7 @@ cie-stands c fault e =
 pub fde-stands : (c : Cie) (f : Fde) (fault : Fault) → fde_fault c f ≡ Some fault → StandsIn f.program (Err fault)
 unfolding fde_fault
 fde-stands c f fault e =
-    from-stands f.program (refusal_at (fde_start c f)) (λ all. standing_at (end_of f.program) (refusal_at_end (fde_start c f) all)) c []
+    from-stands f.program (refusal_at (fde_start c f)) (λ all. fault_of_kind (end_of f.program) (refusal_at_end (fde_start c f) all)) c []
     (instructions_of f.program)
     (λ all g is. let at : g.at ≡ end_of f.program = stands-at (end_of f.program) (refusal_at_end (fde_start c f) all) g is in
     (omega (arith, at), omega (arith, at)))

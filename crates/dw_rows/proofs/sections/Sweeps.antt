@@ -2,7 +2,7 @@
 use Rattle.std.proofs.Common.{◌≡◌, ◌≢◌, ℕ, ◌+◌, ◌<◌, ◌≤◌, List, length, get_or, Contains, refl, sym, ap, subst, ◌∙◌, arith, inl, inr, ◌⊎◌}
 use Rattle.std.proofs.lemmas.List.{get_or_default}
 use Rattle.dw_rows.specs.Section.{Covers, SharesAddress, CoversOnce}
-use Rattle.dw_rows.specs.Overlap.{fde_offset, Overlaps, AreApart, IsFirstOverlap, ClashWithin, ApartWithin, IsOrdered, IsIndexOf}
+use Rattle.dw_rows.specs.AddressIndex.{fde_offset, Overlaps, AreApart, IsFirstOverlap, ClashWithin, ApartWithin, IsOrdered, IsIndexOf}
 use Rattle.dw_frame.specs.Bounds.{Ascends}
 use Rattle.dw_frame.specs.Records.{Fde}
 use Rattle.dw_rules.proofs.Search.{ascending-at, ascending-same, three_ways}

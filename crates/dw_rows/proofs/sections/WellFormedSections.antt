@@ -9,7 +9,7 @@ use Rattle.dw_rules.specs.ProgramFault.{cie_fault, fde_fault}
 use Rattle.dw_rows.specs.GoodPrograms.{IsGoodCieProgram, IsGoodFdeProgram}
 use Rattle.dw_rows.specs.Section.{cie_at, pointer_fault, program_fault, fault_by_cie, parts_fault, section_fault, frame_of, CoversOnce}
 use Rattle.dw_rows.specs.WellFormed.{AreGood, IsWellFormed}
-use Rattle.dw_rows.specs.Overlap.{cie_offset, fde_offset, AreApart}
+use Rattle.dw_rows.specs.AddressIndex.{cie_offset, fde_offset, AreApart}
 use Rattle.dw_frame.specs.Bounds.{ArePlaced, Ascends}
 use Rattle.dw_rows.proofs.Faults.{option_or-none, found-at, at-found, none-each}
 use Rattle.dw_rows.proofs.sections.Clashes.{each-none, none-overlap}

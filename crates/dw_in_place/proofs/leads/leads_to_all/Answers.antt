@@ -4,7 +4,7 @@ use Rattle.dw_bytes.specs.declared.target.AddressSize.TheVariants.{Four, Eight}
 use Rattle.dw_bytes.specs.Encoding.{max_address}
 use Rattle.dw_frame.specs.Bounds.{Ascends}
 use Rattle.dw_frame.specs.Records.{Fde}
-use Rattle.dw_rows.specs.Overlap.{fde_offset}
+use Rattle.dw_rows.specs.AddressIndex.{fde_offset}
 use Rattle.dw_in_place.specs.LookUps.{LeadsTo, record_offset}
 use Rattle.dw_in_place.specs.Views.{table_of}
 use Rattle.dw_in_place.proofs.leads.leads_to_all.Goals as goal

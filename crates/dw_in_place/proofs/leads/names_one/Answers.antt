@@ -2,7 +2,7 @@ use Rattle.std.proofs.Common.{ℕ, rules, refl, sym, ap, ◌∙◌, get_or}
 use Rattle.std.proofs.lemmas.List.Sorted.{answers_always}
 use Rattle.dw_frame.specs.Views.{fde_of}
 use Rattle.dw_frame.specs.declared.entry.FrameDescriptionEntry.{FrameDescriptionEntry}
-use Rattle.dw_rows.specs.Overlap.{fde_offset}
+use Rattle.dw_rows.specs.AddressIndex.{fde_offset}
 use Rattle.dw_rules.proofs.Elements.{ascending-back, contains-map, contained-map}
 use Rattle.dw_rules.proofs.Search.{searched-found, searched-none}
 use Rattle.dw_rows.proofs.Elements.{some-element}

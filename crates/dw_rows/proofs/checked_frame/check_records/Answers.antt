@@ -8,7 +8,7 @@ use Rattle.dw_rules.specs.Expressions.{cie_expressions, frame_expressions}
 use Rattle.std.specs.List.{flat_map}
 use Rattle.dw_rows.specs.Section.{parts_fault, placed_rows}
 use Rattle.dw_rules.specs.Initial.{AreLeftBy}
-use Rattle.dw_rows.specs.Overlap.{cie_offset, fde_offset, IsAddressIndex}
+use Rattle.dw_rows.specs.AddressIndex.{cie_offset, fde_offset, IsAddressIndex}
 use Rattle.dw_frame.specs.Bounds.{Ascends}
 use Rattle.dw_rows.proofs.sections.SectionOrder.{placed-cies-ascend, placed-fdes-ascend}
 use Rattle.dw_rows.proofs.sections.CheckedSections.{kept}

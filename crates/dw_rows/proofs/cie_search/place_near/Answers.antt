@@ -3,7 +3,7 @@ use Rattle.std.specs.Prelude.{slice_get}
 use Rattle.dw_frame.specs.Views.{cie_of}
 use Rattle.dw_frame.specs.Bounds.{Ascends}
 use Rattle.dw_frame.specs.declared.entry.CommonInformationEntry.{CommonInformationEntry}
-use Rattle.dw_rows.specs.Overlap.{cie_offset}
+use Rattle.dw_rows.specs.AddressIndex.{cie_offset}
 use Rattle.dw_rows.specs.Section.{cie_at}
 use Rattle.dw_rows.proofs.Faults.{found-at}
 use Rattle.dw_rules.proofs.Elements.{contains-map}

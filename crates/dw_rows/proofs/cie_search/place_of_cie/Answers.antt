@@ -3,7 +3,7 @@ use Rattle.std.proofs.lemmas.List.Sorted.{answers_always}
 use Rattle.std.proofs.lemmas.List.{get_or_default}
 use Rattle.dw_frame.specs.Views.{cie_of}
 use Rattle.dw_frame.specs.declared.entry.CommonInformationEntry.{CommonInformationEntry}
-use Rattle.dw_rows.specs.Overlap.{cie_offset}
+use Rattle.dw_rows.specs.AddressIndex.{cie_offset}
 use Rattle.dw_rules.proofs.Search.{searched-found, searched-none}
 use Rattle.dw_rows.proofs.Faults.{found-at, absent-at}
 use Rattle.dw_rules.proofs.Elements.{ascending-back, contains-map, contained-map}

@@ -7,7 +7,7 @@ use Rattle.dw_rules.specs.Initial.{AreLeftBy}
 use Rattle.dw_rules.specs.ProgramState.{IsLeftBy}
 use Rattle.dw_rules.specs.RuleSet.{StoredRules}
 use Rattle.dw_rules.proofs.Initials.{left-count, left-at}
-use Rattle.dw_rows.specs.Overlap.{IsLeftAt}
+use Rattle.dw_rows.specs.AddressIndex.{IsLeftAt}
 use Rattle.dw_rows.proofs.cie_search.set_rules_after.Goals as goal
 
 left-here : (cies : List Cie) (left : List StoredRules) (i : ℕ) (k : StoredRules) → AreLeftBy cies left → slice_get left i ≡ Some k

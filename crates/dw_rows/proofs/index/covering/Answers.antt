@@ -2,7 +2,7 @@ use Rattle.std.proofs.Common.{arith, ◌≤◌, ◌<◌, ◌-◌, length, map, C
 use Rattle.std.proofs.lemmas.List.{length-map}
 use Rattle.dw_frame.specs.Views.{fde_of}
 use Rattle.dw_rows.specs.Section.{CoversOnce}
-use Rattle.dw_rows.specs.Overlap.{fde_at}
+use Rattle.dw_rows.specs.AddressIndex.{fde_at}
 use Rattle.dw_rows.proofs.sections.Indexes.{none-covered, not-covered, starts-sorted, starts-above, entry-within, entry-placed, entry-start}
 use Rattle.dw_rows.proofs.sections.Indexes.{once-indexed, cover-indexed}
 use Rattle.dw_rows.proofs.index.covering.Goals as goal

@@ -1,7 +1,7 @@
 use Rattle.std.proofs.Common.{◌≡◌, map, take, filter}
 use Rattle.std.specs.Prelude.{All}
 use Rattle.dw_frame.specs.Views.{fde_of}
-use Rattle.dw_rows.specs.Overlap.{fde_at, IsEntry}
+use Rattle.dw_rows.specs.AddressIndex.{fde_at, IsEntry}
 use Rattle.dw_rows.proofs.sections.Indexes.{is_some_fde}
 use Rattle.dw_rows.proofs.index.covering_some.Given as goal
 

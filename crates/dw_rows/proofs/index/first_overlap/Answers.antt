@@ -1,7 +1,7 @@
 use Rattle.std.proofs.Common.{arith, sym, subst, ◌≡◌, ◌-◌, ◌+◌, ◌/◌, length, map}
 use Rattle.std.proofs.lemmas.List.{length-map}
 use Rattle.dw_frame.specs.Views.{fde_of}
-use Rattle.dw_rows.specs.Overlap.{fde_at, ApartWithin, ClashWithin}
+use Rattle.dw_rows.specs.AddressIndex.{fde_at, ApartWithin, ClashWithin}
 use Rattle.dw_rows.proofs.sections.Sweeps.{first-clash, none-clash, none-apart, apart-below}
 use Rattle.dw_rules.proofs.Elements.{placed-map}
 use Rattle.dw_rows.proofs.Elements.{offset-at}

@@ -1,7 +1,7 @@
 use Rattle.std.proofs.Common.{ℕ, ◌<◌, ◌≤◌, ◌-◌, get_or, length, map}
 use Rattle.dw_frame.specs.Views.{fde_of}
 use Rattle.dw_frame.specs.Records.{Fde}
-use Rattle.dw_rows.specs.Overlap.{fde_at, ClashWithin, ApartWithin}
+use Rattle.dw_rows.specs.AddressIndex.{fde_at, ClashWithin, ApartWithin}
 use Rattle.dw_rows.proofs.index.first_overlap.Given as goal
 
 abbrev pub invariant-loop-low : goal.invariant-loop-low

@@ -1,7 +1,7 @@
 use Rattle.std.proofs.Common.{arith, map}
 use Rattle.std.proofs.lemmas.List.{length-map}
 use Rattle.dw_frame.specs.Views.{fde_of}
-use Rattle.dw_rows.specs.Overlap.{fde_at}
+use Rattle.dw_rows.specs.AddressIndex.{fde_at}
 use Rattle.dw_rows.proofs.sections.Sweeps.{swept-none, swept-skip, swept-more, swept-all, clash-at}
 use Rattle.dw_rows.proofs.sections.Indexes.{entry-within, entry-placed}
 use Rattle.dw_rows.proofs.index.overlaps.Goals as goal

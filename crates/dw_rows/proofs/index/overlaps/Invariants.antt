@@ -1,6 +1,6 @@
 use Rattle.std.proofs.Common.{map}
 use Rattle.dw_frame.specs.Views.{fde_of}
-use Rattle.dw_rows.specs.Overlap.{fde_at}
+use Rattle.dw_rows.specs.AddressIndex.{fde_at}
 use Rattle.dw_rows.proofs.sections.Sweeps.{IsSwept}
 use Rattle.dw_rows.proofs.index.overlaps.Given as goal
 

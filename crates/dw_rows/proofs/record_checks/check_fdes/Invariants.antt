@@ -2,7 +2,7 @@ use Rattle.std.proofs.Common.{◌≡◌, ◌≤◌, ◌+◌, ◌*◌, ◌^◌, �
 use Rattle.std.specs.List.{flat_map}
 use Rattle.dw_frame.specs.Views.{cie_of, fde_of}
 use Rattle.dw_rules.specs.Expressions.{fde_expressions}
-use Rattle.dw_rows.specs.Overlap.{IsLeftAt}
+use Rattle.dw_rows.specs.AddressIndex.{IsLeftAt}
 use Rattle.dw_rows.specs.Section.{first_fault, program_fault, placed_rows}
 use Rattle.dw_rows.proofs.record_checks.check_fdes.Given as goal
 

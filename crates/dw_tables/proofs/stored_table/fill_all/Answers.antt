@@ -2,7 +2,7 @@ use Rattle.std.proofs.Common.{ℕ, ◌+◌, List, Contains, length, map, sym, ap
 use Rattle.std.proofs.lemmas.List.{length-map}
 use Rattle.dw_frame.specs.Records.{Fde}
 use Rattle.dw_frame.specs.Views.{fde_of}
-use Rattle.dw_rows.specs.Overlap.{IsAddressIndex, IsIndexOf, fde_at}
+use Rattle.dw_rows.specs.AddressIndex.{IsAddressIndex, IsIndexOf, fde_at}
 use Rattle.dw_tables.specs.declared.table_entries.TableEntry.{TableEntry}
 use Rattle.dw_tables.specs.CompiledTable.{StoredSet, AreEntries, ArePlacedRows, rows_to, sets_bytes}
 use Rattle.dw_rows.proofs.sections.Indexes.{entry-placed}

@@ -2,7 +2,7 @@ use Rattle.std.proofs.Common.{◌+◌, ◌≤◌, map}
 use Rattle.std.proofs.Common.{take}
 use Rattle.std.specs.List.{sum_by}
 use Rattle.dw_frame.specs.Views.{fde_of}
-use Rattle.dw_rows.specs.Overlap.{fde_at}
+use Rattle.dw_rows.specs.AddressIndex.{fde_at}
 use Rattle.dw_tables.specs.CompiledTable.{stored_bytes}
 use Rattle.dw_tables.specs.UnwindTables.{fde_bytes}
 use Rattle.dw_tables.proofs.FilledTables.{IsFillingAll}

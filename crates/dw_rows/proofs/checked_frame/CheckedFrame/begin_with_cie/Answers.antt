@@ -5,7 +5,7 @@ use Rattle.dw_frame.specs.declared.entry.CommonInformationEntry.{CommonInformati
 use Rattle.dw_rows.specs.Section.{FrameSection, cie_at}
 use Rattle.dw_rows.proofs.sections.Parts.{pointed-in, good-past}
 use Rattle.dw_frame.specs.Bounds.{Ascends}
-use Rattle.dw_rows.specs.Overlap.{cie_offset}
+use Rattle.dw_rows.specs.AddressIndex.{cie_offset}
 use Rattle.dw_rows.specs.RowCursors.{Lends}
 use Rattle.dw_rows.proofs.Faults.{at-found}
 use Rattle.dw_rows.proofs.expressions.Lending.{lends-in}

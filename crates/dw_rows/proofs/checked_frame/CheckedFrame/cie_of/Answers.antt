@@ -6,7 +6,7 @@ use Rattle.dw_rows.specs.Section.{FrameSection, cie_at}
 use Rattle.dw_rules.specs.ProgramFault.{cie_fault, fde_fault}
 use Rattle.dw_rows.proofs.sections.Parts.{pointed-in, good-past}
 use Rattle.dw_frame.specs.Bounds.{Ascends}
-use Rattle.dw_rows.specs.Overlap.{cie_offset}
+use Rattle.dw_rows.specs.AddressIndex.{cie_offset}
 use Rattle.dw_rows.proofs.sections.CheckedSections.{checked-parts, checked-cies-ascend}
 use Rattle.dw_rows.proofs.checked_frame.CheckedFrame.cie_of.Goals as goal
 

@@ -6,7 +6,7 @@ use Rattle.dw_frame.specs.Sections.{top_of}
 use Rattle.dw_frame.specs.Views.{fde_of}
 use Rattle.dw_frame.specs.declared.entry.FrameDescriptionEntry.{FrameDescriptionEntry}
 use Rattle.dw_rows.specs.Section.{FrameSection, CoversOnce, IsCoverOf}
-use Rattle.dw_rows.specs.Overlap.{IsAddressIndex}
+use Rattle.dw_rows.specs.AddressIndex.{IsAddressIndex}
 use Rattle.dw_rows.specs.declared.index.IndexEntry.{IndexEntry}
 use Rattle.dw_rows.proofs.sections.CheckedSections.{checked-once, checked-fits}
 use Rattle.dw_rows.proofs.checked_frame.CheckedFrame.fde_for_address.Goals as goal

@@ -1,4 +1,5 @@
--- FDEs in order of offset and in order of address, and what a checked section stores.
+-- FDEs in order of offset and in order of address: which share addresses, the index by address, and
+-- what a checked section stores.
 use Rattle.std.specs.Prelude.{◌≡◌, ℕ, ◌+◌, ◌*◌, ◌<◌, ◌≤◌, List, [], length, map, All, Contains, IfSome, slice_get, slice_index_or}
 use Rattle.dw_bytes.specs.declared.target.Format.TheVariants.{Dwarf32}
 use Rattle.dw_bytes.specs.declared.target.Order.TheVariants.{Little}
