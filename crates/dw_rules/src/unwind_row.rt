@@ -104,6 +104,21 @@ impl<'t, 'a> UnwindRow<'t, 'a> {
         }
     }
 
+    /// The same row again, which borrows the same rules. It takes constant time.
+    #[inline(always)]
+    pub fn lend(&self) -> Self
+        ensures { result ≡ self.now }
+    {
+        UnwindRow {
+            start: self.start,
+            end: self.end,
+            cfa: self.cfa,
+            rules: self.rules,
+            plain_below: self.plain_below,
+            expressions: self.expressions,
+        }
+    }
+
     /// The first address that the row covers.
     pub fn start_address(&self) -> u64
         ensures { result ≡ self.now.start }
