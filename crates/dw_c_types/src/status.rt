@@ -9,7 +9,8 @@ pub const REFUSED: u32 = 1;
 /// Memory ran out.
 pub const NO_MEMORY: u32 = 2;
 
-/// The compiled table of the section can take more bytes than `room`, the limit that C passed.
+/// The compiled table of the section can take more bytes than `room`, the limit that C passed; or the
+/// expressions of an FDE and its CIE need more room than a look-up in place has.
 pub const NO_ROOM: u32 = 3;
 
 /// The byte order or the address size is invalid, or isn't that of the process.
@@ -32,3 +33,6 @@ pub const BAD_RANGE: u32 = 9;
 
 /// A register with a content has no place in a cursor.
 pub const NO_PLACE: u32 = 10;
+
+/// The header has no search table that a look-up in place can use.
+pub const NO_TABLE: u32 = 11;

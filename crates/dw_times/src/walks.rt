@@ -1,11 +1,11 @@
 //! Walks through modules: `bench/beside_libunwind` times them, and compares their frames.
 
 use crate::TARGET;
-use dw_check::{Answer, BriefFrame, Module, Stop, Walk};
 use dw_eval::{MemoryBlock, Registers};
 use dw_rows::check_frame;
 use dw_rules::Abi;
 use dw_tables::UnwindTable;
+use dw_unwind::{Answer, BriefFrame, Module, Stop, Walk};
 use std::alloc::Global;
 
 /// Registers whose contents are given by number: register n has `contents[n]`.

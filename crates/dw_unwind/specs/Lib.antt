@@ -29,5 +29,7 @@ pub mod MissingPlaces
 pub mod UsualSteps
 -- callee-saved registers that are marked by number
 pub mod KeptRegisters
+-- one row that has been looked up
+pub mod OneRows
 -- translates the code's frames and walks
 pub mod WalkViews
