@@ -52,7 +52,7 @@ build:
 # All files that are proved for the program and the library. What is written in Rattle is built again
 # only if one of them has changed, and then it replaces the old file only if it differs, so that
 # nothing that uses it is built again.
-proved := crates.txt $(shell find crates -name out -prune -o -name dw_tests -prune -o -name dw_times -prune -o -name dw_in_place -prune \
+proved := crates.txt $(shell find crates -name out -prune -o -name dw_tests -prune -o -name dw_times -prune \
     -o -name worked_rows -prune -o -type f \( -name '*.rt' -o -name '*.antt' \) -print)
 
 build/proved.stamp: $(proved) | build

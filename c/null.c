@@ -65,6 +65,35 @@ uint32_t dwcheck_record_at(const dwcheck_module *module, uint64_t offset, dwchec
     return proved_dwcheck_record_at(&copy, offset, record, fault);
 }
 
+/* A header that is empty, with an address for it. */
+static dwcheck_header header_with_address(const dwcheck_header *header) {
+    dwcheck_header copy = *header;
+    copy.bytes = nothing;
+    return copy;
+}
+
+PROVED(dwcheck_row_in);
+uint32_t dwcheck_row_in(const dwcheck_module *module, const dwcheck_header *header, uint64_t address, dwcheck_row *row,
+                        dwcheck_rule *rules, size_t rules_length, uint32_t *is_signal_frame, dwcheck_fault *fault) {
+    rules = OR_NO_PLACE(rules);
+    if (module->frame && header->bytes)
+        return proved_dwcheck_row_in(module, header, address, row, rules, rules_length, is_signal_frame, fault);
+    const dwcheck_module section = module->frame ? *module : with_address(module);
+    const dwcheck_header table = header->bytes ? *header : header_with_address(header);
+    return proved_dwcheck_row_in(&section, &table, address, row, rules, rules_length, is_signal_frame, fault);
+}
+
+PROVED(dwcheck_step_in);
+uint32_t dwcheck_step_in(const dwcheck_module *module, const dwcheck_header *header, dwcheck_cursor *cursor,
+                         const dwcheck_state *state, dwcheck_frame *frame, dwcheck_fault *fault) {
+    if (module->frame && header->bytes && has_all(state))
+        return proved_dwcheck_step_in(module, header, cursor, state, frame, fault);
+    const dwcheck_module section = module->frame ? *module : with_address(module);
+    const dwcheck_header table = header->bytes ? *header : header_with_address(header);
+    const dwcheck_state copy = with_all(state);
+    return proved_dwcheck_step_in(&section, &table, cursor, &copy, frame, fault);
+}
+
 PROVED(dwcheck_process_add);
 uint32_t dwcheck_process_add(dwcheck_process *process, const dwcheck_module *module, uint64_t *id, dwcheck_fault *fault) {
     if (module->frame) return proved_dwcheck_process_add(process, module, id, fault);

@@ -65,6 +65,7 @@ static const char *const statuses[] = {
     [DWCHECK_OVERLAPS] = "the range shares addresses with another module",
     [DWCHECK_BAD_RANGE] = "no range of addresses to answer for",
     [DWCHECK_NO_PLACE] = "a register has no place in a cursor",
+    [DWCHECK_NO_TABLE] = "the header has no search table of the usual form",
 };
 
 static const char *const stops[] = {

@@ -19,7 +19,7 @@ sum() {
 }
 
 names() { # the crates that the program and the library are made of, but the library's own
-    sed -n 's/^\([a-z_]*\)\( staticlib\)\?:.*/\1/p' crates.txt | grep -vxE 'dw_tests|dw_times|dw_in_place|worked_rows|dwcheck_c'
+    sed -n 's/^\([a-z_]*\)\( staticlib\)\?:.*/\1/p' crates.txt | grep -vxE 'dw_tests|dw_times|worked_rows|dwcheck_c'
 }
 
 stop() { # LOG: shows why a command failed

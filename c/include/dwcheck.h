@@ -73,14 +73,15 @@ enum {
     DWCHECK_DONE = 0,       /* the call's results are written */
     DWCHECK_REFUSED = 1,    /* `fault` says why */
     DWCHECK_NO_MEMORY = 2,  /* malloc or realloc returned NULL */
-    DWCHECK_NO_ROOM = 3,    /* the table of the section can take more than `room` bytes */
+    DWCHECK_NO_ROOM = 3,    /* the table of the section can take more than `room` bytes; or see dwcheck_row_in */
     DWCHECK_BAD_TARGET = 4, /* no such target, or the process is open for another one */
     DWCHECK_TOO_LONG = 5,   /* the section or expression has 2^32 bytes or more */
     DWCHECK_BAD_KIND = 6,   /* `kind` isn't 0, 1 or 2, be it of a section or of an expression */
     DWCHECK_NONE = 7,       /* what was looked up doesn't exist */
     DWCHECK_OVERLAPS = 8,   /* the module's range shares an address with another module's range */
     DWCHECK_BAD_RANGE = 9,  /* the module has no range that it could answer for */
-    DWCHECK_NO_PLACE = 10   /* a register that is known has no place in a cursor */
+    DWCHECK_NO_PLACE = 10,  /* a register that is known has no place in a cursor */
+    DWCHECK_NO_TABLE = 11   /* the header has no search table of the usual form */
 };
 
 enum { DWCHECK_LITTLE = 0, DWCHECK_BIG = 1 }; /* byte orders */
@@ -393,6 +394,37 @@ typedef struct dwcheck_reader {
    it was. The call allocates only as dwcheck_evaluate does. */
 uint32_t dwcheck_cursor_step_with(const dwcheck_process *process, dwcheck_cursor *cursor, const dwcheck_state *state,
                                   const dwcheck_reader *reader, dwcheck_frame *frame);
+
+/* ---- in place ------------------------------------------------------------------------------------------------------ */
+/* The .eh_frame_hdr section of a module, which begins at `address` as linked. Its search table leads from an address
+   to the record of an FDE. */
+typedef struct dwcheck_header { const uint8_t *bytes; size_t length; uint64_t address; } dwcheck_header;
+
+/* Writes the row that covers `address`, an address as loaded, without preparation: only the FDE to which the table
+   leads and its CIE are read and checked, whatever other bytes the section has. No process is needed, nothing is
+   allocated, and nothing is kept, so the call may be made at any moment, also in a signal handler. It takes up to 48
+   KB of stack, and O(log n) time among n entries, plus what the two records take.
+
+   Of `module`, the call uses what dwcheck_module_check uses, load_address and `cookie`. `kind` is that of an .eh_frame
+   section. In the process itself, section_address and the header's `address` may be where the sections lie, and
+   load_address 0. The row is written as by dwcheck_row_at, with the id 0. `is_signal_frame` becomes what
+   dwcheck_is_signal_frame writes.
+
+   Returns DONE; NONE if the table leads to no FDE that covers the address; REFUSED with the first fault of the FDE and
+   its CIE, at its offset in the section; NO_ROOM if the two have more than 32 expressions, or one of more than 16
+   bytes, for which an added module has room; TOO_LONG; BAD_KIND; BAD_TARGET; or NO_TABLE if the header isn't as linkers
+   write it (version 1, with the encodings 0x1b, 0x03 and 0x3b), or shorter than its table.
+
+   If a check accepts the section, and the table leads to all its FDEs, this is the row that the check gives. A wrong
+   table leads to no row, or to one of other bytes that read as an FDE which covers the address. */
+uint32_t dwcheck_row_in(const dwcheck_module *module, const dwcheck_header *header, uint64_t address, dwcheck_row *row,
+                        dwcheck_rule *rules, size_t rules_length, uint32_t *is_signal_frame, dwcheck_fault *fault);
+
+/* Steps as dwcheck_cursor_step does, by the row that dwcheck_row_in finds for the frame. If it finds none, the walk
+   ends; choose for each step the module that has the cursor's address. Returns DONE; NONE if the walk has ended; NO_PLACE;
+   or any other status that dwcheck_row_in returns, and then the cursor is as it was. */
+uint32_t dwcheck_step_in(const dwcheck_module *module, const dwcheck_header *header, dwcheck_cursor *cursor,
+                         const dwcheck_state *state, dwcheck_frame *frame, dwcheck_fault *fault);
 
 /* ---- expressions --------------------------------------------------------------------------------------------------- */
 /* What an expression is used for (`kind`): the rule of a CFA, the rule of a register, or the location of an object.

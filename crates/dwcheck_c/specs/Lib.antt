@@ -2,6 +2,7 @@ pub mod Checks
 pub mod WalkCursors
 pub mod Handles
 pub mod Held
+pub mod InPlaceLookUps
 pub mod Lent
 pub mod LoadedModules
 pub mod ModuleChecks

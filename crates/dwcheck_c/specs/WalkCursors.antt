@@ -1,9 +1,11 @@
 -- A cursor: where a walk up a stack is, as plain data that C owns.
-use Rattle.std.specs.Prelude.{◌≡◌, ℕ, ◌+◌, ◌≤◌, ◌==◌, if◌then◌else◌, IfSome, List, [], ◌∷◌, length, map, Option, Some}
+use Rattle.std.specs.Prelude.{◌≡◌, ℕ, ◌+◌, ◌≤◌, ◌==◌, if◌then◌else◌, Bool, IfSome, List, [], ◌∷◌, length, map, Option, Some}
+use Rattle.dw_bytes.specs.declared.target.Target.{Target}
 use Rattle.dw_rules.specs.Abi.{Abi}
+use Rattle.dw_rules.specs.Rules.{Row}
 use Rattle.dw_unwind.specs.Contents.{contents_in}
 use Rattle.dw_unwind.specs.MissingPlaces.{LacksPlace}
-use Rattle.dw_unwind.specs.Walks.{IsFrameAt, Place, WalkedFrame, address_before, stop_after, stop_of_caller}
+use Rattle.dw_unwind.specs.Walks.{IsFrameAt, Place, WalkedFrame, address_before, over_rows, stop_after, stop_of_caller}
 use Rattle.dw_unwind.specs.declared.frames.Stop.{Stop}
 use Rattle.dw_process.specs.Processes.{ProcessState}
 use Rattle.dw_c_types.specs.Frames.{cframe_of, stop_number}
@@ -43,6 +45,12 @@ pub record IsStepBy (u : Unwinding) (old new : CCursor) (frame : CFrame) : Type 
   pub goes : IfSome (place_after u (place_of old).looked_up walked.caller) (λ p. (new.stage ≤ 1) × (place_of new ≡ p))
   pub ends : IfSome (stop_of_caller walked.caller) (λ why. (new.stage ≡ stop_number why + 1) × (new.address ≡ old.address)
       × (registers_in new ≡ registers_in old))
+
+-- unwinding by any look-up of rows: `Finds` says what it finds at an address, and `signals` which
+-- addresses are those of signal frames
+abbrev pub through_rows : Target → (ℕ → Option (Row × ℕ) → Type 0) → (ℕ → Bool) → Abi → (ℕ → Option ℕ) → ℕ → Unwinding
+through_rows target Finds signals abi memory bits =
+    record { callers = over_rows target Finds abi memory; is_signal = signals; signed_bits = bits }
 
 -- a step through the modules of a process
 abbrev pub IsStep : Option ProcessState → Abi → (ℕ → Option ℕ) → ℕ → CCursor → CCursor → CFrame → Type 0

@@ -1,12 +1,12 @@
 //! A cursor: where a walk up a stack is, as plain data that C owns.
 
-ghost use Rattle.std.specs.Prelude.{◌≡◌, ◌≢◌, ◌+◌, ◌≤◌, ◌<◌, ◌⊎◌, ℕ, IfNone, IfSome, IsSome, List, None, Option, Some, length};
+ghost use Rattle.std.specs.Prelude.{◌≡◌, ◌≢◌, ◌+◌, ◌≤◌, ◌<◌, ◌⊎◌, ℕ, Bool, IfNone, IfSome, IsSome, List, None, Option, Some, length};
 ghost use Rattle.std.specs.Bool.{OnTrue, OnFalse};
 ghost use Rattle.dw_process.specs.Processes.{ProcessState};
 ghost use Rattle.dw_rules.specs.Abi.{Abi, abi_of};
 ghost use Rattle.dw_unwind.specs.Contents.{contents_in};
 ghost use Rattle.dw_unwind.specs.MissingPlaces.{LacksPlace};
-ghost use Rattle.dw_unwind.specs.Walks.{first_place};
+ghost use Rattle.dw_unwind.specs.Walks.{first_place, over_rows};
 ghost use Rattle.dw_unwind.specs.declared.frames.Stop.{Stop as Why};
 ghost use Rattle.dw_c_types.specs.declared.answer.CFrame.{CFrame as Slot};
 ghost use Rattle.dw_c_types.specs.Slots.{put_into};
@@ -16,7 +16,7 @@ ghost use Rattle.dw_c_types.specs.Machine.{abi_fault_of, abi_in, is_known, memor
 ghost use Rattle.dw_c_types.specs.ProcessWalks.{over_process, through_held, through_process};
 ghost use Rattle.dwcheck_c.specs.declared.cursor.CCursor.{CCursor as Cursor};
 ghost use Rattle.dwcheck_c.specs.declared.cursor.Stepped.{Stepped as Step};
-ghost use Rattle.dwcheck_c.specs.WalkCursors.{AreSteps, WalkHasEnded, IsStep, IsStepBy, LacksPlaceIn, looked_up_by, place_from, place_of, registers_in};
+ghost use Rattle.dwcheck_c.specs.WalkCursors.{AreSteps, WalkHasEnded, IsStep, IsStepBy, LacksPlaceIn, looked_up_by, place_from, place_of, registers_in, through_rows};
 ghost use Rattle.dwcheck_c.specs.Lent.{Reads, loan_of, read_by};
 
 use crate::backtrace::brief;
@@ -29,7 +29,7 @@ use dw_c_types::state::{CState, Contents};
 use dw_c_types::status::{DONE, NO_PLACE, NONE, REFUSED};
 use dw_eval::{Memory, Registers};
 use dw_process::{NoHints, Process, ProcessSlot};
-use dw_unwind::{KeptRegisters, PLACES, RegisterFile, Stop, Unwinder, return_address};
+use dw_unwind::{KeptRegisters, PLACES, RegisterFile, Stop, UnwindRows, Unwinder, return_address};
 
 /// The frame is looked up at its own address.
 pub const EXACT: u32 = 0;
@@ -154,11 +154,12 @@ fn stage_after(stop: Stop) -> u32
     }
 }
 
-/// Moves a cursor to the caller of its frame, which is looked up at `address`, in a way that needs
-/// a second file for the caller's registers.
+/// Moves a cursor to the caller of its frame, by the row of `address`, in a way that needs a second
+/// file for the caller's registers. `is_signal` says whether that address is one of a signal frame.
 #[inline(never)]
-fn step_by_copy<M: Memory>(
-    process: &Process,
+pub(crate) fn step_by_copy<T: UnwindRows, M: Memory>(
+    rows: &T,
+    is_signal: bool,
     kept: &[u16],
     stack_pointer: Option<u16>,
     bits: u64,
@@ -168,15 +169,16 @@ fn step_by_copy<M: Memory>(
     out: &mut CFrame,
 ) -> Stepped
     requires { looked_up_by cursor.old.stage cursor.old.address ≡ Some address }
-    ensures done { result ≢ Step.NoPlace → IsStepBy (through_process (abi_of kept.now stack_pointer)
-        (M.bytes memory.now) bits process.now) cursor.old cursor.new out.new }
-    ensures lacks { result ≡ Step.NoPlace → LacksPlace (over_process (abi_of kept.now stack_pointer)
-        (M.bytes memory.now) process.now) (registers_in cursor.old)
-        (looked_up_by cursor.old.stage cursor.old.address) }
+    ensures done { result ≢ Step.NoPlace → (signals : ℕ → Bool) → signals address ≡ is_signal
+        → IsStepBy (through_rows (T.target_of rows.now) (T.finds rows.now) signals
+        (abi_of kept.now stack_pointer) (M.bytes memory.now) bits) cursor.old cursor.new out.new }
+    ensures lacks { result ≡ Step.NoPlace → LacksPlace (over_rows (T.target_of rows.now)
+        (T.finds rows.now) (abi_of kept.now stack_pointer) (M.bytes memory.now))
+        (registers_in cursor.old) (looked_up_by cursor.old.stage cursor.old.address) }
     ensures unwritten { result ≡ Step.NoPlace → (cursor.new ≡ cursor.old) × (out.new ≡ out.old) }
 {
     let mut into = RegisterFile::none();
-    let Ok(unwound) = process.contents_into(
+    let Ok(unwound) = rows.contents_into(
         kept,
         stack_pointer,
         address,
@@ -191,7 +193,7 @@ fn step_by_copy<M: Memory>(
         Ok(next) => {
             cursor.registers = into;
             cursor.address = without_bits(bits, next);
-            cursor.stage = stage_of_caller(process.is_signal_frame(address));
+            cursor.stage = stage_of_caller(is_signal);
         }
         Err(stop) => cursor.stage = stage_after(stop),
     }
@@ -239,6 +241,7 @@ pub(crate) fn other_step<M: Memory>(
     };
     step_by_copy(
         process,
+        process.is_signal_frame(address),
         kept,
         stack_pointer,
         bits,
@@ -321,7 +324,7 @@ fn step_of(process: &Process, cursor: &mut CCursor, state: &CState<'_>, out: &mu
 }
 
 /// Takes a step through a closed process, which has no modules: the frame has no caller.
-fn step_uncovered(cursor: &mut CCursor, out: &mut CFrame) -> u32
+pub(crate) fn step_uncovered(cursor: &mut CCursor, out: &mut CFrame) -> u32
     ensures done { (abi : Abi) (memory : ℕ → Option ℕ) (bits : ℕ) → result ≡ DONE
         → IsStep None abi memory bits cursor.old cursor.new out.new }
     ensures none { result ≡ NONE → CALLER < cursor.old.stage }

@@ -7,6 +7,7 @@ mod checks;
 mod cursor;
 mod expressions;
 mod handle;
+mod in_place;
 mod listed_registers;
 mod lists;
 mod module;

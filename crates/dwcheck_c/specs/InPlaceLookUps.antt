@@ -1,0 +1,134 @@
+-- Look-ups in place: what C passes for one, and what it gets (LSB Core, section 10.6).
+use Rattle.std.specs.Prelude.{◌≡◌, ℕ, ◌^◌, ◌<◌, ◌≤◌, ◌×◌, ◌⊎◌, ◌==◌, if◌then◌else◌, Bool, true, false, List, length, Option, Some, None, Result, Ok, Err}
+use Rattle.dw_bytes.specs.declared.fault.Fault.{Fault}
+use Rattle.dw_bytes.specs.declared.target.Target.{Target}
+use Rattle.dw_rules.specs.Abi.{Abi}
+use Rattle.dw_rules.specs.Rules.{Row}
+use Rattle.dw_unwind.specs.MissingPlaces.{LacksPlace}
+use Rattle.dw_unwind.specs.Modules.{as_linked}
+use Rattle.dw_eh_frame.specs.Records.{EhFde}
+use Rattle.dw_in_place.specs.InPlace.{SectionInPlace, lying, row_of_fde}
+use Rattle.dw_in_place.specs.LookUps.{fde_by_entry}
+use Rattle.dw_in_place.specs.SearchTables.{Finds, Table, table_in}
+use Rattle.dw_c_types.specs.ProcessWalks.{Unwinding, through_held}
+use Rattle.dw_c_types.specs.Rows.{IsRowOf}
+use Rattle.dw_c_types.specs.Targets.{target_by}
+use Rattle.dw_c_types.specs.declared.answer.CFrame.{CFrame}
+use Rattle.dw_c_types.specs.declared.row.CRow.{CRow}
+use Rattle.dw_c_types.specs.declared.row.CRule.{CRule}
+use Rattle.dw_c_types.specs.declared.status.TheConstants.{TOO_LONG, BAD_KIND, BAD_TARGET, NO_TABLE}
+use Rattle.dwcheck_c.specs.LoadedModules.{eh_section_in}
+use Rattle.dwcheck_c.specs.WalkCursors.{IsStepBy, looked_up_by, registers_in, through_rows}
+use Rattle.dwcheck_c.specs.declared.cursor.CCursor.{CCursor}
+use Rattle.dwcheck_c.specs.declared.in_place.CHeader.{CHeader}
+use Rattle.dwcheck_c.specs.declared.module.CModule.{CModule}
+
+-- ---- what C passes
+
+-- whether the programs of a section are for aarch64, by C's number for an `.eh_frame` section; None
+-- for any other number
+abbrev pub is_aarch64_by : ℕ → Option Bool
+is_aarch64_by n = if n == 1 then Some false else if n == 2 then Some true else None
+
+-- the section that C gives
+abbrev pub section_in : Bool → Target → CModule → SectionInPlace
+section_in is_aarch64 target m = lying is_aarch64 (eh_section_in is_aarch64 m).bases target m.frame.now
+
+-- C gives the section `s`, and a header with the search table `t`.
+pub record AreInPlace (m : CModule) (h : CHeader) (s : SectionInPlace) (t : Table) : Type 0 where
+  pub target : Target
+  pub target_is : target_by m.order m.address_size ≡ Some target
+  pub is_aarch64 : Bool
+  pub kind_is : is_aarch64_by m.kind ≡ Some is_aarch64
+  pub section : s ≡ section_in is_aarch64 target m
+  pub table : table_in target h.address h.bytes.now ≡ Some t
+
+-- There is no table: the header isn't as linkers write it.
+pub record LacksTable (m : CModule) (h : CHeader) : Type 0 where
+  pub target : Target
+  pub target_is : target_by m.order m.address_size ≡ Some target
+  pub none : table_in target h.address h.bytes.now ≡ None
+
+-- the status that says why nothing can be looked up with what C passes
+abbrev pub IsUnusable : CModule → CHeader → ℕ → Type 0
+IsUnusable m h status = ((status ≡ TOO_LONG) × (2 ^ 32 ≤ length m.frame.now))
+    ⊎ ((status ≡ BAD_KIND) × (is_aarch64_by m.kind ≡ None))
+    ⊎ ((status ≡ BAD_TARGET) × (target_by m.order m.address_size ≡ None))
+    ⊎ ((status ≡ NO_TABLE) × LacksTable m h)
+
+-- ---- what is looked up
+
+-- What a look-up of an address as loaded finds: an FDE that covers it, or none, or the first fault.
+pub record IsLookedUp (m : CModule) (h : CHeader) (address : ℕ) (found : Result (Option EhFde) Fault) : Type 0 where
+  pub section : SectionInPlace
+  pub table : Table
+  pub are : AreInPlace m h section table
+  pub entry : Option ℕ
+  pub finds : Finds table (as_linked section.target m.load_address address) entry
+  pub is : fde_by_entry section table (as_linked section.target m.load_address address) entry ≡ found
+
+-- a look-up of an address finds an FDE, and this is its row
+pub record HasRow (m : CModule) (h : CHeader) (address : ℕ) (target : Target) (e : EhFde) (row : Row) : Type 0 where
+  pub section : SectionInPlace
+  pub table : Table
+  pub are : AreInPlace m h section table
+  pub target_is : section.target ≡ target
+  pub entry : Option ℕ
+  pub finds : Finds table (as_linked section.target m.load_address address) entry
+  pub is : fde_by_entry section table (as_linked section.target m.load_address address) entry ≡ Ok (Some e)
+  pub row_is : row_of_fde section.target section.bytes e (as_linked section.target m.load_address address) ≡ Some row
+
+-- ---- what C gets
+
+-- C gets the row of an address, as that of a module without an id, and whether its frames are those
+-- of signals.
+pub record IsRowGiven (m : CModule) (h : CHeader) (address : ℕ) (row : CRow) (old new : List CRule) (is_signal : ℕ) : Type 0 where
+  pub target : Target
+  pub fde : EhFde
+  pub found : Row
+  pub has : HasRow m h address target fde found
+  pub shown : IsRowOf (record {
+    id = 0;
+    cookie = m.cookie;
+    load_address = m.load_address;
+    target = target;
+    row = found;
+    return_register = fde.cie.cie.return_address_register;
+  }) row old new
+  pub signal : is_signal ≡ (if fde.cie.augmentation.is_signal then 1 else 0)
+
+-- ---- steps
+
+-- unwinding by a row of an FDE that was looked up
+abbrev pub through_fde : Target → EhFde → Row → Abi → (ℕ → Option ℕ) → ℕ → Unwinding
+through_fde target e row = through_rows target (λ _ found. found ≡ Some (row, e.cie.cie.return_address_register))
+    (λ _. e.cie.augmentation.is_signal)
+
+-- A step by the FDE that covers the address.
+pub record IsStepByFde (m : CModule) (h : CHeader) (address : ℕ) (abi : Abi) (memory : ℕ → Option ℕ) (bits : ℕ) (old new : CCursor)
+    (frame : CFrame) : Type 0 where
+  pub target : Target
+  pub fde : EhFde
+  pub row : Row
+  pub has : HasRow m h address target fde row
+  pub step : IsStepBy (through_fde target fde row abi memory bits) old new frame
+
+-- A cursor takes a step by a look-up in place: by the FDE that covers the address that is looked up
+-- for its frame; or, if there is none, its walk ends, as in a closed process. If there is no address
+-- to look up, the walk ends too.
+abbrev pub IsStepAt : CModule → CHeader → Option ℕ → Abi → (ℕ → Option ℕ) → ℕ → CCursor → CCursor → CFrame → Type 0
+IsStepAt m h None abi memory bits old new frame = IsStepBy (through_held abi memory bits None) old new frame
+IsStepAt m h (Some a) abi memory bits old new frame = IsStepByFde m h a abi memory bits old new frame
+    ⊎ (IsLookedUp m h a (Ok None) × IsStepBy (through_held abi memory bits None) old new frame)
+
+abbrev pub IsStepIn : CModule → CHeader → Abi → (ℕ → Option ℕ) → ℕ → CCursor → CCursor → CFrame → Type 0
+IsStepIn m h abi memory bits old new frame = IsStepAt m h (looked_up_by old.stage old.address) abi memory bits old new frame
+
+-- the frame that the cursor is at has a caller by its row, one of whose registers has a content but no
+-- place in a cursor
+pub record LacksPlaceIn (m : CModule) (h : CHeader) (address : ℕ) (abi : Abi) (memory : ℕ → Option ℕ) (c : CCursor) : Type 0 where
+  pub target : Target
+  pub fde : EhFde
+  pub row : Row
+  pub has : HasRow m h address target fde row
+  pub lacks : LacksPlace (through_fde target fde row abi memory 0).callers (registers_in c) (Some address)
