@@ -1,4 +1,4 @@
-//! Many look-ups in an `.eh_frame` section where it lies, with nothing prepared.
+//! Many look-ups in an `.eh_frame` section in place, without preprocessing.
 
 ghost use Rattle.std.specs.Prelude.{◌≡◌, None, IfSome, IsSome};
 ghost use Rattle.dw_eh_frame.specs.Views.{eh_fde_of, fde_with_cie};
@@ -36,14 +36,16 @@ pub struct FoundRow<'a> {
     pub end: u64,
 }
 
-/// An `.eh_frame` section in place, with the working memory of look-ups. Nothing is preprocessed, and
-/// each look-up reads and checks two records only, an FDE and its CIE. The rules that the last two CIEs
-/// leave are kept, if these have no fault and no expressions, since most FDEs have one of those.
+/// An `.eh_frame` section in place, with the working memory of look-ups. Nothing is preprocessed,
+/// and each look-up reads and checks two records only, an FDE and its CIE. The rules that the last
+/// two CIEs leave are kept, if these have no fault and no expressions, since most FDEs have one of
+/// those.
 ///
-/// It takes some 9 KB. Create one, and reuse it for many look-ups: they allocate nothing. Nearly all
-/// take less than 1 KB of stack; a program with an expression or a rare instruction takes up to 40 KB, for
-/// which the alternate stack of a signal handler needs room. A handler needs a `FrameInPlace` of its
-/// own, since it may interrupt a look-up.
+/// It takes some 9 KB. Create one, and reuse it for many look-ups: they allocate nothing. A look-up
+/// takes 2 KB of stack for each remember_state that is open at the row, and a program with an
+/// expression or a rare instruction takes up to 40 KB, for which the alternate stack of a signal
+/// handler needs room. A handler needs a `FrameInPlace` of its own, since it may interrupt a
+/// look-up.
 ///
 /// ```rust
 /// let mut frame = FrameInPlace::new(alloc, section);
@@ -202,19 +204,19 @@ impl<'a> FrameInPlace<'a> {
         found.fde
     }
 
-    /// Finds the row of an address in the record at the offset `at` of the section, which must not be past
-    /// its end. The result says whether there is one: then `row` lends it, and `fde` returns the record
-    /// as an FDE, with its CIE. Only these two records are read, whatever bytes are there. Once they
-    /// have been read, there is no row if the record isn't an FDE, or doesn't cover the address: then
-    /// neither program is checked. Pass the return address minus 1 for the caller of a frame, unless
-    /// the frame is a signal frame.
+    /// Finds the row of an address in the record at the offset `at` of the section, which must not
+    /// be past its end. The result says whether there is one: then `row` lends it, and `fde`
+    /// returns the record as an FDE, with its CIE. Only these two records are read, whatever bytes
+    /// are there. Once they have been read, there is no row if the record isn't an FDE, or doesn't
+    /// cover the address: then neither program is checked. Pass the return address minus 1 for the
+    /// caller of a frame, unless the frame is a signal frame.
     ///
     /// The error is the first fault, with its offset in the section: a fault of `eh_record`;
-    /// `NoSuchCie` (9) at the CIE pointer, if the CIE ends after the FDE begins; a fault of the CIE's
-    /// program, or else of the FDE's, up to its end, as `check_fde` of `dw_rows` reports it. `Memory`
-    /// (60), at 0, says that the two programs together have more than `MAX_FEW` (32) expressions, or
-    /// that an expression is longer than 16 bytes, whether or not the row uses it; then the rest isn't
-    /// checked. It takes time in proportion to the bytes of the two records.
+    /// `NoSuchCie` (9) at the CIE pointer, if the CIE ends after the FDE begins; a fault of the
+    /// CIE's program, or else of the FDE's, up to its end, as `check_fde` of `dw_rows` reports it.
+    /// `Memory` (60), at 0, says that the two programs together have more than `MAX_FEW` (32)
+    /// expressions, or that an expression is longer than 16 bytes, whether or not the row uses it;
+    /// then the rest isn't checked. It takes time in proportion to the bytes of the two records.
     #[inline(always)]
     pub fn find_at(&mut self, at: u32, address: u64) -> Result<bool, Fault>
         requires { at ≤ length self.old.section.bytes }
@@ -324,13 +326,14 @@ impl<'a> FrameInPlace<'a> {
         }
     }
 
-    /// Finds the row of an address in the record that a table names for it, as `find_at` does. There is
-    /// none if the table names no record for the address, or one past the section's end; or if that
-    /// record isn't an FDE, or doesn't cover the address. The row is always that of the record that was
-    /// read, but a wrong table may lead to no row, or to bytes within another record; in a table out of
-    /// order an address may have several entries. It is the row that a check of the whole section gives,
-    /// if the section is accepted and the table leads to all FDEs (law `look_ups_find_all_rows`). That
-    /// the table is this section's isn't checked: compare its `frame_address` with `bases.section`.
+    /// Finds the row of an address in the record that a table names for it, as `find_at` does.
+    /// There is none if the table names no record for the address, or one past the section's end;
+    /// or if that record isn't an FDE, or doesn't cover the address. The row is always that of the
+    /// record that was read, but a wrong table may lead to no row, or to bytes within another
+    /// record; in a table out of order an address may have several entries. It is the row that a
+    /// check of the whole section gives, if the section is accepted and the table leads to all FDEs
+    /// (law `look_ups_find_all_rows`). That the table is this section's isn't checked: compare its
+    /// `frame_address` with `bases.section`.
     ///
     /// The search takes O(log n) for n entries. For the errors see `find_at`.
     #[inline(always)]

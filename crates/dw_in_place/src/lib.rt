@@ -1,5 +1,6 @@
-//! Look-ups in `.eh_frame` where it lies, with nothing prepared: the FDE of an address by the search
-//! table of `.eh_frame_hdr`, and its row from that record and its CIE alone (LSB Core, section 10.6).
+//! Look-ups in `.eh_frame` in place, without preprocessing: the FDE of an address by the search
+//! table of `.eh_frame_hdr`, and its row from that record and its CIE alone (LSB Core, section
+//! 10.6).
 #![tactic(auto)]
 
 mod frame_in_place;
