@@ -1,6 +1,8 @@
 -- Look-ups in place: what C passes for one, and what it gets (LSB Core, section 10.6).
 use Rattle.std.specs.Prelude.{◌≡◌, ℕ, ◌^◌, ◌<◌, ◌≤◌, ◌×◌, ◌⊎◌, ◌==◌, if◌then◌else◌, Bool, true, false, List, length, Option, Some, None, Result, Ok, Err}
+use Rattle.dw_bytes.specs.Answers.{memory}
 use Rattle.dw_bytes.specs.declared.fault.Fault.{Fault}
+use Rattle.dw_bytes.specs.declared.fault.FaultKind.TheVariants.{Memory}
 use Rattle.dw_bytes.specs.declared.target.Target.{Target}
 use Rattle.dw_rules.specs.Abi.{Abi}
 use Rattle.dw_rules.specs.Rules.{Row}
@@ -16,11 +18,13 @@ use Rattle.dw_c_types.specs.Targets.{target_by}
 use Rattle.dw_c_types.specs.declared.answer.CFrame.{CFrame}
 use Rattle.dw_c_types.specs.declared.row.CRow.{CRow}
 use Rattle.dw_c_types.specs.declared.row.CRule.{CRule}
-use Rattle.dw_c_types.specs.declared.status.TheConstants.{TOO_LONG, BAD_KIND, BAD_TARGET, NO_TABLE}
+use Rattle.dw_c_types.specs.declared.status.TheConstants.{BAD_KIND, BAD_TARGET, NO_ROOM, NO_TABLE, REFUSED, TOO_LONG}
 use Rattle.dwcheck_c.specs.LoadedModules.{eh_section_in}
 use Rattle.dwcheck_c.specs.WalkCursors.{IsStepBy, looked_up_by, registers_in, through_rows}
 use Rattle.dwcheck_c.specs.declared.cursor.CCursor.{CCursor}
 use Rattle.dwcheck_c.specs.declared.in_place.CHeader.{CHeader}
+use Rattle.dwcheck_c.specs.declared.in_place.NoAnswer.{NoAnswer}
+use Rattle.dwcheck_c.specs.declared.in_place.NoAnswer.TheVariants.{Unusable, Refused}
 use Rattle.dwcheck_c.specs.declared.module.CModule.{CModule}
 
 -- ---- what C passes
@@ -66,6 +70,16 @@ pub record IsLookedUp (m : CModule) (h : CHeader) (address : ℕ) (found : Resul
   pub entry : Option ℕ
   pub finds : Finds table (as_linked section.target m.load_address address) entry
   pub is : fde_by_entry section table (as_linked section.target m.load_address address) entry ≡ found
+
+-- why a look-up of an address has no answer; `memory` says that there was no room for expressions
+abbrev pub IsNoRow : CModule → CHeader → ℕ → NoAnswer → Type 0
+IsNoRow m h address (Unusable status) = IsUnusable m h status
+IsNoRow m h address (Refused fault) = (fault ≡ memory) ⊎ IsLookedUp m h address (Err fault)
+
+-- the status that C gets for this reason
+abbrev pub Says : NoAnswer → ℕ → Type 0
+Says (Unusable status) result = result ≡ status
+Says (Refused fault) result = (result ≡ REFUSED) ⊎ ((result ≡ NO_ROOM) × (fault.kind ≡ Memory))
 
 -- a look-up of an address finds an FDE, and this is its row
 pub record HasRow (m : CModule) (h : CHeader) (address : ℕ) (target : Target) (e : EhFde) (row : Row) : Type 0 where
