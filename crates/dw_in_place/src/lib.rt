@@ -9,6 +9,7 @@ pub mod laws;
 mod leads;
 mod look_up;
 mod record_offset;
+mod scan;
 mod search_table;
 mod section_in_place;
 
