@@ -1,6 +1,6 @@
 -- Going through the records of a section, to the first FDE that covers an address: what is done
 -- without a table that leads there.
-use Rattle.std.specs.Prelude.{◌≡◌, ◌×◌, ℕ, ◌++◌, List, [], ◌∷◌, All, map, Option, Some, None, Result, Ok, Err}
+use Rattle.std.specs.Prelude.{◌≡◌, ℕ, ◌++◌, List, [], ◌∷◌, Contains, map, Option, Some, None, Result, Ok, Err}
 use Rattle.dw_bytes.specs.declared.fault.Fault.{Fault}
 use Rattle.dw_bytes.specs.Reading.{section_from}
 use Rattle.dw_rows.specs.Section.{Covers}
@@ -17,7 +17,7 @@ PassesBy a (eh_nothing at) = Unit {0}
 pub record ComesTo (s : SectionInPlace) (a at : ℕ) : Type 0 where
   pub before : List EhRecord
   pub read : eh_records_of s.is_aarch64 s.bases s.target s.bytes ≡ map Ok before ++ eh_records_from s.is_aarch64 s.bases s.target s.bytes at
-  pub none : All (PassesBy a) before
+  pub none : (x : EhRecord) → Contains before x → PassesBy a x
 
 -- the first FDE that covers the address is at the offset `at`
 pub record IsFirstAt (s : SectionInPlace) (a at : ℕ) : Type 0 where

@@ -1,6 +1,6 @@
 //! The first FDE that covers an address, found by going through the records of a section.
 
-ghost use Rattle.std.specs.Prelude.{◌≡◌, ◌↔◌, IsTrue, MatchResult, Ok, Err};
+ghost use Rattle.std.specs.Prelude.{◌≡◌, ◌≤◌, IfOk, IfSome, MatchResult, Ok, Err, length};
 ghost use Rattle.std.specs.Bool.{OnFalse, OnTrue};
 ghost use Rattle.dw_rows.specs.Section.{Covers};
 ghost use Rattle.dw_eh_frame.specs.Records.{EhFde as Fde};
@@ -37,6 +37,7 @@ pub(crate) fn first_covering(
     ensures scans { MatchResult result
         (λ at. Scans (section_of section.now) address (Ok at))
         (λ fault. Scans (section_of section.now) address (Err fault)) }
+    ensures inside { IfOk result (λ found. IfSome found (λ at. at ≤ length section.now.bytes.now)) }
 {
     dw_eh_frame::laws::records_come_in_order();
     let mut last = None;
