@@ -8,6 +8,7 @@ use crate::in_place::{
     lend_checked,
 };
 use crate::record_offset::offset_of_record;
+use crate::scan::first_covering;
 use crate::search_table::SearchTable;
 use crate::section_in_place::SectionInPlace;
 use dw_bytes::Fault;
@@ -139,13 +140,15 @@ fn found_by_check<'a>(place: Place, fde: &EhFde<'a>, row: CheckedRow) -> FoundRo
 }
 
 impl<'a> FrameInPlace<'a> {
-    ghost use Rattle.std.specs.Prelude.{ℕ, ◌≡◌, ◌⊎◌, ◌≤◌, is_some, length, IfOk, IfSome, IsSome, MatchResult, None, OnErr, OnOk, Option, Some, Ok, Err, option_map};
+    ghost use Rattle.std.specs.Prelude.{ℕ, ◌≡◌, ◌⊎◌, ◌≤◌, is_some, length, IfOk, IfSome, IsSome, MatchResult, None, OnErr, OnOk, Option, Some, Ok, Err, Result, option_map};
     ghost use Rattle.dw_bytes.specs.Answers.{Answers, memory};
+    ghost use Rattle.dw_bytes.specs.declared.fault.Fault.{Fault as Why};
     ghost use Rattle.dw_rows.specs.Section.{Covers, IsChecked};
     ghost use Rattle.dw_eh_frame.specs.Views.{IsCieOf, eh_fde_of};
     ghost use Rattle.dw_in_place.specs.InPlace.{alone, fde_in_place_fault, found_at, row_of_fde};
     ghost use Rattle.dw_in_place.specs.Known.{IsRead, has_fde, has_row};
     ghost use Rattle.dw_in_place.specs.LookUps.{fde_by_entry};
+    ghost use Rattle.dw_in_place.specs.Scans.{Scans, fde_by_place};
     ghost use Rattle.dw_in_place.specs.SearchTables.{Finds};
     ghost use Rattle.dw_in_place.specs.Views.{section_of, table_of};
 
@@ -324,6 +327,32 @@ impl<'a> FrameInPlace<'a> {
             self.found = Some(found_by_check(Place::Second, fde, row));
             Ok(())
         }
+    }
+
+    /// Finds the row of an address in the first FDE of the section that covers it, as `find_at` does.
+    /// This is for a section without a search table, such as one that a JIT compiler writes: the
+    /// records before the FDE are read one after another, so it takes time in proportion to their
+    /// bytes. Once they have been read, there is no row if no FDE covers the address.
+    ///
+    /// The error is the first fault of a record before that FDE, or one of `find_at`.
+    pub fn find_by_records(&mut self, address: u64) -> Result<bool, Fault>
+        ensures fde { (place : Result (Option ℕ) Why) × Scans self.old.section address place × MatchResult result
+            (λ _. fde_by_place self.old.section address place ≡ Ok (option_map has_fde self.new.found))
+            (λ fault. (fault ≡ memory) ⊎ (fde_by_place self.old.section address place ≡ Err fault)) }
+        ensures some { IfOk result (λ is_found. is_found ≡ is_some self.new.found) }
+        ensures row { IfSome self.new.found (λ f.
+            row_of_fde self.old.section.target self.old.section.bytes (has_fde f) address ≡ Some (has_row f)) }
+        ensures checked { IfSome self.new.found (λ f.
+            IsChecked (alone self.old.section.target self.old.section.bytes (has_fde f))) }
+        ensures covers { IfSome self.new.found (λ f. Covers (has_fde f).fde address) }
+        ensures same { self.new.section ≡ self.old.section }
+        ensures none { OnErr result (self.new.found ≡ None) }
+    {
+        self.found = None;
+        let Some(at) = first_covering(&self.section, address)? else {
+            return Ok(false);
+        };
+        self.find_at(at, address)
     }
 
     /// Finds the row of an address in the record that a table names for it, as `find_at` does.

@@ -93,7 +93,7 @@ fn is_after_its_cie(cie: &EhCie<'_>, fde: &FrameDescriptionEntry<'_>) -> bool
 
 /// Whether an FDE covers an address.
 #[inline(always)]
-fn covers_address(fde: &FrameDescriptionEntry<'_>, address: u64) -> bool
+pub(crate) fn covers_address(fde: &FrameDescriptionEntry<'_>, address: u64) -> bool
     ensures { IsTrue result ↔ Covers (fde_of fde.now) address }
 {
     fde.initial_location <= address && address - fde.initial_location < fde.address_range

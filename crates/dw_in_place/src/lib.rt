@@ -9,11 +9,12 @@ pub mod laws;
 mod leads;
 mod look_up;
 mod record_offset;
+mod scan;
 mod search_table;
 mod section_in_place;
 
 pub use frame_in_place::FrameInPlace;
 pub use leads::leads_to_all;
-pub use look_up::{LookUpMemory, row_for_address_in, row_in_place};
+pub use look_up::{LookUpMemory, row_by_records_in, row_for_address_in, row_in_place};
 pub use search_table::SearchTable;
 pub use section_in_place::SectionInPlace;

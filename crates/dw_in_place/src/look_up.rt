@@ -1,16 +1,19 @@
 //! A single look-up in an `.eh_frame` section in place.
 
-ghost use Rattle.std.specs.Prelude.{ℕ, ◌≡◌, ◌⊎◌, ◌≤◌, length, IfOk, IfSome, MatchResult, Option, Some, Ok, Err, option_map};
+ghost use Rattle.std.specs.Prelude.{ℕ, ◌≡◌, ◌⊎◌, ◌≤◌, length, IfOk, IfSome, MatchResult, Option, Some, Ok, Err, Result, option_map};
 ghost use Rattle.dw_bytes.specs.Answers.{memory as out_of_memory};
+ghost use Rattle.dw_bytes.specs.declared.fault.Fault.{Fault as Why};
 ghost use Rattle.dw_rows.specs.Section.{Covers, IsChecked};
 ghost use Rattle.dw_eh_frame.specs.Views.{eh_fde_of};
 ghost use Rattle.dw_in_place.specs.InPlace.{alone, found_at, row_of_fde};
 ghost use Rattle.dw_in_place.specs.LookUps.{fde_by_entry};
+ghost use Rattle.dw_in_place.specs.Scans.{Scans, fde_by_place};
 ghost use Rattle.dw_in_place.specs.SearchTables.{Finds};
 ghost use Rattle.dw_in_place.specs.Views.{section_of, table_of};
 
 use crate::in_place::{KnownCie, covering_fde, find_by_check, lend_checked};
 use crate::record_offset::offset_of_record;
+use crate::scan::first_covering;
 use crate::search_table::SearchTable;
 use crate::section_in_place::SectionInPlace;
 use dw_bytes::Fault;
@@ -124,4 +127,33 @@ pub fn row_for_address_in<'p, 'a>(
         return Ok(None);
     }
     row_in_place(section, at as u32, address, memory)
+}
+
+/// The row of an address, and its FDE with its CIE: those of the first FDE of the section that covers
+/// it, as `row_in_place` reads them. This is for a section without a search table: the records before
+/// the FDE are read one after another, so it takes time in proportion to their bytes. `None` if no FDE
+/// covers the address.
+///
+/// The error is the first fault of a record before that FDE, or one of `row_in_place`.
+pub fn row_by_records_in<'p, 'a>(
+    section: &SectionInPlace<'a>,
+    address: u64,
+    memory: &'p mut LookUpMemory<'a>,
+) -> Result<Option<(UnwindRow<'p, 'a>, EhFde<'a>)>, Fault>
+    ensures fde { (place : Result (Option ℕ) Why) × Scans (section_of section.now) address place
+        × MatchResult result
+        (λ found. fde_by_place (section_of section.now) address place
+        ≡ Ok (option_map (λ f. eh_fde_of f.1) found))
+        (λ fault. (fault ≡ out_of_memory)
+        ⊎ (fde_by_place (section_of section.now) address place ≡ Err fault)) }
+    ensures row { IfOk result (λ found. IfSome found (λ f.
+        row_of_fde section.now.target section.now.bytes.now (eh_fde_of f.1) address ≡ Some f.0)) }
+    ensures checked { IfOk result (λ found. IfSome found (λ f.
+        IsChecked (alone section.now.target section.now.bytes.now (eh_fde_of f.1)))) }
+    ensures covers { IfOk result (λ found. IfSome found (λ f. Covers (eh_fde_of f.1).fde address)) }
+{
+    let Some(at) = first_covering(section, address)? else {
+        return Ok(None);
+    };
+    row_in_place(section, at, address, memory)
 }
