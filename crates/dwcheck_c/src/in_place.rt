@@ -1,14 +1,18 @@
 //! The C calls that look up in an `.eh_frame` section in place: the row of an address, and a step
 //! of a cursor.
 
-ghost use Rattle.std.specs.Prelude.{◌≡◌, ◌≢◌, ◌≤◌, ◌<◌, ◌^◌, ◌⊎◌, ℕ, IfErr, IfNone, IfOk, IfSome, Ok, Err, Some, length};
+ghost use Rattle.std.specs.Prelude.{◌≡◌, ◌≢◌, ◌≤◌, ◌<◌, ◌^◌, ◌⊎◌, ℕ, IfErr, IfNone, IfOk, IfSome, MatchResult, None, Ok, Err, Some, length, option_map};
 ghost use Rattle.dw_bytes.specs.declared.fault.Fault.{Fault as Why};
+ghost use Rattle.dw_bytes.specs.Answers.{memory as out_of_memory};
 ghost use Rattle.dw_c_types.specs.Faults.{cfault_of};
 ghost use Rattle.dw_c_types.specs.Machine.{abi_in, memory_of};
 ghost use Rattle.dw_eh_frame.specs.Views.{eh_fde_of};
+ghost use Rattle.dw_in_place.specs.InPlace.{alone, row_of_fde};
+ghost use Rattle.dw_in_place.specs.SearchTables.{table_in};
 ghost use Rattle.dw_in_place.specs.Views.{section_of, table_of};
 ghost use Rattle.dw_rows.specs.RowLookups.{IsRowUnder};
-ghost use Rattle.dwcheck_c.specs.InPlaceLookUps.{AreInPlace, HasRow, IsLookedUp, IsNoRow, IsRowGiven, IsStepIn, IsUnusable, LacksPlaceIn, Says, is_aarch64_by, through_fde};
+ghost use Rattle.dw_rows.specs.Section.{IsChecked};
+ghost use Rattle.dwcheck_c.specs.InPlaceLookUps.{AreInPlace, HasRow, IsLookedUp, IsNoRow, IsRowGiven, IsStepIn, IsTableBy, IsUnusable, LacksPlaceIn, LooksUp, Says, is_aarch64_by, through_fde};
 ghost use Rattle.dw_unwind.specs.MissingPlaces.{LacksPlace};
 ghost use Rattle.dwcheck_c.specs.WalkCursors.{IsStepBy, looked_up_by, registers_in};
 
@@ -24,13 +28,16 @@ use dw_c_types::status::{
 };
 use dw_c_types::target::target;
 use dw_eh_frame::EhFde;
-use dw_in_place::{LookUpMemory, SearchTable, SectionInPlace, row_for_address_in};
+use dw_in_place::{
+    LookUpMemory, SearchTable, SectionInPlace, row_by_records_in, row_for_address_in,
+};
 use dw_process::FoundRow;
 use dw_rules::UnwindRow;
 use dw_unwind::{OneRow, as_linked};
 use std::alloc::Global;
 
-/// An `.eh_frame_hdr` section, whose search table leads to the FDE of an address.
+/// An `.eh_frame_hdr` section, whose search table leads to the FDE of an address. If it is empty,
+/// there is none.
 #[repr(C)]
 #[derive(Drop)]
 pub struct CHeader<'a> {
@@ -39,11 +46,11 @@ pub struct CHeader<'a> {
     pub address: u64,
 }
 
-/// A section in place, with the table that leads to its FDEs.
+/// A section in place, with the table that leads to its FDEs, if there is one.
 #[derive(Clone, Copy)]
 struct InPlace<'a> {
     section: SectionInPlace<'a>,
-    table: SearchTable<'a>,
+    table: Option<SearchTable<'a>>,
 }
 
 /// The row of an address, with its FDE, and the target of the section.
@@ -74,10 +81,27 @@ fn is_aarch64(kind: u32) -> Option<bool>
     }
 }
 
-/// The section and the table that C gives, or the status that says why there is none.
+/// The table of a header; none if the header is empty. An error if a header is there, but isn't as
+/// linkers write it.
+fn table_by<'a>(header: &CHeader<'a>, target: Target) -> Result<Option<SearchTable<'a>>, u32>
+    ensures table { IfOk result (λ table.
+        IsTableBy target header.now.address header.now.bytes.now (option_map table_of table)) }
+    ensures lacks { IfErr result (λ status. (status ≡ NO_TABLE) × (0 < length header.now.bytes.now)
+        × (table_in target header.now.address header.now.bytes.now ≡ None)) }
+{
+    if header.bytes.is_empty() {
+        return Ok(None);
+    }
+    match SearchTable::read(header.bytes, target, header.address) {
+        Some(table) => Ok(Some(table)),
+        None => Err(NO_TABLE),
+    }
+}
+
+/// The section and the table that C gives, or the status that says why nothing can be looked up.
 fn in_place<'a>(module: &CModule<'a>, header: &CHeader<'a>) -> Result<InPlace<'a>, u32>
     ensures placed { IfOk result (λ place. AreInPlace module.now header.now (section_of place.section)
-        (table_of place.table)) }
+        (option_map table_of place.table)) }
     ensures unusable { IfErr result (IsUnusable module.now header.now) }
 {
     if module.frame.len() >= 1 << 32 {
@@ -89,9 +113,7 @@ fn in_place<'a>(module: &CModule<'a>, header: &CHeader<'a>) -> Result<InPlace<'a
     let Some(target) = target(module.order, module.address_size) else {
         return Err(BAD_TARGET);
     };
-    let Some(table) = SearchTable::read(header.bytes, target, header.address) else {
-        return Err(NO_TABLE);
-    };
+    let table = table_by(header, target)?;
     let section = SectionInPlace {
         bytes: module.frame,
         target,
@@ -99,6 +121,29 @@ fn in_place<'a>(module: &CModule<'a>, header: &CHeader<'a>) -> Result<InPlace<'a
         is_aarch64,
     };
     Ok(InPlace { section, table })
+}
+
+/// The row of an address as linked, and its FDE: by the table, or, if there is none, by going through
+/// the records.
+fn find_row<'p, 'a>(
+    place: &InPlace<'a>,
+    address: u64,
+    memory: &'p mut LookUpMemory<'a>,
+) -> Result<Option<(UnwindRow<'p, 'a>, EhFde<'a>)>, Fault>
+    ensures fde { MatchResult result
+        (λ found. LooksUp (section_of place.now.section) (option_map table_of place.now.table) address
+        (Ok (option_map (λ f. eh_fde_of f.1) found)))
+        (λ fault. (fault ≡ out_of_memory) ⊎ LooksUp (section_of place.now.section)
+        (option_map table_of place.now.table) address (Err fault)) }
+    ensures row { IfOk result (λ found. IfSome found (λ f. row_of_fde place.now.section.target
+        place.now.section.bytes.now (eh_fde_of f.1) address ≡ Some f.0)) }
+    ensures checked { IfOk result (λ found. IfSome found (λ f. IsChecked
+        (alone place.now.section.target place.now.section.bytes.now (eh_fde_of f.1)))) }
+{
+    match &place.table {
+        Some(table) => row_for_address_in(&place.section, table, address, memory),
+        None => row_by_records_in(&place.section, address, memory),
+    }
 }
 
 /// Looks up `address`, an address as loaded, in the section of `module` by the table of `header`.
@@ -122,7 +167,7 @@ fn look_up<'p, 'a>(
     };
     let target = place.section.target;
     let linked = as_linked(target, module.load_address, address);
-    match row_for_address_in(&place.section, &place.table, linked, memory) {
+    match find_row(&place, linked, memory) {
         Ok(Some((row, fde))) => Ok(Some(FoundInPlace { target, row, fde })),
         Ok(None) => Ok(None),
         Err(fault) => Err(NoAnswer::Refused(fault)),
