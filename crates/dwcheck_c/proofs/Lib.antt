@@ -10,4 +10,4 @@ mod RightFields
 mod Shown
 mod UsualWalks
 mod WrittenFrames
-mod RowsInPlace
+mod NoAnswers

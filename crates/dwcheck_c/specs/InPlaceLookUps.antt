@@ -25,7 +25,7 @@ use Rattle.dwcheck_c.specs.WalkCursors.{IsStepBy, looked_up_by, registers_in, th
 use Rattle.dwcheck_c.specs.declared.cursor.CCursor.{CCursor}
 use Rattle.dwcheck_c.specs.declared.in_place.CHeader.{CHeader}
 use Rattle.dwcheck_c.specs.declared.in_place.NoAnswer.{NoAnswer}
-use Rattle.dwcheck_c.specs.declared.in_place.NoAnswer.TheVariants.{Unusable, Refused}
+use Rattle.dwcheck_c.specs.declared.in_place.NoAnswer.TheVariants.{BadKind, BadTarget, NoTable, Refused, TooLong}
 use Rattle.dwcheck_c.specs.declared.module.CModule.{CModule}
 
 -- ---- what C passes
@@ -84,12 +84,18 @@ pub record IsLookedUp (m : CModule) (h : CHeader) (address : ℕ) (found : Resul
 
 -- why a look-up of an address has no answer; `memory` says that there was no room for expressions
 abbrev pub IsNoRow : CModule → CHeader → ℕ → NoAnswer → Type 0
-IsNoRow m h address (Unusable status) = IsUnusable m h status
+IsNoRow m h address TooLong = 2 ^ 32 ≤ length m.frame.now
+IsNoRow m h address BadKind = is_aarch64_by m.kind ≡ None
+IsNoRow m h address BadTarget = target_by m.order m.address_size ≡ None
+IsNoRow m h address NoTable = LacksTable m h
 IsNoRow m h address (Refused fault) = (fault ≡ memory) ⊎ IsLookedUp m h address (Err fault)
 
 -- the status that C gets for this reason
 abbrev pub Says : NoAnswer → ℕ → Type 0
-Says (Unusable status) result = result ≡ status
+Says TooLong result = result ≡ TOO_LONG
+Says BadKind result = result ≡ BAD_KIND
+Says BadTarget result = result ≡ BAD_TARGET
+Says NoTable result = result ≡ NO_TABLE
 Says (Refused fault) result = (result ≡ REFUSED) ⊎ ((result ≡ NO_ROOM) × (fault.kind ≡ Memory))
 
 -- a look-up of an address finds an FDE, and this is its row

@@ -3,6 +3,7 @@
 
 ghost use Rattle.std.specs.Prelude.{◌≡◌, ◌≢◌, ◌≤◌, ◌<◌, ◌^◌, ◌⊎◌, ℕ, IfErr, IfNone, IfOk, IfSome, MatchResult, None, Ok, Err, Some, length, option_map};
 ghost use Rattle.dw_bytes.specs.declared.fault.Fault.{Fault as Why};
+ghost use Rattle.dw_bytes.specs.declared.fault.FaultKind.TheVariants.{Memory};
 ghost use Rattle.dw_bytes.specs.Answers.{memory as out_of_memory};
 ghost use Rattle.dw_c_types.specs.Faults.{cfault_of};
 ghost use Rattle.dw_c_types.specs.Machine.{abi_in, memory_of};
@@ -48,9 +49,9 @@ pub struct CHeader<'a> {
 
 /// A section in place, with the table that leads to its FDEs, if there is one.
 #[derive(Clone, Copy)]
-struct InPlace<'a> {
+struct InPlace<'a, 'h> {
     section: SectionInPlace<'a>,
-    table: Option<SearchTable<'a>>,
+    table: Option<SearchTable<'h>>,
 }
 
 /// The row of an address, with its FDE, and the target of the section.
@@ -64,9 +65,15 @@ struct FoundInPlace<'p, 'a> {
 /// Why a look-up has no answer.
 #[derive(Clone, Copy)]
 pub enum NoAnswer {
-    /// Nothing can be looked up with what C passes, for the reason that this status says.
-    Unusable(u32),
-    /// The FDE or its CIE is refused.
+    /// The section has 2^32 bytes or more.
+    TooLong,
+    /// The section isn't `.eh_frame`.
+    BadKind,
+    /// There is no such target.
+    BadTarget,
+    /// The header isn't as linkers write it.
+    NoTable,
+    /// The FDE or its CIE is refused, or there was no room for their expressions.
     Refused(Fault),
 }
 
@@ -83,10 +90,10 @@ fn is_aarch64(kind: u32) -> Option<bool>
 
 /// The table of a header; none if the header is empty. An error if a header is there, but isn't as
 /// linkers write it.
-fn table_by<'a>(header: &CHeader<'a>, target: Target) -> Result<Option<SearchTable<'a>>, u32>
+fn table_by<'h>(header: &CHeader<'h>, target: Target) -> Result<Option<SearchTable<'h>>, NoAnswer>
     ensures table { IfOk result (λ table.
         IsTableBy target header.now.address header.now.bytes.now (option_map table_of table)) }
-    ensures lacks { IfErr result (λ status. (status ≡ NO_TABLE) × (0 < length header.now.bytes.now)
+    ensures lacks { IfErr result (λ why. (why ≡ NoAnswer.NoTable) × (0 < length header.now.bytes.now)
         × (table_in target header.now.address header.now.bytes.now ≡ None)) }
 {
     if header.bytes.is_empty() {
@@ -94,24 +101,24 @@ fn table_by<'a>(header: &CHeader<'a>, target: Target) -> Result<Option<SearchTab
     }
     match SearchTable::read(header.bytes, target, header.address) {
         Some(table) => Ok(Some(table)),
-        None => Err(NO_TABLE),
+        None => Err(NoAnswer::NoTable),
     }
 }
 
-/// The section and the table that C gives, or the status that says why nothing can be looked up.
-fn in_place<'a>(module: &CModule<'a>, header: &CHeader<'a>) -> Result<InPlace<'a>, u32>
+/// The section and the table that C gives, or why nothing can be looked up.
+fn in_place<'a, 'h>(module: &CModule<'a>, header: &CHeader<'h>) -> Result<InPlace<'a, 'h>, NoAnswer>
     ensures placed { IfOk result (λ place. AreInPlace module.now header.now (section_of place.section)
         (option_map table_of place.table)) }
-    ensures unusable { IfErr result (IsUnusable module.now header.now) }
+    ensures why { IfErr result (λ why. (address : ℕ) → IsNoRow module.now header.now address why) }
 {
     if module.frame.len() >= 1 << 32 {
-        return Err(TOO_LONG);
+        return Err(NoAnswer::TooLong);
     }
     let Some(is_aarch64) = is_aarch64(module.kind) else {
-        return Err(BAD_KIND);
+        return Err(NoAnswer::BadKind);
     };
     let Some(target) = target(module.order, module.address_size) else {
-        return Err(BAD_TARGET);
+        return Err(NoAnswer::BadTarget);
     };
     let table = table_by(header, target)?;
     let section = SectionInPlace {
@@ -126,7 +133,7 @@ fn in_place<'a>(module: &CModule<'a>, header: &CHeader<'a>) -> Result<InPlace<'a
 /// The row of an address as linked, and its FDE: by the table, or, if there is none, by going through
 /// the records.
 fn find_row<'p, 'a>(
-    place: &InPlace<'a>,
+    place: &InPlace<'a, '_>,
     address: u64,
     memory: &'p mut LookUpMemory<'a>,
 ) -> Result<Option<(UnwindRow<'p, 'a>, EhFde<'a>)>, Fault>
@@ -149,7 +156,7 @@ fn find_row<'p, 'a>(
 /// Looks up `address`, an address as loaded, in the section of `module` by the table of `header`.
 fn look_up<'p, 'a>(
     module: &CModule<'a>,
-    header: &CHeader<'a>,
+    header: &CHeader<'_>,
     address: u64,
     memory: &'p mut LookUpMemory<'a>,
 ) -> Result<Option<FoundInPlace<'p, 'a>>, NoAnswer>
@@ -161,10 +168,7 @@ fn look_up<'p, 'a>(
     ensures why { IfErr result (IsNoRow module.now header.now address) }
 {
     dw_rows::laws::rows_have_good_expressions();
-    let place = match in_place(module, header) {
-        Ok(place) => place,
-        Err(status) => return Err(NoAnswer::Unusable(status)),
-    };
+    let place = in_place(module, header)?;
     let target = place.section.target;
     let linked = as_linked(target, module.load_address, address);
     match find_row(&place, linked, memory) {
@@ -178,11 +182,14 @@ fn look_up<'p, 'a>(
 fn no_answer(why: NoAnswer, fault: &mut CFault) -> u32
     ensures says { Says why result }
     ensures reported { result ≡ REFUSED → (first : Why) × (why ≡ NoAnswer.Refused first)
-        × (fault.new ≡ cfault_of IN_FRAME first) }
+        × (first.kind ≢ Memory) × (fault.new ≡ cfault_of IN_FRAME first) }
     ensures unreported { result ≢ REFUSED → fault.new ≡ fault.old }
 {
     match why {
-        NoAnswer::Unusable(status) => status,
+        NoAnswer::TooLong => TOO_LONG,
+        NoAnswer::BadKind => BAD_KIND,
+        NoAnswer::BadTarget => BAD_TARGET,
+        NoAnswer::NoTable => NO_TABLE,
         NoAnswer::Refused(first) if first.kind == FaultKind::Memory => NO_ROOM,
         NoAnswer::Refused(first) => {
             *fault = report(IN_FRAME, first);
@@ -250,10 +257,10 @@ fn step_by_fde(
 ) -> u32
     requires at { looked_up_by cursor.old.stage cursor.old.address ≡ Some address }
     requires under { IsRowUnder found.target found.row }
-    ensures done { result ≡ DONE → IsStepBy (through_fde found.target (eh_fde_of found.fde) found.row
-        (abi_in state.now) (memory_of state.now) state.now.signed_bits) cursor.old cursor.new frame.new }
-    ensures lacks { result ≡ NO_PLACE → LacksPlace (through_fde found.target (eh_fde_of found.fde)
-        found.row (abi_in state.now) (memory_of state.now) 0).callers (registers_in cursor.old)
+    ensures done { result ≡ DONE → IsStepBy (through_fde found.entry.target
+        (eh_fde_of found.entry.fde) found.entry.row (abi_in state.now) (memory_of state.now) state.now.signed_bits) cursor.old cursor.new frame.new }
+    ensures lacks { result ≡ NO_PLACE → LacksPlace (through_fde found.entry.target
+        (eh_fde_of found.entry.fde) found.entry.row (abi_in state.now) (memory_of state.now) 0).callers (registers_in cursor.old)
         (Some address) }
     ensures codes { (result ≡ DONE) ⊎ (result ≡ NO_PLACE) }
     ensures unwritten { result ≢ DONE → (cursor.new ≡ cursor.old) × (frame.new ≡ frame.old) }
