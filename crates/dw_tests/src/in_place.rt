@@ -1,6 +1,6 @@
 //! Look-ups in an `.eh_frame` section in place, by its `.eh_frame_hdr` and without.
 
-use crate::inputs::{BASES, LITTLE, Unknown};
+use crate::inputs::{BASES, LITTLE};
 use dw_bytes::Fault;
 use dw_eh_frame::EhFde;
 use dw_eh_rows::check_eh_frame;
@@ -9,8 +9,7 @@ use dw_in_place::{
     row_for_address_in,
 };
 use dw_rows::CfaRule;
-use dw_rules::{Abi, UnwindRow};
-use dw_unwind::{Answer, OneRow, unwind};
+use dw_rules::UnwindRow;
 use std::alloc::Global;
 use std::test::Fail;
 
@@ -148,19 +147,6 @@ fn finds_rows_without_a_table(rt: HostRuntime) -> Result<(), Fail> {
         let alone = once_by_records(rt.alloc(), address)?;
         assert!(rt; alone == expected);
     }
-    Ok(())
-}
-
-#[test]
-fn unwinds_by_a_row_that_was_found_in_place(rt: HostRuntime) -> Result<(), Fail> {
-    let mut memory = LookUpMemory::new(rt.alloc());
-    let (row, fde) = row_by_records_in(&section(), 0x1000, &mut memory)?.expect(&rt, "a row");
-    let number = fde.cie.cie.return_address_register;
-    dw_rows::laws::rows_have_good_expressions();
-    let rows = OneRow::new(LITTLE, row, number);
-    let caller = unwind(&rows, &Abi::none(), 0x1000, &Unknown, &Unknown).expect(&rt, "a caller");
-    assert!(rt; caller.cfa == Answer::Unreadable);
-    assert!(rt; caller.return_address == Answer::Unreadable);
     Ok(())
 }
 
