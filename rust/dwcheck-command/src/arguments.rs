@@ -189,10 +189,13 @@ pub struct LocsArguments {
 
 #[derive(Args, Debug)]
 pub struct StackArguments {
-    /// A core file or a minidump of x86-64, i386 or aarch64; before it, the program, if it isn't where the core file
-    /// says
-    #[arg(value_name = "[PROGRAM] CORE", num_args = 1..=2, required_unless_present = "pid")]
+    /// A core file or a minidump of x86-64, i386 or aarch64, which may be compressed by zstd, lz4, xz or gzip; before it,
+    /// the program, if it isn't where the core file says
+    #[arg(value_name = "[PROGRAM] CORE", num_args = 1..=2, required_unless_present_any = ["core", "pid"])]
     pub files: Vec<PathBuf>,
+    /// The core file, as debuggers take it, such as by coredumpctl debug --debugger=dwcheck-elf -A stack
+    #[arg(short, long, value_name = "CORE", conflicts_with = "pid")]
+    pub core: Option<PathBuf>,
     /// Print the stacks of this process, which goes on as soon as they are copied
     #[arg(long, value_name = "PID", conflicts_with_all = ["files", "root", "path"])]
     pub pid: Option<u32>,

@@ -4,7 +4,7 @@ mod threads;
 
 use crate::arguments::StackArguments;
 use crate::end::{shown_path, Done, Failure};
-use crate::opened::open_elf;
+use crate::opened::{open_core, open_elf};
 use dwcheck_elf::core_file::{CoreError, CoreFile, Files, MappedFile, Search};
 use dwcheck_elf::live::Snapshot;
 use dwcheck_elf::mapped::Bytes;
@@ -22,10 +22,10 @@ pub fn stack(arguments: &StackArguments, out: &mut impl Write) -> Result<Done, F
     if let Some(pid) = arguments.pid {
         return stack_of_process(arguments, pid, out);
     }
-    match arguments.files.as_slice() {
-        [core] => stack_of_core(arguments, None, core, out),
-        [program, core] => stack_of_core(arguments, Some(program), core, out),
-        _ => Err(Failure::Argument("give [PROGRAM] CORE, or --pid".to_string())),
+    match (arguments.files.as_slice(), &arguments.core) {
+        ([core], None) | ([], Some(core)) => stack_of_core(arguments, None, core, out),
+        ([program, core], None) | ([program], Some(core)) => stack_of_core(arguments, Some(program), core, out),
+        _ => Err(Failure::Argument("give [PROGRAM] CORE, [PROGRAM] -c CORE or --pid".to_string())),
     }
 }
 
@@ -41,7 +41,7 @@ fn stack_of_core(
     path: &Path,
     out: &mut impl Write,
 ) -> Result<Done, Failure> {
-    let bytes = open_elf(path)?;
+    let bytes = open_core(path)?;
     let core = CoreFile::read(&bytes).map_err(|error| unread_core(path, &error))?;
     let mut files = Files::read_with(&core, &search_in(&arguments.root, &arguments.path)?);
     let opened = match program {
