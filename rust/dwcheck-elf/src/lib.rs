@@ -24,7 +24,7 @@ pub use debug::{expression, lines, loclists, variables};
 pub use dwcheck_types::{abi, target};
 pub use elf::{debug_files, functions, image, mapped, other_file, program, relocate, unpacked};
 pub use error::Error;
-pub use process::{core_file, live, modules, stack, state_file};
+pub use process::{core_file, dying, live, modules, stack, state_file};
 
 /// The location lists of a program.
 pub mod lists {
