@@ -3,6 +3,7 @@
 mod threads;
 
 use crate::arguments::StackArguments;
+use crate::crash::Crash;
 use crate::end::{shown_path, Done, Failure};
 use crate::opened::{open_core, open_elf};
 use dwcheck_elf::core_file::{CoreError, CoreFile, Files, MappedFile, Search};
@@ -88,15 +89,32 @@ fn stack_of_process(arguments: &StackArguments, pid: u32, out: &mut impl Write) 
     print_stacks(arguments, &core, (&mut stacks, Some(copy.longest_stop())), warnings, out)
 }
 
-/// Walks the stacks, prints them, and then the warnings. For a process that runs, `longest_stop` is
-/// the longest time for which a thread was stopped.
+/// Walks the stacks, prints them, and then the warnings.
 fn print_stacks(
     arguments: &StackArguments,
     core: &CoreFile<'_>,
-    (stacks, longest_stop): (&mut Stacks<'_>, Option<Duration>),
+    stacks: (&mut Stacks<'_>, Option<Duration>),
     mut warnings: Vec<String>,
     out: &mut impl Write,
 ) -> Result<Done, Failure> {
+    write_stacks(arguments, core, stacks, None, &mut warnings, out)?;
+    for warning in warnings {
+        let _ = writeln!(io::stderr(), "dwcheck-elf: {}", warning);
+    }
+    Ok(Done::Accepted)
+}
+
+/// Walks the stacks and writes them. For a process that runs, `longest_stop` is the longest time for which a thread was
+/// stopped; for one that the kernel holds, `crash` is what is known of it. Adds what isn't used to `warnings`, which only
+/// a document of JSON has.
+pub fn write_stacks(
+    arguments: &StackArguments,
+    core: &CoreFile<'_>,
+    (stacks, longest_stop): (&mut Stacks<'_>, Option<Duration>),
+    crash: Option<&Crash>,
+    warnings: &mut Vec<String>,
+    out: &mut dyn Write,
+) -> Result<(), Failure> {
     let (inlined, source, raw) = (!arguments.no_inline, !arguments.no_source, arguments.raw_names);
     stacks.show_names(NameOptions { inlined, source, raw });
     if arguments.vars {
@@ -106,13 +124,9 @@ fn print_stacks(
         stacks.show_modules();
     }
     let overflowed = stacks.overflowed();
-    let report = Report { arguments, core, stacks, longest_stop, overflowed };
-    report.write(out, &mut warnings)?;
-    out.flush()?;
-    for warning in warnings {
-        let _ = writeln!(io::stderr(), "dwcheck-elf: {}", warning);
-    }
-    Ok(Done::Accepted)
+    let report = Report { arguments, core, stacks, longest_stop, crash, overflowed };
+    report.write(out, warnings)?;
+    Ok(out.flush()?)
 }
 
 fn open_program(program: &Path) -> Result<OpenedProgram, Failure> {
